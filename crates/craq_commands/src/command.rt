@@ -1,0 +1,96 @@
+use crate::Mini;
+use craq_names::{ClientId, Copied, ObjectId, RequestNo, Value, Version};
+use std::alloc::{AllocError, Global};
+
+/// What an update does to the objects of one chain.
+#[derive(Debug, Drop)]
+pub enum Command {
+    /// The object takes the value.
+    Put {
+        object: ObjectId,
+        value: Value,
+    },
+    /// The object takes the value if it has the expected version.
+    TestAndSet {
+        object: ObjectId,
+        expect: Version,
+        value: Value,
+    },
+    /// The value is joined to the end of the object's.
+    Append {
+        object: ObjectId,
+        value: Value,
+    },
+    /// The value is joined to the front of the object's.
+    Prepend {
+        object: ObjectId,
+        value: Value,
+    },
+    /// The object's value, a number of 8 bytes with the highest first, rises.
+    Increment {
+        object: ObjectId,
+        by: u64,
+    },
+    /// The object's value, a number of 8 bytes with the highest first, falls.
+    Decrement {
+        object: ObjectId,
+        by: u64,
+    },
+    /// A mini-transaction.
+    Mini(Mini),
+}
+
+impl Copied for Command {
+    fn copied(&self, alloc: Global) -> Result<Self, AllocError> {
+        Ok(match self {
+            Command::Put { object, value } => Command::Put {
+                object: object.copied(alloc)?,
+                value: value.copied(alloc)?,
+            },
+            Command::TestAndSet {
+                object,
+                expect,
+                value,
+            } => Command::TestAndSet {
+                object: object.copied(alloc)?,
+                expect: *expect,
+                value: value.copied(alloc)?,
+            },
+            Command::Append { object, value } => Command::Append {
+                object: object.copied(alloc)?,
+                value: value.copied(alloc)?,
+            },
+            Command::Prepend { object, value } => Command::Prepend {
+                object: object.copied(alloc)?,
+                value: value.copied(alloc)?,
+            },
+            Command::Increment { object, by } => Command::Increment {
+                object: object.copied(alloc)?,
+                by: *by,
+            },
+            Command::Decrement { object, by } => Command::Decrement {
+                object: object.copied(alloc)?,
+                by: *by,
+            },
+            Command::Mini(mini) => Command::Mini(mini.copied(alloc)?),
+        })
+    }
+}
+
+/// A client's command and its number. In one chain a client numbers its updates from 1, rising.
+#[derive(Debug, Drop)]
+pub struct Update {
+    pub client: ClientId,
+    pub number: RequestNo,
+    pub command: Command,
+}
+
+impl Copied for Update {
+    fn copied(&self, alloc: Global) -> Result<Self, AllocError> {
+        Ok(Update {
+            client: self.client,
+            number: self.number,
+            command: self.command.copied(alloc)?,
+        })
+    }
+}

@@ -1,0 +1,48 @@
+use crate::Reply;
+use craq_names::{ClientId, Copied, Items, Key, NodeId, RequestNo, Seq, Ticket, Value, Version};
+use std::alloc::{AllocError, Global};
+
+/// A value that an entry gives an object, with the version that the object has from then on.
+#[derive(Debug, Drop)]
+pub struct Write {
+    pub key: Key,
+    pub version: Version,
+    pub value: Value,
+}
+
+impl Copied for Write {
+    fn copied(&self, alloc: Global) -> Result<Self, AllocError> {
+        Ok(Write {
+            key: self.key.copied(alloc)?,
+            version: self.version,
+            value: self.value.copied(alloc)?,
+        })
+    }
+}
+
+/// One update of a history, with what it came to: its reply and its writes. The origin names the
+/// ask that made it, by the head's id and ticket.
+#[derive(Debug, Drop)]
+pub struct Entry {
+    pub position: Seq,
+    pub origin_node: NodeId,
+    pub origin_ticket: Ticket,
+    pub client: ClientId,
+    pub number: RequestNo,
+    pub reply: Reply,
+    pub writes: Items<Write>,
+}
+
+impl Copied for Entry {
+    fn copied(&self, alloc: Global) -> Result<Self, AllocError> {
+        Ok(Entry {
+            position: self.position,
+            origin_node: self.origin_node,
+            origin_ticket: self.origin_ticket,
+            client: self.client,
+            number: self.number,
+            reply: self.reply.copied(alloc)?,
+            writes: self.writes.copied(alloc)?,
+        })
+    }
+}

@@ -1,0 +1,10 @@
+/// How new the answer to a read has to be.
+#[derive(Clone, Copy, Debug, PartialEq, Eq)]
+pub enum ReadMode {
+    /// The committed version at some moment between the ask and its answer.
+    Strong,
+    /// The newest version that the node holds, committed or not.
+    Eventual,
+    /// The newest version held that is at most so many above the clean one.
+    Bounded(u32),
+}

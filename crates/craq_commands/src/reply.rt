@@ -1,0 +1,41 @@
+use craq_names::{Copied, Items, RequestNo, Value, Version};
+use std::alloc::{AllocError, Global};
+
+/// The reply to an update.
+#[derive(Debug, Drop)]
+pub enum Reply {
+    /// The object was written, and has this version.
+    Written(Version),
+    /// Nothing was written: the object has this version and not the expected one.
+    Mismatch(Version),
+    /// Nothing was written: the joined value would have more than 4,096 bytes.
+    TooLong,
+    /// Nothing was written: the object is there, and its value has not 8 bytes.
+    NotANumber,
+    /// Nothing was written: the sum would be above 2^64 - 1.
+    Overflow,
+    /// Nothing was written: the difference would be below 0.
+    Underflow,
+    /// The transaction was done; these were the objects that it reads, before its writes.
+    Done(Items<(Version, Value)>),
+    /// Nothing was written: the compare of this place, counted from 0, was the first to fail.
+    CompareFailed(u8),
+    /// The number is lower than the client's last one, which is this.
+    Stale(RequestNo),
+}
+
+impl Copied for Reply {
+    fn copied(&self, alloc: Global) -> Result<Self, AllocError> {
+        Ok(match self {
+            Reply::Written(version) => Reply::Written(*version),
+            Reply::Mismatch(version) => Reply::Mismatch(*version),
+            Reply::TooLong => Reply::TooLong,
+            Reply::NotANumber => Reply::NotANumber,
+            Reply::Overflow => Reply::Overflow,
+            Reply::Underflow => Reply::Underflow,
+            Reply::Done(objects) => Reply::Done(objects.copied(alloc)?),
+            Reply::CompareFailed(place) => Reply::CompareFailed(*place),
+            Reply::Stale(last) => Reply::Stale(*last),
+        })
+    }
+}

@@ -1,0 +1,161 @@
+ghost use Rattle.std.specs.Prelude.{◌≡◌, ◌≤◌, length, map};
+ghost use Rattle.std.specs.List.{list_any};
+ghost use Rattle.craq_names.specs.Limits.{item_limit};
+ghost use Rattle.craq_names.specs.declared.name.ObjectId.{ObjectId};
+ghost use Rattle.craq_commands.specs.Transaction.{mini_of, same_object, stands_twice, has_doubles};
+
+use craq_names::{Copied, Items, ObjectId, Refusal, Value, Version};
+use std::alloc::{AllocError, Global};
+use std::marker::Model;
+
+/// A mini-transaction: compares, reads and writes that happen together, in one chain.
+///
+/// Each list has at most 16 items and no object twice, and not all three are empty
+/// (mini-transactions as in the USENIX ATC 2009 paper; the limits are this project's profile).
+#[derive(Debug, Drop)]
+pub struct Mini {
+    compares: Items<(ObjectId, Version)>,
+    reads: Items<ObjectId>,
+    writes: Items<(ObjectId, Value)>,
+}
+
+impl Model for Mini {
+    ghost use Rattle.craq_commands.specs.Transaction.{Transaction, IsWithinLimits};
+
+    ghost Value = { Transaction };
+
+    ghost view = { λ m. record { compares = m.compares; reads = m.reads; writes = m.writes } };
+
+    ghost invariant = { λ m. IsWithinLimits (record { compares = m.compares; reads = m.reads; writes = m.writes }) };
+}
+
+/// An item of a list of a transaction.
+trait Named {
+    ghost object_named: { Self → ObjectId };
+
+    /// The object that the item names.
+    fn object(&self) -> &ObjectId
+        ensures { result.now ≡ object_named self.now };
+}
+
+impl Named for ObjectId {
+    ghost object_named = { λ o. o };
+
+    fn object(&self) -> &ObjectId {
+        self
+    }
+}
+
+impl<T> Named for (ObjectId, T) {
+    ghost object_named = { λ item. item.0 };
+
+    fn object(&self) -> &ObjectId {
+        &self.0
+    }
+}
+
+/// Whether one of the items names the object.
+fn is_among<T: Named>(object: &ObjectId, items: &[T]) -> bool
+    ensures { result ≡ list_any (same_object object.now) (map T.object_named items.now) }
+{
+    for item in items {
+        let named = item.object();
+        if object.chain == named.chain && object.key == named.key {
+            return true;
+        }
+    }
+    false
+}
+
+/// Whether two of the items name one object.
+fn has_double<T: Named>(items: &[T]) -> bool
+    ensures { result ≡ stands_twice (map T.object_named items.now) }
+{
+    for i in 0..items.len() {
+        if is_among(items[i].object(), &items[i + 1..]) {
+            return true;
+        }
+    }
+    false
+}
+
+/// Whether two items of one list name one object.
+fn has_doubles(
+    compares: &[(ObjectId, Version)],
+    reads: &[ObjectId],
+    writes: &[(ObjectId, Value)],
+) -> bool
+    ensures { result ≡ has_doubles (record { compares = compares.now; reads = reads.now; writes = writes.now }) }
+{
+    has_double(compares) || has_double(reads) || has_double(writes)
+}
+
+impl Mini {
+    /// The most items of each list.
+    pub const MOST_ITEMS: usize = 16;
+
+    /// A transaction that writes if each object of `compares` has its version, and then tells
+    /// what the objects of `reads` were before.
+    ///
+    /// The first of these that applies refuses it: `TooManyItems` where a list has more than 16
+    /// items, `EmptyTransaction` where all three are empty, `DuplicateKey` where an object stands
+    /// twice in one list (it may stand in several).
+    #[tactic(auto, using(crate::proofs::Doubles::distinct_unless_twice))]
+    pub fn new(
+        compares: Items<(ObjectId, Version)>,
+        reads: Items<ObjectId>,
+        writes: Items<(ObjectId, Value)>,
+    ) -> Result<Self, Refusal>
+        ensures { result ≡ mini_of (record { compares = compares; reads = reads; writes = writes }) }
+    {
+        let longest = compares.len().max(reads.len()).max(writes.len());
+        if longest > Mini::MOST_ITEMS {
+            return Err(Refusal::TooManyItems);
+        }
+        if longest == 0 {
+            return Err(Refusal::EmptyTransaction);
+        }
+        if has_doubles(compares.as_slice(), reads.as_slice(), writes.as_slice()) {
+            return Err(Refusal::DuplicateKey);
+        }
+        Ok(Mini {
+            compares,
+            reads,
+            writes,
+        })
+    }
+
+    /// The objects whose versions are compared, each with the version that it must have, in order.
+    pub fn compares(&self) -> &[(ObjectId, Version)]
+        ensures value { result.now ≡ self.now.compares }
+        ensures few { length result.now ≤ item_limit }
+    {
+        self.compares.as_slice()
+    }
+
+    /// The objects that are read, in order.
+    pub fn reads(&self) -> &[ObjectId]
+        ensures value { result.now ≡ self.now.reads }
+        ensures few { length result.now ≤ item_limit }
+    {
+        self.reads.as_slice()
+    }
+
+    /// The objects that are written, each with its new value, in order.
+    pub fn writes(&self) -> &[(ObjectId, Value)]
+        ensures value { result.now ≡ self.now.writes }
+        ensures few { length result.now ≤ item_limit }
+    {
+        self.writes.as_slice()
+    }
+}
+
+impl Copied for Mini {
+    fn copied(&self, alloc: Global) -> Result<Self, AllocError> {
+        Ok(Mini {
+            compares: self.compares.copied(alloc)?,
+            reads: self.reads.copied(alloc)?,
+            writes: self.writes.copied(alloc)?,
+        })
+    }
+}

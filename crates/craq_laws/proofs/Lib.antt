@@ -1,0 +1,5 @@
+pub mod Copies
+pub mod Histories
+pub mod Names
+pub mod Nodes
+pub mod Writes

@@ -1,0 +1,55 @@
+-- One step of a node.
+use Rattle.std.specs.Prelude.{◌+◌, ◌==◌, nat_le, Bool, true, false, ◌&&◌, if◌then◌else◌, List, [], length, count_by, Result, Ok, Err}
+use Rattle.std.specs.List.{list_all}
+use Rattle.craq_names.specs.Limits.{greatest_count}
+use Rattle.craq_names.specs.declared.refusal.Refusal.{Refusal}
+use Rattle.craq_names.specs.declared.refusal.Refusal.TheVariants as refusals
+use Rattle.craq_model.specs.declared.message.Body.{Body}
+use Rattle.craq_model.specs.declared.message.Body.TheVariants.{Copy}
+use Rattle.craq_model.specs.declared.message.LinkMessage.{LinkMessage}
+use Rattle.craq_model.specs.declared.ask.Event.{Event}
+use Rattle.craq_model.specs.declared.ask.Event.TheVariants.{Ask, Deliver, Tick, Stop}
+use Rattle.craq_model.specs.declared.step.Out.{Out}
+use Rattle.craq_model.specs.declared.step.Out.TheVariants.{Send, Answer}
+use Rattle.craq_model.specs.Plain.{Plain, id_of}
+use Rattle.craq_model.specs.Sends.{tick_sends}
+use Rattle.craq_model.specs.Settle.{Turn, turn_with}
+use Rattle.craq_model.specs.Asks.{ask_turn}
+use Rattle.craq_model.specs.Deliveries.{delivery_turn}
+
+-- the message is for this node
+abbrev pub is_for : Plain → LinkMessage → Bool
+is_for p m = (m.chain == p.name.chain) && (m.receiver == id_of p)
+
+-- what happens at a running node
+abbrev pub event_turn : Plain → Event → Result Turn Refusal
+event_turn p (Ask ask) = ask_turn p ask
+event_turn p (Deliver m) = if is_for p m then Ok (delivery_turn p m) else Err refusals.WrongNode
+event_turn p Tick = Ok (turn_with p (tick_sends p))
+event_turn p Stop = Ok (turn_with (record p { running = false }) [])
+
+-- a state is sent with counts that a message can hold
+abbrev pub counts_fit : Body → Bool
+counts_fit (Copy position objects kept) = nat_le (length objects) greatest_count && nat_le (length kept) greatest_count
+counts_fit body = true
+
+abbrev pub out_fits : Out → Bool
+out_fits (Send to m) = counts_fit m.body
+out_fits (Answer ticket answer) = true
+
+abbrev pub is_send : Out → Bool
+is_send (Send to m) = true
+is_send (Answer ticket answer) = false
+
+-- the sends have indexes, from 0, and the counts in them fit
+unfoldable pub outs_fit : List Out → Bool
+outs_fit outs = nat_le (count_by is_send outs) (greatest_count + 1) && list_all out_fits outs
+
+-- a step whose outs do not fit is refused
+abbrev pub within_counts : Result Turn Refusal → Result Turn Refusal
+within_counts (Ok t) = if outs_fit t.1.outs then Ok t else Err refusals.Exhausted
+within_counts (Err e) = Err e
+
+-- one step of a node: the node after it and the step, or a refusal
+unfoldable pub node_step : Plain → Event → Result Turn Refusal
+node_step p e = if p.running then within_counts (event_turn p e) else Err refusals.Stopped

@@ -1,0 +1,94 @@
+-- Which messages can be spelled as bytes, beyond the ranges that their types have.
+use Rattle.std.specs.Prelude.{◌≡◌, ◌<◌, ◌≤◌, ⊤, ℕ, T, List, [], map, length}
+use Rattle.std.specs.List.{AllByRecursion, IsDistinct}
+use Rattle.std.specs.Ordering.{nat_cmp}
+use Rattle.std.specs.FinMap.Entries.{is_sorted}
+use Rattle.craq_names.specs.Limits.{item_limit, greatest_count}
+use Rattle.craq_names.specs.Maps.{same_bytes, key_cmp}
+use Rattle.craq_commands.specs.declared.entry.Entry.{Entry}
+use Rattle.craq_commands.specs.declared.entry.Write.{Write}
+use Rattle.craq_commands.specs.declared.reply.Reply.{Reply}
+use Rattle.craq_commands.specs.declared.reply.Reply.TheVariants.{Written, Mismatch, TooLong, NotANumber, Overflow, Underflow, Done, CompareFailed, Stale}
+use Rattle.craq_commands.specs.Kept.{Kept}
+use Rattle.craq_model.specs.declared.message.Body.{Body}
+use Rattle.craq_model.specs.declared.message.Body.TheVariants as bodies
+use Rattle.craq_model.specs.declared.message.LinkMessage.{LinkMessage}
+use Rattle.craq_model.specs.Members.{IsMembership}
+
+-- an object's version and value: an absent one has no bytes
+abbrev pub IsObjectRead : ℕ × List ℕ → Type 0
+IsObjectRead object = object.0 ≡ 0 → object.1 ≡ []
+
+-- what is known of a reply to a client
+abbrev pub IsReply : Reply → Type 0
+IsReply (Written version) = 1 ≤ version
+IsReply (Mismatch version) = ⊤
+IsReply TooLong = ⊤
+IsReply NotANumber = ⊤
+IsReply Overflow = ⊤
+IsReply Underflow = ⊤
+IsReply (Done objects) = (length objects ≤ item_limit) × AllByRecursion IsObjectRead objects
+IsReply (CompareFailed place) = place < item_limit
+IsReply (Stale last) = ⊤
+
+-- the reply of an update that was new
+abbrev pub IsNotStale : Reply → Type 0
+IsNotStale (Written version) = ⊤
+IsNotStale (Mismatch version) = ⊤
+IsNotStale TooLong = ⊤
+IsNotStale NotANumber = ⊤
+IsNotStale Overflow = ⊤
+IsNotStale Underflow = ⊤
+IsNotStale (Done objects) = ⊤
+IsNotStale (CompareFailed place) = ⊤
+IsNotStale (Stale last) = ⊥
+
+-- an entry that can be spelled: no key is written twice
+pub record IsSpelledEntry (e : Entry) : Type 0 where
+  pub position : 1 ≤ e.position
+  pub origin_node : 1 ≤ e.origin_node
+  pub origin_ticket : 1 ≤ e.origin_ticket
+  pub reply : IsReply e.reply
+  pub not_stale : IsNotStale e.reply
+  pub few : length e.writes ≤ item_limit
+  pub versions : AllByRecursion (λ (w : Write). 1 ≤ w.version) e.writes
+  pub once : IsDistinct same_bytes (map (λ (w : Write). w.key) e.writes)
+
+-- a state that can be spelled: keys and clients rise
+pub record IsSpelledState (objects : List (List ℕ × (ℕ × List ℕ))) (kept : List (ℕ × Kept)) : Type 0 where
+  pub few_objects : length objects ≤ greatest_count
+  pub few_kept : length kept ≤ greatest_count
+  pub versions : AllByRecursion (λ (o : List ℕ × (ℕ × List ℕ)). 1 ≤ o.1.0) objects
+  pub replies : AllByRecursion (λ (k : ℕ × Kept). IsReply k.1.1 × IsNotStale k.1.1) kept
+  pub keys_rise : T (is_sorted key_cmp objects)
+  pub clients_rise : T (is_sorted nat_cmp kept)
+
+-- what a message says can be spelled
+abbrev pub IsSpelledBody : Body → Type 0
+IsSpelledBody (bodies.Config members) = IsMembership members
+IsSpelledBody (bodies.Entry e) = IsSpelledEntry e
+IsSpelledBody (bodies.Ack position) = ⊤
+IsSpelledBody (bodies.Query ticket key) = 1 ≤ ticket
+IsSpelledBody (bodies.VersionIs ticket version) = 1 ≤ ticket
+IsSpelledBody (bodies.Blank count) = ⊤
+IsSpelledBody (bodies.Copy position objects kept) = (1 ≤ position) × IsSpelledState objects kept
+IsSpelledBody (bodies.Floor count) = ⊤
+
+-- memberships are from the master, which is node 0, and all else from nodes
+abbrev pub IsFromItsSender : ℕ → Body → Type 0
+IsFromItsSender sender (bodies.Config members) = sender ≡ 0
+IsFromItsSender sender (bodies.Entry e) = 1 ≤ sender
+IsFromItsSender sender (bodies.Ack position) = 1 ≤ sender
+IsFromItsSender sender (bodies.Query ticket key) = 1 ≤ sender
+IsFromItsSender sender (bodies.VersionIs ticket version) = 1 ≤ sender
+IsFromItsSender sender (bodies.Blank count) = 1 ≤ sender
+IsFromItsSender sender (bodies.Copy position objects kept) = 1 ≤ sender
+IsFromItsSender sender (bodies.Floor count) = 1 ≤ sender
+
+-- the message can be spelled
+pub record IsSpelled (m : LinkMessage) : Type 0 where
+  pub sender : IsFromItsSender m.sender m.body
+  pub receiver : 1 ≤ m.receiver
+  pub stamp : 1 ≤ m.stamp
+  pub epoch : 1 ≤ m.epoch
+  pub body : IsSpelledBody m.body

@@ -1,0 +1,70 @@
+use crate::LinkMessage;
+use craq_commands::{ReadMode, Reply, Update};
+use craq_names::{Copied, ObjectId, Value, Version};
+use std::alloc::{AllocError, Global};
+
+/// What a client asks of a node.
+#[derive(Debug, Drop)]
+pub enum Ask {
+    /// An update, asked of the head.
+    Update(Update),
+    /// A read of an object, asked of any node.
+    Read { mode: ReadMode, object: ObjectId },
+}
+
+impl Copied for Ask {
+    fn copied(&self, alloc: Global) -> Result<Self, AllocError> {
+        Ok(match self {
+            Ask::Update(update) => Ask::Update(update.copied(alloc)?),
+            Ask::Read { mode, object } => Ask::Read {
+                mode: *mode,
+                object: object.copied(alloc)?,
+            },
+        })
+    }
+}
+
+/// What a node answers to an ask.
+#[derive(Debug, Drop)]
+pub enum Answer {
+    /// The reply to an update.
+    Update(Reply),
+    /// The version and value that a read found.
+    Read { version: Version, value: Value },
+}
+
+impl Copied for Answer {
+    fn copied(&self, alloc: Global) -> Result<Self, AllocError> {
+        Ok(match self {
+            Answer::Update(reply) => Answer::Update(reply.copied(alloc)?),
+            Answer::Read { version, value } => Answer::Read {
+                version: *version,
+                value: value.copied(alloc)?,
+            },
+        })
+    }
+}
+
+/// What happens at a node.
+#[derive(Debug, Drop)]
+pub enum Event {
+    /// A client asks.
+    Ask(Ask),
+    /// A message arrives.
+    Deliver(LinkMessage),
+    /// The node repeats what it has to send.
+    Tick,
+    /// The node halts for good.
+    Stop,
+}
+
+impl Copied for Event {
+    fn copied(&self, alloc: Global) -> Result<Self, AllocError> {
+        Ok(match self {
+            Event::Ask(ask) => Event::Ask(ask.copied(alloc)?),
+            Event::Deliver(message) => Event::Deliver(message.copied(alloc)?),
+            Event::Tick => Event::Tick,
+            Event::Stop => Event::Stop,
+        })
+    }
+}

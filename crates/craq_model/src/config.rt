@@ -1,0 +1,18 @@
+use craq_names::{Copied, Epoch, Items, NodeId};
+use std::alloc::{AllocError, Global};
+
+/// A membership of a chain: its members, head first, and its number. The first has epoch 1.
+#[derive(Debug, Drop)]
+pub struct Config {
+    pub epoch: Epoch,
+    pub members: Items<NodeId>,
+}
+
+impl Copied for Config {
+    fn copied(&self, alloc: Global) -> Result<Self, AllocError> {
+        Ok(Config {
+            epoch: self.epoch,
+            members: self.members.copied(alloc)?,
+        })
+    }
+}

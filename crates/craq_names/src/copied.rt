@@ -1,0 +1,79 @@
+ghost use Rattle.std.specs.Prelude.{◌≡◌, IfOk};
+
+use crate::{ClientId, Items, Key, NodeId, ObjectId, RequestNo, Value, Version};
+use std::alloc::{AllocError, Global};
+
+/// A value that can be made again in other memory.
+pub trait Copied: Drop {
+    /// The same value, in memory of its own. It fails for want of memory alone.
+    fn copied(&self, alloc: Global) -> Result<Self, AllocError>
+        ensures { IfOk result (λ c. c ≡ self.now) };
+}
+
+impl Copied for Key {
+    fn copied(&self, alloc: Global) -> Result<Self, AllocError> {
+        Key::copy_of(alloc, self)
+    }
+}
+
+impl Copied for Value {
+    fn copied(&self, alloc: Global) -> Result<Self, AllocError> {
+        Value::copy_of(alloc, self)
+    }
+}
+
+impl Copied for Version {
+    fn copied(&self, _alloc: Global) -> Result<Self, AllocError> {
+        Ok(*self)
+    }
+}
+
+impl Copied for NodeId {
+    fn copied(&self, _alloc: Global) -> Result<Self, AllocError> {
+        Ok(*self)
+    }
+}
+
+impl Copied for ClientId {
+    fn copied(&self, _alloc: Global) -> Result<Self, AllocError> {
+        Ok(*self)
+    }
+}
+
+impl Copied for RequestNo {
+    fn copied(&self, _alloc: Global) -> Result<Self, AllocError> {
+        Ok(*self)
+    }
+}
+
+impl Copied for ObjectId {
+    fn copied(&self, alloc: Global) -> Result<Self, AllocError> {
+        Ok(ObjectId {
+            chain: self.chain,
+            key: self.key.copied(alloc)?,
+        })
+    }
+}
+
+impl<A: Copied, B: Copied> Copied for (A, B) {
+    fn copied(&self, alloc: Global) -> Result<Self, AllocError> {
+        Ok((self.0.copied(alloc)?, self.1.copied(alloc)?))
+    }
+}
+
+impl<T: Copied> Copied for Items<T> {
+    fn copied(&self, alloc: Global) -> Result<Self, AllocError> {
+        Ok(Items::of(copies_of(alloc, self.as_slice())?))
+    }
+}
+
+/// Copies of these items, in order.
+pub fn copies_of<T: Copied>(alloc: Global, items: &[T]) -> Result<Vec<T>, AllocError>
+    ensures { IfOk result (λ copies. copies.items ≡ items.now) }
+{
+    let mut copies = Vec::new(alloc);
+    for item in items {
+        copies.push(item.copied(alloc)?)?;
+    }
+    Ok(copies)
+}

@@ -1,0 +1,189 @@
+ghost use Rattle.std.specs.Prelude.{◌≡◌, ◌<◌, ◌≤◌, ◌⊎◌, ◌↔◌, ℕ, List, [], length, nat_eq, refl, Err, Some, IfOk, IfErr};
+ghost use Rattle.std.specs.Ordering.{nat_cmp};
+ghost use Rattle.std.specs.Cmp.{partial_equiv_from_equiv};
+ghost use Rattle.std.specs.Cmp.Lexicographic.{pointwise, slice_cmp, nat_list_eq_equiv, nat_list_cmp_total, texts_ties, texts_po};
+
+use crate::Refusal;
+use std::alloc::{AllocError, Global};
+use std::cmp::Ordering;
+use std::marker::Model;
+
+/// The key of an object: 1 to 128 bytes. Keys stand in the order of their bytes.
+#[derive(Debug, Drop)]
+pub struct Key {
+    bytes: Vec<u8>,
+}
+
+impl Model for Key {
+    ghost Value = { List ℕ };
+
+    ghost view = { λ k. k.bytes.items };
+
+    ghost invariant = { λ k. (1 ≤ length k.bytes.items) × (length k.bytes.items ≤ 128) };
+}
+
+impl Key {
+    /// The most bytes of a key.
+    pub const MAX: usize = 128;
+
+    /// A key of these bytes. `BadKey` exactly where there are none, or more than 128.
+    pub fn new(alloc: Global, bytes: &[u8]) -> Result<Self, Refusal>
+        ensures key { IfOk result (λ k. k ≡ bytes.now) }
+        ensures bad { (result ≡ Err Refusal.BadKey) ↔ ((length bytes.now ≡ 0) ⊎ (128 < length bytes.now)) }
+        ensures err { IfErr result (λ e. (e ≡ Refusal.BadKey) ⊎ (e ≡ Refusal.Memory)) }
+    {
+        if bytes.is_empty() || bytes.len() > Key::MAX {
+            return Err(Refusal::BadKey);
+        }
+        Ok(Key {
+            bytes: Vec::from_slice(alloc, bytes)?,
+        })
+    }
+
+    /// The key's bytes.
+    pub fn as_slice(&self) -> &[u8]
+        ensures value { result.now ≡ self.now }
+        ensures some { 1 ≤ length self.now }
+        ensures short { length self.now ≤ 128 }
+    {
+        self.bytes.as_slice()
+    }
+
+    /// The same key, in memory of its own.
+    pub(crate) fn copy_of(alloc: Global, key: &Key) -> Result<Self, AllocError>
+        ensures { IfOk result (λ k. k ≡ key.now) }
+    {
+        Ok(Key {
+            bytes: Vec::from_slice(alloc, key.bytes.as_slice())?,
+        })
+    }
+}
+
+impl Clone for Key {
+    ghost is_clone = { λ k c. c ≡ k };
+
+    fn clone(&self) -> Result<Self, AllocError> {
+        Ok(Key {
+            bytes: self.bytes.clone()?,
+        })
+    }
+}
+
+impl PartialEq for Key {
+    ghost eq = { pointwise nat_eq };
+
+    ghost laws = { partial_equiv_from_equiv nat_list_eq_equiv };
+
+    fn eq(&self, other: &Self) -> bool {
+        self.bytes == other.bytes
+    }
+}
+
+impl Eq for Key {
+    ghost laws = { nat_list_eq_equiv };
+}
+
+impl PartialOrd for Key {
+    ghost partial_cmp = { λ x y. Some (slice_cmp nat_cmp x y) };
+
+    ghost laws = { texts_po };
+
+    fn partial_cmp(&self, other: &Self) -> Option<Ordering> {
+        Some(self.cmp(other))
+    }
+}
+
+impl Ord for Key {
+    ghost cmp = { slice_cmp nat_cmp };
+
+    ghost total = { nat_list_cmp_total };
+
+    ghost matches_partial_cmp = { λ x y. refl };
+
+    ghost matches_eq = { texts_ties };
+
+    fn cmp(&self, other: &Self) -> Ordering {
+        self.bytes.cmp(&other.bytes)
+    }
+}
+
+/// The value of an object: 0 to 4,096 bytes.
+#[derive(Debug, Drop)]
+pub struct Value {
+    bytes: Vec<u8>,
+}
+
+impl Model for Value {
+    ghost Value = { List ℕ };
+
+    ghost view = { λ k. k.bytes.items };
+
+    ghost invariant = { λ k. length k.bytes.items ≤ 4096 };
+}
+
+impl Value {
+    /// The most bytes of a value.
+    pub const MAX: usize = 4096;
+
+    /// A value of these bytes. `ValueTooLong` exactly where there are more than 4,096.
+    pub fn new(alloc: Global, bytes: &[u8]) -> Result<Self, Refusal>
+        ensures value { IfOk result (λ v. v ≡ bytes.now) }
+        ensures bad { (result ≡ Err Refusal.ValueTooLong) ↔ (4096 < length bytes.now) }
+        ensures err { IfErr result (λ e. (e ≡ Refusal.ValueTooLong) ⊎ (e ≡ Refusal.Memory)) }
+    {
+        if bytes.len() > Value::MAX {
+            return Err(Refusal::ValueTooLong);
+        }
+        Ok(Value {
+            bytes: Vec::from_slice(alloc, bytes)?,
+        })
+    }
+
+    /// The value's bytes.
+    pub fn as_slice(&self) -> &[u8]
+        ensures value { result.now ≡ self.now }
+        ensures short { length self.now ≤ 4096 }
+    {
+        self.bytes.as_slice()
+    }
+
+    /// The value of no bytes, as an absent object has it. It takes no memory.
+    pub fn empty(alloc: Global) -> Self
+        ensures { result ≡ [] }
+    {
+        Value {
+            bytes: Vec::new(alloc),
+        }
+    }
+
+    /// These bytes, of which the caller knows that there are at most 4,096.
+    pub fn of(bytes: Vec<u8>) -> Self
+        requires { length bytes.items ≤ 4096 }
+        ensures { result ≡ bytes.items }
+    {
+        Value { bytes }
+    }
+
+    /// The same value, in memory of its own.
+    pub(crate) fn copy_of(alloc: Global, value: &Value) -> Result<Self, AllocError>
+        ensures { IfOk result (λ v. v ≡ value.now) }
+    {
+        Ok(Value {
+            bytes: Vec::from_slice(alloc, value.bytes.as_slice())?,
+        })
+    }
+}
+
+impl PartialEq for Value {
+    ghost eq = { pointwise nat_eq };
+
+    ghost laws = { partial_equiv_from_equiv nat_list_eq_equiv };
+
+    fn eq(&self, other: &Self) -> bool {
+        self.bytes == other.bytes
+    }
+}
+
+impl Eq for Value {
+    ghost laws = { nat_list_eq_equiv };
+}

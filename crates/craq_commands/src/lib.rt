@@ -4,6 +4,7 @@
 mod command;
 mod entry;
 mod evaluation;
+mod objects;
 mod read_mode;
 mod reply;
 mod transaction;

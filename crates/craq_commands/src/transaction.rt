@@ -30,7 +30,7 @@ impl Model for Mini {
 }
 
 /// An item of a list of a transaction.
-trait Named {
+pub(crate) trait Named {
     ghost object_named: { Self → ObjectId };
 
     /// The object that the item names.

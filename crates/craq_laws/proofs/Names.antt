@@ -19,7 +19,8 @@ use Rattle.craq_model.specs.declared.ask.Event.TheVariants as events
 use Rattle.craq_model.specs.declared.step.Out.{Out}
 use Rattle.craq_model.specs.declared.step.Step.{Step}
 use Rattle.craq_commands.specs.Evaluation.{eval}
-use Rattle.craq_model.specs.Plain.{Plain, WaitingRead, newest, successor, position_of}
+use Rattle.craq_model.specs.declared.waiting.WaitingRead.{WaitingRead}
+use Rattle.craq_model.specs.Plain.{Plain, newest, successor, position_of}
 use Rattle.craq_model.specs.Sends.{to_neighbour, send_all, entry_bodies}
 use Rattle.craq_model.specs.Settle.{Turn, settling_turn, readiness_turn}
 use Rattle.craq_model.specs.Asks.{with_entry, entry_of, committed_if_last, reply_turn, update_turn, waiting_read_turn, read_turn, accepted_ask_turn, ask_turn}

@@ -11,7 +11,9 @@ use Rattle.craq_model.specs.declared.message.LinkMessage.{LinkMessage}
 use Rattle.craq_model.specs.declared.step.Out.TheVariants as outs
 use Rattle.craq_model.specs.declared.step.Why.TheVariants.{OtherEpoch, NotNeighbour, OutOfOrder, AlreadyHave, NotReadyHere, UnknownTicket, TooFar}
 use Rattle.craq_model.specs.Members.{is_member, is_id, last_of}
-use Rattle.craq_model.specs.Plain.{Plain, WaitingUpdate, WaitingRead, id_of, successor, predecessor, is_tail, length_of, newest, clean, newest_object, clean_object, object_within}
+use Rattle.craq_model.specs.declared.waiting.WaitingUpdate.{WaitingUpdate}
+use Rattle.craq_model.specs.declared.waiting.WaitingRead.{WaitingRead}
+use Rattle.craq_model.specs.Plain.{Plain, id_of, successor, predecessor, is_tail, length_of, newest, clean, newest_object, clean_object, object_within}
 use Rattle.craq_model.specs.Sends.{send, send_all, to_neighbour, entry_bodies, copy_bodies, catch_up}
 use Rattle.craq_model.specs.Settle.{Turn, turn_with, turn_ignoring, read_answer, update_given, answer_outs, settling_turn, readiness_turn}
 use Rattle.craq_model.specs.Asks.{with_entry}

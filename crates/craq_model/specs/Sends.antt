@@ -7,7 +7,8 @@ use Rattle.craq_commands.specs.SingleCopy.{State}
 use Rattle.craq_model.specs.declared.step.Out.{Out}
 use Rattle.craq_model.specs.declared.step.Out.TheVariants.{Send}
 use Rattle.craq_model.specs.Members.{last_of}
-use Rattle.craq_model.specs.Plain.{Plain, WaitingRead, id_of, successor, predecessor, is_last, length_of, entries_after}
+use Rattle.craq_model.specs.declared.waiting.WaitingRead.{WaitingRead}
+use Rattle.craq_model.specs.Plain.{Plain, id_of, successor, predecessor, is_last, length_of, entries_after}
 
 -- a message to a node, in the node's epoch. Its stamp and index are set elsewhere
 abbrev pub send : Plain → ℕ → Body → Out

@@ -1,0 +1,92 @@
+-- When a world of the protocol stands for a chain.
+use Rattle.std.specs.Prelude.{◌≡◌, ℕ, suc, ◌≤◌, Bool, List, [], ◌∷◌, ◌++◌, map, length, Option, Some}
+use Rattle.std.specs.List.{AllByRecursion}
+use Rattle.craq_commands.specs.declared.entry.Entry.{Entry}
+use Rattle.craq_commands.specs.SingleCopy.{State, opening_state, after_entries}
+use Rattle.craq_model.specs.declared.message.Body.{Body}
+use Rattle.craq_model.specs.declared.message.Body.TheVariants as bodies
+use Rattle.craq_model.specs.declared.message.LinkMessage.{LinkMessage}
+use Rattle.craq_model.specs.Plain.{Plain, id_of}
+use Rattle.craq_protocol.specs.Machine as machine
+use Rattle.craq_protocol.specs.Machine.{World, Message, known_membership, current_membership}
+use Rattle.craq_protocol.specs.Members.{membership_of}
+use Rattle.craq_protocol.specs.Promises.{Sent}
+use Rattle.craq_runs.specs.Chain.{Chain, node_at}
+
+-- the entries stand at their positions, after so many others
+abbrev pub IsPlaced : ℕ → List Entry → Type 0
+IsPlaced count [] = Unit {0}
+IsPlaced count (e ∷ es) = (e.position ≡ suc count) × IsPlaced (suc count) es
+
+-- a base, the state after it and the entries that come then, in place of a whole history
+pub record IsHistory (base : ℕ) (state : State) (entries history : List Entry) : Type 0 where
+  pub front : List Entry
+  pub whole : front ++ entries ≡ history
+  pub count : length front ≡ base
+  pub after : after_entries opening_state front ≡ state
+
+-- what the protocol sees of a node
+pub record Seen : Type 0 where
+  pub id : ℕ
+  pub running : Bool
+  pub epoch : ℕ
+  pub members : List ℕ
+  pub ready : Bool
+  pub base : ℕ
+  pub base_state : State
+  pub entries : List Entry
+  pub acknowledged : ℕ
+  pub floor : Option ℕ
+
+abbrev pub seen_of : Plain → Seen
+seen_of p =
+    record {
+      id = id_of p;
+      running = p.running;
+      epoch = p.epoch;
+      members = p.members;
+      ready = p.ready;
+      base = p.base;
+      base_state = p.base_state;
+      entries = p.entries;
+      acknowledged = p.acknowledged;
+      floor = p.floor;
+    }
+
+-- the world has at the node's id what the node has; what the node knows by its state alone it knows to be committed
+pub record NodeFollows (w : World Entry) (s : Seen) : Type 0 where
+  pub running : w.running s.id ≡ s.running
+  pub epoch : w.epoch s.id ≡ s.epoch
+  pub members : known_membership w s.id ≡ s.members
+  pub ready : w.ready s.id ≡ s.ready
+  pub history : IsHistory s.base s.base_state s.entries (w.history s.id)
+  pub placed : IsPlaced 0 (w.history s.id)
+  pub acknowledged : w.acknowledged s.id ≡ s.acknowledged
+  pub based : s.base ≤ s.acknowledged
+  pub floor : w.floor s.id ≡ s.floor
+
+-- a message of the world
+abbrev pub said : ℕ → ℕ → ℕ → machine.Body Entry → Message Entry
+said epoch from to body = record { epoch = epoch; from = from; to = to; body = body }
+
+-- what a message of a chain says was sent in the world: a state stands for the entries that it is after
+abbrev pub BodyFollows : List (List ℕ) → List (Message Entry) → ℕ → ℕ → ℕ → Body → Type 0
+BodyFollows memberships messages epoch from to (bodies.Config members) = (epoch ≤ length memberships) × (membership_of memberships epoch ≡ members)
+BodyFollows memberships messages epoch from to (bodies.Entry e) = Sent messages (said epoch from to (machine.Entry e.position e))
+BodyFollows memberships messages epoch from to (bodies.Ack position) = Sent messages (said epoch from to (machine.Ack position))
+BodyFollows memberships messages epoch from to (bodies.Copy position objects kept) =
+    (entries : List Entry) × (length entries ≡ position) × (after_entries opening_state entries ≡ record { objects = objects; kept = kept })
+    × IsPlaced 0 entries × Sent messages (said epoch from to (machine.Copy entries))
+BodyFollows memberships messages epoch from to (bodies.Floor count) = Sent messages (said epoch from to (machine.Floor count))
+BodyFollows memberships messages epoch from to body = Unit {0}
+
+abbrev pub MessageFollows : List (List ℕ) → List (Message Entry) → LinkMessage → Type 0
+MessageFollows memberships messages m = BodyFollows memberships messages m.epoch m.sender m.receiver m.body
+
+-- the world stands for the chain: the same master, the same nodes, and each message was sent
+pub record Follows (c : Chain) (w : World Entry) : Type 0 where
+  pub epoch : length w.memberships ≡ c.epoch
+  pub members : current_membership w ≡ c.members
+  pub joined : w.joined ≡ map id_of c.nodes
+  pub nodes : (id : ℕ) (p : Plain) → node_at c.nodes id ≡ Some p → NodeFollows w (seen_of p)
+  pub messages : AllByRecursion (MessageFollows w.memberships w.messages) c.messages

@@ -1,0 +1,3 @@
+pub mod Switched
+pub mod Mastered
+pub mod Doubles

@@ -1,0 +1,71 @@
+ghost use Rattle.std.specs.Prelude.{◌≡◌, ◌≤◌, ◌↔◌, ℕ, IsTrue, IfOk};
+ghost use Rattle.std.specs.List.{AllByRecursion};
+ghost use Rattle.craq_names.specs.Limits.{greatest_count};
+ghost use Rattle.craq_model.specs.Members.{IsMembership, is_member, without};
+ghost use Rattle.craq_epochs.specs.Doubles.{stands_twice};
+
+use craq_names::NodeId;
+use std::alloc::{AllocError, Global};
+
+/// The most members of a chain.
+pub const MEMBER_LIMIT: usize = 8;
+
+/// Whether the id is one of these.
+#[tactic(auto, unfolding(craq_model::specs::Members::is_member))]
+pub fn is_among(ids: &[NodeId], id: NodeId) -> bool
+    ensures { result ≡ is_member ids.now id }
+{
+    for member in ids {
+        if *member == id {
+            return true;
+        }
+    }
+    false
+}
+
+/// The ids but this one, in order.
+#[tactic(auto, unfolding(craq_model::specs::Members::without))]
+pub fn all_but(alloc: Global, ids: &[NodeId], id: NodeId) -> Result<Vec<NodeId>, AllocError>
+    ensures { IfOk result (λ others. others.items ≡ without ids.now id) }
+{
+    let mut others = Vec::new(alloc);
+    for member in ids {
+        if *member != id {
+            others.push(*member)?;
+        }
+    }
+    Ok(others)
+}
+
+/// Whether some id stands there twice.
+fn has_double(ids: &[NodeId]) -> bool
+    ensures { result ≡ stands_twice ids.now }
+{
+    for i in 0..ids.len() {
+        if is_among(&ids[i + 1..], ids[i]) {
+            return true;
+        }
+    }
+    false
+}
+
+/// Whether none of the ids is 0, which is the master's.
+fn all_are_nodes(ids: &[NodeId]) -> bool
+    ensures { IsTrue result ↔ AllByRecursion (λ id. (1 ≤ id) × (id ≤ greatest_count)) ids.now }
+{
+    for id in ids {
+        if id.get() == 0 {
+            return false;
+        }
+    }
+    true
+}
+
+/// Whether a chain can have these members: 1 to 8 ids from 1, none twice (this project's profile).
+#[tactic(auto, using(crate::proofs::Doubles::distinct_unless_twice, crate::proofs::Doubles::once_where_distinct))]
+pub fn is_membership(members: &[NodeId]) -> bool
+    ensures { IsTrue result ↔ IsMembership members.now }
+{
+    let count = members.len();
+    1 <= count && count <= MEMBER_LIMIT && all_are_nodes(members) && !has_double(members)
+}

@@ -1,0 +1,126 @@
+ghost use Rattle.std.specs.Prelude.{◌≡◌, ◌+◌, ◌-◌, ◌<◌, ◌≤◌, [], ◌∷◌, ◌++◌, drop, vec_len, vec_capacity, IsOk, OnOk, OnErr};
+ghost use Rattle.craq_log.specs.Suffixed.{length_of, entries_after, AreConsecutive};
+
+use craq_commands::Entry;
+use craq_names::Seq;
+use std::alloc::{AllocError, Global};
+use std::marker::Model;
+
+/// The entries of a history after a base position, one after another.
+///
+/// What is acknowledged is let go (a node remembers what it forwarded until it is acknowledged: the list of
+/// sent updates of the OSDI 2004 paper). Letting go costs on average what the entries let go have cost,
+/// however many stay.
+#[derive(Drop)]
+pub struct Suffix {
+    start: u64,
+    entries: Vec<Entry>,
+    settled: usize,
+}
+
+impl Model for Suffix {
+    ghost use Rattle.std.specs.Prelude.{◌+◌, ◌-◌, drop, vec_len, vec_capacity};
+    ghost use Rattle.craq_log.specs.Suffixed.{Suffixed, IsStored};
+
+    ghost Value = { Suffixed };
+
+    ghost view = { λ s. record {
+      base = s.start + s.settled;
+      entries = drop s.settled s.entries.items;
+      room = vec_capacity s.entries - vec_len s.entries;
+    } };
+
+    ghost invariant = { λ s. IsStored s.start s.settled s.entries.items };
+}
+
+impl Suffix {
+    /// No entries, after this position. It takes no memory.
+    pub fn new(alloc: Global, base: Seq) -> Self
+        ensures base { result.base ≡ base }
+        ensures entries { result.entries ≡ [] }
+    {
+        Suffix {
+            start: base.get(),
+            entries: Vec::new(alloc),
+            settled: 0,
+        }
+    }
+
+    /// How many entries of the history stand before these.
+    pub fn base(&self) -> Seq
+        ensures { result ≡ self.now.base }
+    {
+        Seq::new(self.start + self.settled as u64)
+    }
+
+    /// How many entries the history has: the base, and these.
+    pub fn len(&self) -> Seq
+        ensures { result ≡ length_of self.now }
+    {
+        Seq::new(self.start + self.entries.len() as u64)
+    }
+
+    /// Makes room for this many more entries, whose `append` then takes no memory. The entries stay in
+    /// either case.
+    pub fn reserve(&mut self, additional: usize) -> Result<(), AllocError>
+        ensures base { self.new.base ≡ self.old.base }
+        ensures entries { self.new.entries ≡ self.old.entries }
+        ensures ok { OnOk result (additional ≤ self.new.room) }
+        ensures room { self.old.room ≤ self.new.room }
+        ensures succeeds { additional ≤ self.old.room → IsOk result }
+    {
+        self.entries.reserve(additional)
+    }
+
+    /// One more entry, at the next position. Where memory is refused the entries stay; where there is room
+    /// it isn't.
+    pub fn append(&mut self, entry: Entry) -> Result<(), AllocError>
+        requires { entry.position ≡ length_of self.old + 1 }
+        ensures base { self.new.base ≡ self.old.base }
+        ensures ok { OnOk result (self.new.entries ≡ self.old.entries ++ entry ∷ []) }
+        ensures err { OnErr result (self.new.entries ≡ self.old.entries) }
+        ensures room { self.old.room ≤ self.new.room + 1 }
+        ensures succeeds { 0 < self.old.room → IsOk result }
+    {
+        let _position = entry.position.get();
+        self.entries.reserve(1)?;
+        self.entries.push_reserved(entry);
+        Ok(())
+    }
+
+    /// Lets go the entries up to this position, which becomes the base. It takes no memory.
+    pub fn acknowledge(&mut self, position: Seq)
+        requires held { self.old.base ≤ position }
+        requires known { position ≤ length_of self.old }
+        ensures base { self.new.base ≡ position }
+        ensures entries { self.new.entries ≡ entries_after self.old position }
+        ensures room { self.old.room ≤ self.new.room }
+    {
+        self.settled = (position.get() - self.start) as usize;
+        if self.settled >= self.entries.len() - self.settled {
+            let_go(&mut self.entries, self.settled);
+            self.start = position.get();
+            self.settled = 0;
+        }
+    }
+
+    /// The entries after a position, one after another. It takes no memory.
+    pub fn from(&self, position: Seq) -> &[Entry]
+        requires held { self.now.base ≤ position }
+        requires known { position ≤ length_of self.now }
+        ensures entries { result.now ≡ entries_after self.now position }
+        ensures consecutive { AreConsecutive position result.now }
+    {
+        let first = (position.get() - self.start) as usize;
+        &self.entries.as_slice()[first..]
+    }
+}
+
+/// Drops the first of the entries, this many. The vector keeps its memory.
+fn let_go(entries: &mut Vec<Entry>, count: usize)
+    requires { count ≤ vec_len entries.old }
+    ensures items { entries.new.items ≡ drop count entries.old.items }
+    ensures capacity { vec_capacity entries.new ≡ vec_capacity entries.old }
+{
+    entries.drain(..count);
+}

@@ -1,0 +1,5 @@
+pub mod Members
+pub mod Machine
+pub mod Promises
+pub mod Schedules
+pub mod Wrong

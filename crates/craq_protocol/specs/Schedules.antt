@@ -1,0 +1,44 @@
+-- Lists of moves that show the machine at work. Entries are numbers.
+use Rattle.std.specs.Prelude.{ℕ, List, [], ◌∷◌, ◌++◌}
+use Rattle.craq_protocol.specs.Machine.{World, Move, opening, after_moves, Append, Take, Become_ready, Adopt, Stop, Remove, Join, Send_entry, Send_ack, Send_copy, Send_floor}
+
+-- where moves lead from an opening of the chain 1, 2, 3
+abbrev pub from_three : List (Move ℕ) → World ℕ
+from_three moves = after_moves (opening (1 ∷ 2 ∷ 3 ∷ [])) moves
+
+-- the entry at a place goes from one node to another
+abbrev pub entry_passes : ℕ → ℕ → ℕ → List (Move ℕ)
+entry_passes from to place = Send_entry from to place ∷ Take to 0 ∷ []
+
+-- what is committed is told to the node before
+abbrev pub ack_passes : ℕ → ℕ → List (Move ℕ)
+ack_passes from to = Send_ack from to ∷ Take to 0 ∷ []
+
+-- each of the nodes learns of the membership of an epoch
+abbrev pub all_adopt : ℕ → List ℕ → List (Move ℕ)
+all_adopt epoch [] = []
+all_adopt epoch (node ∷ nodes) = Adopt node epoch ∷ all_adopt epoch nodes
+
+-- in the chain 1, 2, 3 the entry 7 is committed and acknowledged
+abbrev pub commits_at_three : List (Move ℕ)
+commits_at_three = (Append 1 7 ∷ []) ++ entry_passes 1 2 1 ++ entry_passes 2 3 1 ++ ack_passes 3 2 ++ ack_passes 2 1
+
+-- then 4 joins, is brought up to date and becomes ready, and 8 is committed there
+abbrev pub fourth_joins : List (Move ℕ)
+fourth_joins =
+    (Join 4 ∷ []) ++ all_adopt 2 (3 ∷ 4 ∷ 2 ∷ 1 ∷ []) ++ (Send_copy 3 4 ∷ Take 4 0 ∷ Send_floor 3 4 ∷ Take 4 0 ∷ Become_ready 4 ∷ [])
+    ++ (Append 1 8 ∷ []) ++ entry_passes 1 2 2 ++ entry_passes 2 3 2 ++ entry_passes 3 4 2
+
+-- then 2 fails and is removed, and 9 is committed and acknowledged in the chain 1, 3, 4
+abbrev pub second_fails : List (Move ℕ)
+second_fails =
+    (Stop 2 ∷ Remove 2 ∷ Append 1 9 ∷ []) ++ all_adopt 3 (1 ∷ 3 ∷ 4 ∷ []) ++ entry_passes 1 3 3 ++ entry_passes 3 4 3
+    ++ ack_passes 4 3 ++ ack_passes 3 1
+
+-- in the chain 1, 2, 3 the head takes 8 and 9 after 7 was committed, and fails before anybody has them
+abbrev pub head_fails : List (Move ℕ)
+head_fails = Append 1 8 ∷ Append 1 9 ∷ Send_entry 1 2 2 ∷ Stop 1 ∷ Remove 1 ∷ []
+
+-- the chain 2, 3 goes on with 10
+abbrev pub next_head_goes_on : List (Move ℕ)
+next_head_goes_on = all_adopt 2 (2 ∷ 3 ∷ []) ++ (Take 2 0 ∷ Append 2 10 ∷ []) ++ entry_passes 2 3 2

@@ -1,0 +1,69 @@
+//! What holds at all times, whatever happens, and whatever messages are lost, repeated or late.
+
+ghost use Rattle.std.specs.Prelude.{◌≡◌, ◌<◌, ◌≤◌, ℕ, List, length, take, true};
+ghost use Rattle.craq_protocol.specs.Machine.{Ack, Copy, Message, World, current_membership, is_tail, known_membership};
+ghost use Rattle.craq_protocol.specs.Members.{IsDistinct, is_member, membership_of};
+ghost use Rattle.craq_protocol.specs.Promises.{Before, IsPrefix, IsReached, Sent};
+
+/// What is committed is a beginning of the history of each member that is ready.
+pub fn ready_members_hold_the_log<T>()
+    ensures { (w : World T) (node : ℕ) → IsReached w
+        → w.ready node ≡ true → is_member (current_membership w) node ≡ true
+        → IsPrefix w.log (w.history node) }
+{}
+
+/// The entries that a node knows to be committed are committed: they are the first of the log, and the node holds them.
+pub fn acknowledged_is_committed<T>()
+    ensures held { (w : World T) (node : ℕ) → IsReached w
+        → w.acknowledged node ≤ length (w.history node) }
+    ensures committed { (w : World T) (node : ℕ) → IsReached w
+        → w.acknowledged node ≤ length w.log }
+    ensures same { (w : World T) (node : ℕ) → IsReached w
+        → take (w.acknowledged node) (w.history node) ≡ take (w.acknowledged node) w.log }
+{}
+
+/// There is one tail at most, also while nodes know different memberships; its history is the log, and it knows that all
+/// of it is committed.
+pub fn one_tail_holds_the_log<T>()
+    ensures one { (w : World T) (node other : ℕ) → IsReached w
+        → is_tail w node ≡ true → is_tail w other ≡ true → node ≡ other }
+    ensures log { (w : World T) (node : ℕ) → IsReached w
+        → is_tail w node ≡ true → w.history node ≡ w.log }
+    ensures known { (w : World T) (node : ℕ) → IsReached w
+        → is_tail w node ≡ true → w.acknowledged node ≡ length (w.history node) }
+{}
+
+/// Each acknowledgement and each copy that was ever sent is of a beginning of the log.
+pub fn messages_are_of_the_log<T>()
+    ensures ack { (w : World T) (message : Message T) (count : ℕ) → IsReached w
+        → Sent w.messages message → message.body ≡ Ack count → count ≤ length w.log }
+    ensures copy { (w : World T) (message : Message T) (entries : List T) → IsReached w
+        → Sent w.messages message → message.body ≡ Copy entries → IsPrefix entries w.log }
+{}
+
+/// In the membership that a node knows, and in the newest one, a node's history is a beginning of that of each node
+/// before it (the invariant of chain replication's updates: van Renesse and Schneider, OSDI 2004).
+pub fn predecessors_hold_more<T>()
+    ensures known { (w : World T) (node other : ℕ) → IsReached w
+        → Before (known_membership w node) other node → IsPrefix (w.history node) (w.history other) }
+    ensures current { (w : World T) (node other : ℕ) → IsReached w
+        → Before (current_membership w) other node → IsPrefix (w.history node) (w.history other) }
+{}
+
+/// The members before a ready one are ready.
+pub fn predecessors_are_ready<T>()
+    ensures { (w : World T) (node other : ℕ) → IsReached w
+        → Before (current_membership w) other node → w.ready node ≡ true → w.ready other ≡ true }
+{}
+
+/// No membership has an id twice; a node knows only memberships that were made, and of which it is a member; a node that
+/// runs is a member of the newest one.
+pub fn memberships_are_sound<T>()
+    ensures distinct { (w : World T) (epoch : ℕ) → IsReached w
+        → IsDistinct (membership_of w.memberships epoch) }
+    ensures made { (w : World T) (node : ℕ) → IsReached w → w.epoch node ≤ length w.memberships }
+    ensures member { (w : World T) (node : ℕ) → IsReached w
+        → 0 < w.epoch node → is_member (known_membership w node) node ≡ true }
+    ensures running { (w : World T) (node : ℕ) → IsReached w
+        → w.running node ≡ true → is_member (current_membership w) node ≡ true }
+{}

@@ -1,0 +1,172 @@
+ghost use Rattle.std.specs.Prelude.{◌≡◌, ◌≢◌, ◌+◌, ◌-◌, ◌<◌, ◌≤◌, [], ◌∷◌, ◌++◌, ◌==◌, if◌then◌else◌, max, drop, length, IsOk, OnOk, OnErr, IsTrue, ◌↔◌};
+ghost use Rattle.std.specs.Option.{option_copied, option_map};
+ghost use Rattle.std.specs.VecDeque.{deque_len, deque_capacity};
+ghost use Rattle.craq_names.specs.Maps.{at_number};
+ghost use Rattle.craq_versions.specs.Versions.{newest_of, newest_within, versions_from, AreVersions, CanPush, CanSettle};
+
+use craq_names::{Value, Version};
+use std::alloc::{AllocError, Global};
+use std::collections::VecDeque;
+use std::marker::Model;
+
+/// The versions of one object that a node holds, each with its value: consecutive and rising. At most one is
+/// clean, the first; those after it are dirty (clean and dirty versions as in the USENIX ATC 2009 paper).
+#[derive(Drop)]
+pub struct VersionList {
+    first: u64,
+    has_clean: bool,
+    values: VecDeque<Value>,
+}
+
+impl Model for VersionList {
+    ghost use Rattle.std.specs.Prelude.{◌-◌, if◌then◌else◌};
+    ghost use Rattle.std.specs.VecDeque.{deque_len, deque_capacity};
+    ghost use Rattle.craq_versions.specs.Versions.{Versions, numbered, IsStored};
+
+    ghost Value = { Versions };
+
+    ghost view = { λ l. record {
+      versions = numbered l.first l.values.items;
+      clean = (if l.has_clean then l.first else 0);
+      room = deque_capacity l.values - deque_len l.values;
+    } };
+
+    ghost invariant = { λ l. IsStored l.first l.has_clean l.values.items };
+}
+
+impl VersionList {
+    /// No versions. It takes no memory.
+    pub fn new(alloc: Global) -> Self
+        ensures versions { result.versions ≡ [] }
+        ensures clean { result.clean ≡ 0 }
+    {
+        VersionList {
+            first: 1,
+            has_clean: false,
+            values: VecDeque::new(alloc),
+        }
+    }
+
+    /// Whether there are no versions.
+    pub fn is_empty(&self) -> bool
+        ensures { IsTrue result ↔ (self.now.versions ≡ []) }
+    {
+        self.values.is_empty()
+    }
+
+    /// The newest version and its value; version 0 and no bytes where there is none. It takes no memory.
+    pub fn newest(&self) -> (Version, &[u8])
+        ensures newest { (result.0, result.1.now) ≡ newest_of self.now.versions }
+        ensures short { length result.1.now ≤ 4096 }
+    {
+        match self.values.back() {
+            None => (Version::new(0), &[]),
+            Some(value) => (
+                Version::new(self.first + (self.values.len() as u64 - 1)),
+                value.as_slice(),
+            ),
+        }
+    }
+
+    /// The clean version, 0 where none is clean. It takes no memory.
+    pub fn clean(&self) -> Version
+        ensures clean { result ≡ self.now.clean }
+        ensures versions { AreVersions self.now.versions self.now.clean }
+    {
+        Version::new(if self.has_clean { self.first } else { 0 })
+    }
+
+    /// The value of a version, where it is held. It takes no memory.
+    pub fn get(&self, version: Version) -> Option<&Value>
+        ensures { option_copied result ≡ at_number self.now.versions version }
+    {
+        let version = version.get();
+        if version < self.first {
+            return None;
+        }
+        self.values.get((version - self.first) as usize)
+    }
+
+    /// The newest version held that is not above the bound, and its value. It takes no memory.
+    pub fn at_most(&self, bound: Version) -> Option<(Version, &Value)>
+        ensures { option_map (λ found. (found.0, found.1.now)) result ≡ newest_within self.now.versions bound }
+    {
+        let bound = bound.get();
+        let count = self.values.len() as u64;
+        if bound < self.first {
+            return None;
+        }
+        if count == 0 {
+            return None;
+        }
+        let index = (bound - self.first).min(count - 1);
+        Some((
+            Version::new(self.first + index),
+            &self.values[index as usize],
+        ))
+    }
+
+    /// Makes room for this many more versions, whose `push` then takes no memory. The versions stay in either
+    /// case.
+    pub fn reserve(&mut self, additional: usize) -> Result<(), AllocError>
+        ensures versions { self.new.versions ≡ self.old.versions }
+        ensures clean { self.new.clean ≡ self.old.clean }
+        ensures ok { OnOk result (additional ≤ self.new.room) }
+        ensures room { self.old.room ≤ self.new.room }
+        ensures succeeds { additional ≤ self.old.room → IsOk result }
+    {
+        self.values.reserve(additional)
+    }
+
+    /// One more version, the next, with its value. Where memory is refused the versions stay; where there is
+    /// room it isn't.
+    pub fn push(&mut self, version: Version, value: Value) -> Result<(), AllocError>
+        requires { CanPush self.old.versions version }
+        ensures ok { OnOk result (self.new.versions ≡ self.old.versions ++ (version, value) ∷ []) }
+        ensures err { OnErr result (self.new.versions ≡ self.old.versions) }
+        ensures clean { self.new.clean ≡ self.old.clean }
+        ensures were_versions { AreVersions self.old.versions self.old.clean }
+        ensures room { self.old.room ≤ self.new.room + 1 }
+        ensures succeeds { 0 < self.old.room → IsOk result }
+    {
+        let version = version.get();
+        self.values.reserve(1)?;
+        self.first = first_with(self.values.len(), self.first, version);
+        self.values.push_back_reserved(value);
+        Ok(())
+    }
+
+    /// Makes this version the clean one, and lets go those that are older. Nothing changes where it, or a newer
+    /// one, is clean already. It takes no memory.
+    pub fn settle(&mut self, version: Version)
+        requires { CanSettle self.old.versions self.old.clean version }
+        ensures versions { self.new.versions ≡ versions_from self.old.versions version }
+        ensures clean { self.new.clean ≡ max self.old.clean version }
+        ensures some { self.new.versions ≢ [] }
+        ensures room { self.old.room ≤ self.new.room }
+    {
+        let version = version.get();
+        if version < self.first {
+            return;
+        }
+        let_go(&mut self.values, (version - self.first) as usize);
+        self.first = version;
+        self.has_clean = true;
+    }
+}
+
+// The first version, once this one is pushed to so many.
+fn first_with(count: usize, first: u64, pushed: u64) -> u64
+    ensures { result ≡ (if count == 0 then pushed else first) }
+{
+    if count == 0 { pushed } else { first }
+}
+
+// Drops the first of the values, this many. The queue keeps its memory.
+fn let_go(values: &mut VecDeque<Value>, count: usize)
+    requires { count ≤ deque_len values.old }
+    ensures items { values.new.items ≡ drop count values.old.items }
+    ensures capacity { deque_capacity values.new ≡ deque_capacity values.old }
+{
+    values.drain(..count);
+}

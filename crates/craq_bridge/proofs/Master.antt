@@ -119,7 +119,7 @@ grown_known w c s n le = membership_old w.memberships c (w.epoch s.id) le ∙ n.
 
 -- ---- nodes that are there
 
-found : (nodes : List Plain) (id : ℕ) → protocol.is_member (map id_of nodes) id ≡ true → (p : Plain) × (node_at nodes id ≡ Some p)
+pub found : (nodes : List Plain) (id : ℕ) → protocol.is_member (map id_of nodes) id ≡ true → (p : Plain) × (node_at nodes id ≡ Some p)
 unfolding node_at
 found [] id h = absurd (is_member_none id h)
 found (n ∷ nodes) id h =
@@ -180,7 +180,7 @@ removal_follows {c} {w} f r id x k =
 
 -- ---- a new node
 
-node_pushed : (nodes : List Plain) (q : Plain) (id : ℕ) (p : Plain) → node_at (nodes ++ q ∷ []) id ≡ Some p → (node_at nodes id ≡ Some p) ⊎ ((q ≡ p) × (id_of q ≡ id))
+pub node_pushed : (nodes : List Plain) (q : Plain) (id : ℕ) (p : Plain) → node_at (nodes ++ q ∷ []) id ≡ Some p → (node_at nodes id ≡ Some p) ⊎ ((q ≡ p) × (id_of q ≡ id))
 unfolding node_at
 node_pushed [] q id p h =
     cond_both (id_of q == id) (Some q) (node_at [] id) (λ (o : Option Plain). o ≡ Some p → (node_at [] id ≡ Some p) ⊎ ((q ≡ p) × (id_of q ≡ id)))

@@ -83,13 +83,11 @@ appended {c} {w} p h r ready first e at =
       member = λ x. m;
     }
 
-new_update : {c : Chain} {w : World Entry} (p : Plain) → Here c w p → IsReached w → p.ready ≡ true → is_first p ≡ true → (e : Entry) → e.position ≡ suc (length_of p)
-    → (t : Turn) → new_update_turn p e ≡ Ok t → TurnFollows (IsUpdating (id_of p)) c w t
-new_update {c} {w} p h r ready first e at t k =
-    let Own : List (Move Entry) → Type 0 = IsUpdating (id_of p) in
+pub new_update : {Own : List (Move Entry) → Type 0} {c : Chain} {w : World Entry} (p : Plain) → Here c w p → IsReached w → p.ready ≡ true → is_first p ≡ true → (e : Entry) → e.position ≡ suc (length_of p)
+    → Own (Append (id_of p) e ∷ []) → (t : Turn) → new_update_turn p e ≡ Ok t → TurnFollows Own c w t
+new_update {Own} {c} {w} p h r ready first e at line t k =
     let q : Plain = with_entry p e in
     let own : List (Move Entry) = Append (id_of p) e ∷ [] in
-    let line : Own own = inr (e, refl) in
     let u : Uncommitted c w own (grown w (id_of p) e) q = appended p h r ready first e at in
     let sends : List Out = to_neighbour (successor p) (λ to. send_all p to (entry_bodies (e ∷ []))) in
     let same : is_tail q ≡ is_last q = ap (λ b. b && is_last q) ready in
@@ -103,13 +101,11 @@ new_update {c} {w} p h r ready first e at t k =
     k
 
 -- what was asked before has its reply
-old_update : {c : Chain} {w : World Entry} (p : Plain) → Here c w p → IsReached w → p.ready ≡ true → (position : ℕ) (reply : Reply)
-    → (t : Turn) → reply_turn (committed_if_last p) position reply [] ≡ Ok t → TurnFollows (IsUpdating (id_of p)) c w t
-old_update {c} {w} p h r ready position reply t k =
-    let Own : List (Move Entry) → Type 0 = IsUpdating (id_of p) in
+pub old_update : {Own : List (Move Entry) → Type 0} {c : Chain} {w : World Entry} (p : Plain) → Here c w p → IsReached w → p.ready ≡ true → (position : ℕ) (reply : Reply)
+    → Own [] → (t : Turn) → reply_turn (committed_if_last p) position reply [] ≡ Ok t → TurnFollows Own c w t
+old_update {Own} {c} {w} p h r ready position reply none t k =
     let id : ℕ = id_of p in
     let n : NodeFollows w (seen_of p) = here_node p h in
-    let none : Own [] = inl refl in
     let before : Stage c w [] w p = stage_before h.follows p h.at h.running in
     cond_both (is_last p) (record p { acknowledged = length_of p }) p (λ (x : Plain). reply_turn x position reply [] ≡ Ok t → TurnFollows Own c w t)
     (λ l i.
@@ -150,8 +146,8 @@ update_follows {c} {w} p h r u t k =
     by_reply (said (newest p) u.client u.number) (not-false p.ready a.0) (not-false (is_first p) d.0) e.1
   where
     by_reply : (o : Option Reply) → p.ready ≡ true → is_first p ≡ true → update_turn p u o ≡ Ok t → TurnFollows (IsUpdating (id_of p)) c w t
-    by_reply (Some reply) ready first i = old_update p h r ready (position_of p u.client) reply t i
+    by_reply (Some reply) ready first i = old_update p h r ready (position_of p u.client) reply (inl refl) t i
     by_reply None ready first i =
         let entry : Entry = entry_of p u (eval (newest p).objects u.command) in
         let g : _ = refused (length_of p == greatest || some_used_up (newest p).objects (objects_named u.command)) refusals.Exhausted (new_update_turn p entry) i in
-        new_update p h r ready first entry (omega arith) t g.1
+        new_update p h r ready first entry (omega arith) (inr (entry, refl)) t g.1

@@ -2,7 +2,7 @@ ghost use Rattle.std.specs.Prelude.{◌≡◌, ◌≤◌, length, map};
 ghost use Rattle.std.specs.List.{list_any};
 ghost use Rattle.craq_names.specs.Limits.{item_limit};
 ghost use Rattle.craq_names.specs.declared.name.ObjectId.{ObjectId};
-ghost use Rattle.craq_commands.specs.Transaction.{mini_of, same_object, stands_twice, has_doubles};
+ghost use Rattle.craq_commands.specs.Transaction.{IsWithinLimits, mini_of, same_object, stands_twice, has_doubles};
 
 use craq_names::{Copied, Items, ObjectId, Refusal, Value, Version};
 use std::alloc::{AllocError, Global};
@@ -123,6 +123,13 @@ impl Mini {
             reads,
             writes,
         })
+    }
+
+    /// Each transaction is within the limits that `new` tests. It does nothing.
+    pub fn keeps_limits(&self)
+        ensures { IsWithinLimits self.now }
+    {
+        let _ = &self.compares;
     }
 
     /// The objects whose versions are compared, each with the version that it must have, in order.

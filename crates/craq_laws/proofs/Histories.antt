@@ -50,7 +50,7 @@ one_update s u key =
     let by : (b : Bool) → IsNoOlder s.objects (cond b new s).objects key = elim [ true ↦ all_writes s.objects (eval s.objects u.command).0 key | false ↦ inr refl ] in
     by (is_new_to s u.client u.number)
 
-more_updates : (s : State) (us : List Update) (key : List ℕ) → IsNoOlder s.objects (after_from s us).objects key
+pub more_updates : (s : State) (us : List Update) (key : List ℕ) → IsNoOlder s.objects (after_from s us).objects key
 more_updates s [] key = inr refl
 more_updates s (u ∷ us) key = no_older-trans s.objects (apply s u).objects (after_from (apply s u) us).objects key (one_update s u key) (more_updates (apply s u) us key)
 

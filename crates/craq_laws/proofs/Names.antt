@@ -126,7 +126,7 @@ ask_turn-name : (p : Plain) (ask : Ask) → Gives p.name (ask_turn p ask)
 unfolding ask_turn
 ask_turn-name p ask = grind (arith, accepted_ask_turn-name p ask)
 
-event_turn-name : (p : Plain) (e : Event) → Gives p.name (event_turn p e)
+pub event_turn-name : (p : Plain) (e : Event) → Gives p.name (event_turn p e)
 event_turn-name p (events.Ask ask) = ask_turn-name p ask
 event_turn-name p (events.Deliver m) = grind (arith, body_turn-name p m m.body)
 event_turn-name p events.Tick = refl

@@ -1,0 +1,52 @@
+#!/usr/bin/env python3
+"""Steps a second of one node, by how many entries it keeps.
+
+    benchmarks/node/measure.py PROGRAM
+
+PROGRAM is a built craq_lab. The chain has one node. For each number of entries a script makes that many
+puts, of as many objects, and then asks reads of one object (50,000, or 5,000 where there are 10,000 entries) or
+1,000 puts of it; the time of the same script without those asks is taken away. The puts make entries too. Times are of the processor; each script is played three times and
+the least time counts. What is measured includes reading the line and printing the answer."""
+
+import resource
+import subprocess
+import sys
+import tempfile
+
+PUTS = 1000
+
+
+def processor_time():
+    """The processor's time of all programs that were run, in seconds."""
+    used = resource.getrusage(resource.RUSAGE_CHILDREN)
+    return used.ru_utime + used.ru_stime
+
+
+def played(program, lines):
+    """The least time of three plays of a script."""
+    with tempfile.NamedTemporaryFile("w", suffix=".script") as script:
+        script.write("".join(line + "\n" for line in lines))
+        script.flush()
+        times = []
+        for _ in range(3):
+            began = processor_time()
+            subprocess.run([program, "play", "--nodes", "1", script.name], check=True, stdout=subprocess.DEVNULL)
+            times.append(processor_time() - began)
+        return min(times)
+
+
+def main():
+    if len(sys.argv) != 2:
+        sys.exit(__doc__)
+    program = sys.argv[1]
+    print("entries  reads a second  puts a second")
+    for entries in (1, 100, 10000):
+        filled = [f"put 1 1 {n} k{n} a" for n in range(1, entries + 1)]
+        base = played(program, filled)
+        asked = 5000 if entries > 1000 else 50000
+        reads = played(program, filled + ["read 1 strong k1"] * asked) - base
+        puts = played(program, filled + [f"put 1 1 {entries + n} k1 a" for n in range(1, PUTS + 1)]) - base
+        print(f"{entries:7}  {asked / max(reads, 1e-6):14.0f}  {PUTS / max(puts, 1e-6):13.0f}")
+
+
+main()

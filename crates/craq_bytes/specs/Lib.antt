@@ -1,0 +1,5 @@
+pub mod EntryReading
+pub mod EntrySpelling
+pub mod Reading
+pub mod Spelling
+pub mod Tests

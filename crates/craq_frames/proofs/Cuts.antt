@@ -1,0 +1,131 @@
+-- What the codec cuts off in front is a frame of the grammar, and a frame of the grammar is cut off.
+use Rattle.std.proofs.Common.{◌≡◌, ℕ, ◌+◌, ◌^◌, ◌<◌, ◌≤◌, ◌↔◌, ◌≢◌, ◌∙◌, List, ◌++◌, length, take, drop, All, Some, refl, sym, ap, subst, arith, append_assoc, length-append, length-take, take-append-drop, inl, inr}
+use Rattle.std.specs.Int.{w32, to_be_bytes, from_be_bytes}
+use Rattle.std.specs.Int.Digits.{number_from_digits}
+use Rattle.std.proofs.lemmas.Bool.{cases_lt, cond-true, lt-ltb}
+use Rattle.std.proofs.lemmas.List.{take_at, drop_at}
+use Rattle.tokio_util.specs.Codec.LengthField.{field_value, add_adjustment}
+use Rattle.tokio_util.specs.Codec.LengthDelimited.{frame as cut_off, too_big, overflows, cut_payload, cut_adjusted, cut_frame}
+use Rattle.tokio_util.specs.Codec.LengthDelimitedLaws.{cut_payload_whole, cut_payload_short, cut_frame_short, cut_frame_big, cut_frame_head}
+use Rattle.craq_numbers.specs.Spelling.{number}
+use Rattle.craq_numbers.specs.Reading.{number_at}
+use Rattle.craq_numbers.proofs.Exact.{IsBytes, wide32, u32_exact}
+use Rattle.craq_frames.specs.Frame.{frame, frame_layout, payload_limit, BeginsTooLong}
+use Rattle.craq_frames.proofs.Frames.{digits, each_byte}
+
+-- a length, and what follows it
+record Headed (bytes : List ℕ) : Type 0 where
+  n : ℕ
+  rest : List ℕ
+  few : n < 2 ^ 32
+  parts : bytes ≡ number w32 n ++ rest
+
+headed : (bytes : List ℕ) → IsBytes bytes → 4 ≤ length bytes → Headed bytes
+unfolding number_at
+headed bytes fits long =
+    let x : ℕ × List ℕ = (from_be_bytes w32 (take 4 bytes), drop 4 bytes) in
+    let found : number_at w32 bytes ≡ Some x = grind (arith, long) in
+    let t = u32_exact.takes bytes x fits found in
+    record { n = x.0; rest = x.1; few = t.1; parts = t.0.parts }
+
+module _ (n : ℕ) (rest : List ℕ) (few : n < 2 ^ 32) where
+  long_enough : 4 ≤ length (number w32 n ++ rest)
+  unfolding number
+  long_enough = omega (arith, length-append (to_be_bytes w32 n) rest, wide32.len n)
+
+  field_is : field_value frame_layout (number w32 n ++ rest) ≡ n
+  unfolding number
+  field_is =
+      ap (number_from_digits 256) (take_at (to_be_bytes w32 n) rest 4 (wide32.len n)) ∙ digits (to_be_bytes w32 n) (wide32.len n) ∙ wide32.again n few
+
+  after_it : drop 4 (number w32 n ++ rest) ≡ rest
+  unfolding number
+  after_it = drop_at (to_be_bytes w32 n) rest 4 (wide32.len n)
+
+  cut_long : payload_limit < n → cut_frame frame_layout (number w32 n ++ rest) ≡ too_big
+  cut_long above = cut_frame_big frame_layout (number w32 n ++ rest) long_enough (omega (arith, above, field_is))
+
+  cut_short : n ≤ payload_limit → cut_frame frame_layout (number w32 n ++ rest) ≡ cut_payload n rest
+  cut_short within =
+      let sum : n + 0 ≡ n = omega arith in
+      cut_frame_head frame_layout (number w32 n ++ rest) long_enough (omega (arith, within, field_is))
+      ∙ ap (λ (v : ℕ). cut_adjusted (add_adjustment v frame_layout.adjustment) (drop 4 (number w32 n ++ rest))) field_is
+      ∙ rw sum (ap (λ o. cut_adjusted o (drop 4 (number w32 n ++ rest))) (cond-true _ _ _ (lt-ltb n (2 ^ 64) (omega (arith, few)))))
+      ∙ ap (cut_payload n) after_it
+
+  -- what is cut off where the length is within the limit
+  cut_parts : (payload after : List ℕ) → cut_frame frame_layout (number w32 n ++ rest) ≡ cut_off payload after → (n ≡ length payload) × (n ≤ payload_limit) × (rest ≡ payload ++ after)
+  cut_parts payload after e = elim (cases_lt payload_limit n) [
+    | inl above ↦ let no = sym (cut_long above) ∙ e in absurd cc
+    | inr within ↦ let c = sym (cut_short within) ∙ e in elim (cases_lt (length rest) n) [
+      | inl lacks ↦ let no = sym (cut_payload_short n rest lacks) ∙ c in absurd cc
+      | inr whole ↦
+          let same : cut_off (take n rest) (drop n rest) ≡ cut_off payload after = sym (cut_payload_whole n rest whole) ∙ c in
+          let p : take n rest ≡ payload = cc in
+          let a : drop n rest ≡ after = cc in
+          let len : n ≡ length payload = omega (arith, ap length p, length-take n rest, whole) in
+          (len, within, subst (λ (x : List ℕ). rest ≡ x ++ after) p (subst (λ (y : List ℕ). rest ≡ take n rest ++ y) a (sym (take-append-drop n rest))))
+    ]
+  ]
+
+  too_long_parts : cut_frame frame_layout (number w32 n ++ rest) ≡ too_big → payload_limit < n
+  too_long_parts e = elim (cases_lt payload_limit n) [
+    | inl above ↦ above
+    | inr within ↦ let c = sym (cut_short within) ∙ e in elim (cases_lt (length rest) n) [
+      | inl lacks ↦ let no = sym (cut_payload_short n rest lacks) ∙ c in absurd cc
+      | inr whole ↦ let no = sym (cut_payload_whole n rest whole) ∙ c in absurd cc
+    ]
+  ]
+
+  never_parts : cut_frame frame_layout (number w32 n ++ rest) ≢ overflows
+  never_parts e = elim (cases_lt payload_limit n) [
+    | inl above ↦ let no = sym (cut_long above) ∙ e in absurd cc
+    | inr within ↦ let c = sym (cut_short within) ∙ e in elim (cases_lt (length rest) n) [
+      | inl lacks ↦ let no = sym (cut_payload_short n rest lacks) ∙ c in absurd cc
+      | inr whole ↦ let no = sym (cut_payload_whole n rest whole) ∙ c in absurd cc
+    ]
+  ]
+
+-- ---- the laws
+
+cut_is_frame : (bytes payload rest : List ℕ) → IsBytes bytes → cut_frame frame_layout bytes ≡ cut_off payload rest → (length payload ≤ payload_limit) × (bytes ≡ frame payload ++ rest)
+cut_is_frame bytes payload rest fits e = elim (cases_lt (length bytes) 4) [
+  | inl short ↦ let no = sym (cut_frame_short frame_layout bytes short) ∙ e in absurd cc
+  | inr long ↦
+      let h = headed bytes fits long in
+      let p = cut_parts h.n h.rest h.few payload rest (ap (cut_frame frame_layout) (sym h.parts) ∙ e) in
+      let split : bytes ≡ number w32 (length payload) ++ (payload ++ rest) = h.parts ∙ ap (λ (k : ℕ). number w32 k ++ h.rest) p.0 ∙ ap (λ (r : List ℕ). number w32 (length payload) ++ r) p.2 in
+      (omega (arith, p.0, p.1), split ∙ sym (append_assoc (number w32 (length payload)) payload rest))
+]
+
+frame_is_cut : (bytes payload rest : List ℕ) → length payload ≤ payload_limit → bytes ≡ frame payload ++ rest → cut_frame frame_layout bytes ≡ cut_off payload rest
+frame_is_cut bytes payload rest within e =
+    let few : length payload < 2 ^ 32 = omega (arith, within) in
+    ap (cut_frame frame_layout) (e ∙ append_assoc (number w32 (length payload)) payload rest)
+    ∙ cut_short (length payload) (payload ++ rest) few within
+    ∙ cut_payload_whole (length payload) (payload ++ rest) (omega (arith, length-append payload rest))
+    ∙ rw (take_at payload rest (length payload) refl, drop_at payload rest (length payload) refl) refl
+
+all_bytes : (bytes : List ℕ) → All (λ b. b < 2 ^ 8) bytes → IsBytes bytes
+all_bytes bytes h i = each_byte bytes h i
+
+pub whole_frames : (bytes payload rest : List ℕ) → All (λ b. b < 2 ^ 8) bytes → (cut_frame frame_layout bytes ≡ cut_off payload rest) ↔ ((length payload ≤ payload_limit) × (bytes ≡ frame payload ++ rest))
+whole_frames bytes payload rest h = (λ e. cut_is_frame bytes payload rest (all_bytes bytes h) e, λ p. frame_is_cut bytes payload rest p.0 p.1)
+
+pub long_frames : (bytes : List ℕ) → All (λ b. b < 2 ^ 8) bytes → (cut_frame frame_layout bytes ≡ too_big) ↔ BeginsTooLong bytes
+long_frames bytes h = (
+  λ e. elim (cases_lt (length bytes) 4) [
+    | inl short ↦ let no = sym (cut_frame_short frame_layout bytes short) ∙ e in absurd cc
+    | inr long ↦
+        let d = headed bytes (all_bytes bytes h) long in
+        let above = too_long_parts d.n d.rest d.few (ap (cut_frame frame_layout) (sym d.parts) ∙ e) in
+        (d.n, d.rest, above, d.few, d.parts)
+  ],
+  λ b. ap (cut_frame frame_layout) b.4 ∙ cut_long b.0 b.1 b.3 b.2,
+)
+
+pub never_overflows : (bytes : List ℕ) → All (λ b. b < 2 ^ 8) bytes → cut_frame frame_layout bytes ≢ overflows
+never_overflows bytes h e = elim (cases_lt (length bytes) 4) [
+  | inl short ↦ let no = sym (cut_frame_short frame_layout bytes short) ∙ e in absurd cc
+  | inr long ↦ let d = headed bytes (all_bytes bytes h) long in never_parts d.n d.rest d.few (ap (cut_frame frame_layout) (sym d.parts) ∙ e)
+]

@@ -1,0 +1,21 @@
+-- The frames around payloads.
+use Rattle.std.specs.Prelude.{◌≡◌, ◌<◌, ◌^◌, ℕ, List, ◌++◌, length}
+use Rattle.std.specs.Int.{w32}
+use Rattle.tokio_util.specs.Codec.LengthField.{Layout, default_layout, with_reachable_limit}
+use Rattle.craq_numbers.specs.Spelling.{number}
+
+-- the most bytes of a payload
+abbrev pub payload_limit : ℕ
+payload_limit = 1048576
+
+-- the length of the payload alone, and the payload
+abbrev pub frame : List ℕ → List ℕ
+frame payload = number w32 (length payload) ++ payload
+
+-- the frames of the codec: a length of four bytes, the highest first, and at most so many bytes
+abbrev pub frame_layout : Layout
+frame_layout = with_reachable_limit (record default_layout { max_frame_len = payload_limit })
+
+-- a length above the limit stands at the front
+abbrev pub BeginsTooLong : List ℕ → Type 0
+BeginsTooLong bytes = (n : ℕ) × (rest : List ℕ) × (payload_limit < n) × (n < 2 ^ 32) × (bytes ≡ number w32 n ++ rest)

@@ -1,0 +1,4 @@
+pub mod Frame
+pub mod Payload
+pub mod Reading
+pub mod Tests

@@ -1,0 +1,127 @@
+-- Reading payloads from left to right.
+use Rattle.std.specs.Prelude.{ℕ, nat_le, List, length, Option, Some, None, ◌==◌, if◌then◌else◌}
+use Rattle.std.specs.Int.{w8, w32, w64}
+use Rattle.std.specs.Str.{is_utf8}
+use Rattle.craq_names.specs.Limits.{greatest_count}
+use Rattle.craq_names.specs.declared.name.ObjectId.{ObjectId}
+use Rattle.craq_names.specs.declared.refusal.Refusal.{Refusal}
+use Rattle.craq_names.specs.declared.refusal.Refusal.TheVariants as refusals
+use Rattle.craq_commands.specs.declared.command.Command.{Command}
+use Rattle.craq_commands.specs.declared.command.Update.{Update}
+use Rattle.craq_commands.specs.declared.read_mode.ReadMode.{ReadMode}
+use Rattle.craq_commands.specs.declared.read_mode.ReadMode.TheVariants.{Strong, Eventual, Bounded}
+use Rattle.craq_commands.specs.declared.reply.Reply.{Reply}
+use Rattle.craq_numbers.specs.Reading.{◌>>=◌, number_at, bytes_at}
+use Rattle.craq_bytes.specs.Reading.{value_at, object_at, request_at, pair_at, mapped}
+use Rattle.craq_bytes.specs.EntryReading.{reply_at}
+use Rattle.craq_command_bytes.specs.Reading.{command_at}
+use Rattle.craq_frames.specs.Payload.{payload_version}
+use Rattle.craq_frames.specs.declared.ask.ClientMessage.{ClientMessage}
+use Rattle.craq_frames.specs.declared.ask.ClientMessage.TheVariants as asks
+use Rattle.craq_frames.specs.declared.answer.ClientReply.{ClientReply}
+use Rattle.craq_frames.specs.declared.answer.ClientReply.TheVariants as answers
+
+unfoldable pub mode_body_at : ℕ → List ℕ → Option (ReadMode × List ℕ)
+mode_body_at tag bytes =
+    if tag == 1 then Some (Strong, bytes)
+    else if tag == 2 then Some (Eventual, bytes)
+    else if tag == 3 then mapped Bounded (number_at w32 bytes)
+    else None
+
+unfoldable pub mode_at : List ℕ → Option (ReadMode × List ℕ)
+mode_at bytes = do
+  tag ← number_at w8 bytes
+  mode_body_at tag.0 tag.1
+
+abbrev pub update_of : ℕ × (ℕ × Command) → Update
+update_of x = record { client = x.0; number = x.1.0; command = x.1.1 }
+
+unfoldable pub update_at : List ℕ → Option (Update × List ℕ)
+update_at bytes = mapped update_of (pair_at (number_at w64) (pair_at request_at command_at) bytes)
+
+abbrev pub asked_update : ℕ × (ℕ × Update) → ClientMessage
+asked_update x = asks.Update x.0 x.1.0 x.1.1
+
+abbrev pub asked_read : ℕ × (ℕ × (ReadMode × ObjectId)) → ClientMessage
+asked_read x = asks.Read x.0 x.1.0 x.1.1.0 x.1.1.1
+
+unfoldable pub ask_body_at : ℕ → List ℕ → Option (ClientMessage × List ℕ)
+ask_body_at kind bytes =
+    if kind == 1 then mapped asked_update (pair_at (number_at w32) (pair_at (number_at w64) update_at) bytes)
+    else if kind == 2 then mapped asked_read (pair_at (number_at w32) (pair_at (number_at w64) (pair_at mode_at object_at)) bytes)
+    else if kind == 3 then Some (asks.Status, bytes)
+    else None
+
+-- the refusals that tell nothing beside their number
+unfoldable pub bare_refusal : ℕ → Option Refusal
+bare_refusal number =
+    if number == 1 then Some refusals.BadKey
+    else if number == 2 then Some refusals.ValueTooLong
+    else if number == 3 then Some refusals.TooManyItems
+    else if number == 4 then Some refusals.EmptyTransaction
+    else if number == 5 then Some refusals.DuplicateKey
+    else if number == 6 then Some refusals.BadNumber
+    else if number == 7 then Some refusals.UnknownChain
+    else if number == 8 then Some refusals.TwoChains
+    else if number == 10 then Some refusals.NotReady
+    else if number == 11 then Some refusals.Stopped
+    else if number == 12 then Some refusals.PendingFull
+    else if number == 13 then Some refusals.Exhausted
+    else if number == 14 then Some refusals.Memory
+    else if number == 15 then Some refusals.BadFrame
+    else if number == 16 then Some refusals.FrameTooLong
+    else if number == 17 then Some refusals.NotMember
+    else if number == 18 then Some refusals.NotStopped
+    else if number == 19 then Some refusals.UsedId
+    else if number == 20 then Some refusals.ChainFull
+    else if number == 21 then Some refusals.LastNode
+    else if number == 22 then Some refusals.UnknownMessage
+    else if number == 23 then Some refusals.WrongNode
+    else if number == 24 then Some refusals.JournalOff
+    else if number == 26 then Some refusals.BadConfig
+    else if number == 27 then Some refusals.Closed
+    else if number == 28 then Some refusals.Io
+    else None
+
+unfoldable pub refusal_named : ℕ → ℕ → Option Refusal
+refusal_named number detail =
+    if number == 9 then (if nat_le detail greatest_count then Some (refusals.NotHead detail) else None)
+    else if number == 25 then Some (refusals.BadScript detail)
+    else if detail == 0 then bare_refusal number
+    else None
+
+unfoldable pub refusal_at : List ℕ → Option (Refusal × List ℕ)
+refusal_at bytes = do
+  x ← pair_at (number_at w8) (number_at w64) bytes
+  r ← refusal_named x.0.0 x.0.1
+  Some (r, x.1)
+
+unfoldable pub text_at : List ℕ → Option (List ℕ × List ℕ)
+text_at bytes = do
+  n ← number_at w32 bytes
+  t ← bytes_at n.0 n.1
+  if is_utf8 t.0 then Some t else None
+
+abbrev pub answered_update : ℕ × Reply → ClientReply
+answered_update x = answers.Update x.0 x.1
+
+abbrev pub answered_read : ℕ × (ℕ × List ℕ) → ClientReply
+answered_read x = answers.Read x.0 x.1.0 x.1.1
+
+unfoldable pub answer_body_at : ℕ → List ℕ → Option (ClientReply × List ℕ)
+answer_body_at kind bytes =
+    if kind == 1 then mapped answered_update (pair_at (number_at w64) reply_at bytes)
+    else if kind == 2 then mapped answered_read (pair_at (number_at w64) (pair_at (number_at w64) value_at) bytes)
+    else if kind == 3 then mapped answers.Refused (refusal_at bytes)
+    else if kind == 4 then mapped answers.Status (text_at bytes)
+    else None
+
+-- what was read, where no byte is left
+abbrev pub whole : {A : Type 0} → Option (A × List ℕ) → Option A
+whole read = read >>= λ x. if length x.1 == 0 then Some x.0 else None
+
+-- the version, the kind, what goes with it, and no byte after it
+unfoldable pub payload_at : {A : Type 0} → (ℕ → List ℕ → Option (A × List ℕ)) → List ℕ → Option A
+payload_at body bytes = do
+  x ← pair_at (number_at w8) (number_at w8) bytes
+  if x.0.0 == payload_version then whole (body x.0.1 x.1) else None

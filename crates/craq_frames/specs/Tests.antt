@@ -1,0 +1,17 @@
+-- The rules of what clients get, as tests.
+use Rattle.std.specs.Prelude.{◌^◌, ◌==◌, nat_le, nat_lt, Bool, true, not, ◌||◌, length}
+use Rattle.craq_names.specs.declared.refusal.Refusal.{Refusal}
+use Rattle.craq_names.specs.declared.refusal.Refusal.TheVariants.{NotHead}
+use Rattle.craq_bytes.specs.Tests.{is_reply}
+use Rattle.craq_frames.specs.declared.answer.ClientReply.{ClientReply}
+use Rattle.craq_frames.specs.declared.answer.ClientReply.TheVariants as answers
+
+abbrev pub names_node : Refusal → Bool
+names_node (NotHead head) = nat_le 1 head
+names_node _ = true
+
+abbrev pub is_answer : ClientReply → Bool
+is_answer (answers.Update pass r) = is_reply r
+is_answer (answers.Read pass version v) = not (version == 0) || (length v == 0)
+is_answer (answers.Refused r) = names_node r
+is_answer (answers.Status t) = nat_lt (length t) (2 ^ 32)

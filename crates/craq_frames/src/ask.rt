@@ -1,0 +1,174 @@
+ghost use Rattle.std.specs.Prelude.{◌≡◌, ◌++◌, OnOk};
+ghost use Rattle.craq_numbers.specs.Reading.{Gives};
+ghost use Rattle.craq_frames.specs.Payload.{mode as spelled_mode, update as spelled_update, ask_spelling, AskFits, ModeFits, UpdateFits};
+ghost use Rattle.craq_frames.specs.Reading.{mode_at, mode_body_at, update_at, ask_body_at};
+
+use crate::PAYLOAD_VERSION;
+use bytes::BytesMut;
+use craq_bytes::Part;
+use craq_command_bytes::{read_command, write_command};
+use craq_commands::{ReadMode, Update};
+use craq_names::{ClientId, NodeId, ObjectId, Pass, RequestNo, Stamp};
+use craq_numbers::{Unread, read_u8, read_u32, read_u64, write_u8, write_u32, write_u64};
+use std::alloc::{AllocError, Global};
+
+/// What a client sends to a server of a store.
+#[derive(Debug, Drop)]
+pub enum ClientMessage {
+    /// An update at a node of the chain that its objects name. The pass is the largest stamp that
+    /// the client has seen.
+    Update {
+        node: NodeId,
+        pass: Pass,
+        update: Update,
+    },
+    /// A read of an object at a node.
+    Read {
+        node: NodeId,
+        pass: Pass,
+        mode: ReadMode,
+        object: ObjectId,
+    },
+    /// The chains and their members.
+    Status,
+}
+
+/// What goes with the tag of a mode, and the bytes after it.
+#[tactic(auto, unfolding(crate::specs::Reading::mode_body_at))]
+fn read_mode_body(tag: u8, bytes: &[u8]) -> Result<(ReadMode, &[u8]), Unread>
+    ensures { Gives (λ x. (x.0, x.1.now)) result (mode_body_at tag bytes.now) }
+{
+    match tag {
+        1 => Ok((ReadMode::Strong, bytes)),
+        2 => Ok((ReadMode::Eventual, bytes)),
+        3 => {
+            let (above, rest) = read_u32(bytes)?;
+            Ok((ReadMode::Bounded(above), rest))
+        }
+        _ => Err(Unread::BadFrame),
+    }
+}
+
+/// The mode at the front, and the bytes after it.
+#[tactic(auto, unfolding(crate::specs::Reading::mode_at))]
+fn read_mode(bytes: &[u8]) -> Result<(ReadMode, &[u8]), Unread>
+    ensures { Gives (λ x. (x.0, x.1.now)) result (mode_at bytes.now) }
+{
+    let (tag, rest) = read_u8(bytes)?;
+    read_mode_body(tag, rest)
+}
+
+/// The update at the front, and the bytes after it.
+#[tactic(auto, unfolding(crate::specs::Reading::update_at, craq_bytes::specs::Reading::pair_at, craq_bytes::specs::Reading::request_at))]
+fn read_update(alloc: Global, bytes: &[u8]) -> Result<(Update, &[u8]), Unread>
+    ensures { Gives (λ x. (x.0, x.1.now)) result (update_at bytes.now) }
+{
+    let (client, rest) = read_u64(bytes)?;
+    let (number, rest) = read_u64(rest)?;
+    let Ok(number) = RequestNo::new(number) else {
+        return Err(Unread::BadFrame);
+    };
+    let (command, rest) = read_command(alloc, rest)?;
+    let update = Update {
+        client: ClientId::new(client),
+        number,
+        command,
+    };
+    Ok((update, rest))
+}
+
+/// What goes with the kind of a message of a client, and the bytes after it.
+#[tactic(auto, unfolding(crate::specs::Reading::ask_body_at, craq_bytes::specs::Reading::pair_at))]
+pub(crate) fn read_ask_body(
+    alloc: Global,
+    kind: u8,
+    bytes: &[u8],
+) -> Result<(ClientMessage, &[u8]), Unread>
+    ensures { Gives (λ x. (x.0, x.1.now)) result (ask_body_at kind bytes.now) }
+{
+    match kind {
+        1 => {
+            let (node, rest) = read_u32(bytes)?;
+            let (pass, rest) = read_u64(rest)?;
+            let (update, rest) = read_update(alloc, rest)?;
+            let ask = ClientMessage::Update {
+                node: NodeId::new(node),
+                pass: Pass::of(Stamp::new(pass)),
+                update,
+            };
+            Ok((ask, rest))
+        }
+        2 => {
+            let (node, rest) = read_u32(bytes)?;
+            let (pass, rest) = read_u64(rest)?;
+            let (mode, rest) = read_mode(rest)?;
+            let (object, rest) = ObjectId::read(alloc, rest)?;
+            let ask = ClientMessage::Read {
+                node: NodeId::new(node),
+                pass: Pass::of(Stamp::new(pass)),
+                mode,
+                object,
+            };
+            Ok((ask, rest))
+        }
+        3 => Ok((ClientMessage::Status, bytes)),
+        _ => Err(Unread::BadFrame),
+    }
+}
+
+/// Writes a mode at the end.
+#[tactic(auto, unfolding(crate::specs::Payload::mode))]
+fn write_mode(out: &mut BytesMut, mode: &ReadMode) -> Result<(), AllocError>
+    ensures fits { OnOk result (ModeFits mode.now) }
+    ensures spelled { OnOk result (out.new.items ≡ out.old.items ++ spelled_mode mode.now) }
+{
+    match mode {
+        ReadMode::Strong => write_u8(out, 1),
+        ReadMode::Eventual => write_u8(out, 2),
+        ReadMode::Bounded(above) => {
+            write_u8(out, 3)?;
+            write_u32(out, *above)
+        }
+    }
+}
+
+/// Writes an update at the end.
+#[tactic(auto, unfolding(crate::specs::Payload::update))]
+fn write_update(out: &mut BytesMut, update: &Update) -> Result<(), AllocError>
+    ensures fits { OnOk result (UpdateFits update.now) }
+    ensures spelled { OnOk result (out.new.items ≡ out.old.items ++ spelled_update update.now) }
+{
+    write_u64(out, update.client.get())?;
+    write_u64(out, update.number.get())?;
+    write_command(out, &update.command)
+}
+
+/// Writes a message of a client at the end, after its version.
+#[tactic(auto, unfolding(crate::specs::Payload::ask_spelling))]
+pub(crate) fn write_ask(out: &mut BytesMut, ask: &ClientMessage) -> Result<(), AllocError>
+    ensures fits { OnOk result (AskFits ask.now) }
+    ensures spelled { OnOk result (out.new.items ≡ out.old.items ++ ask_spelling ask.now) }
+{
+    write_u8(out, PAYLOAD_VERSION)?;
+    match ask {
+        ClientMessage::Update { node, pass, update } => {
+            write_u8(out, 1)?;
+            write_u32(out, node.get())?;
+            write_u64(out, pass.stamp().get())?;
+            write_update(out, update)
+        }
+        ClientMessage::Read {
+            node,
+            pass,
+            mode,
+            object,
+        } => {
+            write_u8(out, 2)?;
+            write_u32(out, node.get())?;
+            write_u64(out, pass.stamp().get())?;
+            write_mode(out, mode)?;
+            object.write(out)
+        }
+        ClientMessage::Status => write_u8(out, 3),
+    }
+}

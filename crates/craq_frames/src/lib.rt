@@ -1,0 +1,16 @@
+//! What clients and servers of a store say to one another, as bytes, and the frames around it.
+#![tactic(auto)]
+
+mod answer;
+mod ask;
+mod frame;
+mod payload;
+mod text;
+
+pub use answer::ClientReply;
+pub use ask::ClientMessage;
+pub use frame::{MAX_PAYLOAD, cuts_frames, frame_codec, write_frame};
+pub use text::Text;
+
+/// The version of payloads.
+const PAYLOAD_VERSION: u8 = 1;

@@ -1,0 +1,35 @@
+-- A change and a step that are worked out before they are made.
+use Rattle.std.specs.Prelude.{◌≡◌, ◌<◌, ◌⊎◌, ⊤, ℕ, true, [], IsSome, Result, Ok, Err}
+use Rattle.craq_names.specs.Limits.{greatest}
+use Rattle.craq_names.specs.declared.refusal.Refusal.{Refusal}
+use Rattle.craq_names.specs.declared.refusal.Refusal.TheVariants.{Memory}
+use Rattle.craq_model.specs.declared.step.Step.{Step}
+use Rattle.craq_model.specs.Plain.{Plain, length_of}
+use Rattle.craq_model.specs.Settle.{Turn}
+use Rattle.craq_history.specs.declared.change.Change.{Change}
+use Rattle.craq_history.specs.declared.change.HistoryChange.{HistoryChange}
+use Rattle.craq_history.specs.declared.change.HistoryChange.TheVariants as histories
+use Rattle.craq_history.specs.Change.{changed, no_change}
+
+-- a history of this length has a next position, if it is to grow
+abbrev pub CanGrow : ℕ → HistoryChange → Type 0
+CanGrow count histories.Stays = ⊤
+CanGrow count (histories.Grows entry) = count < greatest
+CanGrow count (histories.IsCopied position objects kept) = ⊤
+
+-- there is a next ticket and a next position where the change takes one
+pub record CanMake (p : Plain) (c : Change) : Type 0 where
+  pub ticket : c.accepted ≡ true → p.last_ticket < greatest
+  pub position : CanGrow (length_of p) c.history
+
+-- a change that can be made, and a step, which are those of a turn; a message that is ignored changes
+-- nothing and sends nothing
+pub record IsPlanOf (p : Plain) (r : Change × Step) (turn : Turn) : Type 0 where
+  pub is : turn ≡ (changed p r.0, r.1)
+  pub can : CanMake p r.0
+  pub still : IsSome r.1.ignored → (r.0 ≡ no_change) × (r.1.outs ≡ [])
+
+-- the wanted turn, or the wanted refusal, or memory ran out
+abbrev pub Plans : Plain → Result (Change × Step) Refusal → Result Turn Refusal → Type 0
+Plans p (Ok r) wanted = (wanted ≡ Ok (changed p r.0, r.1)) × CanMake p r.0
+Plans p (Err e) wanted = (e ≡ Memory) ⊎ (wanted ≡ Err e)

@@ -1,0 +1,99 @@
+ghost use Rattle.std.specs.Prelude.{◌≡◌, ◌≤◌, ◌+◌, ◌-◌, ◌<◌, ◌^◌, length, IfOk, OnOk, OnErr};
+ghost use Rattle.craq_commands.specs.Objects.{object_of};
+ghost use Rattle.craq_commands.specs.SingleCopy.{said};
+ghost use Rattle.craq_model.specs.Deliveries.{is_applicable};
+ghost use Rattle.craq_history.specs.Said.{told};
+ghost use Rattle.craq_model.specs.Plain.{last_position};
+ghost use Rattle.craq_history.specs.Past.{Past, no_past, length_in, newest_in, clean_in, entries_in, object_within_in, with_entry_in, acknowledged_in, installed_in};
+
+use craq_commands::{Entry, Reply};
+use craq_names::{ClientId, Items, Key, RequestNo, Seq, Value, Version};
+use std::alloc::{AllocError, Global};
+
+/// A state as a copy sends it: the objects by rising key, and the kept replies by rising client.
+#[derive(Debug, Drop)]
+pub struct Snapshot {
+    pub objects: Items<(Key, (Version, Value))>,
+    pub kept: Items<(ClientId, (RequestNo, Reply))>,
+}
+
+/// What is said to a client about the number of an update.
+#[derive(Debug)]
+pub enum Said<'a> {
+    /// Nothing: the number is new.
+    Nothing,
+    /// The reply that is kept for the number.
+    Kept(&'a Reply),
+    /// The number is stale; this is the client's last.
+    Stale(RequestNo),
+}
+
+/// How a node keeps the past.
+pub trait History: Drop {
+    /// The past that it stands for.
+    ghost past: { Self → Past };
+
+    /// Nothing yet. It takes no memory.
+    fn new(alloc: Global) -> Self
+        ensures { past result ≡ no_past };
+
+    /// How many entries the history has.
+    fn len(&self) -> u64
+        ensures { result ≡ length_in (past self.now) };
+
+    /// How many entries are known to be committed.
+    fn acknowledged(&self) -> u64
+        ensures { result ≡ (past self.now).acknowledged };
+
+    /// The newest version and value of an object.
+    fn newest(&self, key: &Key) -> (Version, &[u8])
+        ensures object { (result.0, result.1.now) ≡ object_of (newest_in (past self.now)).objects key.now }
+        ensures short { length result.1.now ≤ 4096 };
+
+    /// The clean version and value of an object: those after the committed entries.
+    fn clean(&self, key: &Key) -> (Version, &[u8])
+        ensures object { (result.0, result.1.now) ≡ object_of (clean_in (past self.now)).objects key.now }
+        ensures short { length result.1.now ≤ 4096 };
+
+    /// The newest version held, from the clean one on, that is at most so many above a version (a sum
+    /// above 2^64 - 1 bounds nothing).
+    fn within(&self, key: &Key, version: u64, above: u64) -> (Version, &[u8])
+        ensures object { (result.0, result.1.now) ≡ object_within_in (past self.now) key.now (version + above) }
+        ensures short { length result.1.now ≤ 4096 };
+
+    /// What the newest state says to a client about a number.
+    fn said(&self, client: ClientId, number: RequestNo) -> Said<'_>
+        ensures { told result ≡ said (newest_in (past self.now)) client number };
+
+    /// Whether the entry fits the newest state: each write is of its object's next version, and the
+    /// number is new.
+    fn is_next(&self, entry: &Entry) -> bool
+        ensures { result ≡ is_applicable (newest_in (past self.now)) entry.now };
+
+    /// The newest position of a client's entries; the base where none is known.
+    fn position_of(&self, client: ClientId) -> u64
+        ensures { result ≡ last_position client (past self.now).base (past self.now).entries };
+
+    /// The entries after a position, from the acknowledged one to the last.
+    fn after(&self, position: u64) -> &[Entry]
+        requires from { (past self.now).acknowledged ≤ position }
+        ensures { result.now ≡ entries_in (past self.now) position };
+
+    /// One more entry. Where memory is refused the past stays.
+    fn append(&mut self, entry: Entry) -> Result<(), AllocError>
+        requires { length_in (past self.old) < 2 ^ 64 - 1 }
+        ensures ok { OnOk result (past self.new ≡ with_entry_in (past self.old) entry) }
+        ensures err { OnErr result (past self.new ≡ past self.old) };
+
+    /// The entries up to the position are committed. It takes no memory.
+    fn acknowledge(&mut self, position: Seq)
+        ensures { past self.new ≡ acknowledged_in (past self.old) position };
+
+    /// The state after the committed entries.
+    fn snapshot(&self, alloc: Global) -> Result<Snapshot, AllocError>
+        ensures { IfOk result (λ s. record { objects = s.objects; kept = s.kept } ≡ clean_in (past self.now)) };
+
+    /// A state takes the place of the history. It takes no memory.
+    fn install(&mut self, position: Seq, state: Snapshot)
+        ensures { past self.new ≡ installed_in (past self.old) position (record { objects = state.objects; kept = state.kept }) };
+}

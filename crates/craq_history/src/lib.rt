@@ -1,0 +1,14 @@
+//! What a node keeps of the past, behind one trait, and what a step changes of a node.
+#![tactic(auto)]
+
+mod change;
+mod history;
+mod making;
+pub mod members;
+mod node;
+pub mod outs;
+pub mod steps;
+
+pub use change::{Change, HistoryChange, WaitingChange};
+pub use history::{History, Said, Snapshot};
+pub use node::Node;

@@ -1,0 +1,178 @@
+//! Makes a change of a node.
+ghost use Rattle.std.specs.Prelude.{◌≡◌, ◌<◌, ◌-◌, ◌^◌, ◌++◌, ◌∷◌, [], true, IsOk, OnOk, OnErr, vec_len, vec_capacity};
+ghost use Rattle.craq_model.specs.Deliveries.{later_updates, reads_without};
+ghost use Rattle.craq_history.specs.Change.{changed, no_change, past_by, commits_by, updates_by, reads_by, epoch_by, members_by, floor_by, ticket_by};
+ghost use Rattle.craq_history.specs.Nodes.{plain_of};
+ghost use Rattle.craq_history.specs.Past.{length_in};
+ghost use Rattle.craq_history.specs.Plans.{CanGrow, CanMake};
+ghost use Rattle.craq_history.specs.Room.{HasRoomFor};
+
+use crate::{Change, History, HistoryChange, Node, Snapshot, WaitingChange};
+use craq_model::{Config, WaitingRead, WaitingUpdate};
+use craq_names::{Epoch, Items, NodeId, Seq, Ticket};
+use std::alloc::AllocError;
+
+/// Adds an item where there is room, which takes no memory.
+fn push_within<T: Drop>(items: &mut Vec<T>, item: T)
+    requires { vec_len items.old < vec_capacity items.old }
+    ensures { items.new.items ≡ items.old.items ++ item ∷ [] }
+{
+    items.push(item).unwrap();
+}
+
+/// Makes room for one more ask that waits, where the change has one.
+fn make_room(
+    updates: &mut Vec<WaitingUpdate>,
+    reads: &mut Vec<WaitingRead>,
+    change: &WaitingChange,
+) -> Result<(), AllocError>
+    ensures updates { updates.new.items ≡ updates.old.items }
+    ensures reads { reads.new.items ≡ reads.old.items }
+    ensures room { OnOk result (HasRoomFor change.now updates.new reads.new) }
+    ensures free { change.now ≡ WaitingChange.Same → IsOk result }
+{
+    match change {
+        WaitingChange::OneUpdate(_) => updates.reserve(1),
+        WaitingChange::OneRead(_) => reads.reserve(1),
+        _ => Ok(()),
+    }
+}
+
+/// Keeps the updates that wait for a later position.
+fn keep_later(updates: &mut Vec<WaitingUpdate>, position: Seq)
+    ensures { updates.new.items ≡ later_updates position updates.old.items }
+{
+    updates.retain(|update| position < update.position);
+}
+
+/// Drops the reads of a ticket.
+fn drop_read(reads: &mut Vec<WaitingRead>, ticket: Ticket)
+    ensures { reads.new.items ≡ reads_without ticket reads.old.items }
+{
+    reads.retain(|read| read.ticket != ticket);
+}
+
+/// Changes what waits.
+fn change_waiting(
+    updates: &mut Vec<WaitingUpdate>,
+    reads: &mut Vec<WaitingRead>,
+    change: WaitingChange,
+)
+    requires { HasRoomFor change updates.old reads.old }
+    ensures updates { updates.new.items ≡ updates_by change updates.old.items }
+    ensures reads { reads.new.items ≡ reads_by change reads.old.items }
+{
+    match change {
+        WaitingChange::Same => {}
+        WaitingChange::OneUpdate(update) => push_within(updates, update),
+        WaitingChange::OneRead(read) => push_within(reads, read),
+        WaitingChange::UpdatesAnswered(position) => keep_later(updates, position),
+        WaitingChange::ReadAnswered(ticket) => drop_read(reads, ticket),
+        WaitingChange::AllAnswered => {
+            updates.clear();
+            reads.clear();
+        }
+    }
+}
+
+/// Changes the history, but for what is committed.
+fn change_history<H: History>(history: &mut H, change: HistoryChange) -> Result<(), AllocError>
+    requires { CanGrow (length_in (H.past history.old)) change }
+    ensures ok { OnOk result (H.past history.new ≡ past_by change (H.past history.old)) }
+    ensures err { OnErr result (H.past history.new ≡ H.past history.old) }
+    ensures free { change ≡ HistoryChange.Stays → IsOk result }
+{
+    match change {
+        HistoryChange::Stays => Ok(()),
+        HistoryChange::Grows(entry) => history.append(entry),
+        HistoryChange::IsCopied {
+            position,
+            objects,
+            kept,
+        } => {
+            history.install(position, Snapshot { objects, kept });
+            Ok(())
+        }
+    }
+}
+
+/// Commits the entries up to a position, if there is one.
+fn commit<H: History>(history: &mut H, acknowledged: Option<Seq>)
+    ensures { H.past history.new ≡ commits_by acknowledged (H.past history.old) }
+{
+    if let Some(position) = acknowledged {
+        history.acknowledge(position);
+    }
+}
+
+/// Takes a membership, if there is one, and a floor.
+fn take_membership(
+    epoch: &mut Epoch,
+    members: &mut Items<NodeId>,
+    floor: &mut Option<Seq>,
+    membership: Option<Config>,
+    told: Option<Seq>,
+)
+    ensures epoch { epoch.new ≡ epoch_by membership epoch.old }
+    ensures members { members.new ≡ members_by membership members.old }
+    ensures floor { floor.new ≡ floor_by membership told floor.old }
+{
+    match membership {
+        None => {
+            if told.is_some() {
+                *floor = told;
+            }
+        }
+        Some(config) => {
+            *epoch = config.epoch;
+            *members = config.members;
+            *floor = None;
+        }
+    }
+}
+
+/// The next ticket, where an ask was accepted.
+fn ticket_after(accepted: bool, last: Ticket) -> Ticket
+    requires { accepted ≡ true → last < 2 ^ 64 - 1 }
+    ensures { result ≡ ticket_by accepted last }
+{
+    if accepted {
+        Ticket::new(last.get() + 1)
+    } else {
+        last
+    }
+}
+
+impl<H: History> Node<H> {
+    /// Makes the change. Where memory is refused the node stands for the plain node that it stood
+    /// for before. A change of nothing takes no memory.
+    pub fn apply(&mut self, change: Change) -> Result<(), AllocError>
+        requires { CanMake (plain_of H.past self.old) change }
+        ensures ok { OnOk result (plain_of H.past self.new ≡ changed (plain_of H.past self.old) change) }
+        ensures err { OnErr result (plain_of H.past self.new ≡ plain_of H.past self.old) }
+        ensures free { change ≡ no_change → IsOk result }
+    {
+        make_room(
+            &mut self.waiting_updates,
+            &mut self.waiting_reads,
+            &change.waiting,
+        )?;
+        change_history(&mut self.history, change.history)?;
+        commit(&mut self.history, change.acknowledged);
+        take_membership(
+            &mut self.epoch,
+            &mut self.members,
+            &mut self.floor,
+            change.membership,
+            change.floor,
+        );
+        change_waiting(
+            &mut self.waiting_updates,
+            &mut self.waiting_reads,
+            change.waiting,
+        );
+        self.ready = self.ready || change.becomes_ready;
+        self.last_ticket = ticket_after(change.accepted, self.last_ticket);
+        Ok(())
+    }
+}

@@ -1,0 +1,74 @@
+//! Members of a chain, head first.
+ghost use Rattle.std.specs.Prelude.{◌≡◌};
+ghost use Rattle.craq_model.specs.Members.{is_member, first_of, last_of, successor_in, predecessor_in};
+
+use craq_names::NodeId;
+
+/// Whether the id is among the members.
+#[tactic(auto, unfolding(craq_model::specs::Members::is_member))]
+pub fn is_member_of(members: &[NodeId], id: NodeId) -> bool
+    ensures { result ≡ is_member members.now id }
+{
+    for member in members {
+        if *member == id {
+            return true;
+        }
+    }
+    false
+}
+
+/// The first member; 0 where there is none.
+pub fn first_member(members: &[NodeId]) -> NodeId
+    ensures { result ≡ first_of members.now }
+{
+    match members {
+        [] => NodeId::new(0),
+        [first, ..] => *first,
+    }
+}
+
+/// The last member; 0 where there is none.
+#[tactic(auto, unfolding(craq_model::specs::Members::last_of))]
+pub fn last_member(members: &[NodeId]) -> NodeId
+    ensures { result ≡ last_of members.now }
+{
+    let [first, rest @ ..] = members else {
+        return NodeId::new(0);
+    };
+    let mut last = *first;
+    for member in rest {
+        last = *member;
+    }
+    last
+}
+
+/// The member right after this one.
+#[tactic(auto, unfolding(craq_model::specs::Members::successor_in))]
+pub fn successor_of(members: &[NodeId], id: NodeId) -> Option<NodeId>
+    ensures { result ≡ successor_in members.now id }
+{
+    for i in 0..members.len() {
+        if members[i] == id {
+            return members.get(i + 1).copied();
+        }
+    }
+    None
+}
+
+/// The member right before this one.
+#[tactic(auto, unfolding(craq_model::specs::Members::predecessor_in))]
+pub fn predecessor_of(members: &[NodeId], id: NodeId) -> Option<NodeId>
+    ensures { result ≡ predecessor_in members.now id }
+{
+    let [first, rest @ ..] = members else {
+        return None;
+    };
+    let mut before = *first;
+    for member in rest {
+        if *member == id {
+            return Some(before);
+        }
+        before = *member;
+    }
+    None
+}

@@ -1,0 +1,103 @@
+use clap::{Arg, ArgAction, Command, Error};
+use std::alloc::{AllocError, Global};
+
+/// What a command line asks for.
+#[derive(Clone, Copy, Debug)]
+pub enum Asked<'a> {
+    /// To play the script of this file, or of standard input, on a chain of so many nodes.
+    Play { nodes: u32, file: Option<&'a str> },
+    /// Nothing: the command line names no command.
+    Nothing,
+}
+
+static NODE_COUNTS: [&str; 8] = ["1", "2", "3", "4", "5", "6", "7", "8"];
+
+const ABOUT: &str =
+    "Plays scripts on a small replicated object store, and prints what each step does";
+
+const LONG_ABOUT: &str =
+    "Plays scripts on a small replicated object store, and prints what each step does.
+
+The store keeps a copy of every object on each node of a chain. Updates enter at the
+first node, the head, and pass from node to node; an update is committed once the last
+node, the tail, has it (chain replication). Every node answers reads: where it knows of
+a newer version that may not be committed yet, it asks the tail first (CRAQ).
+
+Nothing happens by itself here: a script says what clients ask, which message arrives
+when, and which node stops. So each order of events can be played, and played again.";
+
+const PLAY_ABOUT: &str = "Play a script, and print what each of its lines does";
+
+const PLAY_HELP: &str = "Lines of a script:
+  put NODE CLIENT NUMBER OBJECT VALUE    a client asks the node to give the object a value
+  append, prepend                        the same, to join the value to the object's
+  tas NODE CLIENT NUMBER OBJECT VERSION VALUE    the same as put, if the object has the version
+  inc, dec NODE CLIENT NUMBER OBJECT BY  to count an object of 8 bytes up or down
+  mini NODE CLIENT NUMBER ITEM ..        a transaction: c:OBJECT:VERSION compares, r:OBJECT
+                                         reads, w:OBJECT:VALUE writes
+  read NODE MODE OBJECT                  a read: strong, eventual, or bounded:K versions ahead
+  deliver M                              message M arrives
+  tick NODE                              the node sends again what it has to; 0 is the master
+  stop NODE, remove NODE, join NODE      a node halts; the master takes it out; a new one joins
+  # ..                                   a comment
+NUMBER counts a client's updates from 1. A VALUE is text, or 0x and hexadecimal digits.
+
+Printed for each line:
+  m1 1>2 entry 1         message 1 goes from node 1 to node 2: the entry at position 1
+  answer 1 2 written 3   node 1 answers the ask that had ticket 2: version 3 was written
+  ignored WHY            the message changed nothing
+  ok                     nothing was sent or answered
+  refused N              the line was refused, with nothing changed
+
+Refusals: 1 a key of more than 128 bytes, 2 a value of more than 4096, 3 more than 16 items
+in a list of a transaction, 4 no item, 5 an object twice in a list, 6 number 0, 7 another
+chain than 0, 8 two chains, 9 not the head (it follows), 10 a node that is not ready yet,
+11 a stopped node, 12 more than 1024 asks would wait, 17 not a member, 18 not stopped,
+19 an id that was used, 20 a chain of 8 members, 21 the only member, 22 no such message,
+23 no such node.
+
+Status: 0 once the script was played, whatever was refused in it; 2 if it was not: cannot
+read FILE, script line N (the first that is no line of a script), or a bad command line;
+3 where there was no memory.
+
+Example:
+  printf 'put 1 1 1 colour blue\\nread 1 eventual colour\\n' | craq_lab play --nodes 2";
+
+/// `play [--nodes N] [FILE]`.
+fn play_command<'a>(alloc: Global) -> Result<Command<'a>, AllocError> {
+    let nodes = Arg::new(alloc, "nodes")
+        .long("nodes")
+        .value_name("N")
+        .action(ArgAction::Set)
+        .value_parser(NODE_COUNTS.as_slice())
+        .default_value("3")
+        .help("How many nodes the chain has; they are numbered from 1, the head");
+    let file = Arg::new(alloc, "FILE").help("The script; without it, standard input is played");
+    Ok(
+        Command::new(alloc, "play")
+            .about(PLAY_ABOUT)
+            .after_help(PLAY_HELP)
+            .arg(nodes)?
+            .arg(file)?,
+    )
+}
+
+/// What the words of a command line ask for, the program's own among them; else clap's error, which
+/// may be the help that was asked for.
+pub fn asked_by<'a>(alloc: Global, words: &'a [&'a str]) -> Result<Asked<'a>, Error> {
+    let play = play_command(alloc)?;
+    let command = Command::new(alloc, "craq_lab")
+        .about(ABOUT)
+        .long_about(LONG_ABOUT)
+        .subcommand_required(true)
+        .arg_required_else_help(true)
+        .subcommand(play)?;
+    let matches = command.try_get_matches_from(words)?;
+    match matches.subcommand() {
+        Some((_, given)) => Ok(Asked::Play {
+            nodes: given.get_one::<u32>("nodes").unwrap_or(3),
+            file: given.get_str("FILE"),
+        }),
+        None => Ok(Asked::Nothing),
+    }
+}

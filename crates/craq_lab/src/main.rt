@@ -1,0 +1,153 @@
+//! Plays scripts on a chain of nodes: `craq_lab play [--nodes N] [FILE]`.
+#![tactic(auto)]
+
+mod command_line;
+
+use command_line::{Asked, asked_by};
+use craq_names::Refusal;
+use craq_play::{PlainCore, play};
+use std::alloc::Global;
+use std::env::Env;
+use std::io::{ErrorKind, Read};
+use std::process::ExitCode;
+use std::rt::Files;
+use std::{env, fs, io};
+
+/// How many nodes a chain may have; the command line is read for no more.
+const GREATEST_COUNT: u32 = 8;
+
+/// The status where the output takes no text.
+const CANNOT_PRINT: u8 = 1;
+
+/// The status after bad words, a file that cannot be read, or a line outside the grammar.
+const BAD_INPUT: u8 = 2;
+
+/// The status where a growth was refused.
+const NO_MEMORY: u8 = 3;
+
+/// The bytes of the file, or of standard input.
+fn bytes_of<R>(rt: &R, file: Option<&str>) -> io::Result<Vec<u8>>
+where
+    R: AllocGlobal + Files + Input,
+{
+    match file {
+        Some(path) => fs::read(rt, path),
+        None => {
+            let mut bytes = Vec::new(rt.alloc());
+            rt.reader().read_to_end(&mut bytes)?;
+            Ok(bytes)
+        }
+    }
+}
+
+/// Tells why a script was not played, and gives the status.
+fn report_refusal<R>(rt: &R, refusal: &Refusal) -> io::Result<u8>
+where
+    R: AllocGlobal + Eprint,
+{
+    match refusal {
+        Refusal::BadScript(line) => {
+            let line = *line;
+            eprintln!(rt; "script line {line}")?;
+            Ok(BAD_INPUT)
+        }
+        _ => {
+            eprintln!(rt; "no memory")?;
+            Ok(NO_MEMORY)
+        }
+    }
+}
+
+/// Tells why nothing was read, and gives the status.
+fn report_unread<R>(rt: &R, file: Option<&str>, kind: ErrorKind) -> io::Result<u8>
+where
+    R: AllocGlobal + Eprint,
+{
+    if kind == ErrorKind::OutOfMemory {
+        eprintln!(rt; "no memory")?;
+        return Ok(NO_MEMORY);
+    }
+    let name = file.unwrap_or("-");
+    eprintln!(rt; "cannot read {name}")?;
+    Ok(BAD_INPUT)
+}
+
+/// Plays the script and prints what it did. Gives the status.
+fn play_file<R>(rt: &R, nodes: u32, file: Option<&str>) -> io::Result<u8>
+where
+    R: AllocGlobal + Files + Input + Print + Eprint,
+{
+    let bytes = match bytes_of(rt, file) {
+        Ok(bytes) => bytes,
+        Err(error) => return report_unread(rt, file, error.kind()),
+    };
+    match play::<PlainCore>(
+        rt.alloc(),
+        nodes.max(1).min(GREATEST_COUNT),
+        bytes.as_slice(),
+    ) {
+        Ok(text) => {
+            print!(rt; "{text}")?;
+            Ok(0)
+        }
+        Err(refusal) => report_refusal(rt, &refusal),
+    }
+}
+
+/// Does what the words of the command line ask for. Gives the status.
+fn answer<'a, R>(rt: &R, words: &'a [&'a str]) -> io::Result<u8>
+where
+    R: AllocGlobal + Files + Input + Print + Eprint,
+{
+    match asked_by(rt.alloc(), words) {
+        Ok(Asked::Play { nodes, file }) => play_file(rt, nodes, file),
+        Ok(Asked::Nothing) => Ok(BAD_INPUT),
+        Err(error) => {
+            if error.kind() == clap::error::ErrorKind::OutOfMemory {
+                eprintln!(rt; "no memory")?;
+                return Ok(NO_MEMORY);
+            }
+            error.print(rt)?;
+            Ok(if error.use_stderr() { BAD_INPUT } else { 0 })
+        }
+    }
+}
+
+/// The words of the command line, the program's own among them.
+fn words_of<R: AllocGlobal + Env>(rt: &R) -> io::Result<Vec<String>> {
+    let mut words = Vec::new(rt.alloc());
+    for word in env::args(rt)? {
+        words.push(word)?;
+    }
+    Ok(words)
+}
+
+fn run<R>(rt: &R) -> io::Result<u8>
+where
+    R: AllocGlobal + Env + Files + Input + Print + Eprint,
+{
+    let words = words_of(rt)?;
+    let mut texts = Vec::new(rt.alloc());
+    for word in &words {
+        texts.push(word.as_str())?;
+    }
+    answer(rt, texts.as_slice())
+}
+
+/// Tells why nothing more is printed: there was no memory, or the output takes no text. Gives the
+/// status.
+fn report_failure<R: AllocGlobal + Eprint>(rt: &R, kind: ErrorKind) -> u8 {
+    if kind == ErrorKind::OutOfMemory {
+        let _ = eprintln!(rt; "no memory");
+        return NO_MEMORY;
+    }
+    let _ = eprintln!(rt; "cannot print");
+    CANNOT_PRINT
+}
+
+fn main(rt: HostRuntime) -> ExitCode {
+    match run(&rt) {
+        Ok(status) => ExitCode::from(status),
+        Err(error) => ExitCode::from(report_failure(&rt, error.kind())),
+    }
+}

@@ -1,0 +1,5 @@
+pub mod Writes
+pub mod Lows
+pub mod Facts
+pub mod Runs
+pub mod Holding

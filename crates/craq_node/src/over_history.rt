@@ -1,0 +1,187 @@
+ghost use Rattle.std.specs.Prelude.{◌≡◌, ◌≢◌, true, [], IfOk, IsOk, IsSome, Ok};
+ghost use Rattle.craq_model.specs.Deliveries.{delivery_turn};
+ghost use Rattle.craq_model.specs.Plain.{opening_member};
+ghost use Rattle.craq_model.specs.Node.{event_turn, is_for, within_counts, node_step};
+ghost use Rattle.craq_sound.specs.Sound.{AreSpelled, IsSound, IsSpelledAsk, IsSpelledEvent};
+ghost use Rattle.craq_sound.proofs.Props.{IsSound-prop};
+ghost use Rattle.craq_history.specs.Change.{changed, no_change};
+ghost use Rattle.craq_history.specs.Nodes.{plain_of};
+ghost use Rattle.craq_history.specs.Plans.{CanMake};
+ghost use Rattle.craq_node.specs.Represented.{CanArrive, Gives, IsFree, plain_at};
+
+use crate::Core;
+use crate::fitting::are_fitting;
+use crate::planning::{plan_ask, plan_delivery};
+use craq_commands::Command;
+use craq_epochs::{Config, Switch};
+use craq_history::steps::done;
+use craq_history::{Change, History, Node};
+use craq_model::{Ask, Event, LinkMessage, Step};
+use craq_names::{Copied, Epoch, Items, NodeId, NodeName, Refusal, Ticket};
+use craq_write::add_tick_outs;
+use std::alloc::Global;
+
+/// A node over some representation of its past.
+#[derive(Drop)]
+pub struct NodeCore<H: History> {
+    node: Node<H>,
+    switch: Switch,
+    ghost sound: { IsSound (plain_of H.past node) } by { IsSound-prop (plain_of H.past node) },
+    ghost own_switch: { switch.name ≡ node.name },
+}
+
+/// What is asked can be spelled, since a transaction keeps its limits. It does nothing.
+fn keep_limits(event: &Event)
+    requires { CanArrive event.now }
+    ensures { IsSpelledEvent event.now }
+{
+    if let Event::Ask(Ask::Update(update)) = event {
+        if let Command::Mini(mini) = &update.command {
+            mini.keeps_limits();
+        }
+    }
+}
+
+/// Makes a change that was planned, unless the sends do not fit messages.
+#[tactic(auto, using(crate::proofs::Stops::nothing_fits))]
+fn made<H: History>(node: &mut Node<H>, change: Change, step: Step) -> Result<Step, Refusal>
+    requires { CanMake (plain_of H.past node.old) change }
+    ensures gives { Gives (plain_of H.past node.old) (plain_of H.past node.new) result (within_counts (Ok (changed (plain_of H.past node.old) change, step))) }
+    ensures name { (plain_of H.past node.new).name ≡ (plain_of H.past node.old).name }
+    ensures free { change ≡ no_change → step.outs ≡ [] → IsOk result }
+{
+    if !are_fitting(step.outs.as_slice()) {
+        return Err(Refusal::Exhausted);
+    }
+    node.apply(change)?;
+    Ok(step)
+}
+
+/// A message at a running node: refused where it is for another (`WrongNode`).
+fn hear<H: History>(
+    alloc: Global,
+    node: &mut Node<H>,
+    message: &LinkMessage,
+) -> Result<Step, Refusal>
+    requires { IsSound (plain_of H.past node.old) }
+    ensures gives { Gives (plain_of H.past node.old) (plain_of H.past node.new) result (within_counts (event_turn (plain_of H.past node.old) (Event.Deliver message.now))) }
+    ensures name { (plain_of H.past node.new).name ≡ (plain_of H.past node.old).name }
+    ensures free { is_for (plain_of H.past node.old) message.now ≡ true → IsSome (delivery_turn (plain_of H.past node.old) message.now).1.ignored → IsOk result }
+{
+    if message.chain != node.name.chain || message.receiver != node.name.node {
+        return Err(Refusal::WrongNode);
+    }
+    let (change, step) = plan_delivery(alloc, node, message)?;
+    made(node, change, step)
+}
+
+/// An event but a stop at a running node.
+#[tactic(auto, unfolding(craq_model::specs::Sends::tick_sends))]
+fn meet<H: History>(alloc: Global, node: &mut Node<H>, event: &Event) -> Result<Step, Refusal>
+    requires sound { IsSound (plain_of H.past node.old) }
+    requires goes_on { event.now ≢ Event.Stop }
+    ensures gives { Gives (plain_of H.past node.old) (plain_of H.past node.new) result (within_counts (event_turn (plain_of H.past node.old) event.now)) }
+    ensures name { (plain_of H.past node.new).name ≡ (plain_of H.past node.old).name }
+    ensures free { IsFree (plain_of H.past node.old) event.now → IsOk result }
+{
+    match event {
+        Event::Ask(ask) => {
+            let (change, step) = plan_ask(alloc, node, ask)?;
+            made(node, change, step)
+        }
+        Event::Deliver(message) => hear(alloc, node, message),
+        Event::Tick => {
+            let mut outs = Vec::new(alloc);
+            add_tick_outs(&mut outs, alloc, node)?;
+            made(node, Change::none(), done(outs))
+        }
+        Event::Stop => Ok(done(Vec::new(alloc))),
+    }
+}
+
+/// The same, which leaves the node sound and says what can be spelled.
+#[tactic(auto, using(crate::proofs::Kept::sound_after, crate::proofs::Kept::said_spelled))]
+fn happen<H: History>(alloc: Global, node: &mut Node<H>, event: &Event) -> Result<Step, Refusal>
+    requires sound { IsSound (plain_of H.past node.old) }
+    requires arrives { CanArrive event.now }
+    requires goes_on { event.now ≢ Event.Stop }
+    ensures gives { Gives (plain_of H.past node.old) (plain_of H.past node.new) result (within_counts (event_turn (plain_of H.past node.old) event.now)) }
+    ensures free { IsFree (plain_of H.past node.old) event.now → IsOk result }
+    ensures sound { IsSound (plain_of H.past node.new) }
+    ensures spelled { IfOk result (λ step. AreSpelled step.outs) }
+    ensures name { (plain_of H.past node.new).name ≡ (plain_of H.past node.old).name }
+{
+    keep_limits(event);
+    meet(alloc, node, event)
+}
+
+impl<H: History> NodeCore<H> {
+    /// A node before its first step.
+    fn unmoved(
+        alloc: Global,
+        name: NodeName,
+        epoch: Epoch,
+        members: Items<NodeId>,
+        ready: bool,
+    ) -> Self
+        requires { IsSound (record (opening_member name members) { epoch = epoch; ready = ready }) }
+        ensures { plain_at H.past result.node result.switch.running ≡ record (opening_member name members) { epoch = epoch; ready = ready } }
+    {
+        let switch = Switch::on(name);
+        NodeCore {
+            node: Node {
+                name: switch.name(),
+                epoch,
+                members,
+                ready,
+                history: H::new(alloc),
+                floor: None,
+                last_ticket: Ticket::new(0),
+                waiting_updates: Vec::new(alloc),
+                waiting_reads: Vec::new(alloc),
+            },
+            switch,
+        }
+    }
+
+    /// One step.
+    #[tactic(auto, unfolding(craq_model::specs::Node::node_step))]
+    fn take(&mut self, alloc: Global, event: &Event) -> Result<Step, Refusal>
+        requires { CanArrive event.now }
+        ensures gives { Gives (plain_at H.past self.old.node self.old.switch.running) (plain_at H.past self.new.node self.new.switch.running) result (node_step (plain_at H.past self.old.node self.old.switch.running) event.now) }
+        ensures spelled { IfOk result (λ step. AreSpelled step.outs) }
+        ensures free { IsFree (plain_at H.past self.old.node self.old.switch.running) event.now → IsOk result }
+    {
+        if self.switch.receipt().is_some() {
+            return Err(Refusal::Stopped);
+        }
+        if let Event::Stop = event {
+            self.switch.stop()?;
+            return Ok(done(Vec::new(alloc)));
+        }
+        happen(alloc, &mut self.node, event)
+    }
+}
+
+impl<H: History> Core for NodeCore<H> {
+    ghost represents = { λ c p. p ≡ plain_at H.past c.node c.switch.running };
+
+    #[tactic(auto, using(crate::proofs::Kept::sound_member, crate::proofs::Kept::sound_joined))]
+    fn open(alloc: Global, name: NodeName, config: Option<&Config>) -> Result<Self, Refusal> {
+        match config {
+            None => Ok(NodeCore::unmoved(alloc, name, Epoch::new(0), Items::new(alloc), false)),
+            Some(config) => {
+                let members = config.members.copied(alloc)?;
+                Ok(NodeCore::unmoved(alloc, name, config.epoch, members, true))
+            }
+        }
+    }
+
+    fn step(&mut self, alloc: Global, event: Event) -> Result<Step, Refusal> {
+        self.take(alloc, &event)
+    }
+
+    fn switch(&self) -> &Switch {
+        &self.switch
+    }
+}

@@ -1,0 +1,4 @@
+pub mod Chains
+pub mod Place
+pub mod Plan
+pub mod Reading

@@ -1,0 +1,208 @@
+ghost use Rattle.std.specs.Prelude.{◌≡◌, ◌⊎◌, ◌++◌, ◌∷◌, ℕ, List, [], false, nat_le, length, map, string_bytes, Ok, Err, MatchResult, OnOk, IfOk, IfErr};
+ghost use Rattle.toml.specs.View.{items_of, table_view, view};
+ghost use Rattle.std.specs.List.{list_any};
+ghost use Rattle.craq_names.specs.declared.name.ObjectId.{ObjectId};
+ghost use Rattle.craq_place.specs.Chains.{chains_of};
+ghost use Rattle.craq_place.specs.Plan.{Chain, StandsFor};
+ghost use Rattle.craq_place.specs.Place.{chain_at, chain_of_all, first_chain_of, goes_elsewhere, is_of_another, objects_of};
+ghost use Rattle.craq_place.specs.Reading.{Reads, chains_from, has_name, plan_in};
+
+use crate::reading::{field, read_chain};
+use craq_commands::Mini;
+use craq_names::{ChainId, Items, NodeId, ObjectId, Refusal, Value, Version};
+use indexmap::IndexMap;
+use std::alloc::{AllocError, Global};
+use std::marker::Model;
+use toml::Table;
+
+/// The most chains of a plan.
+const MOST_CHAINS: usize = 64;
+
+/// The chains of a store, by name, in the order of the plan: a chain's id is its place, from 0.
+#[derive(Drop)]
+pub struct Plan {
+    chains: IndexMap<String, Items<NodeId>>,
+}
+
+impl Model for Plan {
+    ghost use Rattle.std.specs.Prelude.{List};
+    ghost use Rattle.craq_place.specs.Plan.{Chain};
+    ghost use Rattle.craq_place.specs.Chains.{chains_of};
+
+    ghost Value = { List Chain };
+
+    ghost view = { λ p. chains_of p.chains.entries };
+}
+
+/// The chain of the transaction's first object, in the order compares, reads, writes.
+fn first_chain(mini: &Mini) -> Option<ChainId>
+    ensures { result ≡ first_chain_of (objects_of mini.now) }
+{
+    match mini.compares() {
+        [(object, _), ..] => Some(object.chain),
+        [] => match mini.reads() {
+            [object, ..] => Some(object.chain),
+            [] => match mini.writes() {
+                [(object, _), ..] => Some(object.chain),
+                [] => None,
+            },
+        },
+    }
+}
+
+/// Whether a compare is of another chain.
+fn compares_elsewhere(compares: &[(ObjectId, Version)], chain: ChainId) -> bool
+    ensures { result ≡ list_any (λ (c : ObjectId × ℕ). is_of_another chain c.0) compares.now }
+{
+    compares.iter().any(|compare| compare.0.chain != chain)
+}
+
+/// Whether a read is of another chain.
+fn reads_elsewhere(reads: &[ObjectId], chain: ChainId) -> bool
+    ensures { result ≡ list_any (is_of_another chain) reads.now }
+{
+    reads.iter().any(|object| object.chain != chain)
+}
+
+/// Whether a write is of another chain.
+fn writes_elsewhere(writes: &[(ObjectId, Value)], chain: ChainId) -> bool
+    ensures { result ≡ list_any (λ (w : ObjectId × List ℕ). is_of_another chain w.0) writes.now }
+{
+    writes.iter().any(|write| write.0.chain != chain)
+}
+
+/// Whether an object of the transaction is of another chain.
+#[tactic(auto, using(crate::proofs::Places::elsewhere_parts))]
+fn is_elsewhere(mini: &Mini, chain: ChainId) -> bool
+    ensures { result ≡ goes_elsewhere (objects_of mini.now) chain }
+{
+    if compares_elsewhere(mini.compares(), chain) {
+        return true;
+    }
+    if reads_elsewhere(mini.reads(), chain) {
+        return true;
+    }
+    writes_elsewhere(mini.writes(), chain)
+}
+
+/// Whether a chain of this name is there.
+fn has_chain(chains: &IndexMap<String, Items<NodeId>>, name: &str) -> bool
+    ensures { result ≡ has_name name.now (chains_of chains.now.entries) }
+{
+    chains.contains_key(name)
+}
+
+/// Whether there are as many chains as a plan can have.
+fn is_full(chains: &IndexMap<String, Items<NodeId>>) -> bool
+    ensures { result ≡ nat_le 64 (length (chains_of chains.now.entries)) }
+{
+    chains.len() >= MOST_CHAINS
+}
+
+/// A chain more at the end, whose name is not there. Where memory is refused the chains stay.
+fn put_chain(
+    chains: &mut IndexMap<String, Items<NodeId>>,
+    name: String,
+    nodes: Items<NodeId>,
+) -> Result<(), AllocError>
+    requires { has_name (string_bytes name) (chains_of chains.old.entries) ≡ false }
+    ensures { OnOk result (chains_of chains.new.entries
+        ≡ chains_of chains.old.entries ++ (string_bytes name, nodes) ∷ []) }
+{
+    chains.insert(name, nodes)?;
+    Ok(())
+}
+
+/// The chains of these values.
+fn read_chains(alloc: Global, items: &[toml::Value]) -> Result<Plan, Refusal>
+    ensures { Reads (λ p. p) result (chains_from [] (items_of (map view items.now))) }
+{
+    let mut chains = IndexMap::new(alloc);
+    for value in items {
+        let (name, nodes) = read_chain(alloc, value)?;
+        if has_chain(&chains, name.as_str()) {
+            return Err(Refusal::BadConfig);
+        }
+        if is_full(&chains) {
+            return Err(Refusal::BadConfig);
+        }
+        put_chain(&mut chains, name, nodes)?;
+    }
+    Ok(Plan { chains })
+}
+
+/// The plan of a table.
+#[tactic(auto, unfolding(crate::specs::Reading::plan_in))]
+fn read_plan(alloc: Global, table: &Table) -> Result<Plan, Refusal>
+    ensures { Reads (λ p. p) result (plan_in (table_view table.now)) }
+{
+    let Some(chains) = field(table) else {
+        return Err(Refusal::BadConfig);
+    };
+    let Some(items) = chains.as_array() else {
+        return Err(Refusal::BadConfig);
+    };
+    let plan = read_chains(alloc, items.as_slice())?;
+    if plan.chains.is_empty() {
+        return Err(Refusal::BadConfig);
+    }
+    Ok(plan)
+}
+
+impl Plan {
+    /// The plan that the text stands for. The text is TOML with the one key `chain`, an array of
+    /// 1 to 64 tables. Each has exactly `name`, 1 to 32 letters, digits, `_` or `-`, no name
+    /// twice, and `nodes`, an array of 1 to 8 ids from 1 to 2^32 - 1, none twice, head first (this
+    /// project's profile). `BadConfig` exactly where it stands for none; `Memory` where a growth
+    /// was refused.
+    pub fn read(alloc: Global, text: &str) -> Result<Self, Refusal>
+        // What is read is what the text stands for.
+        ensures found { IfOk result (λ p. StandsFor text.now p) }
+        // It stands for no other plan.
+        ensures only { IfOk result (λ p. (other : List Chain) → StandsFor text.now other → other ≡ p) }
+        // Where nothing is read, it stands for none, or memory ran out.
+        ensures bad { result ≡ Err Refusal.BadConfig → (p : List Chain) → StandsFor text.now p → ⊥ }
+        ensures err { IfErr result (λ e. (e ≡ Refusal.BadConfig) ⊎ (e ≡ Refusal.Memory)) }
+    {
+        match toml::table_from_str(alloc, text) {
+            Ok(table) => read_plan(alloc, &table),
+            Err(error) => {
+                if error.is_memory() {
+                    Err(Refusal::Memory)
+                } else {
+                    Err(Refusal::BadConfig)
+                }
+            }
+        }
+    }
+
+    /// The name and the nodes of the object's chain, head first. `UnknownChain` exactly where the
+    /// plan has none of its id.
+    pub fn chain_of(&self, object: &ObjectId) -> Result<(&str, &[NodeId]), Refusal>
+        ensures { MatchResult result (λ x. chain_at self.now object.now.chain ≡ Ok (x.0.now, x.1.now)) (λ e. chain_at self.now object.now.chain ≡ Err e) }
+    {
+        match self.chains.get_index(object.chain.get() as usize) {
+            Some((name, nodes)) => Ok((name.as_str(), nodes.as_slice())),
+            None => Err(Refusal::UnknownChain),
+        }
+    }
+
+    /// The chain of all objects of the transaction: that of the first one, in the order compares,
+    /// reads, writes. `UnknownChain` exactly where the plan has no chain of its id, else `TwoChains`
+    /// exactly where another object is of another chain.
+    #[tactic(auto, using(crate::proofs::Places::place_of, crate::proofs::Places::no_objects))]
+    pub fn one_chain(&self, mini: &Mini) -> Result<ChainId, Refusal>
+        ensures { result ≡ chain_of_all self.now (objects_of mini.now) }
+    {
+        let Some(chain) = first_chain(mini) else {
+            return Err(Refusal::UnknownChain);
+        };
+        if chain.get() as usize >= self.chains.len() {
+            return Err(Refusal::UnknownChain);
+        }
+        if is_elsewhere(mini, chain) {
+            return Err(Refusal::TwoChains);
+        }
+        Ok(chain)
+    }
+}

@@ -1,0 +1,7 @@
+use Rattle.std.proofs.Common.{◌≡◌, drop}
+use Rattle.craq_model.specs.Plain.{last_position}
+use Rattle.craq_plain.proofs.lookups.last_position_of.Given as goal
+
+-- the rest goes on from the position found so far
+abbrev pub invariant-loop-entry : goal.invariant-loop-entry
+invariant-loop-entry l = last_position l.client l.position (drop l.entry-index l.entries) ≡ last_position l.client l.base l.entries

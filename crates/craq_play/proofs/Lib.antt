@@ -1,0 +1,5 @@
+mod Chains
+mod Masters
+mod Changes
+mod Openings
+mod Lines

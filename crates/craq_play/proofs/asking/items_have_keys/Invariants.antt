@@ -1,0 +1,8 @@
+use Rattle.std.proofs.Common.{◌≡◌, map, drop}
+use Rattle.std.specs.List.{list_all}
+use Rattle.craq_play.specs.Asked.{has_key, item_object}
+use Rattle.craq_play.proofs.asking.items_have_keys.Given as goal
+
+-- it hangs on the items that are left
+abbrev pub invariant-loop-item : goal.invariant-loop-item
+invariant-loop-item l = list_all has_key (map item_object (drop l.item-index l.items)) ≡ list_all has_key (map item_object l.items)

@@ -1,0 +1,34 @@
+-- Which move a line of a script asks for.
+use Rattle.std.specs.Prelude.{ℕ, ◌==◌, List, [], ◌∷◌, Option, Some, None, Result, Ok, Err, if◌then◌else◌}
+use Rattle.craq_names.specs.declared.name.ObjectId.{ObjectId}
+use Rattle.craq_names.specs.declared.refusal.Refusal.{Refusal}
+use Rattle.craq_names.specs.declared.refusal.Refusal.TheVariants as refusals
+use Rattle.craq_model.specs.declared.ask.Ask.{Ask}
+use Rattle.craq_model.specs.Asks.{asked_objects}
+use Rattle.craq_runs.specs.declared.run.Move.{Move}
+use Rattle.craq_runs.specs.declared.run.Move.TheVariants as moves
+use Rattle.craq_script.specs.declared.line.Line.{Line}
+use Rattle.craq_script.specs.declared.line.Line.TheVariants as lines
+use Rattle.craq_play.specs.Asked.{update_of, read_of}
+
+-- the chain that is asked: that of the first object
+abbrev pub chain_of_first : List ObjectId → ℕ
+chain_of_first [] = 0
+chain_of_first (object ∷ objects) = object.chain
+
+-- an ask of a node; there is chain 0 alone
+abbrev pub asked_move : ℕ → Result Ask Refusal → Result (Option Move) Refusal
+asked_move node (Err refusal) = Err refusal
+asked_move node (Ok ask) =
+    if chain_of_first (asked_objects ask) == 0 then Ok (Some (moves.Ask node ask)) else Err refusals.UnknownChain
+
+-- the move of a line, or why it is refused before the chain is asked; `explain` is no move
+unfoldable pub move_of : Line → Result (Option Move) Refusal
+move_of (lines.Update update) = asked_move update.node (update_of update)
+move_of (lines.Read node mode object) = asked_move node (read_of mode object)
+move_of (lines.Deliver message) = Ok (Some (moves.Deliver message))
+move_of (lines.Tick node) = Ok (Some (moves.Tick node))
+move_of (lines.Stop node) = Ok (Some (moves.Stop node))
+move_of (lines.Remove node) = Ok (Some (moves.Remove node))
+move_of (lines.Join node) = Ok (Some (moves.Join node))
+move_of lines.Explain = Ok None

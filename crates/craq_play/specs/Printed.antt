@@ -1,0 +1,103 @@
+-- What is printed of the steps of a chain. Texts are lists of the codes of characters.
+use Rattle.std.specs.Prelude.{ℕ, ◌+◌, ◌/◌, ◌%◌, false, List, [], ◌∷◌, ◌++◌, codes, Option, Some, None}
+use Rattle.std.specs.Fmt.{decimal, digit_glyph}
+use Rattle.std.specs.List.{flat_map}
+use Rattle.craq_names.specs.declared.refusal.Refusal.{Refusal}
+use Rattle.craq_names.specs.declared.refusal.Refusal.TheVariants as refusals
+use Rattle.craq_names.specs.Refused.{number_of}
+use Rattle.craq_commands.specs.declared.reply.Reply.{Reply}
+use Rattle.craq_commands.specs.declared.reply.Reply.TheVariants as replies
+use Rattle.craq_model.specs.declared.ask.Answer.{Answer}
+use Rattle.craq_model.specs.declared.ask.Answer.TheVariants as answers
+use Rattle.craq_model.specs.declared.message.Body.{Body}
+use Rattle.craq_model.specs.declared.message.Body.TheVariants as bodies
+use Rattle.craq_model.specs.declared.step.Out.{Out}
+use Rattle.craq_model.specs.declared.step.Out.TheVariants as outs
+use Rattle.craq_model.specs.declared.step.Step.{Step}
+use Rattle.craq_model.specs.declared.step.Why.{Why}
+use Rattle.craq_model.specs.declared.step.Why.TheVariants as whys
+
+-- two hexadecimal digits in lower case
+abbrev pub byte_text : ℕ → List ℕ
+byte_text b = digit_glyph false (b / 16) ∷ digit_glyph false (b % 16) ∷ []
+
+-- `0x` and the bytes
+unfoldable pub value_text : List ℕ → List ℕ
+value_text bytes = codes "0x" ++ flat_map byte_text bytes
+
+-- ` VERSION:VALUE` of an object
+abbrev pub object_text : ℕ × List ℕ → List ℕ
+object_text object = codes " " ++ decimal object.0 ++ codes ":" ++ value_text object.1
+
+-- the reply to an update
+unfoldable pub reply_text : Reply → List ℕ
+reply_text (replies.Written version) = codes "written " ++ decimal version
+reply_text (replies.Mismatch version) = codes "mismatch " ++ decimal version
+reply_text replies.TooLong = codes "toolong"
+reply_text replies.NotANumber = codes "notanumber"
+reply_text replies.Overflow = codes "overflow"
+reply_text replies.Underflow = codes "underflow"
+reply_text (replies.Done objects) = codes "done" ++ flat_map object_text objects
+reply_text (replies.CompareFailed place) = codes "comparefailed " ++ decimal place
+reply_text (replies.Stale last) = codes "stale " ++ decimal last
+
+-- an answer
+unfoldable pub answer_text : Answer → List ℕ
+answer_text (answers.Update reply) = reply_text reply
+answer_text (answers.Read version value) = codes "read " ++ decimal version ++ codes " " ++ value_text value
+
+-- a message by its kind and its numbers
+unfoldable pub message_text : ℕ → Body → List ℕ
+message_text epoch (bodies.Config members) = codes "config " ++ decimal epoch
+message_text epoch (bodies.Entry entry) = codes "entry " ++ decimal entry.position
+message_text epoch (bodies.Ack position) = codes "ack " ++ decimal position
+message_text epoch (bodies.Query ticket key) = codes "query " ++ decimal ticket
+message_text epoch (bodies.VersionIs ticket version) = codes "version " ++ decimal ticket ++ codes " " ++ decimal version
+message_text epoch (bodies.Blank count) = codes "blank " ++ decimal count
+message_text epoch (bodies.Copy position objects kept) = codes "copy " ++ decimal position
+message_text epoch (bodies.Floor count) = codes "floor " ++ decimal count
+
+-- an out of a step of a node: a message that is sent has this number
+unfoldable pub out_text : ℕ → ℕ → Out → List ℕ
+out_text node number (outs.Send to message) =
+    codes "m" ++ decimal number ++ codes " " ++ decimal message.sender ++ codes ">" ++ decimal to ++ codes " " ++ message_text message.epoch message.body
+out_text node number (outs.Answer ticket answer) = codes "answer " ++ decimal node ++ codes " " ++ decimal ticket ++ codes " " ++ answer_text answer
+
+-- how many messages were sent after an out, of those so many before it
+abbrev pub sent_after : ℕ → Out → ℕ
+sent_after sent (outs.Send to message) = sent + 1
+sent_after sent (outs.Answer ticket answer) = sent
+
+-- the outs of a step of a node, a line for each, after so many messages were sent; messages are
+-- numbered from 1 in the order sent
+abbrev pub outs_text : ℕ → ℕ → List Out → List ℕ
+outs_text node sent [] = []
+outs_text node sent (out ∷ others) = out_text node (sent_after sent out) out ++ codes "\n" ++ outs_text node (sent_after sent out) others
+
+-- why a message was ignored
+abbrev pub why_text : Why → List ℕ
+why_text whys.OtherEpoch = codes "OtherEpoch"
+why_text whys.NotNeighbour = codes "NotNeighbour"
+why_text whys.OutOfOrder = codes "OutOfOrder"
+why_text whys.AlreadyHave = codes "AlreadyHave"
+why_text whys.NotReadyHere = codes "NotReadyHere"
+why_text whys.UnknownTicket = codes "UnknownTicket"
+why_text whys.TooFar = codes "TooFar"
+
+abbrev pub done_text : ℕ → ℕ → Option Why → List Out → List ℕ
+done_text node sent (Some why) others = codes "ignored " ++ why_text why ++ codes "\n"
+done_text node sent None [] = codes "ok\n"
+done_text node sent None (out ∷ others) = outs_text node sent (out ∷ others)
+
+-- a step of a node, after so many messages were sent
+unfoldable pub step_text : ℕ → ℕ → Step → List ℕ
+step_text node sent step = done_text node sent step.ignored step.outs
+
+-- what stands behind a refusal's number: the head that was not asked
+abbrev pub head_text : Refusal → List ℕ
+head_text (refusals.NotHead head) = codes " " ++ decimal head
+head_text other = []
+
+-- a refused move
+unfoldable pub refusal_text : Refusal → List ℕ
+refusal_text refusal = codes "refused " ++ decimal (number_of refusal) ++ head_text refusal ++ codes "\n"

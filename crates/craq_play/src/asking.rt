@@ -1,0 +1,269 @@
+ghost use Rattle.std.specs.Prelude.{◌≡◌, map, IfOk};
+ghost use Rattle.std.specs.List.{list_all, flat_map};
+ghost use Rattle.craq_commands.specs.Transaction.{mini_of};
+ghost use Rattle.craq_play.specs.Asked.{has_key, is_value, item_object, item_value, objects_named, values_given, named, item_compare, item_read, item_write, lists_of, command_of, update_of, read_of, Answers};
+
+use craq_commands::{Command, Mini, ReadMode, Update};
+use craq_model::Ask;
+use craq_names::{Items, Key, ObjectId, Refusal, RequestNo, Value, Version};
+use craq_script::{Change, MiniItem, ScriptObject, UpdateLine};
+use std::alloc::{AllocError, Global};
+
+/// Whether the object's key is as long as keys may be.
+fn has_key(object: &ScriptObject) -> bool
+    ensures { result ≡ has_key object.now }
+{
+    let length = object.key.len();
+    1 <= length && length <= 128
+}
+
+/// Whether the value is as long as values may be.
+fn is_value(value: &Items<u8>) -> bool
+    ensures { result ≡ is_value value.now }
+{
+    value.len() <= 4096
+}
+
+/// Whether the item's object has a key.
+fn item_has_key(item: &MiniItem) -> bool
+    ensures { result ≡ has_key (item_object item.now) }
+{
+    match item {
+        MiniItem::Compare { object, version: _ } => has_key(object),
+        MiniItem::Read { object } => has_key(object),
+        MiniItem::Write { object, value: _ } => has_key(object),
+    }
+}
+
+/// Whether each object of the transaction has a key.
+fn items_have_keys(items: &[MiniItem]) -> bool
+    ensures { result ≡ list_all has_key (map item_object items.now) }
+{
+    for item in items {
+        if !item_has_key(item) {
+            return false;
+        }
+    }
+    true
+}
+
+/// Whether the item's value, if it has one, is as long as values may be.
+fn item_has_value(item: &MiniItem) -> bool
+    ensures { result ≡ list_all is_value (item_value item.now) }
+{
+    match item {
+        MiniItem::Compare {
+            object: _,
+            version: _,
+        } => true,
+        MiniItem::Read { object: _ } => true,
+        MiniItem::Write { object: _, value } => is_value(value),
+    }
+}
+
+/// Whether each value of the transaction is as long as values may be.
+fn items_have_values(items: &[MiniItem]) -> bool
+    ensures { result ≡ list_all is_value (flat_map item_value items.now) }
+{
+    for item in items {
+        if !item_has_value(item) {
+            return false;
+        }
+    }
+    true
+}
+
+/// Whether each object has a key.
+fn have_keys(change: &Change) -> bool
+    ensures { result ≡ list_all has_key (objects_named change.now) }
+{
+    match change {
+        Change::Put { object, value: _ } => has_key(object),
+        Change::TestAndSet {
+            object,
+            expect: _,
+            value: _,
+        } => has_key(object),
+        Change::Append { object, value: _ } => has_key(object),
+        Change::Prepend { object, value: _ } => has_key(object),
+        Change::Increment { object, by: _ } => has_key(object),
+        Change::Decrement { object, by: _ } => has_key(object),
+        Change::Mini { items } => items_have_keys(items.as_slice()),
+    }
+}
+
+/// Whether each value is as long as values may be.
+fn have_values(change: &Change) -> bool
+    ensures { result ≡ list_all is_value (values_given change.now) }
+{
+    match change {
+        Change::Put { object: _, value } => is_value(value),
+        Change::TestAndSet {
+            object: _,
+            expect: _,
+            value,
+        } => is_value(value),
+        Change::Append { object: _, value } => is_value(value),
+        Change::Prepend { object: _, value } => is_value(value),
+        Change::Increment { object: _, by: _ } => true,
+        Change::Decrement { object: _, by: _ } => true,
+        Change::Mini { items } => items_have_values(items.as_slice()),
+    }
+}
+
+/// The object that a script names, where it has a key.
+fn object_of(alloc: Global, object: &ScriptObject) -> Result<ObjectId, AllocError>
+    ensures { IfOk result (λ o. o ≡ named object.now) }
+{
+    match Key::new(alloc, object.key.as_slice()) {
+        Ok(key) => Ok(ObjectId {
+            chain: object.chain,
+            key,
+        }),
+        Err(_) => Err(AllocError),
+    }
+}
+
+/// The value of these bytes, where they are not too many.
+fn value_of(alloc: Global, value: &Items<u8>) -> Result<Value, AllocError>
+    ensures { IfOk result (λ v. v ≡ value.now) }
+{
+    match Value::new(alloc, value.as_slice()) {
+        Ok(value) => Ok(value),
+        Err(_) => Err(AllocError),
+    }
+}
+
+/// The compares among the items, in order.
+fn compares_of(alloc: Global, items: &[MiniItem]) -> Result<Items<(ObjectId, Version)>, AllocError>
+    ensures { IfOk result (λ list. list ≡ flat_map item_compare items.now) }
+{
+    let mut compares = Items::new(alloc);
+    for item in items {
+        if let MiniItem::Compare { object, version } = item {
+            compares.push((object_of(alloc, object)?, *version))?;
+        }
+    }
+    Ok(compares)
+}
+
+/// The reads among the items, in order.
+fn reads_of(alloc: Global, items: &[MiniItem]) -> Result<Items<ObjectId>, AllocError>
+    ensures { IfOk result (λ list. list ≡ flat_map item_read items.now) }
+{
+    let mut reads = Items::new(alloc);
+    for item in items {
+        if let MiniItem::Read { object } = item {
+            reads.push(object_of(alloc, object)?)?;
+        }
+    }
+    Ok(reads)
+}
+
+/// The writes among the items, in order.
+fn writes_of(alloc: Global, items: &[MiniItem]) -> Result<Items<(ObjectId, Value)>, AllocError>
+    ensures { IfOk result (λ list. list ≡ flat_map item_write items.now) }
+{
+    let mut writes = Items::new(alloc);
+    for item in items {
+        if let MiniItem::Write { object, value } = item {
+            writes.push((object_of(alloc, object)?, value_of(alloc, value)?))?;
+        }
+    }
+    Ok(writes)
+}
+
+/// The transaction of these items, whose keys and values are as long as they may be.
+fn transaction_of(alloc: Global, items: &[MiniItem]) -> Result<Mini, Refusal>
+    ensures { Answers (λ m. m) result (mini_of (lists_of items.now)) }
+{
+    let compares = compares_of(alloc, items)?;
+    let reads = reads_of(alloc, items)?;
+    let writes = writes_of(alloc, items)?;
+    Mini::new(compares, reads, writes)
+}
+
+/// The command of a change whose keys and values are as long as they may be.
+#[tactic(auto, unfolding(crate::specs::Asked::command_of))]
+fn command_of(alloc: Global, change: &Change) -> Result<Command, Refusal>
+    ensures { Answers (λ x. x) result (command_of change.now) }
+{
+    match change {
+        Change::Put { object, value } => {
+            let object = object_of(alloc, object)?;
+            let value = value_of(alloc, value)?;
+            Ok(Command::Put { object, value })
+        }
+        Change::TestAndSet {
+            object,
+            expect,
+            value,
+        } => {
+            let object = object_of(alloc, object)?;
+            let value = value_of(alloc, value)?;
+            Ok(Command::TestAndSet {
+                object,
+                expect: *expect,
+                value,
+            })
+        }
+        Change::Append { object, value } => {
+            let object = object_of(alloc, object)?;
+            let value = value_of(alloc, value)?;
+            Ok(Command::Append { object, value })
+        }
+        Change::Prepend { object, value } => {
+            let object = object_of(alloc, object)?;
+            let value = value_of(alloc, value)?;
+            Ok(Command::Prepend { object, value })
+        }
+        Change::Increment { object, by } => {
+            let object = object_of(alloc, object)?;
+            Ok(Command::Increment { object, by: *by })
+        }
+        Change::Decrement { object, by } => {
+            let object = object_of(alloc, object)?;
+            Ok(Command::Decrement { object, by: *by })
+        }
+        Change::Mini { items } => {
+            let mini = transaction_of(alloc, items.as_slice())?;
+            Ok(Command::Mini(mini))
+        }
+    }
+}
+
+/// The update that a line asks for.
+///
+/// The first of these that applies refuses it: `BadKey`, `ValueTooLong`, `TooManyItems`,
+/// `EmptyTransaction`, `DuplicateKey`, `BadNumber`. `Memory` where a growth was refused.
+#[tactic(auto, unfolding(crate::specs::Asked::update_of))]
+pub fn update_of(alloc: Global, line: &UpdateLine) -> Result<Ask, Refusal>
+    ensures { Answers (λ x. x) result (update_of line.now) }
+{
+    if !have_keys(&line.change) {
+        return Err(Refusal::BadKey);
+    }
+    if !have_values(&line.change) {
+        return Err(Refusal::ValueTooLong);
+    }
+    let command = command_of(alloc, &line.change)?;
+    let number = RequestNo::new(line.number)?;
+    Ok(Ask::Update(Update {
+        client: line.client,
+        number,
+        command,
+    }))
+}
+
+/// The read that a line asks for. `BadKey` where the object's key is too long; `Memory` where a
+/// growth was refused.
+#[tactic(auto, unfolding(crate::specs::Asked::read_of))]
+pub fn read_of(alloc: Global, mode: ReadMode, object: &ScriptObject) -> Result<Ask, Refusal>
+    ensures { Answers (λ x. x) result (read_of mode object.now) }
+{
+    if !has_key(object) {
+        return Err(Refusal::BadKey);
+    }
+    let object = object_of(alloc, object)?;
+    Ok(Ask::Read { mode, object })
+}

@@ -1,0 +1,15 @@
+//! Scripts played on one chain: from the script's bytes to the printed lines.
+#![tactic(auto)]
+
+mod asking;
+mod chain;
+mod live_chain;
+mod plain_core;
+mod playing;
+mod printing;
+
+pub use asking::{read_of, update_of};
+pub use craq_script::Script;
+pub use plain_core::PlainCore;
+pub use playing::play;
+pub use printing::{print_answer, print_refusal, print_reply, print_step};

@@ -1,0 +1,5 @@
+use craq_node::NodeCore;
+use craq_plain::PlainHistory;
+
+/// A node that keeps its whole history as a list of entries.
+pub type PlainCore = NodeCore<PlainHistory>;

@@ -1,0 +1,240 @@
+ghost use Rattle.std.specs.Prelude.{◌≡◌, ◌+◌, ◌<◌, ◌^◌, ◌++◌, length, OnOk, string_bytes};
+ghost use Rattle.std.specs.List.{flat_map};
+ghost use Rattle.craq_play.specs.Printed.{byte_text, value_text, object_text, reply_text, answer_text, message_text, out_text, sent_after, outs_text, why_text, step_text, refusal_text};
+
+use craq_commands::Reply;
+use craq_model::{Answer, Body, LinkMessage, Out, Step, Why};
+use craq_names::{NodeId, Refusal, Value, Version};
+use std::alloc::AllocError;
+
+/// Prints two hexadecimal digits in lower case for each byte.
+fn print_bytes(text: &mut String, bytes: &[u8]) -> Result<(), AllocError>
+    ensures { OnOk result (string_bytes text.new ≡ string_bytes text.old ++ flat_map byte_text bytes.now) }
+{
+    for byte in bytes {
+        print_byte(text, *byte)?;
+    }
+    Ok(())
+}
+
+/// Prints the byte as two hexadecimal digits in lower case.
+fn print_byte(text: &mut String, byte: u8) -> Result<(), AllocError>
+    ensures { OnOk result (string_bytes text.new ≡ string_bytes text.old ++ byte_text byte) }
+{
+    write!(text, "{byte:02x}")
+}
+
+/// Prints the value's bytes: `0x` and two hexadecimal digits in lower case for each.
+#[tactic(auto, unfolding(crate::specs::Printed::value_text))]
+fn print_value(text: &mut String, value: &Value) -> Result<(), AllocError>
+    ensures { OnOk result (string_bytes text.new ≡ string_bytes text.old ++ value_text value.now) }
+{
+    text.push_str("0x")?;
+    print_bytes(text, value.as_slice())
+}
+
+/// Prints the objects that a transaction read: a space, the version, a colon and the value of each.
+fn print_objects(text: &mut String, objects: &[(Version, Value)]) -> Result<(), AllocError>
+    ensures { OnOk result (string_bytes text.new ≡ string_bytes text.old ++ flat_map object_text objects.now) }
+{
+    for object in objects {
+        let version = object.0.get();
+        write!(text, " {version}:")?;
+        print_value(text, &object.1)?;
+    }
+    Ok(())
+}
+
+/// Prints the reply to an update.
+#[tactic(auto, unfolding(crate::specs::Printed::reply_text))]
+pub fn print_reply(text: &mut String, reply: &Reply) -> Result<(), AllocError>
+    ensures { OnOk result (string_bytes text.new ≡ string_bytes text.old ++ reply_text reply.now) }
+{
+    match reply {
+        Reply::Written(version) => {
+            let version = version.get();
+            write!(text, "written {version}")
+        }
+        Reply::Mismatch(version) => {
+            let version = version.get();
+            write!(text, "mismatch {version}")
+        }
+        Reply::TooLong => text.push_str("toolong"),
+        Reply::NotANumber => text.push_str("notanumber"),
+        Reply::Overflow => text.push_str("overflow"),
+        Reply::Underflow => text.push_str("underflow"),
+        Reply::Done(objects) => {
+            text.push_str("done")?;
+            print_objects(text, objects.as_slice())
+        }
+        Reply::CompareFailed(place) => {
+            let place = *place;
+            write!(text, "comparefailed {place}")
+        }
+        Reply::Stale(last) => {
+            let last = last.get();
+            write!(text, "stale {last}")
+        }
+    }
+}
+
+/// Prints an answer: the reply to an update, or `read`, the version and the value.
+#[tactic(auto, unfolding(crate::specs::Printed::answer_text))]
+pub fn print_answer(text: &mut String, answer: &Answer) -> Result<(), AllocError>
+    ensures { OnOk result (string_bytes text.new ≡ string_bytes text.old ++ answer_text answer.now) }
+{
+    match answer {
+        Answer::Update(reply) => print_reply(text, reply),
+        Answer::Read { version, value } => {
+            let version = version.get();
+            write!(text, "read {version} ")?;
+            print_value(text, value)
+        }
+    }
+}
+
+/// Prints what a message says, in short: its kind and its numbers.
+#[tactic(auto, unfolding(crate::specs::Printed::message_text))]
+fn print_message(text: &mut String, message: &LinkMessage) -> Result<(), AllocError>
+    ensures { OnOk result (string_bytes text.new ≡ string_bytes text.old ++ message_text message.now.epoch message.now.body) }
+{
+    match &message.body {
+        Body::Config { members: _ } => {
+            let epoch = message.epoch.get();
+            write!(text, "config {epoch}")
+        }
+        Body::Entry(entry) => {
+            let position = entry.position.get();
+            write!(text, "entry {position}")
+        }
+        Body::Ack(position) => {
+            let position = position.get();
+            write!(text, "ack {position}")
+        }
+        Body::Query { ticket, key: _ } => {
+            let ticket = ticket.get();
+            write!(text, "query {ticket}")
+        }
+        Body::VersionIs { ticket, version } => {
+            let ticket = ticket.get();
+            let version = version.get();
+            write!(text, "version {ticket} {version}")
+        }
+        Body::Blank(count) => {
+            let count = count.get();
+            write!(text, "blank {count}")
+        }
+        Body::Copy {
+            position,
+            objects: _,
+            kept: _,
+        } => {
+            let position = position.get();
+            write!(text, "copy {position}")
+        }
+        Body::Floor(count) => {
+            let count = count.get();
+            write!(text, "floor {count}")
+        }
+    }
+}
+
+/// Prints an out of a step of this node; a message that it sends has this number.
+#[tactic(auto, unfolding(crate::specs::Printed::out_text))]
+fn print_out(text: &mut String, node: NodeId, number: u64, out: &Out) -> Result<(), AllocError>
+    ensures { OnOk result (string_bytes text.new ≡ string_bytes text.old ++ out_text node number out.now) }
+{
+    match out {
+        Out::Send { to, message } => {
+            let sender = message.sender.get();
+            let receiver = to.get();
+            write!(text, "m{number} {sender}>{receiver} ")?;
+            print_message(text, message)
+        }
+        Out::Answer { ticket, answer } => {
+            let node = node.get();
+            let ticket = ticket.get();
+            write!(text, "answer {node} {ticket} ")?;
+            print_answer(text, answer)
+        }
+    }
+}
+
+/// How many messages were sent after this out, of those so many before it.
+fn sent_after(sent: u64, out: &Out) -> u64
+    requires { sent + 1 < 2 ^ 64 }
+    ensures { result ≡ sent_after sent out.now }
+{
+    match out {
+        Out::Send { to: _, message: _ } => sent + 1,
+        Out::Answer {
+            ticket: _,
+            answer: _,
+        } => sent,
+    }
+}
+
+/// Prints a line for each out of a step of this node, after so many messages were sent.
+fn print_outs(text: &mut String, node: NodeId, sent: u64, outs: &[Out]) -> Result<(), AllocError>
+    requires { sent + length outs.now < 2 ^ 64 }
+    ensures { OnOk result (string_bytes text.new ≡ string_bytes text.old ++ outs_text node sent outs.now) }
+{
+    let mut number = sent;
+    for out in outs {
+        number = sent_after(number, out);
+        print_out(text, node, number, out)?;
+        text.push_str("\n")?;
+    }
+    Ok(())
+}
+
+/// The word for why a message was ignored.
+const fn word_of(why: Why) -> &'static str
+    ensures { result.now ≡ why_text why }
+{
+    match why {
+        Why::OtherEpoch => "OtherEpoch",
+        Why::NotNeighbour => "NotNeighbour",
+        Why::OutOfOrder => "OutOfOrder",
+        Why::AlreadyHave => "AlreadyHave",
+        Why::NotReadyHere => "NotReadyHere",
+        Why::UnknownTicket => "UnknownTicket",
+        Why::TooFar => "TooFar",
+    }
+}
+
+/// Prints what a taken move did: a line for each out, in order, or `ignored` and why, or `ok`
+/// where there is neither. Messages are numbered from 1 in the order sent; `sent` were sent before.
+///
+/// It fails for want of memory alone, which no 2^64 messages find either.
+#[tactic(auto, unfolding(crate::specs::Printed::step_text))]
+pub fn print_step(text: &mut String, node: NodeId, sent: u64, step: &Step) -> Result<(), AllocError>
+    ensures { OnOk result (string_bytes text.new ≡ string_bytes text.old ++ step_text node sent step.now) }
+{
+    if let Some(why) = step.ignored {
+        let word = word_of(why);
+        return writeln!(text, "ignored {word}");
+    }
+    let outs = step.outs.as_slice();
+    if outs.is_empty() {
+        return text.push_str("ok\n");
+    }
+    if u64::MAX - sent < outs.len() as u64 {
+        return Err(AllocError);
+    }
+    print_outs(text, node, sent, outs)
+}
+
+/// Prints that a move was refused: `refused`, the number of the refusal, and after 9 the head.
+#[tactic(auto, unfolding(crate::specs::Printed::refusal_text))]
+pub fn print_refusal(text: &mut String, refusal: &Refusal) -> Result<(), AllocError>
+    ensures { OnOk result (string_bytes text.new ≡ string_bytes text.old ++ refusal_text refusal.now) }
+{
+    let number = (*refusal).number();
+    write!(text, "refused {number}")?;
+    if let Refusal::NotHead(head) = refusal {
+        let head = head.get();
+        write!(text, " {head}")?;
+    }
+    text.push_str("\n")
+}

@@ -1,0 +1,100 @@
+ghost use Rattle.std.specs.Prelude.{◌≡◌, ◌<◌, ◌≤◌, ◌+◌, ◌-◌, ◌^◌, length, IfOk, IfErr};
+ghost use Rattle.craq_model.specs.Asks.{read_turn, waiting_read_turn};
+ghost use Rattle.craq_history.specs.Change.{accepted_change};
+ghost use Rattle.craq_history.specs.Nodes.{plain_of};
+ghost use Rattle.craq_history.specs.Plans.{Plans};
+ghost use Rattle.craq_read.specs.Answers.{read_step};
+
+use craq_commands::ReadMode;
+use craq_history::members::last_member;
+use craq_history::outs::message;
+use craq_history::steps::accepted;
+use craq_history::{Change, History, Node, WaitingChange};
+use craq_model::{Answer, Body, Out, Step, WaitingRead};
+use craq_names::{Copied, Key, Refusal, Ticket, Value, Version};
+use std::alloc::Global;
+
+/// A read at a ready node that has a ticket left. Eventual: the newest version held. Bounded: the
+/// newest version held that is at most so many above the clean one. Strong: a clean object is
+/// answered at once; a dirty one waits, and the last member is asked which version is committed
+/// (USENIX ATC 2009). `PendingFull` where it would have to wait and 1,024 asks wait.
+#[tactic(auto, unfolding(craq_model::specs::Asks::read_turn, craq_model::specs::Plain::newest, craq_model::specs::Plain::clean, craq_model::specs::Plain::entries_after))]
+pub fn plan_read<H: History>(
+    alloc: Global,
+    node: &Node<H>,
+    mode: ReadMode,
+    key: &Key,
+) -> Result<(Change, Step), Refusal>
+    requires { node.now.last_ticket < 2 ^ 64 - 1 }
+    ensures { Plans (plain_of H.past node.now) result (read_turn (plain_of H.past node.now) mode key.now) }
+{
+    match mode {
+        ReadMode::Eventual => {
+            let (version, value) = node.history.newest(key);
+            answered(alloc, node.last_ticket, version, value)
+        }
+        ReadMode::Bounded(above) => {
+            let (clean, _) = node.history.clean(key);
+            let (version, value) = node.history.within(key, clean.get(), u64::from(above));
+            answered(alloc, node.last_ticket, version, value)
+        }
+        ReadMode::Strong => {
+            let (version, value) = node.history.newest(key);
+            if version == node.history.clean(key).0 {
+                answered(alloc, node.last_ticket, version, value)
+            } else {
+                waits(alloc, node, key)
+            }
+        }
+    }
+}
+
+/// A read that is answered in the step of its ask.
+fn answered(
+    alloc: Global,
+    last: Ticket,
+    version: Version,
+    value: &[u8],
+) -> Result<(Change, Step), Refusal>
+    requires room { last < 2 ^ 64 - 1 }
+    requires short { length value.now ≤ 4096 }
+    ensures ok { IfOk result (λ r. (r.0 ≡ accepted_change WaitingChange.Same) × (r.1 ≡ read_step (last + 1) version value.now)) }
+    ensures err { IfErr result (λ e. e ≡ Refusal.Memory) }
+{
+    let ticket = Ticket::new(last.get() + 1);
+    let value = Value::of(Vec::from_slice(alloc, value)?);
+    let mut outs = Vec::new(alloc);
+    outs.push(Out::Answer {
+        ticket,
+        answer: Answer::Read { version, value },
+    })?;
+    let mut change = Change::none();
+    change.accepted = true;
+    Ok((change, accepted(ticket, outs)))
+}
+
+/// A read that waits for the last member's word.
+#[tactic(auto, unfolding(craq_model::specs::Asks::waiting_read_turn, craq_model::specs::Asks::is_full))]
+fn waits<H: History>(alloc: Global, node: &Node<H>, key: &Key) -> Result<(Change, Step), Refusal>
+    requires { node.now.last_ticket < 2 ^ 64 - 1 }
+    ensures { Plans (plain_of H.past node.now) result (waiting_read_turn (plain_of H.past node.now) key.now) }
+{
+    if node.is_full() {
+        return Err(Refusal::PendingFull);
+    }
+    let ticket = Ticket::new(node.last_ticket.get() + 1);
+    let last = last_member(node.members.as_slice());
+    let body = Body::Query {
+        ticket,
+        key: key.copied(alloc)?,
+    };
+    let mut outs = Vec::new(alloc);
+    outs.push(message(&node.sender(), last, body))?;
+    let mut change = Change::none();
+    change.accepted = true;
+    change.waiting = WaitingChange::OneRead(WaitingRead {
+        ticket,
+        key: key.copied(alloc)?,
+    });
+    Ok((change, accepted(ticket, outs)))
+}

@@ -1,0 +1,107 @@
+ghost use Rattle.std.specs.Prelude.{◌≡◌, IfOk, IsOk, IsSome};
+ghost use Rattle.std.specs.Option.{option_copied};
+ghost use Rattle.craq_model.specs.Deliveries.{query_turn, version_turn, told_version_turn, read_with};
+ghost use Rattle.craq_history.specs.Nodes.{plain_of};
+ghost use Rattle.craq_history.specs.Plans.{IsPlanOf};
+
+use craq_history::members::{is_member_of, last_member};
+use craq_history::outs::message;
+use craq_history::steps::{done, ignoring};
+use craq_history::{Change, History, Node, WaitingChange};
+use craq_model::{Answer, Body, Out, Step, WaitingRead, Why};
+use craq_names::{Key, NodeId, Ticket, Value, Version};
+use std::alloc::{AllocError, Global};
+
+/// The question of another member, which version of an object is committed: the tail tells its newest,
+/// which is committed there (USENIX ATC 2009). Ignored where the sender is no other member
+/// (`NotNeighbour`) or this node is not the tail (`NotReadyHere`).
+#[tactic(auto, unfolding(craq_model::specs::Deliveries::query_turn, craq_model::specs::Plain::newest))]
+pub fn plan_query<H: History>(
+    alloc: Global,
+    node: &Node<H>,
+    sender: NodeId,
+    ticket: Ticket,
+    key: &Key,
+) -> Result<(Change, Step), AllocError>
+    ensures turn { IfOk result (λ r. IsPlanOf (plain_of H.past node.now) r (query_turn (plain_of H.past node.now) sender ticket key.now)) }
+    ensures free { IsSome (query_turn (plain_of H.past node.now) sender ticket key.now).1.ignored → IsOk result }
+{
+    let own = node.name.node;
+    let members = node.members.as_slice();
+    if sender == own || !is_member_of(members, sender) {
+        return Ok((Change::none(), ignoring(alloc, Why::NotNeighbour)));
+    }
+    if !(node.ready && last_member(members) == own) {
+        return Ok((Change::none(), ignoring(alloc, Why::NotReadyHere)));
+    }
+    let (version, _) = node.history.newest(key);
+    let body = Body::VersionIs { ticket, version };
+    let mut outs = Vec::new(alloc);
+    outs.push(message(&node.sender(), sender, body))?;
+    Ok((Change::none(), done(outs)))
+}
+
+/// The read of a ticket, among those that wait.
+#[tactic(auto, unfolding(craq_model::specs::Deliveries::read_with))]
+fn waiting_read(reads: &[WaitingRead], ticket: Ticket) -> Option<&WaitingRead>
+    ensures { option_copied result ≡ read_with ticket reads.now }
+{
+    for read in reads {
+        if read.ticket == ticket {
+            return Some(read);
+        }
+    }
+    None
+}
+
+/// The tail's word on a version that is committed: the read that waits for it is answered with that
+/// version, or with the clean one where that is later. Ignored where the sender is not the last member
+/// (`NotNeighbour`), where no read waits under the ticket (`UnknownTicket`), or where the version is
+/// above the newest held (`TooFar`).
+#[tactic(auto, unfolding(craq_model::specs::Deliveries::version_turn, craq_model::specs::Deliveries::told_version_turn))]
+pub fn plan_version<H: History>(
+    alloc: Global,
+    node: &Node<H>,
+    sender: NodeId,
+    ticket: Ticket,
+    version: Version,
+) -> Result<(Change, Step), AllocError>
+    ensures turn { IfOk result (λ r. IsPlanOf (plain_of H.past node.now) r (version_turn (plain_of H.past node.now) sender ticket version)) }
+    ensures free { IsSome (version_turn (plain_of H.past node.now) sender ticket version).1.ignored → IsOk result }
+{
+    if sender != last_member(node.members.as_slice()) {
+        return Ok((Change::none(), ignoring(alloc, Why::NotNeighbour)));
+    }
+    let Some(read) = waiting_read(node.waiting_reads.as_slice(), ticket) else {
+        return Ok((Change::none(), ignoring(alloc, Why::UnknownTicket)));
+    };
+    told(alloc, node, version, read)
+}
+
+/// A waiting read learns of a version that is committed.
+#[tactic(auto, unfolding(craq_model::specs::Deliveries::told_version_turn, craq_model::specs::Plain::newest, craq_model::specs::Plain::clean, craq_model::specs::Plain::entries_after))]
+fn told<H: History>(
+    alloc: Global,
+    node: &Node<H>,
+    version: Version,
+    read: &WaitingRead,
+) -> Result<(Change, Step), AllocError>
+    ensures turn { IfOk result (λ r. IsPlanOf (plain_of H.past node.now) r (told_version_turn (plain_of H.past node.now) version (Some read.now))) }
+    ensures free { IsSome (told_version_turn (plain_of H.past node.now) version (Some read.now)).1.ignored → IsOk result }
+{
+    if node.history.newest(&read.key).0 < version {
+        return Ok((Change::none(), ignoring(alloc, Why::TooFar)));
+    }
+    let (clean, _) = node.history.clean(&read.key);
+    let known = version.get().max(clean.get());
+    let (version, bytes) = node.history.within(&read.key, known, 0);
+    let value = Value::of(Vec::from_slice(alloc, bytes)?);
+    let mut outs = Vec::new(alloc);
+    outs.push(Out::Answer {
+        ticket: read.ticket,
+        answer: Answer::Read { version, value },
+    })?;
+    let mut change = Change::none();
+    change.waiting = WaitingChange::ReadAnswered(read.ticket);
+    Ok((change, done(outs)))
+}

@@ -1,0 +1,14 @@
+//! The language of scripts: its lines, and exactly which texts spell them.
+#![tactic(auto)]
+
+mod line;
+mod misread;
+mod reading;
+mod script;
+mod spelling;
+mod text;
+mod words;
+
+pub use line::{Change, Line, MiniItem, ScriptObject, UpdateLine};
+pub use misread::Misread;
+pub use script::Script;

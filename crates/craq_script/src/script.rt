@@ -1,0 +1,49 @@
+ghost use Rattle.craq_script.specs.Texts.{script_of};
+
+use crate::Line;
+use crate::text::{lines_of, parts_of};
+use craq_names::{Items, Refusal};
+use std::alloc::Global;
+
+/// A script: its lines in order, but for those that are skipped.
+#[derive(Debug, Drop)]
+pub struct Script {
+    pub lines: Items<Line>,
+}
+
+impl Script {
+    ghost use Rattle.craq_script.specs.Texts.{Reads};
+
+    /// The script that the text spells.
+    ///
+    /// Lines are ended by line feeds; the last one may miss. Every line is printable ASCII. Empty
+    /// lines and lines whose first character is `#` are skipped, but counted. All others are
+    /// words parted by one or more spaces:
+    ///
+    /// | First word | Words after it |
+    /// |---|---|
+    /// | `put`, `append`, `prepend` | NODE CLIENT NUMBER OBJECT VALUE |
+    /// | `tas` | NODE CLIENT NUMBER OBJECT VERSION VALUE |
+    /// | `inc`, `dec` | NODE CLIENT NUMBER OBJECT BY |
+    /// | `mini` | NODE CLIENT NUMBER and items `c:OBJECT:VERSION`, `r:OBJECT`, `w:OBJECT:VALUE` |
+    /// | `read` | NODE MODE OBJECT, MODE one of `strong`, `eventual`, `bounded:K` |
+    /// | `deliver` | the number of a message |
+    /// | `tick`, `stop`, `remove`, `join` | NODE |
+    /// | `explain` | none |
+    ///
+    /// Numbers are decimal digits without a sign and without a leading zero, of 64 bits; NODE and
+    /// K are of 32 bits, chains of 16. OBJECT is KEY, of chain 0, or `CHAIN/KEY`; KEY is one or
+    /// more letters, digits, `_` and `-`. A VALUE that begins with `0x` goes on with an even
+    /// number of hexadecimal digits in lower case, and is these bytes; any other is its own bytes.
+    ///
+    /// `BadScript` with the first line that is none of these, counted from 1; `Memory` where a
+    /// growth was refused.
+    #[tactic(auto, unfolding(crate::specs::Texts::script_of))]
+    pub fn read(alloc: Global, text: &[u8]) -> Result<Self, Refusal>
+        ensures { Reads (λ s. s.lines) result (script_of text.now) }
+    {
+        let parts = parts_of(alloc, text, b'\n')?;
+        let lines = lines_of(alloc, parts.as_slice())?;
+        Ok(Script { lines })
+    }
+}

@@ -1,0 +1,68 @@
+-- Reading messages from left to right.
+use Rattle.std.specs.Prelude.{ℕ, List, length, Option, Some, None, ◌==◌, if◌then◌else◌}
+use Rattle.std.specs.Int.{w8, w16, w32, w64}
+use Rattle.craq_commands.specs.Kept.{Kept}
+use Rattle.craq_model.specs.declared.message.Body.{Body}
+use Rattle.craq_model.specs.declared.message.Body.TheVariants as bodies
+use Rattle.craq_model.specs.declared.message.LinkMessage.{LinkMessage}
+use Rattle.craq_numbers.specs.Reading.{◌>>=◌, number_at}
+use Rattle.craq_bytes.specs.Reading.{key_at, value_at, request_at, pair_at, counted_at, mapped}
+use Rattle.craq_bytes.specs.EntryReading.{reply_at, entry_at}
+use Rattle.craq_wire.specs.Spelling.{wire_version}
+
+abbrev pub CopyParts : Type 0
+CopyParts = ℕ × (List (List ℕ × (ℕ × List ℕ)) × List (ℕ × Kept))
+
+unfoldable pub copy_at : List ℕ → Option (CopyParts × List ℕ)
+copy_at =
+    pair_at (number_at w64) (pair_at (counted_at w32 (pair_at key_at (pair_at (number_at w64) value_at)))
+    (counted_at w32 (pair_at (number_at w64) (pair_at request_at reply_at))))
+
+abbrev pub copy_of : CopyParts → Body
+copy_of x = bodies.Copy x.0 x.1.0 x.1.1
+
+unfoldable pub body_at : ℕ → List ℕ → Option (Body × List ℕ)
+body_at kind bytes =
+    if kind == 1 then mapped bodies.Config (counted_at w8 (number_at w32) bytes)
+    else if kind == 2 then mapped bodies.Entry (entry_at bytes)
+    else if kind == 3 then mapped bodies.Ack (number_at w64 bytes)
+    else if kind == 4 then mapped (λ (x : ℕ × List ℕ). bodies.Query x.0 x.1) (pair_at (number_at w64) key_at bytes)
+    else if kind == 5 then mapped (λ (x : ℕ × ℕ). bodies.VersionIs x.0 x.1) (pair_at (number_at w64) (number_at w64) bytes)
+    else if kind == 6 then mapped bodies.Blank (number_at w64 bytes)
+    else if kind == 7 then mapped copy_of (copy_at bytes)
+    else if kind == 8 then mapped bodies.Floor (number_at w64 bytes)
+    else None
+
+-- what stands before what a message says
+pub record Header : Type 0 where
+  pub version : ℕ
+  pub kind : ℕ
+  pub chain : ℕ
+  pub sender : ℕ
+  pub receiver : ℕ
+  pub stamp : ℕ
+  pub index : ℕ
+  pub epoch : ℕ
+
+abbrev pub header_of : ℕ × (ℕ × (ℕ × (ℕ × (ℕ × (ℕ × (ℕ × ℕ)))))) → Header
+header_of x = record { version = x.0; kind = x.1.0; chain = x.1.1.0; sender = x.1.1.1.0; receiver = x.1.1.1.1.0; stamp = x.1.1.1.1.1.0; index = x.1.1.1.1.1.1.0; epoch = x.1.1.1.1.1.1.1 }
+
+unfoldable pub header_at : List ℕ → Option (Header × List ℕ)
+header_at bytes =
+    mapped header_of (pair_at (number_at w8) (pair_at (number_at w8) (pair_at (number_at w16) (pair_at (number_at w32)
+    (pair_at (number_at w32) (pair_at (number_at w64) (pair_at (number_at w32) (number_at w64))))))) bytes)
+
+abbrev pub message_of : Header → Body → LinkMessage
+message_of h body =
+    record { chain = h.chain; sender = h.sender; receiver = h.receiver; stamp = h.stamp; index = h.index; epoch = h.epoch; body = body }
+
+unfoldable pub message_at : List ℕ → Option (LinkMessage × List ℕ)
+message_at bytes = do
+  h ← header_at bytes
+  if h.0.version == wire_version then mapped (message_of h.0) (body_at h.0.kind h.1) else None
+
+-- all of the bytes
+unfoldable pub all_of : List ℕ → Option LinkMessage
+all_of bytes = do
+  m ← message_at bytes
+  if length m.1 == 0 then Some m.0 else None

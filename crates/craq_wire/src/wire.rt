@@ -1,0 +1,76 @@
+ghost use Rattle.std.specs.Prelude.{◌≡◌, ◌⊎◌, ◌↔◌, ℕ, List, Err, IfOk, IfErr, IsTrue};
+ghost use Rattle.craq_model.specs.Spelled.{IsSpelled};
+ghost use Rattle.craq_numbers.specs.Reading.{Gives};
+ghost use Rattle.craq_wire.specs.Reading.{all_of};
+ghost use Rattle.craq_wire.specs.Spelling.{Spells};
+
+use crate::LinkMessage;
+use crate::message::{read_message, write_message};
+use crate::rules::test_message;
+use bytes::{Bytes, BytesMut};
+use craq_names::Refusal;
+use craq_numbers::Unread;
+use std::alloc::{AllocError, Global};
+
+/// The bytes that most messages need at most.
+const USUAL_SIZE: usize = 128;
+
+/// Whether the message can be spelled: its sender is 0 exactly under a membership, receiver,
+/// stamp and epoch are at least 1, and what it says keeps its rules (this project's profile).
+pub fn spelled(message: &LinkMessage) -> bool
+    ensures { IsTrue result ↔ IsSpelled message.now }
+{
+    test_message(message)
+}
+
+/// The bytes of a message that can be spelled. It fails for want of memory alone.
+pub fn encode(alloc: Global, message: &LinkMessage) -> Result<Bytes, AllocError>
+    requires { IsSpelled message.now }
+    ensures { IfOk result (λ bytes. Spells message.now bytes) }
+{
+    let mut out = BytesMut::with_capacity(alloc, USUAL_SIZE)?;
+    write_message(&mut out, message)?;
+    Ok(out.freeze()?)
+}
+
+/// Reads a message whose rules are not tested yet.
+#[tactic(auto, unfolding(crate::specs::Reading::all_of))]
+fn decode_any(alloc: Global, bytes: &[u8]) -> Result<LinkMessage, Unread>
+    ensures { Gives (λ m. m) result (all_of bytes.now) }
+{
+    let (message, rest) = read_message(alloc, bytes)?;
+    if !rest.is_empty() {
+        return Err(Unread::BadFrame);
+    }
+    Ok(message)
+}
+
+/// The message that the bytes spell, all of the bytes. `BadFrame` exactly where they spell none;
+/// `Memory` where a growth was refused. Room is asked for only for what was read.
+pub fn decode(alloc: Global, bytes: &[u8]) -> Result<LinkMessage, Refusal>
+    // What is read is spelled so.
+    ensures found { IfOk result (λ m. Spells m bytes.now) }
+    // No other message is spelled so.
+    ensures only { IfOk result (λ m. (other : LinkMessage) → Spells other bytes.now → other ≡ m) }
+    // Where nothing is read, no message is spelled so, or memory ran out.
+    ensures bad { result ≡ Err Refusal.BadFrame → (m : LinkMessage) → Spells m bytes.now → ⊥ }
+    ensures err { IfErr result (λ e. (e ≡ Refusal.BadFrame) ⊎ (e ≡ Refusal.Memory)) }
+{
+    match decode_any(alloc, bytes) {
+        Ok(message) => {
+            if test_message(&message) {
+                Ok(message)
+            } else {
+                Err(Refusal::BadFrame)
+            }
+        }
+        Err(Unread::BadFrame) => Err(Refusal::BadFrame),
+        Err(Unread::Memory) => Err(Refusal::Memory),
+    }
+}
+
+/// No bytes spell two messages, and no message has two spellings. It does nothing.
+pub fn one_spelling()
+    ensures value { (bytes : List ℕ) (m n : LinkMessage) → Spells m bytes → Spells n bytes → m ≡ n }
+    ensures bytes { (m : LinkMessage) (a b : List ℕ) → Spells m a → Spells m b → a ≡ b }
+{}

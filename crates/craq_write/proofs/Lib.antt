@@ -1,0 +1,3 @@
+pub mod Room
+pub mod Ends
+pub mod Copies

@@ -1,0 +1,16 @@
+//! The update rules of a node: what the head makes of an update, and how entries, acknowledgements,
+//! memberships, copies and floors change a node. Each call works out what changes and what is sent,
+//! and changes nothing itself.
+#![tactic(auto)]
+
+mod answers;
+mod deliveries;
+mod making_entries;
+mod readiness;
+mod settling;
+mod updates;
+
+pub use deliveries::{plan_ack, plan_blank, plan_entry};
+pub use readiness::{plan_copy, plan_floor};
+pub use settling::{add_tick_outs, plan_config};
+pub use updates::plan_update;

@@ -1,0 +1,64 @@
+ghost use Rattle.std.specs.Prelude.{◌≡◌, ◌≢◌, ℕ, List, All, map, IfOk, option_to_list};
+ghost use Rattle.craq_names.specs.Limits.{greatest};
+ghost use Rattle.craq_commands.specs.Objects.{version_of};
+ghost use Rattle.craq_model.specs.Asks.{versioned_write};
+ghost use Rattle.craq_history.specs.Past.{newest_in};
+ghost use Rattle.craq_write.specs.Forward.{forwarded};
+
+use craq_commands::{Entry, Look, Write, Writes};
+use craq_history::History;
+use craq_history::members::successor_of;
+use craq_history::outs::{Sender, message};
+use craq_model::{Body, Out};
+use craq_names::{Copied, Key, NodeId, Value, Version};
+use std::alloc::{AllocError, Global};
+
+/// The newest objects of a history.
+#[derive(Drop)]
+pub(crate) struct Newest<'a, H>(pub &'a H);
+
+impl<H: History> Look for Newest<'_, H> {
+    ghost objects = { λ n. (newest_in (H.past n.0.now)).objects };
+
+    fn look(&self, key: &Key) -> (Version, &[u8]) {
+        self.0.newest(key)
+    }
+}
+
+/// The writes with their versions, each the next one of its object.
+pub(crate) fn versioned<H: History>(
+    alloc: Global,
+    history: &H,
+    writes: &[(Key, Value)],
+) -> Result<Vec<Write>, AllocError>
+    requires { All (λ (w : List ℕ × List ℕ). version_of (newest_in (H.past history.now)).objects w.0 ≢ greatest) writes.now }
+    ensures { IfOk result (λ made. made.items ≡ map (versioned_write (newest_in (H.past history.now)).objects) writes.now) }
+{
+    let mut made = Vec::new(alloc);
+    for (key, value) in writes {
+        let (version, _) = history.newest(key);
+        made.push(Write {
+            key: key.copied(alloc)?,
+            version: Version::new(version.get() + 1),
+            value: value.copied(alloc)?,
+        })?;
+    }
+    Ok(made)
+}
+
+/// The entry as it is sent to the successor, if there is one.
+#[tactic(auto, unfolding(craq_model::specs::Sends::entry_bodies))]
+pub(crate) fn forward(
+    alloc: Global,
+    sender: &Sender,
+    members: &[NodeId],
+    entry: &Entry,
+) -> Result<Option<Out>, AllocError>
+    ensures { IfOk result (λ out. option_to_list out ≡ forwarded sender.now.name sender.now.epoch members.now entry.now) }
+{
+    let own = sender.id();
+    let Some(to) = successor_of(members, own) else {
+        return Ok(None);
+    };
+    Ok(Some(message(sender, to, Body::Entry(entry.copied(alloc)?))))
+}

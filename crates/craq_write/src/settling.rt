@@ -1,0 +1,173 @@
+//! Settling in a membership, and what a node repeats in it.
+ghost use Rattle.std.specs.Prelude.{◌≡◌, ◌&&◌, ◌==◌, ◌++◌, true, false, OnOk, IfOk, IsOk, IsSome};
+ghost use Rattle.craq_model.specs.Deliveries.{config_turn};
+ghost use Rattle.craq_model.specs.Members.{last_of};
+ghost use Rattle.craq_model.specs.Sends.{tick_sends};
+ghost use Rattle.craq_model.specs.Settle.{all_committed, settling_turn};
+ghost use Rattle.craq_history.specs.Nodes.{plain_of};
+ghost use Rattle.craq_history.specs.Plans.{IsPlanOf};
+ghost use Rattle.craq_write.specs.Settling.{in_membership};
+
+use crate::answers::answer_all;
+use craq_history::members::{is_member_of, last_member};
+use craq_history::outs::{Sender, add_ready_outs, add_unready_outs};
+use craq_history::steps::{done, ignoring};
+use craq_history::{Change, History, Node, WaitingChange};
+use craq_model::{Config, Out, Step, Why};
+use craq_names::{Copied, Epoch, Items, NodeId, Seq};
+use std::alloc::{AllocError, Global};
+
+/// What a node repeats in this membership, added to the outs.
+#[tactic(auto, unfolding(craq_model::specs::Sends::tick_sends, craq_model::specs::Sends::ready_sends, craq_model::specs::Sends::unready_sends, craq_model::specs::Sends::catch_up, craq_model::specs::Plain::entries_after))]
+fn add_outs_in<H: History>(
+    outs: &mut Vec<Out>,
+    alloc: Global,
+    node: &Node<H>,
+    epoch: Epoch,
+    members: &[NodeId],
+) -> Result<(), AllocError>
+    ensures { OnOk result (outs.new.items ≡ outs.old.items ++ tick_sends (in_membership (plain_of H.past node.now) epoch members.now)) }
+{
+    if epoch.get() == 0 {
+        return Ok(());
+    }
+    let sender = Sender {
+        name: node.name,
+        epoch,
+    };
+    if !node.ready {
+        return add_unready_outs(outs, &sender, members, node.history.len());
+    }
+    let acknowledged = node.history.acknowledged();
+    add_ready_outs(
+        outs,
+        alloc,
+        &sender,
+        members,
+        node.history.after(acknowledged),
+        &[],
+        node.history.len(),
+        acknowledged,
+        node.waiting_reads.as_slice(),
+    )
+}
+
+/// What a tick sends: an unready node tells its predecessor how many entries it has; a ready one repeats
+/// what it has to send. A node without a membership sends nothing.
+#[tactic(auto, unfolding(craq_model::specs::Sends::tick_sends, craq_model::specs::Sends::ready_sends, craq_model::specs::Sends::unready_sends, craq_model::specs::Sends::catch_up, craq_model::specs::Plain::entries_after))]
+pub fn add_tick_outs<H: History>(
+    outs: &mut Vec<Out>,
+    alloc: Global,
+    node: &Node<H>,
+) -> Result<(), AllocError>
+    ensures { OnOk result (outs.new.items ≡ outs.old.items ++ tick_sends (plain_of H.past node.now)) }
+{
+    add_outs_in(outs, alloc, node, node.epoch, node.members.as_slice())
+}
+
+/// What a tail repeats in this membership, once all that it holds is committed.
+#[tactic(auto, using(crate::proofs::Ends::nothing_after_all), unfolding(craq_model::specs::Sends::tick_sends, craq_model::specs::Sends::ready_sends, craq_model::specs::Sends::catch_up, craq_model::specs::Plain::entries_after))]
+fn add_tail_outs<H: History>(
+    outs: &mut Vec<Out>,
+    alloc: Global,
+    node: &Node<H>,
+    epoch: Epoch,
+    members: &[NodeId],
+) -> Result<(), AllocError>
+    requires ready { node.now.ready ≡ true }
+    requires last { last_of members.now ≡ node.now.name.node }
+    ensures { OnOk result (outs.new.items ≡ outs.old.items ++ tick_sends (all_committed (in_membership (plain_of H.past node.now) epoch members.now))) }
+{
+    if epoch.get() == 0 {
+        return Ok(());
+    }
+    let sender = Sender {
+        name: node.name,
+        epoch,
+    };
+    let length = node.history.len();
+    add_ready_outs(outs, alloc, &sender, members, &[], &[], length, length, &[])
+}
+
+/// Settling as the tail: all that the node holds is committed, and all that waits is answered.
+#[tactic(auto, unfolding(craq_model::specs::Settle::settling_turn, craq_model::specs::Settle::all_given, craq_model::specs::Plain::newest))]
+fn settled_as_tail<H: History>(
+    alloc: Global,
+    node: &Node<H>,
+    config: Config,
+) -> Result<(Change, Step), AllocError>
+    requires ready { node.now.ready ≡ true }
+    requires last { last_of config.members ≡ node.now.name.node }
+    ensures { IfOk result (λ r. IsPlanOf (plain_of H.past node.now) r (settling_turn (in_membership (plain_of H.past node.now) config.epoch config.members))) }
+{
+    let mut outs = Vec::new(alloc);
+    answer_all(&mut outs, alloc, node)?;
+    add_tail_outs(
+        &mut outs,
+        alloc,
+        node,
+        config.epoch,
+        config.members.as_slice(),
+    )?;
+    let mut change = Change::none();
+    change.acknowledged = Some(Seq::new(node.history.len()));
+    change.waiting = WaitingChange::AllAnswered;
+    change.membership = Some(config);
+    Ok((change, done(outs)))
+}
+
+/// Settling where the node is not the tail: it repeats what it has to send.
+#[tactic(auto, unfolding(craq_model::specs::Settle::settling_turn))]
+fn settled_in_line<H: History>(
+    alloc: Global,
+    node: &Node<H>,
+    config: Config,
+) -> Result<(Change, Step), AllocError>
+    requires { (node.now.ready && (last_of config.members == node.now.name.node)) ≡ false }
+    ensures { IfOk result (λ r. IsPlanOf (plain_of H.past node.now) r (settling_turn (in_membership (plain_of H.past node.now) config.epoch config.members))) }
+{
+    let mut outs = Vec::new(alloc);
+    add_outs_in(
+        &mut outs,
+        alloc,
+        node,
+        config.epoch,
+        config.members.as_slice(),
+    )?;
+    let mut change = Change::none();
+    change.membership = Some(config);
+    Ok((change, done(outs)))
+}
+
+/// A membership of a later epoch is taken, and the floor of the old one is forgotten; the tail of it
+/// commits all that it holds and answers all that waits; then the node repeats what it has to send in it
+/// (the master tells the servers of each new chain, and neighbours send what is not acknowledged: OSDI
+/// 2004; epochs and floors are this project's profile). Ignored where the epoch is not later than the node's (`OtherEpoch`), or where the node is no member
+/// (`NotNeighbour`).
+#[tactic(auto, unfolding(craq_model::specs::Deliveries::config_turn, craq_model::specs::Settle::settling_turn))]
+pub fn plan_config<H: History>(
+    alloc: Global,
+    node: &Node<H>,
+    epoch: Epoch,
+    members: &Items<NodeId>,
+) -> Result<(Change, Step), AllocError>
+    ensures turn { IfOk result (λ r. IsPlanOf (plain_of H.past node.now) r (config_turn (plain_of H.past node.now) epoch members.now)) }
+    ensures free { IsSome (config_turn (plain_of H.past node.now) epoch members.now).1.ignored → IsOk result }
+{
+    if epoch <= node.epoch {
+        return Ok((Change::none(), ignoring(alloc, Why::OtherEpoch)));
+    }
+    if !is_member_of(members.as_slice(), node.name.node) {
+        return Ok((Change::none(), ignoring(alloc, Why::NotNeighbour)));
+    }
+    let is_last = last_member(members.as_slice()) == node.name.node;
+    let config = Config {
+        epoch,
+        members: members.copied(alloc)?,
+    };
+    if node.ready && is_last {
+        settled_as_tail(alloc, node, config)
+    } else {
+        settled_in_line(alloc, node, config)
+    }
+}

@@ -1,0 +1,209 @@
+ghost use Rattle.std.specs.Prelude.{◌≡◌, ◌<◌, ◌+◌, ◌-◌, ◌^◌, ◌++◌, [], true, false, Some, None, if◌then◌else◌, OnOk, IfOk, option_to_list};
+ghost use Rattle.craq_commands.specs.Evaluation.{some_used_up, objects_named};
+ghost use Rattle.craq_commands.specs.SingleCopy.{said};
+ghost use Rattle.craq_model.specs.Asks.{reply_turn, update_turn, new_update_turn, committed_if_last};
+ghost use Rattle.craq_model.specs.Plain.{newest, length_of, is_last, position_of};
+ghost use Rattle.craq_history.specs.Change.{changed};
+ghost use Rattle.craq_history.specs.Nodes.{plain_of};
+ghost use Rattle.craq_history.specs.Past.{newest_in};
+ghost use Rattle.craq_history.specs.Plans.{CanGrow, Plans};
+ghost use Rattle.craq_write.specs.Forward.{entry_in};
+
+use crate::making_entries::{Newest, forward, versioned};
+use craq_commands::{Entry, Reply, Update, evaluate};
+use craq_history::members::last_member;
+use craq_history::steps::accepted;
+use craq_history::{Change, History, HistoryChange, Node, Said, WaitingChange};
+use craq_model::{Answer, Out, Step, WaitingUpdate};
+use craq_names::{ClientId, Copied, Items, Refusal, Seq, Ticket};
+use std::alloc::{AllocError, Global};
+
+/// The change, with an accepted ask and what it does to the asks that wait.
+fn accepting(change: Change, waiting: WaitingChange) -> Change
+    ensures { result ≡ record change { accepted = true; waiting = waiting } }
+{
+    Change {
+        accepted: true,
+        membership: change.membership,
+        history: change.history,
+        acknowledged: change.acknowledged,
+        floor: change.floor,
+        becomes_ready: change.becomes_ready,
+        waiting,
+    }
+}
+
+/// One more out, if there is one.
+pub(crate) fn push_some(outs: &mut Vec<Out>, out: Option<Out>) -> Result<(), AllocError>
+    ensures { OnOk result (outs.new.items ≡ outs.old.items ++ option_to_list out) }
+{
+    if let Some(out) = out {
+        outs.push(out)?;
+    }
+    Ok(())
+}
+
+/// The reply to an update is known, and due once the history up to a position is committed: it is
+/// answered in this step if that is so after the change, else it waits.
+#[tactic(auto, unfolding(craq_model::specs::Asks::reply_turn, craq_model::specs::Asks::is_full))]
+fn replied<H: History>(
+    alloc: Global,
+    node: &Node<H>,
+    change: Change,
+    acknowledged: u64,
+    position: u64,
+    reply: Reply,
+    send: Option<Out>,
+) -> Result<(Change, Step), Refusal>
+    requires room { node.now.last_ticket < 2 ^ 64 - 1 }
+    requires grows { CanGrow (length_of (plain_of H.past node.now)) change.history }
+    requires not_yet { change.accepted ≡ false }
+    requires same { change.waiting ≡ WaitingChange.Same }
+    requires committed { acknowledged ≡ (changed (plain_of H.past node.now) change).acknowledged }
+    ensures { Plans (plain_of H.past node.now) result (reply_turn (changed (plain_of H.past node.now) change) position reply (option_to_list send)) }
+{
+    let ticket = Ticket::new(node.last_ticket.get() + 1);
+    let mut outs = Vec::new(alloc);
+    if position <= acknowledged {
+        outs.push(Out::Answer {
+            ticket,
+            answer: Answer::Update(reply),
+        })?;
+        push_some(&mut outs, send)?;
+        let change = accepting(change, WaitingChange::Same);
+        return Ok((change, accepted(ticket, outs)));
+    }
+    if node.is_full() {
+        return Err(Refusal::PendingFull);
+    }
+    push_some(&mut outs, send)?;
+    let waiting = WaitingUpdate {
+        ticket,
+        position: Seq::new(position),
+        reply,
+    };
+    let change = accepting(change, WaitingChange::OneUpdate(waiting));
+    Ok((change, accepted(ticket, outs)))
+}
+
+/// The change with all committed that the history has then, where the node is last in its membership;
+/// and how much is committed then.
+fn committing<H: History>(node: &Node<H>, change: Change, length: u64) -> (Change, u64)
+    requires { change.acknowledged ≡ None }
+    ensures change { result.0 ≡ (if is_last (plain_of H.past node.now) then record change { acknowledged = Some length } else change) }
+    ensures committed { result.1 ≡ (if is_last (plain_of H.past node.now) then length else (H.past node.now.history).acknowledged) }
+{
+    if last_member(node.members.as_slice()) != node.name.node {
+        return (change, node.history.acknowledged());
+    }
+    let change = Change {
+        accepted: change.accepted,
+        membership: change.membership,
+        history: change.history,
+        acknowledged: Some(Seq::new(length)),
+        floor: change.floor,
+        becomes_ready: change.becomes_ready,
+        waiting: change.waiting,
+    };
+    (change, length)
+}
+
+/// An update whose number is not new: what is said to it is due at its client's newest entry.
+fn asked_before<H: History>(
+    alloc: Global,
+    node: &Node<H>,
+    client: ClientId,
+    reply: Reply,
+) -> Result<(Change, Step), Refusal>
+    requires { node.now.last_ticket < 2 ^ 64 - 1 }
+    ensures { Plans (plain_of H.past node.now) result (reply_turn (committed_if_last (plain_of H.past node.now)) (position_of (plain_of H.past node.now) client) reply []) }
+{
+    let position = node.history.position_of(client);
+    let (change, acknowledged) = committing(node, Change::none(), node.history.len());
+    replied(alloc, node, change, acknowledged, position, reply, None)
+}
+
+/// A new update makes an entry of its outcome, which goes to the successor.
+fn entered<H: History>(
+    alloc: Global,
+    node: &Node<H>,
+    entry: Entry,
+) -> Result<(Change, Step), Refusal>
+    requires room { node.now.last_ticket < 2 ^ 64 - 1 }
+    requires next { entry.position ≡ length_of (plain_of H.past node.now) + 1 }
+    ensures { Plans (plain_of H.past node.now) result (new_update_turn (plain_of H.past node.now) entry) }
+{
+    let length = entry.position.get();
+    let reply = entry.reply.copied(alloc)?;
+    let send = forward(alloc, &node.sender(), node.members.as_slice(), &entry)?;
+    let mut change = Change::none();
+    change.history = HistoryChange::Grows(entry);
+    let (change, acknowledged) = committing(node, change, length);
+    replied(alloc, node, change, acknowledged, length, reply, send)
+}
+
+/// The outcome of a new update as the next entry.
+fn entry_made<H: History>(
+    alloc: Global,
+    node: &Node<H>,
+    update: &Update,
+) -> Result<Entry, AllocError>
+    requires room { node.now.last_ticket < 2 ^ 64 - 1 }
+    requires next { length_of (plain_of H.past node.now) < 2 ^ 64 - 1 }
+    requires versions { some_used_up (newest_in (H.past node.now.history)).objects (objects_named update.now.command) ≡ false }
+    ensures { IfOk result (λ e. e ≡ entry_in (plain_of H.past node.now) update.now (newest_in (H.past node.now.history)).objects) }
+{
+    let (writes, reply) = evaluate(alloc, &Newest(&node.history), &update.command)?;
+    let writes = versioned(alloc, &node.history, writes.as_slice())?;
+    Ok(Entry {
+        position: Seq::new(node.history.len() + 1),
+        origin_node: node.name.node,
+        origin_ticket: Ticket::new(node.last_ticket.get() + 1),
+        client: update.client,
+        number: update.number,
+        reply,
+        writes: Items::of(writes),
+    })
+}
+
+/// A new update at the head: it is evaluated on the newest state, and becomes the next entry.
+#[tactic(auto, unfolding(craq_model::specs::Asks::update_turn, craq_model::specs::Plain::newest))]
+fn plan_new<H: History>(
+    alloc: Global,
+    node: &Node<H>,
+    update: &Update,
+) -> Result<(Change, Step), Refusal>
+    requires { node.now.last_ticket < 2 ^ 64 - 1 }
+    ensures { Plans (plain_of H.past node.now) result (update_turn (plain_of H.past node.now) update.now None) }
+{
+    if node.history.len() == u64::MAX {
+        return Err(Refusal::Exhausted);
+    }
+    if update.command.names_used_up(&Newest(&node.history)) {
+        return Err(Refusal::Exhausted);
+    }
+    let entry = entry_made(alloc, node, update)?;
+    entered(alloc, node, entry)
+}
+
+/// An update at a ready head that has a ticket left. A number that was asked before has what is said to
+/// it, at the position of its client's newest entry; a new one makes an entry. It is answered in this
+/// step if its position is committed, else it waits. `Exhausted` where a new one finds no next position,
+/// or names an object without a next version; `PendingFull` where it would have to wait and 1,024 asks
+/// wait. The head decides an update and sends the resulting values (USENIX ATC 2009); that refused
+/// commands make entries, and that one reply is kept for a client, are this project's profile.
+#[tactic(auto, unfolding(craq_model::specs::Asks::update_turn, craq_model::specs::Plain::newest))]
+pub fn plan_update<H: History>(
+    alloc: Global,
+    node: &Node<H>,
+    update: &Update,
+) -> Result<(Change, Step), Refusal>
+    requires { node.now.last_ticket < 2 ^ 64 - 1 }
+    ensures { Plans (plain_of H.past node.now) result (update_turn (plain_of H.past node.now) update.now (said (newest (plain_of H.past node.now)) update.now.client update.now.number)) }
+{
+    match node.history.said(update.client, update.number) {
+        Said::Nothing => plan_new(alloc, node, update),
+        Said::Kept(reply) => asked_before(alloc, node, update.client, reply.copied(alloc)?),
+        Said::Stale(last) => asked_before(alloc, node, update.client, Reply::Stale(last)),
+    }
+}

@@ -22,7 +22,7 @@ use Rattle.craq_runs.specs.Chain.{Chain, Progress, node_at, sent_in, config_to, 
 use Rattle.craq_runs.specs.Seen.{Asked, Answered, answers_in, receivers_in, is_strong_answer, ask_of}
 use Rattle.craq_runs.specs.Explain.{Account, opening_account, account_with, places_of, tail_word}
 use Rattle.craq_bridge.proofs.Lists.{all_append, all_like}
-use Rattle.craq_entries.specs.Genuine.{IsMoveOfType, IsTypedRunOf}
+use Rattle.craq_runs.specs.Typed.{IsMoveOfType, IsTypedRunOf}
 use Rattle.craq_entries.proofs.EachMove.{place_of}
 use Rattle.craq_entries.proofs.Places.{AtNode, AtMaster, happens_at}
 use Rattle.craq_entries.proofs.Lens.{AreLens}

@@ -14,7 +14,8 @@ use Rattle.craq_runs.specs.Runs.{progressed, Takes, AreTaken}
 use Rattle.craq_runs.specs.Seen.{Seen, Answered, answers_in, answers_from, receivers_in, node_of, seen, strong_answers}
 use Rattle.craq_runs.specs.Explain.{Account, opening_account, account_with, account_of, explanation_in, explain}
 use Rattle.craq_runs.specs.Valid.{state_at, IsSaid, IsExplained, StrongHold, IsChecked, place_name, answer_name}
-use Rattle.craq_entries.specs.Genuine.{IsMoveOfType, AreOfType, AllGenuine, IsTypedRunOf}
+use Rattle.craq_entries.specs.Genuine.{AllGenuine}
+use Rattle.craq_runs.specs.Typed.{IsMoveOfType, AreOfType, IsTypedRunOf}
 use Rattle.craq_entries.proofs.Places.{happens_at}
 use Rattle.craq_entries.proofs.Entries.{genuine_closed}
 use Rattle.craq_entries.proofs.Updates.{updates_take, after_updates, numbers_name}

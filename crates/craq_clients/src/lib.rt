@@ -5,7 +5,7 @@
 #![tactic(auto)]
 
 ghost use Rattle.std.specs.Prelude.{◌≡◌, ℕ, [], map};
-ghost use Rattle.craq_entries.specs.Genuine.{IsTypedRunOf};
+ghost use Rattle.craq_runs.specs.Typed.{IsTypedRunOf};
 ghost use Rattle.craq_runs.specs.Explain.{explain};
 ghost use Rattle.craq_runs.specs.Seen.{seen, strong_answers};
 ghost use Rattle.craq_runs.specs.Valid.{IsChecked, StrongHold, answer_name, place_name};

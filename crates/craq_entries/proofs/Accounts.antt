@@ -18,7 +18,8 @@ use Rattle.craq_runs.specs.Seen.{Asked, ask_in, ask_with}
 use Rattle.craq_runs.specs.Explain.{Account, account_with, committed_by, ask_number}
 use Rattle.craq_bridge.specs.Follows.{seen_of, NodeFollows, Follows}
 use Rattle.craq_bridge.proofs.Nodes.{node_id}
-use Rattle.craq_entries.specs.Genuine.{IsMoveOfType, IsGenuine, AllGenuine}
+use Rattle.craq_entries.specs.Genuine.{IsGenuine, AllGenuine}
+use Rattle.craq_runs.specs.Typed.{IsMoveOfType}
 use Rattle.craq_entries.proofs.Machine.{Held}
 use Rattle.craq_entries.proofs.Moves.{LogBy}
 use Rattle.craq_entries.proofs.Steps.{Went}

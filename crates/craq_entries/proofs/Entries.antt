@@ -10,7 +10,8 @@ use Rattle.craq_model.specs.Plain.{Plain, id_of, newest}
 use Rattle.craq_runs.specs.Seen.{Asked, ask_with}
 use Rattle.craq_laws.proofs.Copies.{new_unsaid}
 use Rattle.craq_laws.proofs.Writes.{with_versioned}
-use Rattle.craq_entries.specs.Genuine.{IsOfType, IsGenuine, AllGenuine}
+use Rattle.craq_entries.specs.Genuine.{IsGenuine, AllGenuine}
+use Rattle.craq_runs.specs.Typed.{IsOfType}
 use Rattle.craq_entries.proofs.Machine.{IsClosed}
 use Rattle.craq_entries.proofs.EachMove.{entry_for, IsNewAt}
 use Rattle.craq_entries.proofs.Keys.{writes_once}

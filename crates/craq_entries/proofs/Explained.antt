@@ -17,7 +17,8 @@ use Rattle.craq_runs.specs.Runs.{Takes, AreTaken, after_move, after_moves}
 use Rattle.craq_runs.specs.Explain.{Account, opening_account, account_with, account_after, account_of, ask_number, explanation_in, explain}
 use Rattle.craq_bridge.specs.Follows.{seen_of, NodeFollows}
 use Rattle.craq_runs.specs.Valid.{OnlyGrows}
-use Rattle.craq_entries.specs.Genuine.{IsMoveOfType, AreOfType, AllGenuine, IsTypedRunOf, HasGenuineHistory, IsBeginning}
+use Rattle.craq_entries.specs.Genuine.{AllGenuine, HasGenuineHistory, IsBeginning}
+use Rattle.craq_runs.specs.Typed.{IsMoveOfType, AreOfType, IsTypedRunOf}
 use Rattle.craq_entries.proofs.Updates.{numbers_of, updates_length, numbers_name, numbers_stay, no_request_twice}
 use Rattle.craq_entries.proofs.Lens.{AreLens}
 use Rattle.craq_entries.proofs.Known.{Known}

@@ -12,7 +12,7 @@ use Rattle.std.specs.Int.{to_be_bytes, w64}
 use Rattle.craq_commands.specs.declared.reply.Reply.TheVariants.{Mismatch, TooLong, NotANumber, Overflow, Underflow, CompareFailed}
 use Rattle.craq_commands.specs.Objects.{Objects, version_of, value_of}
 use Rattle.craq_commands.specs.Evaluation.{Outcome, writes_one, writes_none, writes_number, tested, joined, number_at, increased, decreased, first_difference, transacted, eval, objects_named, all_of_chain}
-use Rattle.craq_entries.specs.Genuine.{IsOfType}
+use Rattle.craq_runs.specs.Typed.{IsOfType}
 
 -- the keys of what is written are distinct
 abbrev pub WritesOnce : Outcome → Type 0

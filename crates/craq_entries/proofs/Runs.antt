@@ -18,7 +18,7 @@ use Rattle.craq_runs.specs.Runs.{progressed, Takes, AreTaken}
 use Rattle.craq_runs.specs.Seen.{Asked, asks_from, ask_in}
 use Rattle.craq_runs.specs.Explain.{Account, opening_account, account_with, account_of}
 use Rattle.craq_bridge.proofs.Opening.{opening_follows, distinct_members}
-use Rattle.craq_entries.specs.Genuine.{IsMoveOfType, AreOfType, IsTypedRunOf}
+use Rattle.craq_runs.specs.Typed.{IsMoveOfType, AreOfType, IsTypedRunOf}
 use Rattle.craq_entries.proofs.EachMove.{place_of}
 use Rattle.craq_entries.proofs.Places.{happens_at}
 use Rattle.craq_entries.proofs.Lens.{lens_nil}

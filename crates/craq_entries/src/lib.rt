@@ -16,7 +16,8 @@ ghost use Rattle.craq_runs.specs.Seen.{asks_from, seen, update_at};
 ghost use Rattle.craq_runs.specs.Valid.{OnlyGrows};
 ghost use Rattle.craq_runs.specs.declared.run.Run.{Run};
 ghost use Rattle.craq_runs.specs.declared.run.Taken.{Taken};
-ghost use Rattle.craq_entries.specs.Genuine.{AllGenuine, HasGenuineHistory, IsBeginning, IsTypedRunOf};
+ghost use Rattle.craq_entries.specs.Genuine.{AllGenuine, HasGenuineHistory, IsBeginning};
+ghost use Rattle.craq_runs.specs.Typed.{IsTypedRunOf};
 
 /// Each committed entry was asked, its number was new, and its writes and reply are those of its command on one copy of the
 /// objects that took the updates before it.

@@ -1,6 +1,6 @@
 -- The whole, from its parts.
 use Rattle.std.proofs.Common.{ℕ, List, [], ◌∷◌, ◌++◌}
-use Rattle.craq_entries.specs.Genuine.{AreOfType, IsTypedRunOf}
+use Rattle.craq_runs.specs.Typed.{AreOfType, IsTypedRunOf}
 use Rattle.craq_entries.proofs.Explained.{taken_front, typed_front}
 use Rattle.craq_clients.proofs.Strong.{checked}
 use Rattle.craq_looks.proofs.Holding.{looks_hold}

@@ -7,7 +7,8 @@
 #![tactic(auto)]
 
 ghost use Rattle.std.specs.Prelude.{◌++◌, ◌∷◌, ℕ, List, []};
-ghost use Rattle.craq_entries.specs.Genuine.{IsBeginning, IsTypedRunOf};
+ghost use Rattle.craq_entries.specs.Genuine.{IsBeginning};
+ghost use Rattle.craq_runs.specs.Typed.{IsTypedRunOf};
 ghost use Rattle.craq_headline.specs.Fixed.{HasFixedMembership};
 ghost use Rattle.craq_runs.specs.Explain.{explain};
 ghost use Rattle.craq_runs.specs.Valid.{IsValid};

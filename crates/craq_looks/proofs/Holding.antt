@@ -28,7 +28,8 @@ use Rattle.craq_runs.specs.Seen.{Seen, Asked, Answered, answers_from, ask_with, 
 use Rattle.craq_runs.specs.Explain.{Account, ask_number, explanation_in, explain}
 use Rattle.craq_runs.specs.Valid.{committed, committed_after, state_at, same_request, single_object, committed_object, written_version, answered_object, if_on, version_written, look_by, look_of, version_looked, version_read, of_node, any_mode, bounded_within, WasAsked, IsLine, IsNotBelow, IsEventual, IsBounded, LookHolds, LooksHold, IsValid}
 use Rattle.craq_runs.specs.Valid as valid
-use Rattle.craq_entries.specs.Genuine.{IsGenuine, AllGenuine, IsTypedRunOf}
+use Rattle.craq_entries.specs.Genuine.{IsGenuine, AllGenuine}
+use Rattle.craq_runs.specs.Typed.{IsTypedRunOf}
 use Rattle.craq_entries.proofs.Entries.{genuine_closed}
 use Rattle.craq_entries.proofs.Updates.{numbers_of, updates_of, number_is, updates_cons, updates_take, after_updates, no_request_twice}
 use Rattle.craq_entries.proofs.Known.{Known}

@@ -12,7 +12,7 @@ use Rattle.craq_runs.specs.Runs.{progressed, Takes, AreTaken}
 use Rattle.craq_runs.specs.Seen.{Asked, Answered, answers_in, answers_from, receivers_in, node_of}
 use Rattle.craq_runs.specs.Explain.{Account, opening_account, account_with, account_of}
 use Rattle.craq_bridge.proofs.Lists.{all_append, all_like}
-use Rattle.craq_entries.specs.Genuine.{IsMoveOfType, AreOfType, IsTypedRunOf}
+use Rattle.craq_runs.specs.Typed.{IsMoveOfType, AreOfType, IsTypedRunOf}
 use Rattle.craq_entries.proofs.EachMove.{place_of}
 use Rattle.craq_entries.proofs.Places.{happens_at}
 use Rattle.craq_entries.proofs.Lens.{AreLens}

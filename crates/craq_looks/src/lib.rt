@@ -4,7 +4,7 @@
 #![tactic(auto)]
 
 ghost use Rattle.std.specs.Prelude.{ℕ, []};
-ghost use Rattle.craq_entries.specs.Genuine.{IsTypedRunOf};
+ghost use Rattle.craq_runs.specs.Typed.{IsTypedRunOf};
 ghost use Rattle.craq_runs.specs.Explain.{explain};
 ghost use Rattle.craq_runs.specs.Seen.{seen};
 ghost use Rattle.craq_runs.specs.Valid.{LooksHold};

@@ -8,7 +8,7 @@ mod switch;
 
 pub use craq_model::Config;
 pub use master::Master;
-pub use membership::is_membership;
+pub use membership::{MEMBER_LIMIT, all_but, is_among, is_membership};
 pub use switch::{StopReceipt, Switch};
 
 #[cfg(test)]

@@ -1,6 +1,6 @@
 ghost use Rattle.std.specs.Prelude.{◌≡◌, ◌≢◌, true, [], IfOk, IsOk, IsSome, Ok};
 ghost use Rattle.craq_model.specs.Deliveries.{delivery_turn};
-ghost use Rattle.craq_model.specs.Plain.{opening_member};
+ghost use Rattle.craq_model.specs.Plain.{Plain, opening_member};
 ghost use Rattle.craq_model.specs.Node.{event_turn, is_for, within_counts, node_step};
 ghost use Rattle.craq_sound.specs.Sound.{AreSpelled, IsSound, IsSpelledAsk, IsSpelledEvent};
 ghost use Rattle.craq_sound.proofs.Props.{IsSound-prop};
@@ -116,6 +116,13 @@ fn happen<H: History>(alloc: Global, node: &mut Node<H>, event: &Event) -> Resul
 }
 
 impl<H: History> NodeCore<H> {
+    /// The node that is seen, but for whether it runs. It takes no memory.
+    pub fn node(&self) -> &Node<H>
+        ensures { (p : Plain) → ⟦<NodeCore<H> as Core>⟧.represents self.now p → plain_of H.past result.now ≡ record p { running = true } }
+    {
+        &self.node
+    }
+
     /// A node before its first step.
     fn unmoved(
         alloc: Global,

@@ -1,7 +1,7 @@
 ghost use Rattle.std.specs.Prelude.{◌≡◌, ◌==◌, ◌+◌, ◌-◌, ◌<◌, ◌^◌, length, take, drop};
 ghost use Rattle.craq_commands.specs.SingleCopy.{kept_of};
 ghost use Rattle.craq_commands.specs.Kept.{is_new};
-ghost use Rattle.craq_history.specs.Past.{newest_in};
+ghost use Rattle.craq_history.specs.Past.{entries_in, newest_in};
 ghost use Rattle.craq_plain.specs.Shown.{state_of, kept_shown};
 
 use crate::lookups::{kept_after, last_position_of, object_after, object_within};
@@ -39,6 +39,13 @@ impl PlainHistory {
             Some((last, _)) => last < number,
             None => true,
         }
+    }
+
+    /// The entries after a position, whichever it is.
+    pub fn entries_after(&self, position: u64) -> &[Entry]
+        ensures { result.now ≡ entries_in (⟦<PlainHistory as History>⟧.past self.now) position }
+    {
+        self.split(position).1
     }
 
     /// The entries up to a position, and those after it.
@@ -132,7 +139,7 @@ impl History for PlainHistory {
     }
 
     fn after(&self, position: u64) -> &[Entry] {
-        self.split(position).1
+        self.entries_after(position)
     }
 
     fn append(&mut self, entry: Entry) -> Result<(), AllocError> {

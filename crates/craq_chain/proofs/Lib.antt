@@ -1,0 +1,7 @@
+pub mod Places
+pub mod Steps
+pub mod Told
+pub mod Commands
+pub mod Sendings
+pub mod Taking
+pub mod Opening

@@ -1,0 +1,43 @@
+-- A chain that runs, and what a move of it answers.
+use Rattle.std.specs.Prelude.{◌≡◌, ◌⊎◌, ℕ, List, [], ◌∷◌, ◌++◌, map, length, Result, Ok, Err}
+use Rattle.craq_names.specs.declared.refusal.Refusal.{Refusal}
+use Rattle.craq_names.specs.declared.refusal.Refusal.TheVariants.{Memory}
+use Rattle.craq_model.specs.Plain.{Plain, opening_member}
+use Rattle.craq_runs.specs.declared.run.Move.{Move}
+use Rattle.craq_runs.specs.declared.run.Taken.{Taken}
+use Rattle.craq_runs.specs.declared.run.Run.{Run}
+use Rattle.craq_runs.specs.Chain.{Chain, Progress, opening_chain, chain_step}
+use Rattle.craq_runs.specs.Runs.{after_moves}
+
+pub record Chained : Type 0 where
+  pub chain : ℕ
+  pub run : Run  -- what has happened
+
+-- a chain of these members before any move
+abbrev pub opened : ℕ → List ℕ → Chained
+opened chain members = record { chain = chain; run = record { members = members; moves = [] } }
+
+-- the chain that its run leads to
+abbrev pub chain_of : Chained → Chain
+chain_of w = after_moves (opening_chain w.chain w.run.members) w.run.moves
+
+-- one more move was taken
+abbrev pub with_move : Chained → Taken → Chained
+with_move w t = record w { run = record w.run { moves = w.run.moves ++ t ∷ [] } }
+
+abbrev pub moved : Chained → Move → Result Progress Refusal → Result Chained Refusal
+moved w m (Ok x) = Ok (with_move w (record { chosen = m; step = x.1 }))
+moved w m (Err e) = Err e
+
+-- the chain with the move and its step, or the move's refusal
+abbrev pub after_taking : Chained → Move → Result Chained Refusal
+after_taking w m = moved w m (chain_step (chain_of w) m)
+
+-- the move was taken and has this number, or it was refused as wanted or for want of memory, and nothing changed
+abbrev pub GivesMove : Chained → Chained → Result ℕ Refusal → Result Chained Refusal → Type 0
+GivesMove old new (Ok number) wanted = (wanted ≡ Ok new) × (number ≡ length new.run.moves)
+GivesMove old new (Err e) wanted = ((e ≡ Memory) ⊎ (wanted ≡ Err e)) × (new ≡ old)
+
+-- the members of a chain before any move; `all` are all of its members
+abbrev pub openings : ℕ → List ℕ → List ℕ → List Plain
+openings chain all ids = map (λ id. opening_member (record { chain = chain; node = id }) all) ids

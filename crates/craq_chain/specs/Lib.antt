@@ -1,0 +1,4 @@
+pub mod Chained
+pub mod Parts
+pub mod Sent
+pub mod Standing

@@ -1,0 +1,216 @@
+ghost use Rattle.std.specs.Prelude.{◌≡◌, ◌<◌, ◌≤◌, ◌+◌, ◌∷◌, ◌++◌, [], ◌⊎◌, ◌↔◌, ℕ, length, Ok, Err, Some, None, IfOk, IfErr, MatchOption, OnOk, slice_index, vec_capacity, vec_len, ◌^◌};
+ghost use Rattle.std.specs.List.{AllByRecursion, AllZip};
+ghost use Rattle.std.specs.Option.{option_copied};
+ghost use Rattle.craq_names.specs.Limits.{greatest};
+ghost use Rattle.craq_model.specs.Members.{IsMembership};
+ghost use Rattle.craq_model.specs.Plain.{Plain};
+ghost use Rattle.craq_model.specs.Spelled.{IsSpelled};
+ghost use Rattle.craq_runs.specs.Chain.{Chain, message_at, move_progress, node_at, sent_in};
+ghost use Rattle.craq_runs.specs.Typed.{IsMoveOfType, IsTypedRunOf};
+ghost use Rattle.craq_sound.specs.Sound.{AreSpelled};
+ghost use Rattle.craq_chain.specs.Chained.{GivesMove, after_taking, chain_of, opened, openings};
+ghost use Rattle.craq_chain.specs.Parts.{AreParts, Moves};
+ghost use Rattle.craq_chain.specs.Sent.{counts_from, sent_by};
+
+use crate::limits::keep_limits;
+use crate::messages::{counted_before, message_of, sends_in};
+use crate::moving::act;
+use crate::nodes::place_of;
+use craq_epochs::Master;
+use craq_model::{LinkMessage, Step};
+use craq_names::{ChainId, Items, NodeId, NodeName, Refusal};
+use craq_node::Core;
+use craq_runs::{Move, Run, Taken};
+use std::alloc::Global;
+use std::marker::Model;
+use std::mem;
+
+/// More messages than any memory holds.
+const BEYOND_MEMORY: usize = 1 << 63;
+
+/// A chain that runs: its master, each node that ever was a member, and the run so far. A contract sees
+/// it as the chain's id and its run, whose moves lead to the chain that it stands for.
+#[derive(Drop)]
+pub struct ChainCore<C: Core> {
+    chain: ChainId,
+    master: Master,
+    cores: Vec<C>,
+    run: Run,
+    sent: Vec<usize>,
+}
+
+impl<C: Core> Model for ChainCore<C> {
+    ghost use Rattle.craq_chain.specs.Chained.{Chained};
+    ghost use Rattle.craq_chain.specs.Standing.{IsStanding};
+
+    ghost Value = { Chained };
+
+    ghost view = { λ s. record { chain = s.chain; run = s.run } };
+
+    ghost invariant = { λ s. IsStanding C.represents s.cores.items s.master s.sent.items (record { chain = s.chain; run = s.run }) };
+}
+
+/// A move of the chain that these parts stand for, with the number of messages that were sent up to it. There
+/// is room for both in the two vectors afterwards, except where the move is refused.
+fn step_of<C: Core>(
+    alloc: Global,
+    cores: &mut Vec<C>,
+    master: &mut Master,
+    moves: &mut Vec<Taken>,
+    sent: &mut Vec<usize>,
+    chosen: &Move,
+) -> Result<Step, Refusal>
+    requires counts { sent.old.items ≡ counts_from 0 moves.old.items }
+    requires spelled { AllByRecursion IsSpelled (sent_by moves.old.items) }
+    ensures step { (c : Chain) → AreParts C.represents cores.old.items master.old c → c.messages ≡ sent_by moves.old.items → Moves (AreParts C.represents cores.new.items master.new) c result (move_progress c chosen.now) }
+    ensures spelled { IfOk result (λ step. AreSpelled step.outs) }
+    ensures same_moves { moves.new.items ≡ moves.old.items }
+    ensures same_counts { sent.new.items ≡ sent.old.items }
+    ensures room { OnOk result (vec_len moves.new < vec_capacity moves.new) }
+    ensures counted { OnOk result (vec_len sent.new < vec_capacity sent.new) }
+    ensures few { OnOk result (slice_index (0 ∷ sent.old.items) (length sent.old.items) ≤ 2 ^ 63) }
+    ensures typed { IsMoveOfType chosen.now }
+{
+    keep_limits(chosen);
+    if counted_before(sent.as_slice(), sent.len()) > BEYOND_MEMORY {
+        return Err(Refusal::Memory);
+    }
+    moves.reserve(1)?;
+    sent.reserve(1)?;
+    act(
+        alloc,
+        cores,
+        master,
+        moves.as_slice(),
+        sent.as_slice(),
+        chosen,
+    )
+}
+
+/// The cores of the members of a first membership, before any step. It fails for want of memory alone.
+fn opening_cores<C: Core>(alloc: Global, master: &Master) -> Result<Vec<C>, Refusal>
+    requires { master.now.epoch ≡ 1 }
+    ensures ok { IfOk result (λ cores. AllZip C.represents cores.items (openings master.now.chain master.now.members master.now.members)) }
+    ensures err { IfErr result (λ e. e ≡ Refusal.Memory) }
+{
+    let config = master.config();
+    let chain = master.chain();
+    let members = config.members.as_slice();
+    let mut cores = Vec::new(alloc);
+    for id in members {
+        let core = C::open(alloc, NodeName { chain, node: *id }, Some(config))?;
+        cores.push(core)?;
+    }
+    Ok(cores)
+}
+
+impl<C: Core> ChainCore<C> {
+    /// A chain of these members, head first, before any move: each is ready and has an empty history.
+    ///
+    /// `BadConfig` exactly where they are no membership: 1 to 8 ids from 1, none twice. `Memory` where a
+    /// growth was refused, and they are one.
+    pub fn open(alloc: Global, chain: ChainId, members: &[NodeId]) -> Result<Self, Refusal>
+        ensures ok { IfOk result (λ w. w ≡ opened chain members.now) }
+        ensures membership { OnOk result (IsMembership members.now) }
+        ensures bad { IfErr result (λ e. (e ≡ Refusal.BadConfig) ↔ ¬ (IsMembership members.now)) }
+        ensures err { IfErr result (λ e. (e ≡ Refusal.BadConfig) ⊎ (e ≡ Refusal.Memory)) }
+    {
+        let master = Master::open(alloc, chain, members)?;
+        let cores = opening_cores(alloc, &master)?;
+        let run = Run {
+            members: Items::of(Vec::from_slice(alloc, members)?),
+            moves: Items::new(alloc),
+        };
+        Ok(ChainCore {
+            chain,
+            master,
+            cores,
+            run,
+            sent: Vec::new(alloc),
+        })
+    }
+
+    /// One move of the chain: its number, from 1. It is kept in the run with its step.
+    ///
+    /// Refused, with nothing changed: `WrongNode` for an ask, tick or stop of a node that the chain never
+    /// had (a tick of node 0 is the master's); `UnknownMessage` for a delivery of a number that was not
+    /// sent; a removal as `NotMember`, `NotStopped`, `LastNode`, a join as `UsedId`, `ChainFull`, both then
+    /// as `Exhausted` in the last epoch, in this order; what happens at a node as the node's own step is;
+    /// `Memory` where a growth was refused, or more messages were sent than any memory holds.
+    pub fn take(&mut self, alloc: Global, chosen: Move) -> Result<u64, Refusal>
+        ensures gives { GivesMove self.old self.new result (after_taking self.old chosen) }
+        ensures typed { IsTypedRunOf self.new.chain self.new.run }
+    {
+        let mut moves = mem::replace(&mut self.run.moves, Items::new(alloc)).into_vec();
+        match step_of(
+            alloc,
+            &mut self.cores,
+            &mut self.master,
+            &mut moves,
+            &mut self.sent,
+            &chosen,
+        ) {
+            Err(refusal) => {
+                self.run.moves = Items::of(moves);
+                drop(chosen);
+                Err(refusal)
+            }
+            Ok(step) => {
+                let before = counted_before(self.sent.as_slice(), self.sent.len());
+                self.sent
+                    .push_reserved(before + sends_in(step.outs.as_slice()));
+                moves.push_reserved(Taken { chosen, step });
+                let number = moves.len() as u64;
+                self.run.moves = Items::of(moves);
+                Ok(number)
+            }
+        }
+    }
+
+    /// The opening members and the moves that were taken, each with its step: a run by the definitions, whose
+    /// transactions are within the limits of their type. It takes no memory.
+    pub fn run(&self) -> &Run
+        ensures value { result.now ≡ self.now.run }
+        ensures run { IsTypedRunOf self.now.chain result.now }
+    {
+        &self.run
+    }
+
+    /// The chain's id. It takes no memory.
+    pub fn chain(&self) -> ChainId
+        ensures { result ≡ self.now.chain }
+    {
+        self.chain
+    }
+
+    /// How many messages were sent so far. It takes no memory.
+    pub fn sent(&self) -> u64
+        ensures { result ≡ length (chain_of self.now).messages }
+    {
+        counted_before(self.sent.as_slice(), self.sent.len()) as u64
+    }
+
+    /// The core of each node that ever was a member, in the order of joining. It takes no memory.
+    pub fn cores(&self) -> &[C]
+        ensures { AllZip C.represents result.now (chain_of self.now).nodes }
+    {
+        self.cores.as_slice()
+    }
+
+    /// The core of the node of this id, where the chain ever had one. It takes no memory.
+    pub fn core(&self, id: NodeId) -> Option<&C>
+        ensures { MatchOption result (node_at (chain_of self.now).nodes id ≡ None) (λ core. (p : Plain) × (node_at (chain_of self.now).nodes id ≡ Some p) × C.represents core.now p) }
+    {
+        match place_of(self.cores.as_slice(), id) {
+            None => None,
+            Some(place) => Some(&self.cores[place]),
+        }
+    }
+
+    /// The message of this number, counted from 1, where so many were sent. It takes no memory.
+    pub fn message(&self, number: u64) -> Option<&LinkMessage>
+        ensures { option_copied result ≡ message_at (chain_of self.now).messages number }
+    {
+        message_of(self.run.moves.as_slice(), self.sent.as_slice(), number)
+    }
+}

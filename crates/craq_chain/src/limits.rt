@@ -1,0 +1,32 @@
+ghost use Rattle.craq_runs.specs.Typed.{IsAskOfType, IsMoveOfType, IsOfType};
+
+use craq_commands::Command;
+use craq_model::Ask;
+use craq_runs::Move;
+
+/// A command's transaction is within the limits that its type keeps. It does nothing.
+fn keep_command_limits(command: &Command)
+    ensures { IsOfType command.now }
+{
+    if let Command::Mini(mini) = command {
+        mini.keeps_limits();
+    }
+}
+
+/// Likewise the transaction that is asked. It does nothing.
+fn keep_ask_limits(ask: &Ask)
+    ensures { IsAskOfType ask.now }
+{
+    if let Ask::Update(update) = ask {
+        keep_command_limits(&update.command);
+    }
+}
+
+/// A transaction that a move asks is within the limits that its type keeps. It does nothing.
+pub fn keep_limits(chosen: &Move)
+    ensures { IsMoveOfType chosen.now }
+{
+    if let Move::Ask { ask, .. } = chosen {
+        keep_ask_limits(ask);
+    }
+}

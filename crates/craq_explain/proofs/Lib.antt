@@ -1,0 +1,10 @@
+pub mod FirstPuts
+pub mod FirstAsks
+pub mod Places
+pub mod Noting
+pub mod Adding
+pub mod Sent
+pub mod Running
+pub mod Words
+pub mod Accounts
+pub mod Replaying

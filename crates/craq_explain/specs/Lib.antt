@@ -1,0 +1,4 @@
+pub mod Shown
+pub mod Firsts
+pub mod Tables
+pub mod Noted

@@ -1,0 +1,129 @@
+//! What is kept of the committed entries.
+ghost use Rattle.std.specs.Prelude.{◌≡◌, ◌++◌, ◌∷◌, [], ℕ, List, OnOk, IfOk, length};
+ghost use Rattle.std.specs.Option.{option_or};
+ghost use Rattle.std.specs.BTreeMap.{get};
+ghost use Rattle.craq_commands.specs.declared.entry.Entry.{Entry};
+ghost use Rattle.craq_model.specs.Plain.{is_tail};
+ghost use Rattle.craq_history.specs.Nodes.{plain_of};
+ghost use Rattle.craq_runs.specs.Explain.{committed_by, wrote, written_at};
+ghost use Rattle.craq_explain.specs.Firsts.{number_if, write_cmp};
+ghost use Rattle.craq_explain.specs.Shown.{plain_in};
+
+use crate::firsts::put_first;
+use craq_commands::Entry;
+use craq_history::members::last_member;
+use craq_history::{History, Node};
+use craq_names::{Copied, Key, NodeId, Ticket, Version};
+use craq_plain::PlainHistory;
+use std::alloc::{AllocError, Global};
+use std::collections::BTreeMap;
+
+/// A position for each of some versions of keys.
+type Positions = BTreeMap<(Key, Version), u64>;
+
+/// Of the committed entries, in order: who asked for each, and at which position each version of a key was
+/// written first.
+#[derive(Drop)]
+pub(crate) struct Committed {
+    origins: Vec<(NodeId, Ticket)>,
+    written: Positions,
+}
+
+/// Whether a node is a tail: ready, and the last of the members that it knows.
+fn is_tail(node: &Node<PlainHistory>) -> bool
+    ensures { result ≡ is_tail (plain_of ⟦<PlainHistory as History>⟧.past node.now) }
+{
+    node.ready && last_member(node.members.as_slice()) == node.name.node
+}
+
+/// Notes the position of the versions that an entry wrote, where they have none.
+#[tactic(auto, unfolding(craq_runs::specs::Explain::wrote))]
+fn note_writes(alloc: Global, written: &mut Positions, entry: &Entry) -> Result<(), AllocError>
+    ensures { OnOk result ((q : List ℕ × ℕ) → get write_cmp written.new q ≡ option_or (get write_cmp written.old q) (number_if (wrote q.0 q.1 entry.now) entry.now.position)) }
+{
+    for write in entry.writes.as_slice() {
+        let key = write.key.copied(alloc)?;
+        put_first(written, (key, write.version), entry.position.get())?;
+    }
+    Ok(())
+}
+
+impl Committed {
+    ghost use Rattle.craq_explain.specs.Tables.{IsCommitted};
+
+    /// No entries. It takes no memory.
+    pub(crate) fn new(alloc: Global) -> Self
+        ensures { IsCommitted [] result }
+    {
+        Committed {
+            origins: Vec::new(alloc),
+            written: BTreeMap::new(alloc),
+        }
+    }
+
+    /// How many entries there are.
+    pub(crate) fn count(&self) -> u64
+        ensures { (entries : List Entry) → IsCommitted entries self.now → result ≡ length entries }
+    {
+        self.origins.len() as u64
+    }
+
+    /// Who asked for each entry.
+    pub(crate) fn origins(&self) -> &[(NodeId, Ticket)]
+        ensures { result.now ≡ self.now.origins.items }
+    {
+        self.origins.as_slice()
+    }
+
+    /// The position of the first entry that wrote this version of the key; 0 where there is none.
+    #[tactic(auto, unfolding(craq_runs::specs::Explain::written_at, crate::specs::Tables::first_written))]
+    pub(crate) fn written_at(
+        &self,
+        alloc: Global,
+        key: &Key,
+        version: Version,
+    ) -> Result<u64, AllocError>
+        ensures { (entries : List Entry) → IsCommitted entries self.now → IfOk result (λ position. position ≡ written_at entries key.now version) }
+    {
+        let write = (key.copied(alloc)?, version);
+        Ok(self.written.get(&write).copied().unwrap_or(0))
+    }
+
+    /// One more entry.
+    fn push(&mut self, alloc: Global, entry: &Entry) -> Result<(), AllocError>
+        ensures { (entries : List Entry) → IsCommitted entries self.old → OnOk result (IsCommitted (entries ++ entry.now ∷ []) self.new) }
+    {
+        note_writes(alloc, &mut self.written, entry)?;
+        self.origins.push((entry.origin_node, entry.origin_ticket))?;
+        Ok(())
+    }
+
+    /// More entries.
+    fn add(&mut self, alloc: Global, more: &[Entry]) -> Result<(), AllocError>
+        ensures { (entries : List Entry) → IsCommitted entries self.old → OnOk result (IsCommitted (entries ++ more.now) self.new) }
+    {
+        for entry in more {
+            self.push(alloc, entry)?;
+        }
+        Ok(())
+    }
+
+    /// Once a node stands so: a tail commits all that it has.
+    #[tactic(auto, unfolding(craq_model::specs::Plain::entries_after))]
+    pub(crate) fn commit(
+        &mut self,
+        alloc: Global,
+        node: Option<&Node<PlainHistory>>,
+    ) -> Result<(), AllocError>
+        ensures { (entries : List Entry) → IsCommitted entries self.old → OnOk result (IsCommitted (committed_by entries (plain_in ⟦<PlainHistory as History>⟧.past node.entry)) self.new) }
+    {
+        let Some(node) = node else {
+            return Ok(());
+        };
+        if !is_tail(node) {
+            return Ok(());
+        }
+        let count = self.count();
+        self.add(alloc, node.history.entries_after(count))
+    }
+}

@@ -1,0 +1,16 @@
+//! The explanation of any run of a chain, found by taking its moves once more.
+#![tactic(auto)]
+
+mod account;
+mod answers;
+mod asks;
+mod committed;
+mod firsts;
+mod notes;
+mod replay;
+mod tables;
+
+pub use replay::explain_run;
+
+#[cfg(test)]
+mod tests;

@@ -1,0 +1,55 @@
+//! What is noted of a move: where a reply is due, and what was sent.
+ghost use Rattle.std.specs.Prelude.{◌≡◌, ◌++◌, OnOk, map};
+ghost use Rattle.craq_model.specs.declared.message.LinkMessage.{LinkMessage};
+ghost use Rattle.craq_runs.specs.Chain.{sent_in};
+ghost use Rattle.craq_runs.specs.Explain.{due_in};
+ghost use Rattle.craq_explain.specs.Shown.{places_in, plain_in};
+
+use craq_history::{History, Node};
+use craq_model::{Ask, Out};
+use craq_names::{Seq, Ticket};
+use craq_plain::PlainHistory;
+use craq_runs::{Move, Place};
+use std::alloc::AllocError;
+
+/// Where the reply to the ask of a move stands, if that is an update and got a ticket: at its client's newest
+/// entry, or after all that was committed before.
+pub(crate) fn due_in(
+    before: u64,
+    ticket: Option<Ticket>,
+    node: Option<&Node<PlainHistory>>,
+    chosen: &Move,
+) -> Option<Place>
+    ensures { places_in result ≡ due_in before ticket (plain_in ⟦<PlainHistory as History>⟧.past node.entry) chosen.now }
+{
+    let Move::Ask { node: asked, ask } = chosen else {
+        return None;
+    };
+    let Some(ticket) = ticket else {
+        return None;
+    };
+    let Some(node) = node else {
+        return None;
+    };
+    match ask {
+        Ask::Update(update) => Some(Place {
+            node: *asked,
+            ticket,
+            position: Seq::new(node.history.position_of(update.client).max(before)),
+        }),
+        Ask::Read { .. } => None,
+    }
+}
+
+/// Puts the count after those so far, once for each message among outs.
+#[tactic(auto, unfolding(craq_runs::specs::Chain::sent_in))]
+pub(crate) fn add_sends(sent_at: &mut Vec<u64>, count: u64, outs: &[Out]) -> Result<(), AllocError>
+    ensures { OnOk result (sent_at.new.items ≡ sent_at.old.items ++ map (λ (m : LinkMessage). count) (sent_in outs.now)) }
+{
+    for out in outs {
+        if let Out::Send { .. } = out {
+            sent_at.push(count)?;
+        }
+    }
+    Ok(())
+}

@@ -1,0 +1,152 @@
+//! A run, taken once more.
+ghost use Rattle.std.specs.Prelude.{◌≡◌, ◌+◌, ◌++◌, Ok, IfOk, OnOk, length, map};
+ghost use Rattle.craq_runs.specs.Chain.{chain_step, node_at};
+ghost use Rattle.craq_runs.specs.Runs.{IsRunOf, Takes};
+ghost use Rattle.craq_runs.specs.Explain.{Account, account_after, account_of, explain, opening_account, tail_word};
+ghost use Rattle.craq_runs.specs.Seen.{ask_in, asks_from, node_of};
+ghost use Rattle.craq_chain.specs.Chained.{after_taking, chain_of, opened, with_move};
+ghost use Rattle.craq_explain.specs.Noted.{IsNoted};
+ghost use Rattle.craq_explain.specs.Shown.{as_running, plain_in};
+
+use crate::account::Notes;
+use crate::answers::word_in;
+use crate::tables::Replayed;
+use craq_chain::ChainCore;
+use craq_history::{History, Node};
+use craq_model::LinkMessage;
+use craq_names::{ChainId, Copied, NodeId, Version};
+use craq_node::NodeCore;
+use craq_plain::PlainHistory;
+use craq_runs::{Explanation, Move, Run, Taken};
+use std::alloc::{AllocError, Global};
+
+/// The same move, in memory of its own. It fails for want of memory alone.
+fn copy_of(alloc: Global, chosen: &Move) -> Result<Move, AllocError>
+    ensures { OnOk result (result ≡ Ok chosen.now) }
+{
+    Ok(match chosen {
+        Move::Ask { node, ask } => Move::Ask {
+            node: *node,
+            ask: ask.copied(alloc)?,
+        },
+        Move::Deliver(number) => Move::Deliver(*number),
+        Move::Tick(node) => Move::Tick(*node),
+        Move::Stop(node) => Move::Stop(*node),
+        Move::Remove(node) => Move::Remove(*node),
+        Move::Join(node) => Move::Join(*node),
+    })
+}
+
+/// A chain takes a move of a run once more, which is refused for want of memory alone.
+fn take_again(
+    alloc: Global,
+    core: &mut ChainCore<NodeCore<PlainHistory>>,
+    chosen: &Move,
+) -> Result<(), AllocError>
+    ensures { OnOk result (after_taking core.old chosen.now ≡ Ok core.new) }
+{
+    let chosen = copy_of(alloc, chosen)?;
+    match core.take(alloc, chosen) {
+        Ok(_) => Ok(()),
+        Err(_) => Err(AllocError),
+    }
+}
+
+/// At which node a move happens; 0 for the master.
+fn node_of(core: &ChainCore<NodeCore<PlainHistory>>, chosen: &Move) -> NodeId
+    ensures { result ≡ node_of (map (λ (m : LinkMessage). m.receiver) (chain_of core.now).messages) chosen.now }
+{
+    match chosen {
+        Move::Ask { node, .. } => *node,
+        Move::Deliver(number) => match core.message(*number) {
+            None => NodeId::new(0),
+            Some(message) => message.receiver,
+        },
+        Move::Tick(node) => *node,
+        Move::Stop(node) => *node,
+        Move::Remove(_) => NodeId::new(0),
+        Move::Join(_) => NodeId::new(0),
+    }
+}
+
+/// The word of the tail that a move delivers, with how many were committed after the step that sent it.
+fn tail_word(
+    core: &ChainCore<NodeCore<PlainHistory>>,
+    sent_at: &[u64],
+    chosen: &Move,
+) -> Option<(Version, u64)>
+    ensures { (w : Account) → w.chain ≡ chain_of core.now → w.sent_at ≡ sent_at.now → result ≡ tail_word w chosen.now }
+{
+    match chosen {
+        Move::Deliver(number) => word_in(sent_at, core.message(*number), *number),
+        _ => None,
+    }
+}
+
+/// The node of this id, where the chain ever had one.
+fn node_in(core: &ChainCore<NodeCore<PlainHistory>>, id: NodeId) -> Option<&Node<PlainHistory>>
+    ensures { plain_in ⟦<PlainHistory as History>⟧.past result ≡ as_running (node_at (chain_of core.now).nodes id) }
+{
+    match core.core(id) {
+        None => None,
+        Some(core) => Some(core.node()),
+    }
+}
+
+/// A chain of these members, head first, before any move. They are those of a run, so it fails for want of
+/// memory alone.
+fn opened_core(
+    alloc: Global,
+    chain: ChainId,
+    members: &[NodeId],
+) -> Result<ChainCore<NodeCore<PlainHistory>>, AllocError>
+    ensures { IfOk result (λ w. w ≡ opened chain members.now) }
+{
+    match ChainCore::open(alloc, chain, members) {
+        Ok(core) => Ok(core),
+        Err(_) => Err(AllocError),
+    }
+}
+
+/// One more move, the last of these, in the chain that their run leads to, and its notes.
+fn replay_move(
+    alloc: Global,
+    core: &mut ChainCore<NodeCore<PlainHistory>>,
+    notes: &mut Notes,
+    moves: &[Taken],
+    taken: &Taken,
+) -> Result<(), AllocError>
+    ensures { (w : Account) → IsNoted w notes.old → w.chain ≡ chain_of core.old → length moves.now ≡ w.chain.moves + 1 → asks_from 1 moves.now ≡ w.asks ++ ask_in (w.chain.moves + 1) taken.now.step.ticket taken.now.chosen → Takes (chain_step (chain_of core.old) taken.now.chosen) taken.now.step → OnOk result (IsNoted (account_after w taken.now) notes.new × (core.new ≡ with_move core.old taken.now)) }
+{
+    let node = node_of(core, &taken.chosen);
+    let word = tail_word(core, notes.sent_at(), &taken.chosen);
+    take_again(alloc, core, &taken.chosen)?;
+    let replayed = Replayed { taken, node, word };
+    notes.add(alloc, moves, &replayed, node_in(core, node))?;
+    Ok(())
+}
+
+/// The notes of a whole run.
+fn replay_all(alloc: Global, chain: ChainId, run: &Run) -> Result<Notes, AllocError>
+    requires { IsRunOf chain run.now }
+    ensures { IfOk result (λ notes. IsNoted (account_of (opening_account chain run.now.members) run.now.moves) notes) }
+{
+    let moves = run.moves.as_slice();
+    let mut core = opened_core(alloc, chain, run.members.as_slice())?;
+    let mut notes = Notes::new(alloc);
+    for (place, taken) in moves.iter().enumerate() {
+        replay_move(alloc, &mut core, &mut notes, &moves[..place + 1], taken)?;
+    }
+    Ok(notes)
+}
+
+/// The explanation of a run of the chain of this id (which the run does not hold), by the definitions: the
+/// asks of the committed updates, how many were committed after each move, and where each strong answer
+/// stands. Every run has one, whoever made it. It fails for want of memory alone.
+pub fn explain_run(alloc: Global, chain: ChainId, run: &Run) -> Result<Explanation, AllocError>
+    requires { IsRunOf chain run.now }
+    ensures { IfOk result (λ e. e ≡ explain chain run.now) }
+{
+    let notes = replay_all(alloc, chain, run)?;
+    notes.explained(alloc)
+}

@@ -1,0 +1,68 @@
+//! What is looked up for the answers of a run.
+ghost use Rattle.std.specs.Prelude.{◌≡◌, ◌++◌, [], List, OnOk, length};
+ghost use Rattle.craq_commands.specs.declared.entry.Entry.{Entry};
+ghost use Rattle.craq_runs.specs.declared.explanation.Place.{Place};
+ghost use Rattle.craq_runs.specs.Explain.{committed_by, due_in};
+ghost use Rattle.craq_runs.specs.Seen.{Asked, ask_in};
+ghost use Rattle.craq_explain.specs.Shown.{plain_in};
+
+use crate::asks::{note_ask, note_due};
+use crate::committed::Committed;
+use crate::firsts::TicketNumbers;
+use crate::notes::due_in;
+use craq_history::{History, Node};
+use craq_names::{NodeId, Version};
+use craq_plain::PlainHistory;
+use craq_runs::Taken;
+use std::alloc::{AllocError, Global};
+use std::collections::BTreeMap;
+
+/// A move that was taken once more.
+#[derive(Drop)]
+pub(crate) struct Replayed<'a> {
+    pub taken: &'a Taken,
+    /// At which node it happened; 0 for the master.
+    pub node: NodeId,
+    /// The word of the tail that it delivered, with how many were committed after the step that sent it.
+    pub word: Option<(Version, u64)>,
+}
+
+/// The asks so far, the positions of the replies to updates, and the committed entries.
+#[derive(Drop)]
+pub(crate) struct Tables {
+    pub asked: TicketNumbers,
+    pub due: TicketNumbers,
+    pub committed: Committed,
+}
+
+impl Tables {
+    ghost use Rattle.craq_explain.specs.Tables.{AreTables};
+
+    /// Nothing so far. It takes no memory.
+    pub(crate) fn new(alloc: Global) -> Self
+        ensures { AreTables [] [] [] result }
+    {
+        Tables {
+            asked: BTreeMap::new(alloc),
+            due: BTreeMap::new(alloc),
+            committed: Committed::new(alloc),
+        }
+    }
+
+    /// One more move, of this number, after which its node stands so.
+    pub(crate) fn add(
+        &mut self,
+        alloc: Global,
+        number: u64,
+        taken: &Taken,
+        stands: Option<&Node<PlainHistory>>,
+    ) -> Result<(), AllocError>
+        ensures { (asks : List Asked) (due : List Place) (entries : List Entry) → AreTables asks due entries self.old → OnOk result (AreTables (asks ++ ask_in number taken.now.step.ticket taken.now.chosen) (due ++ due_in (length entries) taken.now.step.ticket (plain_in ⟦<PlainHistory as History>⟧.past stands.entry) taken.now.chosen) (committed_by entries (plain_in ⟦<PlainHistory as History>⟧.past stands.entry)) self.new) }
+    {
+        let count = self.committed.count();
+        let due = due_in(count, taken.step.ticket, stands, &taken.chosen);
+        note_ask(&mut self.asked, number, taken)?;
+        note_due(&mut self.due, due)?;
+        self.committed.commit(alloc, stands)
+    }
+}

@@ -1,0 +1,11 @@
+pub mod Asks
+pub mod Bools
+pub mod Bounds
+pub mod Checked
+pub mod Distinct
+pub mod InTime
+pub mod Lists
+pub mod Maps
+pub mod Moves
+pub mod Placed
+pub mod Said

@@ -1,0 +1,17 @@
+//! Tells whether an explanation of a run holds, from the run and the explanation alone.
+#![tactic(auto)]
+
+mod form;
+mod index;
+mod lookups;
+mod once;
+mod replies;
+mod seen;
+mod single;
+mod strong;
+mod verdict;
+
+pub use verdict::check;
+
+#[cfg(test)]
+mod tests;

@@ -1,0 +1,74 @@
+//! Compares replies.
+ghost use Rattle.std.specs.Prelude.{◌≡◌};
+ghost use Rattle.craq_check.specs.Tests.{kind_of, number_of, found_of, same_found, same_reply, all_pairs};
+
+use craq_commands::Reply;
+use craq_names::{Value, Version};
+
+/// Which of the replies it is.
+fn kind_of(reply: &Reply) -> u8
+    ensures { result ≡ kind_of reply.now }
+{
+    match reply {
+        Reply::Written(_) => 0,
+        Reply::Mismatch(_) => 1,
+        Reply::TooLong => 2,
+        Reply::NotANumber => 3,
+        Reply::Overflow => 4,
+        Reply::Underflow => 5,
+        Reply::Done(_) => 6,
+        Reply::CompareFailed(_) => 7,
+        Reply::Stale(_) => 8,
+    }
+}
+
+/// The number that a reply tells; 0 where it tells none.
+fn number_of(reply: &Reply) -> u64
+    ensures { result ≡ number_of reply.now }
+{
+    match reply {
+        Reply::Written(version) | Reply::Mismatch(version) => version.get(),
+        Reply::CompareFailed(place) => *place as u64,
+        Reply::Stale(last) => last.get(),
+        Reply::TooLong | Reply::NotANumber | Reply::Overflow | Reply::Underflow | Reply::Done(_) =>
+            0,
+    }
+}
+
+/// The objects that a reply tells; none where it tells none.
+fn found_of(reply: &Reply) -> &[(Version, Value)]
+    ensures { result.now ≡ found_of reply.now }
+{
+    match reply {
+        Reply::Done(found) => found.as_slice(),
+        _ => &[],
+    }
+}
+
+/// Whether the lists have the same versions and values.
+#[tactic(auto, unfolding(crate::specs::Tests::all_pairs))]
+fn are_same_found(found: &[(Version, Value)], others: &[(Version, Value)]) -> bool
+    ensures { result ≡ all_pairs same_found found.now others.now }
+{
+    let mut rest = others;
+    for (version, value) in found {
+        let [other, later @ ..] = rest else {
+            return false;
+        };
+        if *version != other.0 || *value != other.1 {
+            return false;
+        }
+        rest = later;
+    }
+    rest.is_empty()
+}
+
+/// Whether the replies are the same.
+#[tactic(auto, unfolding(crate::specs::Tests::same_reply))]
+pub fn are_same_replies(reply: &Reply, other: &Reply) -> bool
+    ensures { result ≡ same_reply reply.now other.now }
+{
+    kind_of(reply) == kind_of(other)
+        && number_of(reply) == number_of(other)
+        && are_same_found(found_of(reply), found_of(other))
+}

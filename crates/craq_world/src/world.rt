@@ -1,0 +1,216 @@
+ghost use Rattle.std.specs.Prelude.{◌≡◌, ◌≢◌, ◌≤◌, ◌<◌, ◌+◌, ◌⊎◌, ◌↔◌, ℕ, Some, None, Err, IfOk, IfErr, IsTrue, OnOk, OnErr, length, slice_get};
+ghost use Rattle.std.specs.List.{AllByRecursion};
+ghost use Rattle.craq_model.specs.Members.{IsMembership};
+ghost use Rattle.craq_runs.specs.Explain.{explain};
+ghost use Rattle.craq_runs.specs.Typed.{IsTypedRunOf};
+ghost use Rattle.craq_runs.specs.Valid.{IsValid};
+ghost use Rattle.craq_chain.specs.Chained.{Chained};
+ghost use Rattle.craq_world.specs.Apart.{chain_after, taken_of};
+ghost use Rattle.craq_world.specs.Promise.{AreExplained, NothingIsTakenBack};
+ghost use Rattle.craq_world.specs.Worlds.{AreChains, GivesWorld, RunsTo, opened_from, world_move};
+
+use craq_chain::ChainCore;
+use craq_epochs::is_membership;
+use craq_explain::explain_run;
+use craq_names::{ChainId, Copied, Items, NodeId, Refusal};
+use craq_node::Core;
+use craq_runs::{Explanation, Move, Run};
+use std::alloc::{AllocError, Global};
+use std::marker::Model;
+
+/// The most chains of a world.
+const CHAIN_LIMIT: usize = 64;
+
+/// Chains with the ids from 0 on, which take moves one after another. A contract sees the chains in order, each as its
+/// id and its run.
+#[derive(Drop)]
+pub struct World<C: Core> {
+    chains: Vec<ChainCore<C>>,
+}
+
+impl<C: Core> Model for World<C> {
+    ghost use Rattle.std.specs.Prelude.{List};
+    ghost use Rattle.craq_chain.specs.Chained.{Chained};
+    ghost use Rattle.craq_world.specs.Worlds.{AreRunning};
+
+    ghost Value = { List Chained };
+
+    ghost view = { λ s. s.chains.items };
+
+    ghost invariant = { λ s. AreRunning 0 s.chains.items };
+}
+
+/// What became of each move of a list, in order: its number in its chain, or its refusal.
+#[derive(Debug, Drop)]
+pub struct Report {
+    pub results: Items<Result<u64, Refusal>>,
+}
+
+/// The same move, in memory of its own. It fails for want of memory alone.
+fn copy_of(alloc: Global, chosen: &Move) -> Result<Move, AllocError>
+    ensures { IfOk result (λ m. m ≡ chosen.now) }
+{
+    Ok(match chosen {
+        Move::Ask { node, ask } => Move::Ask {
+            node: *node,
+            ask: ask.copied(alloc)?,
+        },
+        Move::Deliver(number) => Move::Deliver(*number),
+        Move::Tick(node) => Move::Tick(*node),
+        Move::Stop(node) => Move::Stop(*node),
+        Move::Remove(node) => Move::Remove(*node),
+        Move::Join(node) => Move::Join(*node),
+    })
+}
+
+/// Whether each list is a membership.
+fn are_memberships(lists: &[Items<NodeId>]) -> bool
+    ensures { IsTrue result ↔ AllByRecursion IsMembership lists.now }
+{
+    for list in lists {
+        if !is_membership(list.as_slice()) {
+            return false;
+        }
+    }
+    true
+}
+
+/// The chains of these members, before any move, with the ids from 0 on. It fails for want of memory alone.
+fn opened_chains<C: Core>(
+    alloc: Global,
+    lists: &[Items<NodeId>],
+) -> Result<Vec<ChainCore<C>>, Refusal>
+    requires few { length lists.now ≤ 64 }
+    requires memberships { AllByRecursion IsMembership lists.now }
+    ensures ok { IfOk result (λ chains. chains.items ≡ opened_from 0 lists.now) }
+    ensures err { IfErr result (λ e. e ≡ Refusal.Memory) }
+{
+    let mut chains = Vec::new(alloc);
+    for (id, list) in lists.iter().enumerate() {
+        let chain = ChainCore::open(alloc, ChainId::new(id as u16), list.as_slice())?;
+        chains.push(chain)?;
+    }
+    Ok(chains)
+}
+
+impl<C: Core> World<C> {
+    /// Chains of these members, each list head first, with the ids from 0 on, before any move.
+    ///
+    /// `BadConfig` exactly where they are not 1 to 64 lists of 1 to 8 ids from 1, none twice in a list.
+    /// `Memory` where a growth was refused.
+    pub fn open(alloc: Global, lists: &[Items<NodeId>]) -> Result<Self, Refusal>
+        ensures ok { IfOk result (λ w. w ≡ opened_from 0 lists.now) }
+        ensures chains { OnOk result (AreChains lists.now) }
+        ensures bad { IfErr result (λ e. (e ≡ Refusal.BadConfig) ↔ ¬ (AreChains lists.now)) }
+        ensures err { IfErr result (λ e. (e ≡ Refusal.BadConfig) ⊎ (e ≡ Refusal.Memory)) }
+        ensures explained { IfOk result (λ w. AreExplained 0 w) }
+    {
+        let count = lists.len();
+        if count == 0 {
+            return Err(Refusal::BadConfig);
+        }
+        if count > CHAIN_LIMIT {
+            return Err(Refusal::BadConfig);
+        }
+        if !are_memberships(lists) {
+            return Err(Refusal::BadConfig);
+        }
+        let chains = opened_chains(alloc, lists)?;
+        Ok(World { chains })
+    }
+
+    /// One move of the chain of this id: its number in the chain, from 1. Every other chain is as it was. Each chain's
+    /// run is explained, and what was explained before is explained so now.
+    ///
+    /// Refused, with nothing changed: `UnknownChain` where the world has no such chain; else as
+    /// `ChainCore::take` is.
+    pub fn take(&mut self, alloc: Global, chain: ChainId, chosen: Move) -> Result<u64, Refusal>
+        ensures gives { GivesWorld self.old self.new chain result (world_move self.old chain chosen) }
+        ensures others { (other : ℕ) → other ≢ chain → slice_get self.new other ≡ slice_get self.old other }
+        ensures explained { AreExplained 0 self.new }
+        ensures grows { NothingIsTakenBack self.old self.new }
+    {
+        let place = usize::from(chain.get());
+        if place >= self.chains.len() {
+            drop(chosen);
+            return Err(Refusal::UnknownChain);
+        }
+        self.chains[place].take(alloc, chosen)
+    }
+
+    /// The same, of a copy of the move.
+    fn take_copy(&mut self, alloc: Global, chain: ChainId, chosen: &Move) -> Result<u64, Refusal>
+        ensures gives { GivesWorld self.old self.new chain result (world_move self.old chain chosen.now) }
+        ensures explained { AreExplained 0 self.new }
+        ensures grows { NothingIsTakenBack self.old self.new }
+    {
+        self.keep_explained();
+        let chosen = copy_of(alloc, chosen)?;
+        self.take(alloc, chain, chosen)
+    }
+
+    /// Each chain's run is explained. It does nothing.
+    fn keep_explained(&self)
+        ensures explained { AreExplained 0 self.now }
+        ensures stays { NothingIsTakenBack self.now self.now }
+    {
+        let _ = &self.chains;
+    }
+
+    /// Each of these moves in order, taken or refused as by `take`; a refused one changes nothing, and the
+    /// next follows. So each chain takes its own moves in order, whatever other chains take between. Each chain's run
+    /// is explained afterwards, and what was explained before is explained so then. Room for the report is made first:
+    /// where that is refused nothing is taken.
+    pub fn run(&mut self, alloc: Global, moves: &[(ChainId, Move)]) -> Result<Report, AllocError>
+        ensures runs { IfOk result (λ report. RunsTo self.old moves.now report.results self.new) }
+        ensures each { IfOk result (λ report. (id : ℕ) (w : Chained) → slice_get self.old id ≡ Some w
+            → slice_get self.new id ≡ Some (chain_after w (taken_of id moves.now report.results))) }
+        ensures same { OnErr result (self.new ≡ self.old) }
+        ensures explained { AreExplained 0 self.new }
+        ensures grows { NothingIsTakenBack self.old self.new }
+    {
+        self.keep_explained();
+        let mut results = Vec::new(alloc);
+        results.reserve(moves.len())?;
+        for (chain, chosen) in moves {
+            let result = self.take_copy(alloc, *chain, chosen);
+            results.push_reserved(result);
+        }
+        Ok(Report {
+            results: Items::of(results),
+        })
+    }
+
+    /// The run of the chain of this id: its opening members and its moves, each with its step. The explanation that the
+    /// definitions choose holds of it. `UnknownChain` exactly where the world has no such chain. It takes no memory.
+    pub fn run_of(&self, chain: ChainId) -> Result<&Run, Refusal>
+        ensures ok { IfOk result (λ run. (w : Chained) → slice_get self.now chain ≡ Some w → run.now ≡ w.run) }
+        ensures run { IfOk result (λ run. IsTypedRunOf chain run.now) }
+        ensures explained { IfOk result (λ run. IsValid run.now (explain chain run.now)) }
+        ensures known { OnOk result (chain < length self.now) }
+        ensures err { IfErr result (λ e. e ≡ Refusal.UnknownChain) }
+        ensures unknown { OnErr result (slice_get self.now chain ≡ None) }
+    {
+        let place = usize::from(chain.get());
+        match self.chains.get(place) {
+            None => Err(Refusal::UnknownChain),
+            Some(core) => Ok(core.run()),
+        }
+    }
+
+    /// The explanation of the run of the chain of this id: the asks of the committed updates, how many were committed
+    /// after each move, and where each strong answer stands. It is the one that the definitions choose, and it holds.
+    ///
+    /// `UnknownChain` exactly where the world has no such chain. `Memory` where a growth was refused, and it has one.
+    pub fn explain(&self, alloc: Global, chain: ChainId) -> Result<Explanation, Refusal>
+        ensures ok { IfOk result (λ e. (w : Chained) → slice_get self.now chain ≡ Some w → e ≡ explain chain w.run) }
+        ensures valid { IfOk result (λ e. (w : Chained) → slice_get self.now chain ≡ Some w → IsValid w.run e) }
+        ensures known { OnOk result (chain < length self.now) }
+        ensures unknown { IfErr result (λ e. (e ≡ Refusal.UnknownChain) ↔ (slice_get self.now chain ≡ None)) }
+        ensures err { IfErr result (λ e. (e ≡ Refusal.UnknownChain) ⊎ (e ≡ Refusal.Memory)) }
+    {
+        let run = self.run_of(chain)?;
+        let explanation = explain_run(alloc, chain, run)?;
+        Ok(explanation)
+    }
+}

@@ -1,14 +1,33 @@
-use clap::{Arg, ArgAction, Command, Error};
+use clap::builder::ValueParser;
+use clap::{Arg, ArgAction, ArgMatches, Command, Error};
 use std::alloc::{AllocError, Global};
 
 /// What a command line asks for.
 #[derive(Clone, Copy, Debug)]
 pub enum Asked<'a> {
     /// To play the script of this file, or of standard input, on a chain of so many nodes.
-    Play { nodes: u32, file: Option<&'a str> },
+    Play {
+        nodes: u32,
+        file: Option<&'a str>,
+    },
+    /// To play one schedule of the script of this file, drawn by these choices.
+    Draw {
+        nodes: u32,
+        file: &'a str,
+        choices: &'a str,
+    },
+    /// To stop and remove the node of this id after each move of the script of this file.
+    Stops {
+        nodes: u32,
+        file: &'a str,
+        node: &'a str,
+    },
     /// Nothing: the command line names no command.
     Nothing,
 }
+
+/// The greatest id of a node.
+const GREATEST_NODE: u64 = 0xffff_ffff;
 
 static NODE_COUNTS: [&str; 8] = ["1", "2", "3", "4", "5", "6", "7", "8"];
 
@@ -39,6 +58,7 @@ const PLAY_HELP: &str = "Lines of a script:
   deliver M                              message M arrives
   tick NODE                              the node sends again what it has to; 0 is the master
   stop NODE, remove NODE, join NODE      a node halts; the master takes it out; a new one joins
+  explain                                print the explanation of what has happened
   # ..                                   a comment
 NUMBER counts a client's updates from 1. A VALUE is text, or 0x and hexadecimal digits.
 
@@ -48,6 +68,11 @@ Printed for each line:
   ignored WHY            the message changed nothing
   ok                     nothing was sent or answered
   refused N              the line was refused, with nothing changed
+  {\"asks\":[1],\"lens\":[0,1],\"places\":[[1,2,1]]}
+                         the explanation: the moves (lines that were not refused, from 1) that
+                         asked the committed updates; how many were committed after each move;
+                         and for each strong answer its node, its ticket, and after how many
+                         updates it stands
 
 Refusals: 1 a key of more than 128 bytes, 2 a value of more than 4096, 3 more than 16 items
 in a list of a transaction, 4 no item, 5 an object twice in a list, 6 number 0, 7 another
@@ -63,41 +88,125 @@ read FILE, script line N (the first that is no line of a script), or a bad comma
 Example:
   printf 'put 1 1 1 colour blue\\nread 1 eventual colour\\n' | craq_lab play --nodes 2";
 
-/// `play [--nodes N] [FILE]`.
-fn play_command<'a>(alloc: Global) -> Result<Command<'a>, AllocError> {
-    let nodes = Arg::new(alloc, "nodes")
+const DRAW_ABOUT: &str = "Play one schedule of a script, and print what each step does";
+
+const DRAW_HELP: &str =
+    "At each choice one of these is played: the next line of the script, if one is left; the
+arrival of each message that was sent, from the first on; a tick of each running node, by
+rising id. They are counted from 0, and the choice is taken modulo their number. The schedule
+ends after the last choice, or where there is nothing to play.
+
+The last line is `valid true`, or `valid false` where the check of the explanation fails.
+
+Status: as of play; 2 with `choices refused` for bad CHOICES.
+
+Example:
+  printf 'put 1 1 1 k a\\n' > script; craq_lab draw --nodes 2 script 0,0,1,1,6";
+
+const STOPS_ABOUT: &str = "Stop a node after each move of a script, and print what is committed";
+
+const STOPS_HELP: &str =
+    "For each number I from 0 to that of the moves that the script takes: the script is played up to
+I taken moves; then the node stops and is removed, and each message that is sent from the
+removal on arrives once, in the order sent, until none is left or 10000 arrived. Printed is
+
+  cut I committed L valid true
+
+where L updates are committed then, and `valid false` says that the check of the explanation
+fails. Status: as of play.";
+
+/// How many nodes the chain has: `[--nodes N]`.
+fn nodes_arg<'a>(alloc: Global) -> Arg<'a> {
+    Arg::new(alloc, "nodes")
         .long("nodes")
         .value_name("N")
         .action(ArgAction::Set)
         .value_parser(NODE_COUNTS.as_slice())
         .default_value("3")
-        .help("How many nodes the chain has; they are numbered from 1, the head");
+        .help("How many nodes the chain has; they are numbered from 1, the head")
+}
+
+/// `play [--nodes N] [FILE]`.
+fn play_command<'a>(alloc: Global) -> Result<Command<'a>, AllocError> {
     let file = Arg::new(alloc, "FILE").help("The script; without it, standard input is played");
     Ok(
         Command::new(alloc, "play")
             .about(PLAY_ABOUT)
             .after_help(PLAY_HELP)
-            .arg(nodes)?
+            .arg(nodes_arg(alloc))?
             .arg(file)?,
     )
+}
+
+/// `draw [--nodes N] FILE CHOICES`.
+fn draw_command<'a>(alloc: Global) -> Result<Command<'a>, AllocError> {
+    let file = Arg::new(alloc, "FILE").required(true).help("The script");
+    let choices = Arg::new(alloc, "CHOICES")
+        .required(true)
+        .help("Numbers of 32 bits, parted by commas");
+    Ok(
+        Command::new(alloc, "draw")
+            .about(DRAW_ABOUT)
+            .after_help(DRAW_HELP)
+            .arg(nodes_arg(alloc))?
+            .arg(file)?
+            .arg(choices)?,
+    )
+}
+
+/// `stops [--nodes N] FILE NODE`.
+fn stops_command<'a>(alloc: Global) -> Result<Command<'a>, AllocError> {
+    let file = Arg::new(alloc, "FILE").required(true).help("The script");
+    let node = Arg::new(alloc, "NODE")
+        .required(true)
+        .value_parser(ValueParser::unsigned(0, GREATEST_NODE))
+        .help("The id of the node that stops");
+    Ok(
+        Command::new(alloc, "stops")
+            .about(STOPS_ABOUT)
+            .after_help(STOPS_HELP)
+            .arg(nodes_arg(alloc))?
+            .arg(file)?
+            .arg(node)?,
+    )
+}
+
+/// What the words after a command's name ask for.
+fn asked_of<'a>(name: &str, given: &ArgMatches<'a>) -> Asked<'a> {
+    let nodes = given.get_one::<u32>("nodes").unwrap_or(3);
+    let file = given.get_str("FILE");
+    match name {
+        "draw" => Asked::Draw {
+            nodes,
+            file: file.unwrap_or(""),
+            choices: given.get_str("CHOICES").unwrap_or(""),
+        },
+        "stops" => Asked::Stops {
+            nodes,
+            file: file.unwrap_or(""),
+            node: given.get_str("NODE").unwrap_or(""),
+        },
+        _ => Asked::Play { nodes, file },
+    }
 }
 
 /// What the words of a command line ask for, the program's own among them; else clap's error, which
 /// may be the help that was asked for.
 pub fn asked_by<'a>(alloc: Global, words: &'a [&'a str]) -> Result<Asked<'a>, Error> {
     let play = play_command(alloc)?;
+    let draw = draw_command(alloc)?;
+    let stops = stops_command(alloc)?;
     let command = Command::new(alloc, "craq_lab")
         .about(ABOUT)
         .long_about(LONG_ABOUT)
         .subcommand_required(true)
         .arg_required_else_help(true)
-        .subcommand(play)?;
+        .subcommand(play)?
+        .subcommand(draw)?
+        .subcommand(stops)?;
     let matches = command.try_get_matches_from(words)?;
     match matches.subcommand() {
-        Some((_, given)) => Ok(Asked::Play {
-            nodes: given.get_one::<u32>("nodes").unwrap_or(3),
-            file: given.get_str("FILE"),
-        }),
+        Some((name, given)) => Ok(asked_of(name, given)),
         None => Ok(Asked::Nothing),
     }
 }

@@ -1,11 +1,14 @@
-//! Plays scripts on a chain of nodes: `craq_lab play [--nodes N] [FILE]`.
+//! Plays scripts on a chain of nodes: `craq_lab play [--nodes N] [FILE]`, `craq_lab draw [--nodes N] FILE CHOICES`,
+//! `craq_lab stops [--nodes N] FILE NODE`.
 #![tactic(auto)]
 
 mod command_line;
+mod numbers;
 
 use command_line::{Asked, asked_by};
-use craq_names::Refusal;
+use craq_names::{NodeId, Refusal};
 use craq_play::{PlainCore, play};
+use craq_schedules::{draw, stops};
 use std::alloc::Global;
 use std::env::Env;
 use std::io::{ErrorKind, Read};
@@ -72,8 +75,30 @@ where
     Ok(BAD_INPUT)
 }
 
-/// Plays the script and prints what it did. Gives the status.
-fn play_file<R>(rt: &R, nodes: u32, file: Option<&str>) -> io::Result<u8>
+/// Prints what a script gave. Gives the status.
+fn report<R>(rt: &R, played: Result<String, Refusal>) -> io::Result<u8>
+where
+    R: AllocGlobal + Print + Eprint,
+{
+    match played {
+        Ok(text) => {
+            print!(rt; "{text}")?;
+            Ok(0)
+        }
+        Err(refusal) => report_refusal(rt, &refusal),
+    }
+}
+
+/// How a script is played.
+#[derive(Clone, Copy, Debug)]
+enum Way<'a> {
+    Play,
+    Draw(&'a [u32]),
+    Stops(NodeId),
+}
+
+/// Plays the script of a file and prints what it did. Gives the status.
+fn play_file<R>(rt: &R, nodes: u32, file: Option<&str>, way: Way<'_>) -> io::Result<u8>
 where
     R: AllocGlobal + Files + Input + Print + Eprint,
 {
@@ -81,16 +106,44 @@ where
         Ok(bytes) => bytes,
         Err(error) => return report_unread(rt, file, error.kind()),
     };
-    match play::<PlainCore>(
-        rt.alloc(),
-        nodes.max(1).min(GREATEST_COUNT),
-        bytes.as_slice(),
-    ) {
-        Ok(text) => {
-            print!(rt; "{text}")?;
-            Ok(0)
+    let alloc = rt.alloc();
+    let nodes = nodes.max(1).min(GREATEST_COUNT);
+    let script = bytes.as_slice();
+    report(
+        rt,
+        match way {
+            Way::Play => play::<PlainCore>(alloc, nodes, script),
+            Way::Draw(choices) => draw::<PlainCore>(alloc, nodes, script, choices),
+            Way::Stops(node) => stops::<PlainCore>(alloc, nodes, script, node),
+        },
+    )
+}
+
+/// Plays the schedule that the choices draw. Gives the status.
+fn draw_file<R>(rt: &R, nodes: u32, file: &str, choices: &str) -> io::Result<u8>
+where
+    R: AllocGlobal + Files + Input + Print + Eprint,
+{
+    match numbers::choices_of(rt.alloc(), choices)? {
+        Some(choices) => play_file(rt, nodes, Some(file), Way::Draw(choices.as_slice())),
+        None => {
+            eprintln!(rt; "choices refused")?;
+            Ok(BAD_INPUT)
         }
-        Err(refusal) => report_refusal(rt, &refusal),
+    }
+}
+
+/// Plays the script up to each of its moves, and stops the node there. Gives the status.
+fn stops_file<R>(rt: &R, nodes: u32, file: &str, node: &str) -> io::Result<u8>
+where
+    R: AllocGlobal + Files + Input + Print + Eprint,
+{
+    match numbers::number_of(node.as_bytes()) {
+        Some(id) => play_file(rt, nodes, Some(file), Way::Stops(NodeId::new(id))),
+        None => {
+            eprintln!(rt; "error: invalid value '{node}' for '<NODE>': a leading zero or sign")?;
+            Ok(BAD_INPUT)
+        }
     }
 }
 
@@ -100,7 +153,15 @@ where
     R: AllocGlobal + Files + Input + Print + Eprint,
 {
     match asked_by(rt.alloc(), words) {
-        Ok(Asked::Play { nodes, file }) => play_file(rt, nodes, file),
+        Ok(Asked::Play { nodes, file }) => play_file(rt, nodes, file, Way::Play),
+        Ok(
+            Asked::Draw {
+                nodes,
+                file,
+                choices,
+            },
+        ) => draw_file(rt, nodes, file, choices),
+        Ok(Asked::Stops { nodes, file, node }) => stops_file(rt, nodes, file, node),
         Ok(Asked::Nothing) => Ok(BAD_INPUT),
         Err(error) => {
             if error.kind() == clap::error::ErrorKind::OutOfMemory {

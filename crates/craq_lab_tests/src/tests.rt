@@ -51,12 +51,12 @@ fn bad_scripts_are_not_played(rt: HostRuntime) -> Result<(), Fail> {
     Ok(())
 }
 
-/// `explain` is not played yet: it is told as a bad line, the first of them.
+/// `explain` prints the explanation of what has happened.
 #[test]
-fn explain_is_not_played_yet(rt: HostRuntime) -> Result<(), Fail> {
-    let alloc = rt.alloc();
-    assert_eq!(rt; bad_line(alloc, b"stop 1\nexplain\n".as_slice())?, Some(2));
-    assert_eq!(rt; bad_line(alloc, b"explain\nbad\n".as_slice())?, Some(1));
-    assert_eq!(rt; bad_line(alloc, b"bad\nexplain\n".as_slice())?, Some(1));
+fn explanations_are_printed(rt: HostRuntime) -> Result<(), Fail> {
+    assert_eq!(rt;
+        play::<PlainCore>(rt.alloc(), 1, b"put 1 1 1 k a\nexplain\n".as_slice())?.as_str(),
+        "answer 1 1 written 1\n{\"asks\":[1],\"lens\":[1],\"places\":[[1,1,1]]}\n"
+    );
     Ok(())
 }

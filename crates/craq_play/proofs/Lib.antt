@@ -1,5 +1,1 @@
-mod Chains
-mod Masters
-mod Changes
-mod Openings
 mod Lines

@@ -2,5 +2,3 @@ pub mod Asked
 pub mod Moves
 pub mod Printed
 pub mod Played
-pub mod Playable
-pub mod Standing

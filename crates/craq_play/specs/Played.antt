@@ -1,12 +1,17 @@
 -- What is printed of a script: the text of the run of its lines, by the definitions of a chain.
-use Rattle.std.specs.Prelude.{ℕ, zero, suc, List, [], ◌∷◌, ◌++◌, map, length, Option, Some, None, Result, Ok, Err}
+use Rattle.std.specs.Prelude.{◌≡◌, ◌⊎◌, ℕ, zero, suc, List, [], ◌∷◌, ◌++◌, map, length, codes, Option, Some, None, Result, Ok, Err}
 use Rattle.craq_names.specs.declared.refusal.Refusal.{Refusal}
+use Rattle.craq_names.specs.declared.refusal.Refusal.TheVariants as refusals
 use Rattle.craq_model.specs.declared.message.LinkMessage.{LinkMessage}
+use Rattle.craq_runs.specs.declared.explanation.Explanation.{Explanation}
 use Rattle.craq_runs.specs.declared.run.Move.{Move}
-use Rattle.craq_runs.specs.Chain.{Chain, Progress, opening_chain, chain_step}
-use Rattle.craq_runs.specs.Runs.{after_move}
+use Rattle.craq_runs.specs.Chain.{Chain, Progress, chain_step}
+use Rattle.craq_runs.specs.Explain.{explain}
 use Rattle.craq_runs.specs.Seen.{node_of}
+use Rattle.craq_chain.specs.Chained.{Chained, after_taking, chain_of, opened}
+use Rattle.craq_json.specs.Explained.{explanation_text}
 use Rattle.craq_script.specs.declared.line.Line.{Line}
+use Rattle.craq_script.specs.Texts.{script_of}
 use Rattle.craq_play.specs.Printed.{step_text, refusal_text}
 use Rattle.craq_play.specs.Moves.{move_of}
 
@@ -19,28 +24,61 @@ abbrev pub progress_text : Chain → Move → Result Progress Refusal → List �
 progress_text c m (Ok x) = step_text (mover c m) (length c.messages) x.1
 progress_text c m (Err refusal) = refusal_text refusal
 
+abbrev pub move_text : Chained → Move → List ℕ
+move_text w m = progress_text (chain_of w) m (chain_step (chain_of w) m)
+
+-- an explanation on a line
+abbrev pub explanation_line : Explanation → List ℕ
+explanation_line e = explanation_text e ++ codes "\n"
+
 -- what is printed of a line
-abbrev pub line_text : Chain → Result (Option Move) Refusal → List ℕ
-line_text c (Err refusal) = refusal_text refusal
-line_text c (Ok None) = []
-line_text c (Ok (Some m)) = progress_text c m (chain_step c m)
+abbrev pub line_text : Chained → Result (Option Move) Refusal → List ℕ
+line_text w (Err refusal) = refusal_text refusal
+line_text w (Ok None) = explanation_line (explain w.chain w.run)
+line_text w (Ok (Some m)) = move_text w m
+
+-- the chain after a move that was taken, or refused
+abbrev pub goes_on : Chained → Result Chained Refusal → Chained
+goes_on w (Ok next) = next
+goes_on w (Err refusal) = w
+
+abbrev pub after_one : Chained → Move → Chained
+after_one w m = goes_on w (after_taking w m)
 
 -- the chain after a line
-abbrev pub after_line : Chain → Result (Option Move) Refusal → Chain
-after_line c (Err refusal) = c
-after_line c (Ok None) = c
-after_line c (Ok (Some m)) = after_move c m
+abbrev pub after_line : Chained → Result (Option Move) Refusal → Chained
+after_line w (Err refusal) = w
+after_line w (Ok None) = w
+after_line w (Ok (Some m)) = after_one w m
 
 -- what is printed of lines, one after another
-abbrev pub lines_text : Chain → List Line → List ℕ
-lines_text c [] = []
-lines_text c (line ∷ lines) = line_text c (move_of line) ++ lines_text (after_line c (move_of line)) lines
+abbrev pub lines_text : Chained → List Line → List ℕ
+lines_text w [] = []
+lines_text w (line ∷ lines) = line_text w (move_of line) ++ lines_text (after_line w (move_of line)) lines
 
 -- the ids from 1 to a count
 abbrev pub first_ids : ℕ → List ℕ
 first_ids zero = []
 first_ids (suc n) = first_ids n ++ suc n ∷ []
 
--- what is printed of lines that are played on a new chain of so many nodes, of which 1 is the head
+-- chain 0 of so many nodes, of which 1 is the head, before any move
+abbrev pub opening : ℕ → Chained
+opening nodes = opened 0 (first_ids nodes)
+
+-- what is printed of lines that are played on a new chain of so many nodes
 abbrev pub played_text : ℕ → List Line → List ℕ
-played_text nodes lines = lines_text (opening_chain 0 (first_ids nodes)) lines
+played_text nodes lines = lines_text (opening nodes) lines
+
+-- what is printed of the lines of a script, or which line is outside the grammar
+abbrev pub printed : ℕ → Result (List Line) ℕ → Result (List ℕ) Refusal
+printed nodes (Ok lines) = Ok (played_text nodes lines)
+printed nodes (Err line) = Err (refusals.BadScript line)
+
+-- what is printed of a script on a new chain of so many nodes
+abbrev pub played : ℕ → List ℕ → Result (List ℕ) Refusal
+played nodes script = printed nodes (script_of script)
+
+-- this text is printed, or the script is refused, or memory ran out
+abbrev pub Plays : {S : Type 0} → (S → List ℕ) → Result S Refusal → Result (List ℕ) Refusal → Type 0
+Plays bytes (Ok text) wanted = wanted ≡ Ok (bytes text)
+Plays bytes (Err e) wanted = (e ≡ refusals.Memory) ⊎ (wanted ≡ Err e)

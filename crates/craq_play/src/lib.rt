@@ -2,14 +2,14 @@
 #![tactic(auto)]
 
 mod asking;
-mod chain;
-mod live_chain;
+mod moving;
 mod plain_core;
 mod playing;
 mod printing;
 
 pub use asking::{read_of, update_of};
 pub use craq_script::Script;
+pub use moving::move_of;
 pub use plain_core::PlainCore;
-pub use playing::play;
+pub use playing::{opened, play, play_line, play_move};
 pub use printing::{print_answer, print_refusal, print_reply, print_step};

@@ -12,3 +12,4 @@ mod words;
 pub use line::{Change, Line, MiniItem, ScriptObject, UpdateLine};
 pub use misread::Misread;
 pub use script::Script;
+pub use spelling::number_up_to;

@@ -50,7 +50,7 @@ fn is_decimal(word: &[u8]) -> bool
 
 /// The number of a word of decimal digits, where it is at most so great.
 #[tactic(auto, unfolding(crate::specs::Words::number_up_to))]
-pub(crate) fn number_up_to(most: u64, word: &[u8]) -> Result<u64, Misread>
+pub fn number_up_to(most: u64, word: &[u8]) -> Result<u64, Misread>
     ensures value { Gives (λ n. n) result (number_up_to most word.now) }
     ensures bound { IfOk result (λ n. n ≤ most) }
 {

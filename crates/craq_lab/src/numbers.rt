@@ -1,0 +1,25 @@
+use craq_script::number_up_to;
+use std::alloc::{AllocError, Global};
+
+/// The greatest number of 32 bits.
+const GREATEST: u64 = 0xffff_ffff;
+
+/// The number of 32 bits that the word spells, by the grammar of scripts: digits with no leading zero.
+pub fn number_of(word: &[u8]) -> Option<u32> {
+    match number_up_to(GREATEST, word) {
+        Ok(number) => Some(number as u32),
+        Err(_) => None,
+    }
+}
+
+/// The numbers that a text spells, parted by commas; none where a part spells none.
+pub fn choices_of(alloc: Global, text: &str) -> Result<Option<Vec<u32>>, AllocError> {
+    let mut choices = Vec::new(alloc);
+    for word in text.as_bytes().split(|byte| *byte == b',') {
+        match number_of(word) {
+            Some(choice) => choices.push(choice)?,
+            None => return Ok(None),
+        }
+    }
+    Ok(Some(choices))
+}

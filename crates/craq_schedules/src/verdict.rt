@@ -1,0 +1,42 @@
+ghost use Rattle.std.specs.Prelude.{◌≡◌, ◌++◌, codes, true, length, IfOk, OnOk, string_bytes};
+ghost use Rattle.craq_runs.specs.Explain.{explain};
+
+use craq_chain::ChainCore;
+use craq_check::check;
+use craq_explain::explain_run;
+use craq_headline::every_run_is_explained;
+use craq_node::Core;
+use std::alloc::{AllocError, Global};
+
+/// What can be said of a run: how many updates are committed, and whether its explanation passes `check`.
+#[derive(Clone, Copy, Debug)]
+pub(crate) struct Verdict {
+    pub(crate) committed: u64,
+    pub(crate) is_valid: bool,
+}
+
+/// What can be said of what has happened in a chain: the explanation is valid, as that of every run is. It fails for
+/// want of memory alone.
+pub(crate) fn verdict_of<C: Core>(
+    alloc: Global,
+    chain: &ChainCore<C>,
+) -> Result<Verdict, AllocError>
+    ensures committed { IfOk result (λ v. v.committed ≡ length (explain chain.now.chain chain.now.run).asks) }
+    ensures valid { IfOk result (λ v. v.is_valid ≡ true) }
+{
+    every_run_is_explained();
+    let explanation = explain_run(alloc, chain.chain(), chain.run())?;
+    Ok(Verdict {
+        committed: explanation.asks.as_slice().len() as u64,
+        is_valid: check(alloc, chain.run(), &explanation)?,
+    })
+}
+
+/// Prints what `check` says of the explanation. It fails for want of memory alone.
+pub(crate) fn print_verdict(text: &mut String, verdict: Verdict) -> Result<(), AllocError>
+    requires { verdict.is_valid ≡ true }
+    ensures { OnOk result (string_bytes text.new ≡ string_bytes text.old ++ codes "valid true\n") }
+{
+    let valid = verdict.is_valid;
+    writeln!(text, "valid {valid}")
+}

@@ -1,5 +1,5 @@
 -- Genuine entries: each was asked, was new, and is what its update comes to on one copy of the objects.
-use Rattle.std.specs.Prelude.{◌≡◌, ℕ, true, ⊤, List, [], ◌∷◌, map, Some}
+use Rattle.std.specs.Prelude.{◌≡◌, true, ⊤, List, [], ◌∷◌, map, Some}
 use Rattle.std.specs.List.{IsDistinct}
 use Rattle.craq_names.specs.Maps.{same_bytes}
 use Rattle.craq_commands.specs.Evaluation.{eval}

@@ -1,0 +1,9 @@
+pub mod Worlds
+pub mod Nodes
+pub mod Senders
+pub mod Messages
+pub mod Clients
+pub mod Above
+pub mod Waiting
+pub mod Sent
+pub mod Blanks

@@ -15,8 +15,8 @@ use std::{fs, io};
 #[derive(Clone, Copy, Debug)]
 enum Way {
     Play,
-    /// One schedule, drawn by these choices.
-    Draw(&'static [u32]),
+    /// One schedule, drawn by `CHOICES`.
+    Draw,
     /// The node of this id stops after each move.
     Stops(u32),
 }
@@ -29,7 +29,7 @@ struct Row {
     way: Way,
 }
 
-static CHOICES: [u32; 5] = [0, 0, 1, 1, 6];
+const CHOICES: [u32; 5] = [0, 0, 1, 1, 6];
 
 static ROWS: [Row; 35] = [
     Row {
@@ -60,7 +60,7 @@ static ROWS: [Row; 35] = [
     Row {
         name: "draw-one-schedule",
         nodes: 2,
-        way: Way::Draw(&CHOICES),
+        way: Way::Draw,
     },
     Row {
         name: "empty-script",
@@ -220,7 +220,7 @@ fn printed_of(alloc: Global, row: Row, script: &[u8]) -> Result<String, Refusal>
     let nodes = row.nodes.max(1).min(8);
     match row.way {
         Way::Play => play::<PlainCore>(alloc, nodes, script),
-        Way::Draw(choices) => draw::<PlainCore>(alloc, nodes, script, choices),
+        Way::Draw => draw::<PlainCore>(alloc, nodes, script, &CHOICES),
         Way::Stops(id) => stops::<PlainCore>(alloc, nodes, script, NodeId::new(id)),
     }
 }

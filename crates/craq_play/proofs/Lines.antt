@@ -1,5 +1,5 @@
 -- What a line does, and what is printed of it.
-use Rattle.std.proofs.Common.{◌≡◌, ◌+◌, ◌++◌, ◌<◌, ℕ, zero, suc, List, [], ◌∷◌, map, length, Option, Some, None, refl, sym, ap, arith, append_assoc, add-one, drop, slice_get, slice_index, slice_index_or, ◌∙◌}
+use Rattle.std.proofs.Common.{◌≡◌, ◌+◌, ◌++◌, ◌<◌, ℕ, zero, suc, List, [], ◌∷◌, map, length, Some, None, refl, sym, ap, arith, append_assoc, add-one, drop, slice_get, slice_index, slice_index_or}
 use Rattle.craq_model.specs.declared.message.LinkMessage.{LinkMessage}
 use Rattle.craq_runs.specs.Chain.{message_at}
 use Rattle.craq_runs.specs.Seen.{receiver_of}

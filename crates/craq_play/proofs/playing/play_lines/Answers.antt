@@ -1,7 +1,5 @@
-use Rattle.std.proofs.Common.{◌≡◌, ◌++◌, drop, string_bytes, subst, sym}
-use Rattle.craq_chain.specs.Chained.{Chained}
-use Rattle.craq_play.specs.Played.{after_line, lines_text, played_text}
-use Rattle.craq_play.specs.Moves.{move_of}
+use Rattle.std.proofs.Common.{string_bytes}
+use Rattle.craq_play.specs.Played.{played_text}
 use Rattle.craq_play.proofs.Lines.{line_done}
 use Rattle.craq_play.proofs.playing.play_lines.Goals as goal
 

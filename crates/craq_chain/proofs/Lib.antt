@@ -1,4 +1,5 @@
 pub mod Places
+pub mod Received
 pub mod Steps
 pub mod Told
 pub mod Commands

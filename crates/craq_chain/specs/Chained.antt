@@ -2,12 +2,14 @@
 use Rattle.std.specs.Prelude.{◌≡◌, ◌⊎◌, ℕ, List, [], ◌∷◌, ◌++◌, map, length, Result, Ok, Err}
 use Rattle.craq_names.specs.declared.refusal.Refusal.{Refusal}
 use Rattle.craq_names.specs.declared.refusal.Refusal.TheVariants.{Memory}
+use Rattle.craq_model.specs.declared.message.LinkMessage.{LinkMessage}
 use Rattle.craq_model.specs.Plain.{Plain, opening_member}
 use Rattle.craq_runs.specs.declared.run.Move.{Move}
 use Rattle.craq_runs.specs.declared.run.Taken.{Taken}
 use Rattle.craq_runs.specs.declared.run.Run.{Run}
 use Rattle.craq_runs.specs.Chain.{Chain, Progress, opening_chain, chain_step}
 use Rattle.craq_runs.specs.Runs.{after_moves}
+use Rattle.craq_runs.specs.Seen.{node_of}
 
 pub record Chained : Type 0 where
   pub chain : ℕ
@@ -20,6 +22,10 @@ opened chain members = record { chain = chain; run = record { members = members;
 -- the chain that its run leads to
 abbrev pub chain_of : Chained → Chain
 chain_of w = after_moves (opening_chain w.chain w.run.members) w.run.moves
+
+-- at which node a move happens
+abbrev pub mover : Chain → Move → ℕ
+mover c m = node_of (map (λ (message : LinkMessage). message.receiver) c.messages) m
 
 -- one more move was taken
 abbrev pub with_move : Chained → Taken → Chained

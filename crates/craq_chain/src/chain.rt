@@ -8,7 +8,7 @@ ghost use Rattle.craq_model.specs.Spelled.{IsSpelled};
 ghost use Rattle.craq_runs.specs.Chain.{Chain, message_at, move_progress, node_at, sent_in};
 ghost use Rattle.craq_runs.specs.Typed.{IsMoveOfType, IsTypedRunOf};
 ghost use Rattle.craq_sound.specs.Sound.{AreSpelled};
-ghost use Rattle.craq_chain.specs.Chained.{GivesMove, after_taking, chain_of, opened, openings};
+ghost use Rattle.craq_chain.specs.Chained.{GivesMove, after_taking, chain_of, mover, opened, openings};
 ghost use Rattle.craq_chain.specs.Parts.{AreParts, Moves};
 ghost use Rattle.craq_chain.specs.Sent.{counts_from, sent_by};
 
@@ -212,5 +212,23 @@ impl<C: Core> ChainCore<C> {
         ensures { option_copied result ≡ message_at (chain_of self.now).messages number }
     {
         message_of(self.run.moves.as_slice(), self.sent.as_slice(), number)
+    }
+
+    /// The id of the node at which a move happens: for a delivery the message's receiver; 0 for what the master
+    /// does, and for the delivery of a message that was not sent. It takes no memory.
+    pub fn mover(&self, chosen: &Move) -> NodeId
+        ensures { result ≡ mover (chain_of self.now) chosen.now }
+    {
+        match chosen {
+            Move::Ask { node, .. } => *node,
+            Move::Deliver(number) => match self.message(*number) {
+                None => NodeId::new(0),
+                Some(message) => message.receiver,
+            },
+            Move::Tick(node) => *node,
+            Move::Stop(node) => *node,
+            Move::Remove(_) => NodeId::new(0),
+            Move::Join(_) => NodeId::new(0),
+        }
     }
 }

@@ -3,7 +3,6 @@ pub mod FirstAsks
 pub mod Places
 pub mod Noting
 pub mod Adding
-pub mod Sent
 pub mod Running
 pub mod Words
 pub mod Accounts

@@ -26,7 +26,7 @@ use Rattle.craq_runs.specs.Chain.{Chain, Progress, chain_step, counted_progress,
 use Rattle.craq_runs.specs.Explain.{Account, clean_at, read_place, tail_word, word_in, word_of}
 use Rattle.craq_runs.specs.Runs.{after_move, progressed}
 use Rattle.craq_runs.specs.Seen.{node_of, receiver_of}
-use Rattle.craq_explain.proofs.Sent.{sent_to}
+use Rattle.craq_chain.proofs.Received.{sent_to}
 
 by_test : (b : Bool) (t u : Turn) (p : Plain) → clean t.0 ≡ clean p → clean u.0 ≡ clean p → clean (if b then t else u).0 ≡ clean p
 by_test true t u p h k = h

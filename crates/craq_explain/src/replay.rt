@@ -1,9 +1,9 @@
 //! A run, taken once more.
-ghost use Rattle.std.specs.Prelude.{◌≡◌, ◌+◌, ◌++◌, Ok, IfOk, OnOk, length, map};
+ghost use Rattle.std.specs.Prelude.{◌≡◌, ◌+◌, ◌++◌, Ok, IfOk, OnOk, length};
 ghost use Rattle.craq_runs.specs.Chain.{chain_step, node_at};
 ghost use Rattle.craq_runs.specs.Runs.{IsRunOf, Takes};
 ghost use Rattle.craq_runs.specs.Explain.{Account, account_after, account_of, explain, opening_account, tail_word};
-ghost use Rattle.craq_runs.specs.Seen.{ask_in, asks_from, node_of};
+ghost use Rattle.craq_runs.specs.Seen.{ask_in, asks_from};
 ghost use Rattle.craq_chain.specs.Chained.{after_taking, chain_of, opened, with_move};
 ghost use Rattle.craq_explain.specs.Noted.{IsNoted};
 ghost use Rattle.craq_explain.specs.Shown.{as_running, plain_in};
@@ -13,29 +13,11 @@ use crate::answers::word_in;
 use crate::tables::Replayed;
 use craq_chain::ChainCore;
 use craq_history::{History, Node};
-use craq_model::LinkMessage;
 use craq_names::{ChainId, Copied, NodeId, Version};
 use craq_node::NodeCore;
 use craq_plain::PlainHistory;
 use craq_runs::{Explanation, Move, Run, Taken};
 use std::alloc::{AllocError, Global};
-
-/// The same move, in memory of its own. It fails for want of memory alone.
-fn copy_of(alloc: Global, chosen: &Move) -> Result<Move, AllocError>
-    ensures { OnOk result (result ≡ Ok chosen.now) }
-{
-    Ok(match chosen {
-        Move::Ask { node, ask } => Move::Ask {
-            node: *node,
-            ask: ask.copied(alloc)?,
-        },
-        Move::Deliver(number) => Move::Deliver(*number),
-        Move::Tick(node) => Move::Tick(*node),
-        Move::Stop(node) => Move::Stop(*node),
-        Move::Remove(node) => Move::Remove(*node),
-        Move::Join(node) => Move::Join(*node),
-    })
-}
 
 /// A chain takes a move of a run once more, which is refused for want of memory alone.
 fn take_again(
@@ -45,27 +27,10 @@ fn take_again(
 ) -> Result<(), AllocError>
     ensures { OnOk result (after_taking core.old chosen.now ≡ Ok core.new) }
 {
-    let chosen = copy_of(alloc, chosen)?;
+    let chosen = chosen.copied(alloc)?;
     match core.take(alloc, chosen) {
         Ok(_) => Ok(()),
         Err(_) => Err(AllocError),
-    }
-}
-
-/// At which node a move happens; 0 for the master.
-fn node_of(core: &ChainCore<NodeCore<PlainHistory>>, chosen: &Move) -> NodeId
-    ensures { result ≡ node_of (map (λ (m : LinkMessage). m.receiver) (chain_of core.now).messages) chosen.now }
-{
-    match chosen {
-        Move::Ask { node, .. } => *node,
-        Move::Deliver(number) => match core.message(*number) {
-            None => NodeId::new(0),
-            Some(message) => message.receiver,
-        },
-        Move::Tick(node) => *node,
-        Move::Stop(node) => *node,
-        Move::Remove(_) => NodeId::new(0),
-        Move::Join(_) => NodeId::new(0),
     }
 }
 
@@ -118,7 +83,7 @@ fn replay_move(
 ) -> Result<(), AllocError>
     ensures { (w : Account) → IsNoted w notes.old → w.chain ≡ chain_of core.old → length moves.now ≡ w.chain.moves + 1 → asks_from 1 moves.now ≡ w.asks ++ ask_in (w.chain.moves + 1) taken.now.step.ticket taken.now.chosen → Takes (chain_step (chain_of core.old) taken.now.chosen) taken.now.step → OnOk result (IsNoted (account_after w taken.now) notes.new × (core.new ≡ with_move core.old taken.now)) }
 {
-    let node = node_of(core, &taken.chosen);
+    let node = core.mover(&taken.chosen);
     let word = tail_word(core, notes.sent_at(), &taken.chosen);
     take_again(alloc, core, &taken.chosen)?;
     let replayed = Replayed { taken, node, word };

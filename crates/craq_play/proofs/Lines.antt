@@ -1,34 +1,9 @@
 -- What a line does, and what is printed of it.
 use Rattle.std.proofs.Common.{◌≡◌, ◌+◌, ◌++◌, ◌<◌, ℕ, zero, suc, List, [], ◌∷◌, map, length, Some, None, refl, sym, ap, arith, append_assoc, add-one, drop, slice_get, slice_index, slice_index_or}
-use Rattle.craq_model.specs.declared.message.LinkMessage.{LinkMessage}
-use Rattle.craq_runs.specs.Chain.{message_at}
-use Rattle.craq_runs.specs.Seen.{receiver_of}
 use Rattle.craq_chain.specs.Chained.{Chained}
 use Rattle.craq_script.specs.declared.line.Line.{Line}
 use Rattle.craq_play.specs.Moves.{move_of}
 use Rattle.craq_play.specs.Played.{line_text, lines_text, after_line}
-
-receivers : List LinkMessage → List ℕ
-receivers ms = map (λ (k : LinkMessage). k.receiver) ms
-
-received : (ms : List LinkMessage) (i : ℕ) (m : LinkMessage) → slice_get ms i ≡ Some m → m.receiver ≡ slice_index (map (λ (k : LinkMessage). k.receiver) ms) i
-received [] i m e = absurd (cc)
-received (x ∷ ms) zero m e = cc
-received (x ∷ ms) (suc i) m e = received ms i m e
-
-unreceived : (ms : List LinkMessage) (i : ℕ) → slice_get ms i ≡ None → slice_index (map (λ (k : LinkMessage). k.receiver) ms) i ≡ 0
-unreceived [] i e = refl
-unreceived (x ∷ ms) zero e = absurd (cc)
-unreceived (x ∷ ms) (suc i) e = unreceived ms i e
-
--- the receiver of the message of a number
-pub receiver_at : (ms : List LinkMessage) (n : ℕ) (m : LinkMessage) → message_at ms n ≡ Some m → m.receiver ≡ receiver_of (map (λ (k : LinkMessage). k.receiver) ms) n
-receiver_at ms zero m e = absurd (cc)
-receiver_at ms (suc i) m e = received ms i m e
-
-pub receiver_of_none : (ms : List LinkMessage) (n : ℕ) → message_at ms n ≡ None → receiver_of (map (λ (k : LinkMessage). k.receiver) ms) n ≡ 0
-receiver_of_none ms zero e = refl
-receiver_of_none ms (suc i) e = unreceived ms i e
 
 drop_next : (ls : List Line) (i : ℕ) (l : Line) → i < length ls → l ≡ slice_index_or ls i l → drop i ls ≡ l ∷ drop (suc i) ls
 drop_next [] i l h e = absurd (omega (arith, h))

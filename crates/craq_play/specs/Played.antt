@@ -2,22 +2,16 @@
 use Rattle.std.specs.Prelude.{◌≡◌, ◌⊎◌, ℕ, zero, suc, List, [], ◌∷◌, ◌++◌, map, length, codes, Option, Some, None, Result, Ok, Err}
 use Rattle.craq_names.specs.declared.refusal.Refusal.{Refusal}
 use Rattle.craq_names.specs.declared.refusal.Refusal.TheVariants as refusals
-use Rattle.craq_model.specs.declared.message.LinkMessage.{LinkMessage}
 use Rattle.craq_runs.specs.declared.explanation.Explanation.{Explanation}
 use Rattle.craq_runs.specs.declared.run.Move.{Move}
 use Rattle.craq_runs.specs.Chain.{Chain, Progress, chain_step}
 use Rattle.craq_runs.specs.Explain.{explain}
-use Rattle.craq_runs.specs.Seen.{node_of}
-use Rattle.craq_chain.specs.Chained.{Chained, after_taking, chain_of, opened}
+use Rattle.craq_chain.specs.Chained.{Chained, after_taking, chain_of, mover, opened}
 use Rattle.craq_json.specs.Explained.{explanation_text}
 use Rattle.craq_script.specs.declared.line.Line.{Line}
 use Rattle.craq_script.specs.Texts.{script_of}
 use Rattle.craq_play.specs.Printed.{step_text, refusal_text}
 use Rattle.craq_play.specs.Moves.{move_of}
-
--- at which node a move happens
-abbrev pub mover : Chain → Move → ℕ
-mover c m = node_of (map (λ (message : LinkMessage). message.receiver) c.messages) m
 
 -- a taken move prints its step, and a refused one its refusal
 abbrev pub progress_text : Chain → Move → Result Progress Refusal → List ℕ

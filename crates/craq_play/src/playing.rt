@@ -1,7 +1,6 @@
 ghost use Rattle.std.specs.Prelude.{◌≡◌, ◌++◌, ◌∷◌, [], ◌≤◌, List, IfOk, OnOk, string_bytes};
 ghost use Rattle.craq_runs.specs.Explain.{explain};
 ghost use Rattle.craq_runs.specs.declared.run.Taken.{Taken};
-ghost use Rattle.craq_chain.specs.Chained.{chain_of};
 ghost use Rattle.craq_play.specs.Moves.{move_of};
 ghost use Rattle.craq_play.specs.Printed.{step_text};
 ghost use Rattle.craq_play.specs.Played.{
@@ -11,7 +10,6 @@ ghost use Rattle.craq_play.specs.Played.{
   first_ids,
   line_text,
   move_text,
-  mover,
   opening,
   played,
   played_text,
@@ -52,23 +50,6 @@ pub fn opened<C: Core>(alloc: Global, nodes: u32) -> Result<ChainCore<C>, AllocE
     }
 }
 
-/// At which node a move happens: 0 for what the master does, and for a message that was not sent.
-fn mover<C: Core>(chain: &ChainCore<C>, chosen: &Move) -> NodeId
-    ensures { result ≡ mover (chain_of chain.now) chosen.now }
-{
-    match chosen {
-        Move::Ask { node, ask: _ } => *node,
-        Move::Deliver(number) => match chain.message(*number) {
-            Some(message) => message.receiver,
-            None => NodeId::new(0),
-        },
-        Move::Tick(node) => *node,
-        Move::Stop(node) => *node,
-        Move::Remove(_) => NodeId::new(0),
-        Move::Join(_) => NodeId::new(0),
-    }
-}
-
 /// Prints the step of the last move of a run, at this node, after so many messages were sent.
 fn print_last(text: &mut String, node: NodeId, sent: u64, run: &Run) -> Result<(), AllocError>
     ensures { (before : List Taken) (t : Taken) → run.now.moves ≡ before ++ t ∷ [] → OnOk result (string_bytes text.new ≡ string_bytes text.old ++ step_text node sent t.step) }
@@ -89,7 +70,7 @@ pub fn play_move<C: Core>(
     ensures chain { OnOk result (chain.new ≡ after_one chain.old chosen) }
     ensures text { OnOk result (string_bytes text.new ≡ string_bytes text.old ++ move_text chain.old chosen) }
 {
-    let node = mover(chain, &chosen);
+    let node = chain.mover(&chosen);
     let sent = chain.sent();
     match chain.take(alloc, chosen) {
         Ok(_) => print_last(text, node, sent, chain.run()),
@@ -132,6 +113,7 @@ pub fn play_line<C: Core>(
 
 /// Plays the lines in order on a new chain of so many nodes. It fails for want of memory alone.
 fn play_lines<C: Core>(alloc: Global, nodes: u32, lines: &[Line]) -> Result<String, AllocError>
+    requires { (1 ≤ nodes) × (nodes ≤ 8) }
     ensures { IfOk result (λ text. string_bytes text ≡ played_text nodes lines.now) }
 {
     let mut chain: ChainCore<C> = opened(alloc, nodes)?;

@@ -46,23 +46,6 @@ pub struct Report {
     pub results: Items<Result<u64, Refusal>>,
 }
 
-/// The same move, in memory of its own. It fails for want of memory alone.
-fn copy_of(alloc: Global, chosen: &Move) -> Result<Move, AllocError>
-    ensures { IfOk result (λ m. m ≡ chosen.now) }
-{
-    Ok(match chosen {
-        Move::Ask { node, ask } => Move::Ask {
-            node: *node,
-            ask: ask.copied(alloc)?,
-        },
-        Move::Deliver(number) => Move::Deliver(*number),
-        Move::Tick(node) => Move::Tick(*node),
-        Move::Stop(node) => Move::Stop(*node),
-        Move::Remove(node) => Move::Remove(*node),
-        Move::Join(node) => Move::Join(*node),
-    })
-}
-
 /// Whether each list is a membership.
 fn are_memberships(lists: &[Items<NodeId>]) -> bool
     ensures { IsTrue result ↔ AllByRecursion IsMembership lists.now }
@@ -145,7 +128,7 @@ impl<C: Core> World<C> {
         ensures grows { NothingIsTakenBack self.old self.new }
     {
         self.keep_explained();
-        let chosen = copy_of(alloc, chosen)?;
+        let chosen = chosen.copied(alloc)?;
         self.take(alloc, chain, chosen)
     }
 

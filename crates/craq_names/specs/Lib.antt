@@ -1,3 +1,4 @@
 pub mod Limits
 pub mod Maps
+pub mod Places
 pub mod Refused

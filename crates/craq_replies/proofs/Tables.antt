@@ -12,8 +12,8 @@ use Rattle.std.specs.FinMap.{nat_cmp-IsAntisymmetric}
 use Rattle.std.specs.FinMap.Entries.{find}
 use Rattle.craq_names.specs.Maps.{at_number, put_number}
 use Rattle.craq_commands.specs.Kept.{Kept}
-use Rattle.craq_replies.specs.Places.{filled}
-use Rattle.craq_replies.proofs.Places.{find_filled, is_sorted_of, filled_put, filled_same}
+use Rattle.craq_names.specs.Places.{filled}
+use Rattle.craq_names.proofs.Places.{find_filled, is_sorted_of, filled_put, filled_same}
 
 abbrev pub Entries : Type 0
 Entries = List (ℕ × Option Kept)

@@ -1,5 +1,5 @@
 ghost use Rattle.std.specs.Prelude.{◌≡◌};
-ghost use Rattle.craq_replies.specs.Places.{filled};
+ghost use Rattle.craq_names.specs.Places.{filled};
 ghost use Rattle.craq_replies.specs.Shown.{shown};
 ghost use Rattle.std.specs.Iterator.{YieldsFirstBy, item_count};
 
@@ -17,7 +17,7 @@ pub struct KeptReplies<'a> {
 impl<'a> Model for KeptReplies<'a> {
     ghost use Rattle.std.specs.Prelude.{ℕ, List};
     ghost use Rattle.craq_commands.specs.Kept.{Kept};
-    ghost use Rattle.craq_replies.specs.Places.{filled};
+    ghost use Rattle.craq_names.specs.Places.{filled};
 
     ghost Value = { List (ℕ × Kept) };
 

@@ -26,7 +26,7 @@ pub struct ReplyTable {
 impl Model for ReplyTable {
     ghost use Rattle.std.specs.Ordering.{nat_cmp};
     ghost use Rattle.std.specs.BTreeMap.{keys, IsOrdered};
-    ghost use Rattle.craq_replies.specs.Places.{filled};
+    ghost use Rattle.craq_names.specs.Places.{filled};
     ghost use Rattle.craq_replies.specs.Replies.{Replies};
 
     ghost Value = { Replies };

@@ -15,9 +15,9 @@ use Rattle.std.specs.FinMap.{IsAntisymmetric, nat_cmp-IsAntisymmetric, slice_cmp
 use Rattle.std.specs.FinMap.Entries.{find}
 use Rattle.craq_names.specs.Maps.{key_cmp, at_key, put_key, same_bytes}
 use Rattle.craq_versions.specs.Versions.{Versions, AreVersions, CanSettle, versions_from}
-use Rattle.craq_versions.specs.Places.{filled}
+use Rattle.craq_names.specs.Places.{filled}
 use Rattle.craq_versions.specs.Tables.{Held, Entries, nothing, held_at, room_at, pushed, settled, unless_empty, held_in, shown, table_of, KeepsRoom, KeepsOthersRoom}
-use Rattle.craq_versions.proofs.Places.{find_filled, is_sorted_of, filled_put, filled_same}
+use Rattle.craq_names.proofs.Places.{find_filled, is_sorted_of, filled_put, filled_same}
 
 abbrev pub list_of : Entries → List ℕ → Option Versions
 list_of es key = lookup (is_at (key_cmp key)) es

@@ -1,3 +1,2 @@
 pub mod Versions
-pub mod Places
 pub mod Tables

@@ -3,7 +3,7 @@ use Rattle.std.specs.Prelude.{◌≡◌, ℕ, ◌≤◌, false, max, List, [], �
 use Rattle.std.specs.Borrow.{Bor}
 use Rattle.craq_names.specs.Maps.{at_key, same_bytes}
 use Rattle.craq_versions.specs.Versions.{Versions, versions_from}
-use Rattle.craq_versions.specs.Places.{filled}
+use Rattle.craq_names.specs.Places.{filled}
 
 -- the versions of one object, and the clean one, 0 where none is
 pub record Held : Type 0 where

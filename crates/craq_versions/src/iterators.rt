@@ -1,6 +1,6 @@
 ghost use Rattle.std.specs.Prelude.{◌≡◌, map};
 ghost use Rattle.std.specs.Iterator.{YieldsFirstBy, item_count};
-ghost use Rattle.craq_versions.specs.Places.{filled};
+ghost use Rattle.craq_names.specs.Places.{filled};
 ghost use Rattle.craq_versions.specs.Tables.{shown, shown_pair, shown_key};
 
 use crate::VersionList;
@@ -16,7 +16,7 @@ pub struct Objects<'a> {
 
 impl<'a> Model for Objects<'a> {
     ghost use Rattle.std.specs.Prelude.{ℕ, List};
-    ghost use Rattle.craq_versions.specs.Places.{filled};
+    ghost use Rattle.craq_names.specs.Places.{filled};
     ghost use Rattle.craq_versions.specs.Tables.{Held, shown};
 
     ghost Value = { List (List ℕ × Held) };

@@ -1,5 +1,5 @@
 use Rattle.std.proofs.Common.{◌≡◌, length}
-use Rattle.craq_replies.specs.Places.{filled}
+use Rattle.craq_names.specs.Places.{filled}
 use Rattle.craq_replies.proofs.items.KeptRepliesIterator.next.Given as goal
 
 -- nothing stood in the places so far

@@ -1,5 +1,5 @@
 use Rattle.std.proofs.Common.{◌≡◌, length}
-use Rattle.craq_versions.specs.Places.{filled}
+use Rattle.craq_names.specs.Places.{filled}
 use Rattle.craq_versions.specs.Tables.{shown}
 use Rattle.craq_versions.proofs.iterators.ObjectsIterator.next.Given as goal
 

@@ -12,7 +12,7 @@ use Rattle.std.specs.List.Sorted.{IsStrictlySortedBy}
 use Rattle.std.specs.Map.{keys_of}
 use Rattle.std.specs.BTreeMap.{is_at}
 use Rattle.std.specs.FinMap.Entries.{find, put, is_sorted, below_all, find-put, is_sorted-put, same_entries}
-use Rattle.craq_replies.specs.Places.{with_filled, filled}
+use Rattle.craq_names.specs.Places.{with_filled, filled}
 
 both : (a b : Bool) → T a → T b → T (a && b)
 both true b p q = q

@@ -38,9 +38,10 @@ fn first_ids(alloc: Global, count: u32) -> Result<Vec<NodeId>, AllocError>
     Ok(ids)
 }
 
-/// Chain 0 of the nodes from 1 to the count, 1 the head, before any move. It fails for want of memory, and
-/// where the count is not from 1 to 8.
+/// Chain 0 of the nodes from 1 to the count, which is from 1 to 8, 1 the head, before any move. It fails for want of memory
+/// alone.
 pub fn opened<C: Core>(alloc: Global, nodes: u32) -> Result<ChainCore<C>, AllocError>
+    requires { (1 ≤ nodes) × (nodes ≤ 8) }
     ensures { IfOk result (λ w. w ≡ opening nodes) }
 {
     let members = first_ids(alloc, nodes)?;

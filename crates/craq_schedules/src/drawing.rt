@@ -1,4 +1,4 @@
-ghost use Rattle.std.specs.Prelude.{◌≡◌, IfErr, IfOk, IsOk, OnOk, string_bytes};
+ghost use Rattle.std.specs.Prelude.{◌≡◌, ◌≤◌, IfErr, IfOk, IsOk, OnOk, string_bytes};
 ghost use Rattle.craq_script.specs.Texts.{script_of};
 ghost use Rattle.craq_schedules.specs.Verdicts.{IsRefusedAs, SaysValid};
 
@@ -95,6 +95,7 @@ fn draw_lines<C: Core>(
     lines: &[Line],
     choices: &[u32],
 ) -> Result<String, AllocError>
+    requires { (1 ≤ nodes) × (nodes ≤ 8) }
     ensures { IfOk result (λ text. SaysValid (string_bytes text)) }
 {
     let mut chain: ChainCore<C> = opened(alloc, nodes)?;
@@ -128,6 +129,7 @@ pub fn draw<C: Core>(
     script: &[u8],
     choices: &[u32],
 ) -> Result<String, Refusal>
+    requires { (1 ≤ nodes) × (nodes ≤ 8) }
     ensures valid { IfOk result (λ text. SaysValid (string_bytes text)) }
     ensures read { OnOk result (IsOk (script_of script.now)) }
     ensures err { IfErr result (IsRefusedAs (script_of script.now)) }

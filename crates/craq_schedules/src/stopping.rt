@@ -101,6 +101,7 @@ fn print_cut<C: Core>(
     cut: u64,
     node: NodeId,
 ) -> Result<u64, AllocError>
+    requires { (1 ≤ nodes) × (nodes ≤ 8) }
     ensures { IfOk result (λ n. string_bytes text.new ≡ string_bytes text.old ++ cut_line cut n) }
 {
     let mut chain: ChainCore<C> = opened(alloc, nodes)?;
@@ -118,6 +119,7 @@ fn stop_lines<C: Core>(
     lines: &[Line],
     node: NodeId,
 ) -> Result<String, AllocError>
+    requires { (1 ≤ nodes) × (nodes ≤ 8) }
     ensures { IfOk result (λ text. (committed : List ℕ) × (string_bytes text ≡ cuts_text 0 committed)) }
 {
     let mut whole: ChainCore<C> = opened(alloc, nodes)?;
@@ -142,6 +144,7 @@ pub fn stops<C: Core>(
     script: &[u8],
     node: NodeId,
 ) -> Result<String, Refusal>
+    requires { (1 ≤ nodes) × (nodes ≤ 8) }
     ensures valid { IfOk result (λ text. (committed : List ℕ) × (string_bytes text ≡ cuts_text 0 committed)) }
     ensures read { OnOk result (IsOk (script_of script.now)) }
     ensures err { IfErr result (IsRefusedAs (script_of script.now)) }

@@ -1,1 +1,3 @@
-mod Cuts
+mod Rising
+mod Choices
+mod Arriving

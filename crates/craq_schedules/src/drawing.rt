@@ -1,91 +1,141 @@
-ghost use Rattle.std.specs.Prelude.{◌≡◌, ◌≤◌, IfErr, IfOk, IsOk, OnOk, string_bytes};
-ghost use Rattle.craq_script.specs.Texts.{script_of};
-ghost use Rattle.craq_schedules.specs.Verdicts.{IsRefusedAs, SaysValid};
+ghost use Rattle.std.specs.Prelude.{◌≡◌, ◌≤◌, ◌++◌, List, insert, length, slice_get, option_copied, IfOk, OnOk, string_bytes};
+ghost use Rattle.std.specs.List.{AllZip};
+ghost use Rattle.craq_model.specs.Plain.{Plain};
+ghost use Rattle.craq_play.specs.Moves.{move_of};
+ghost use Rattle.craq_play.specs.Played.{Plays, after_line, line_text};
+ghost use Rattle.craq_chain.specs.Chained.{chain_of};
+ghost use Rattle.craq_schedules.specs.Drawn.{IsPlayed, choices_text, drawn, drawn_text, events, next_of, running_ids, with_id};
 
 use crate::verdict::{print_verdict, verdict_of};
 use craq_chain::ChainCore;
 use craq_names::{NodeId, Refusal};
 use craq_node::Core;
-use craq_play::{opened, play_line, play_move};
-use craq_runs::Move;
+use craq_play::{opened, play_line};
 use craq_script::{Line, Script};
 use std::alloc::{AllocError, Global};
 
-/// What may come next in a schedule.
-#[derive(Clone, Copy, Debug)]
-enum Next {
-    /// The next line of the script.
-    Line,
-    /// The message of this number arrives.
-    Message(u64),
-    /// A running node ticks.
-    Tick(NodeId),
+/// Where an id goes among rising ids: before the first that is greater.
+fn place_among(ids: &[NodeId], id: NodeId) -> usize
+    ensures within { result ≤ length ids.now }
+    ensures place { insert ids.now result id ≡ with_id id ids.now }
+{
+    for (place, other) in ids.iter().enumerate() {
+        if id.get() < other.get() {
+            return place;
+        }
+    }
+    ids.len()
+}
+
+/// Puts an id among rising ids.
+fn put_id(ids: &mut Vec<NodeId>, id: NodeId) -> Result<(), AllocError>
+    ensures { OnOk result (ids.new.items ≡ with_id id ids.old.items) }
+{
+    let place = place_among(ids.as_slice(), id);
+    ids.insert(place, id)?;
+    Ok(())
 }
 
 /// The ids of the running nodes, rising.
-fn running<C: Core>(alloc: Global, chain: &ChainCore<C>) -> Result<Vec<NodeId>, AllocError> {
+fn running_of<C: Core>(alloc: Global, cores: &[C]) -> Result<Vec<NodeId>, AllocError>
+    ensures { IfOk result (λ ids. (ps : List Plain) → AllZip C.represents cores.now ps → ids.items ≡ running_ids ps) }
+{
     let mut ids = Vec::new(alloc);
-    for core in chain.cores() {
+    for core in cores {
         let switch = core.switch();
         if switch.receipt().is_none() {
-            ids.push(switch.name().node)?;
+            put_id(&mut ids, switch.name().node)?;
         }
     }
-    ids.sort_unstable_by_key(|id| id.get());
     Ok(ids)
 }
 
-/// The one of all that may come next which a choice picks: the next line, if any is left, then each message that was sent,
-/// then a tick of each running node. None where nothing may come.
-fn picked(line_left: bool, sent: u64, running: &[NodeId], choice: u32) -> Option<Next> {
-    let lines = u64::from(line_left);
-    let count = lines
-        .saturating_add(sent)
-        .saturating_add(running.len() as u64);
-    if count == 0 {
-        return None;
+/// The event in this place, counted from 0: of each message that was sent the arrival, then of each running node a tick.
+fn event_at(sent: u64, running: &[NodeId], place: u64) -> Option<Line>
+    ensures { result ≡ slice_get (events sent running.now) place }
+{
+    if place < sent {
+        return Some(Line::Deliver { message: place + 1 });
     }
-    let place = u64::from(choice) % count;
-    if place < lines {
-        return Some(Next::Line);
+    match running.get((place - sent) as usize) {
+        None => None,
+        Some(id) => Some(Line::Tick { node: *id }),
     }
-    let message = place - lines;
-    if message < sent {
-        return Some(Next::Message(message + 1));
-    }
-    running
-        .get((message - sent) as usize)
-        .map(|id| Next::Tick(*id))
 }
 
-/// Plays what comes next, and prints what it did: the first of these lines, or a move. It fails for want of memory alone.
-fn play_next<C: Core>(
+/// Plays an event as a line of a script, and prints what it did. It fails for want of memory alone.
+fn play_event<C: Core>(
+    alloc: Global,
+    chain: &mut ChainCore<C>,
+    text: &mut String,
+    event: Line,
+) -> Result<(), AllocError>
+    ensures chain { OnOk result (chain.new ≡ after_line chain.old (move_of event)) }
+    ensures text { OnOk result (string_bytes text.new ≡ string_bytes text.old ++ line_text chain.old (move_of event)) }
+{
+    play_line(alloc, chain, text, &event)
+}
+
+/// Plays the one that a choice picks of all that may come next, and prints what it did: the next line, if one is left, then each
+/// event. Gives the lines that are left after it, or none where nothing may come. It fails for want of memory alone.
+fn play_choice<'a, C: Core>(
+    alloc: Global,
+    chain: &mut ChainCore<C>,
+    text: &mut String,
+    lines: &'a [Line],
+    choice: u32,
+) -> Result<Option<&'a [Line]>, AllocError>
+    ensures { IfOk result (λ left. IsPlayed chain.old chain.new (string_bytes text.old) (string_bytes text.new) (next_of (chain_of chain.old) lines.now choice) (option_copied left)) }
+{
+    let running = running_of(alloc, chain.cores())?;
+    let running = running.as_slice();
+    let sent = chain.sent();
+    let events = sent.saturating_add(running.len() as u64);
+    match lines.split_first() {
+        None => {
+            if events == 0 {
+                return Ok(None);
+            }
+            let Some(event) = event_at(sent, running, u64::from(choice) % events) else {
+                return Ok(None);
+            };
+            play_event(alloc, chain, text, event)?;
+            Ok(Some(lines))
+        }
+        Some((line, rest)) => {
+            let place = u64::from(choice) % events.saturating_add(1);
+            if place == 0 {
+                play_line(alloc, chain, text, line)?;
+                return Ok(Some(rest));
+            }
+            let Some(event) = event_at(sent, running, place - 1) else {
+                return Ok(None);
+            };
+            play_event(alloc, chain, text, event)?;
+            Ok(Some(lines))
+        }
+    }
+}
+
+/// Plays what the choices pick, one after another, until they are used up or nothing may come, and prints what it did. It fails
+/// for want of memory alone.
+fn play_choices<C: Core>(
     alloc: Global,
     chain: &mut ChainCore<C>,
     text: &mut String,
     lines: &[Line],
-    next: Next,
-) -> Result<(), AllocError> {
-    match next {
-        Next::Line => match lines.first() {
-            Some(line) => play_line(alloc, chain, text, line),
-            None => Ok(()),
-        },
-        Next::Message(number) => play_move(alloc, chain, text, Move::Deliver(number)),
-        Next::Tick(node) => play_move(alloc, chain, text, Move::Tick(node)),
+    choices: &[u32],
+) -> Result<(), AllocError>
+    ensures { OnOk result (string_bytes text.new ≡ string_bytes text.old ++ choices_text choices.now chain.old lines.now) }
+{
+    let mut left = lines;
+    for choice in choices {
+        match play_choice(alloc, chain, text, left, *choice)? {
+            None => return Ok(()),
+            Some(rest) => left = rest,
+        }
     }
-}
-
-/// The lines that are left after what came next.
-fn left_after<'a>(lines: &'a [Line], next: Next) -> &'a [Line] {
-    match next {
-        Next::Line => match lines {
-            [_, rest @ ..] => rest,
-            [] => lines,
-        },
-        Next::Message(_) => lines,
-        Next::Tick(_) => lines,
-    }
+    Ok(())
 }
 
 /// Plays the schedule that the choices draw, on a new chain of so many nodes. It fails for want of memory alone.
@@ -96,22 +146,11 @@ fn draw_lines<C: Core>(
     choices: &[u32],
 ) -> Result<String, AllocError>
     requires { (1 ≤ nodes) × (nodes ≤ 8) }
-    ensures { IfOk result (λ text. SaysValid (string_bytes text)) }
+    ensures { IfOk result (λ text. string_bytes text ≡ drawn_text nodes choices.now lines.now) }
 {
     let mut chain: ChainCore<C> = opened(alloc, nodes)?;
     let mut text = String::new(alloc);
-    let mut left = lines;
-    for choice in choices {
-        let running = running(alloc, &chain)?;
-        let line_left = !left.is_empty();
-        match picked(line_left, chain.sent(), running.as_slice(), *choice) {
-            None => break,
-            Some(next) => {
-                play_next(alloc, &mut chain, &mut text, left, next)?;
-                left = left_after(left, next);
-            }
-        }
-    }
+    play_choices(alloc, &mut chain, &mut text, lines, choices)?;
     print_verdict(&mut text, verdict_of(alloc, &chain)?)?;
     Ok(text)
 }
@@ -130,9 +169,7 @@ pub fn draw<C: Core>(
     choices: &[u32],
 ) -> Result<String, Refusal>
     requires { (1 ≤ nodes) × (nodes ≤ 8) }
-    ensures valid { IfOk result (λ text. SaysValid (string_bytes text)) }
-    ensures read { OnOk result (IsOk (script_of script.now)) }
-    ensures err { IfErr result (IsRefusedAs (script_of script.now)) }
+    ensures { Plays (λ t. string_bytes t) result (drawn nodes choices.now script.now) }
 {
     let script = Script::read(alloc, script)?;
     Ok(draw_lines::<C>(alloc, nodes, script.lines.as_slice(), choices)?)

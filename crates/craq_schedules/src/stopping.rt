@@ -1,6 +1,7 @@
-ghost use Rattle.std.specs.Prelude.{◌≡◌, true, ◌++◌, ◌≤◌, ◌+◌, ℕ, List, length, IfErr, IfOk, IsOk, OnOk, string_bytes};
-ghost use Rattle.craq_script.specs.Texts.{script_of};
-ghost use Rattle.craq_schedules.specs.Verdicts.{IsRefusedAs, cut_line, cuts_text};
+ghost use Rattle.std.specs.Prelude.{◌≡◌, ◌≤◌, ◌+◌, ◌++◌, true, length, IfOk, OnOk, string_bytes};
+ghost use Rattle.craq_play.specs.Moves.{move_of};
+ghost use Rattle.craq_play.specs.Played.{Plays, after_line, after_one};
+ghost use Rattle.craq_schedules.specs.Stopped.{after_lines, cut_line, cut_text, delivered, stopped, stops_text, up_to, without_node};
 
 use crate::verdict::{Verdict, print_verdict, verdict_of};
 use craq_chain::ChainCore;
@@ -11,78 +12,111 @@ use craq_runs::Move;
 use craq_script::{Line, Script};
 use std::alloc::{AllocError, Global};
 
-/// The most messages that are delivered after a cut.
+/// The most messages that arrive after a removal.
 const MOST_DELIVERIES: u64 = 10_000;
 
-/// Takes a move. Tells whether it was taken; a refused one changes nothing. It fails for want of memory alone.
-fn is_taken<C: Core>(
+/// Takes a move; a refused one changes nothing. It fails for want of memory alone.
+fn take_move<C: Core>(
     alloc: Global,
     chain: &mut ChainCore<C>,
     chosen: Move,
-) -> Result<bool, AllocError> {
+) -> Result<(), AllocError>
+    ensures { OnOk result (chain.new ≡ after_one chain.old chosen) }
+{
     match chain.take(alloc, chosen) {
-        Ok(_) => Ok(true),
+        Ok(_) => Ok(()),
         Err(Refusal::Memory) => Err(AllocError),
-        Err(_) => Ok(false),
+        Err(_) => Ok(()),
     }
 }
 
-/// Takes the move that a line asks for, if it does. Tells whether one was taken. It fails for want of memory alone.
-fn is_line_taken<C: Core>(
+/// Takes the move that a line asks for, if it does; a refused line changes nothing. It fails for want of memory alone.
+fn take_line<C: Core>(
     alloc: Global,
     chain: &mut ChainCore<C>,
     line: &Line,
-) -> Result<bool, AllocError> {
+) -> Result<(), AllocError>
+    ensures { OnOk result (chain.new ≡ after_line chain.old (move_of line.now)) }
+{
     match move_of(alloc, line) {
-        Ok(Some(chosen)) => is_taken(alloc, chain, chosen),
-        Ok(None) => Ok(false),
+        Ok(Some(chosen)) => take_move(alloc, chain, chosen),
+        Ok(None) => Ok(()),
         Err(Refusal::Memory) => Err(AllocError),
-        Err(_) => Ok(false),
+        Err(_) => Ok(()),
     }
 }
 
-/// Takes the moves of lines in order, but no more than so many. Gives how many were taken. It fails for want of memory alone.
-fn take_moves<C: Core>(
+/// Takes the moves of lines, in order. It fails for want of memory alone.
+fn take_lines<C: Core>(
     alloc: Global,
     chain: &mut ChainCore<C>,
     lines: &[Line],
-    most: u64,
-) -> Result<u64, AllocError> {
-    let mut taken = 0u64;
+) -> Result<(), AllocError>
+    ensures { OnOk result (chain.new ≡ after_lines chain.old lines.now) }
+{
     for line in lines {
-        if taken == most {
-            break;
-        }
-        if is_line_taken(alloc, chain, line)? {
-            taken = taken.saturating_add(1);
-        }
-    }
-    Ok(taken)
-}
-
-/// Stops a node and removes it, and delivers each message that is sent from the removal on, once, by rising number.
-fn stop_and_remove<C: Core>(
-    alloc: Global,
-    chain: &mut ChainCore<C>,
-    node: NodeId,
-) -> Result<(), AllocError> {
-    is_taken(alloc, chain, Move::Stop(node))?;
-    let before = chain.sent();
-    if !is_taken(alloc, chain, Move::Remove(node))? {
-        return Ok(());
-    }
-    for delivered in 0..MOST_DELIVERIES {
-        let number = before.saturating_add(delivered).saturating_add(1);
-        if number > chain.sent() {
-            break;
-        }
-        is_taken(alloc, chain, Move::Deliver(number))?;
+        take_line(alloc, chain, line)?;
     }
     Ok(())
 }
 
+/// Takes the moves of lines, in order, until so many were taken. It fails for want of memory alone.
+fn take_up_to<C: Core>(
+    alloc: Global,
+    chain: &mut ChainCore<C>,
+    lines: &[Line],
+    cut: usize,
+) -> Result<(), AllocError>
+    ensures { OnOk result (chain.new ≡ up_to cut chain.old lines.now) }
+{
+    for line in lines {
+        if chain.run().moves.len() == cut {
+            return Ok(());
+        }
+        take_line(alloc, chain, line)?;
+    }
+    Ok(())
+}
+
+/// Delivers the messages after the first so many, in the order sent, each once: until none is left, or so many arrived.
+fn deliver_after<C: Core>(
+    alloc: Global,
+    chain: &mut ChainCore<C>,
+    earlier: u64,
+    most: u64,
+) -> Result<(), AllocError>
+    ensures { OnOk result (chain.new ≡ delivered most earlier chain.old) }
+{
+    let mut arrived = earlier;
+    for _ in 0..most {
+        if chain.sent() <= arrived {
+            return Ok(());
+        }
+        arrived += 1;
+        take_move(alloc, chain, Move::Deliver(arrived))?;
+    }
+    Ok(())
+}
+
+/// Stops a node and removes it, and delivers the messages that are sent from the removal on; none where it is refused.
+fn stop_and_remove<C: Core>(
+    alloc: Global,
+    chain: &mut ChainCore<C>,
+    node: NodeId,
+) -> Result<(), AllocError>
+    ensures { OnOk result (chain.new ≡ without_node chain.old node) }
+{
+    take_move(alloc, chain, Move::Stop(node))?;
+    let earlier = chain.sent();
+    match chain.take(alloc, Move::Remove(node)) {
+        Ok(_) => deliver_after(alloc, chain, earlier, MOST_DELIVERIES),
+        Err(Refusal::Memory) => Err(AllocError),
+        Err(_) => Ok(()),
+    }
+}
+
 /// Prints the line of a cut. It fails for want of memory alone.
-fn print_line(text: &mut String, cut: u64, verdict: Verdict) -> Result<(), AllocError>
+fn print_line(text: &mut String, cut: usize, verdict: Verdict) -> Result<(), AllocError>
     requires { verdict.is_valid ≡ true }
     ensures { OnOk result (string_bytes text.new ≡ string_bytes text.old ++ cut_line cut verdict.committed) }
 {
@@ -91,25 +125,23 @@ fn print_line(text: &mut String, cut: u64, verdict: Verdict) -> Result<(), Alloc
     print_verdict(text, verdict)
 }
 
-/// Plays a script up to a cut, stops and removes the node, and prints the line of the cut. Gives how many updates are
-/// committed then.
+/// Plays a script up to a cut on a new chain of so many nodes, stops and removes the node, and prints the line of the cut. It
+/// fails for want of memory alone.
 fn print_cut<C: Core>(
     alloc: Global,
     text: &mut String,
     nodes: u32,
     lines: &[Line],
-    cut: u64,
+    cut: usize,
     node: NodeId,
-) -> Result<u64, AllocError>
+) -> Result<(), AllocError>
     requires { (1 ≤ nodes) × (nodes ≤ 8) }
-    ensures { IfOk result (λ n. string_bytes text.new ≡ string_bytes text.old ++ cut_line cut n) }
+    ensures { OnOk result (string_bytes text.new ≡ string_bytes text.old ++ cut_text nodes node lines.now cut) }
 {
     let mut chain: ChainCore<C> = opened(alloc, nodes)?;
-    take_moves(alloc, &mut chain, lines, cut)?;
+    take_up_to(alloc, &mut chain, lines, cut)?;
     stop_and_remove(alloc, &mut chain, node)?;
-    let verdict = verdict_of(alloc, &chain)?;
-    print_line(text, cut, verdict)?;
-    Ok(verdict.committed)
+    print_line(text, cut, verdict_of(alloc, &chain)?)
 }
 
 /// Plays the cuts of a script on new chains of so many nodes. It fails for want of memory alone.
@@ -120,12 +152,12 @@ fn stop_lines<C: Core>(
     node: NodeId,
 ) -> Result<String, AllocError>
     requires { (1 ≤ nodes) × (nodes ≤ 8) }
-    ensures { IfOk result (λ text. (committed : List ℕ) × (string_bytes text ≡ cuts_text 0 committed)) }
+    ensures { IfOk result (λ text. string_bytes text ≡ stops_text nodes node lines.now) }
 {
     let mut whole: ChainCore<C> = opened(alloc, nodes)?;
-    let moves = take_moves(alloc, &mut whole, lines, u64::MAX)?;
+    take_lines(alloc, &mut whole, lines)?;
     let mut text = String::new(alloc);
-    for cut in 0..moves.saturating_add(1) {
+    for cut in 0..whole.run().moves.as_slice().len() + 1 {
         print_cut::<C>(alloc, &mut text, nodes, lines, cut, node)?;
     }
     Ok(text)
@@ -145,9 +177,7 @@ pub fn stops<C: Core>(
     node: NodeId,
 ) -> Result<String, Refusal>
     requires { (1 ≤ nodes) × (nodes ≤ 8) }
-    ensures valid { IfOk result (λ text. (committed : List ℕ) × (string_bytes text ≡ cuts_text 0 committed)) }
-    ensures read { OnOk result (IsOk (script_of script.now)) }
-    ensures err { IfErr result (IsRefusedAs (script_of script.now)) }
+    ensures { Plays (λ t. string_bytes t) result (stopped nodes node script.now) }
 {
     let script = Script::read(alloc, script)?;
     Ok(stop_lines::<C>(alloc, nodes, script.lines.as_slice(), node)?)

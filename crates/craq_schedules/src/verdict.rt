@@ -1,5 +1,6 @@
-ghost use Rattle.std.specs.Prelude.{◌≡◌, ◌++◌, codes, true, length, IfOk, OnOk, string_bytes};
+ghost use Rattle.std.specs.Prelude.{◌≡◌, ◌++◌, true, length, IfOk, OnOk, string_bytes};
 ghost use Rattle.craq_runs.specs.Explain.{explain};
+ghost use Rattle.craq_schedules.specs.Verdicts.{verdict_text};
 
 use craq_chain::ChainCore;
 use craq_check::check;
@@ -35,7 +36,7 @@ pub(crate) fn verdict_of<C: Core>(
 /// Prints what `check` says of the explanation. It fails for want of memory alone.
 pub(crate) fn print_verdict(text: &mut String, verdict: Verdict) -> Result<(), AllocError>
     requires { verdict.is_valid ≡ true }
-    ensures { OnOk result (string_bytes text.new ≡ string_bytes text.old ++ codes "valid true\n") }
+    ensures { OnOk result (string_bytes text.new ≡ string_bytes text.old ++ verdict_text) }
 {
     let valid = verdict.is_valid;
     writeln!(text, "valid {valid}")

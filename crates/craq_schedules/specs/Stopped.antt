@@ -1,0 +1,74 @@
+-- What is printed where a node stops after each move of a script.
+use Rattle.std.specs.Prelude.{ℕ, zero, suc, ◌+◌, ◌==◌, nat_le, if◌then◌else◌, List, [], ◌∷◌, ◌++◌, length, codes, Result, Ok, Err}
+use Rattle.std.specs.Fmt.{decimal}
+use Rattle.craq_names.specs.declared.refusal.Refusal.{Refusal}
+use Rattle.craq_runs.specs.declared.run.Move.TheVariants as moves
+use Rattle.craq_runs.specs.Explain.{explain}
+use Rattle.craq_chain.specs.Chained.{Chained, after_taking, chain_of}
+use Rattle.craq_script.specs.declared.line.Line.{Line}
+use Rattle.craq_script.specs.Texts.{script_of}
+use Rattle.craq_play.specs.Moves.{move_of}
+use Rattle.craq_play.specs.Played.{after_line, after_one, opening}
+use Rattle.craq_schedules.specs.Verdicts.{of_lines, verdict_text}
+
+-- how many moves were taken
+abbrev pub taken : Chained → ℕ
+taken w = length w.run.moves
+
+-- the chain after lines
+abbrev pub after_lines : Chained → List Line → Chained
+after_lines w [] = w
+after_lines w (line ∷ lines) = after_lines (after_line w (move_of line)) lines
+
+-- the chain after lines, up to so many taken moves
+abbrev pub up_to : ℕ → Chained → List Line → Chained
+up_to cut w [] = w
+up_to cut w (line ∷ lines) = if taken w == cut then w else up_to cut (after_line w (move_of line)) lines
+
+-- the messages after the first so many arrive, in the order sent, each once: until none is left, or so many arrived
+unfoldable pub delivered : ℕ → ℕ → Chained → Chained
+delivered zero earlier w = w
+delivered (suc most) earlier w =
+    if nat_le (length (chain_of w).messages) earlier then w
+    else delivered most (earlier + 1) (after_one w (moves.Deliver (earlier + 1)))
+
+-- the most messages that arrive after a removal
+unfoldable pub most_deliveries : ℕ
+most_deliveries = 10000
+
+-- the messages that are sent from a removal on arrive; none where it was refused
+abbrev pub after_removal : Chained → Result Chained Refusal → Chained
+after_removal w (Err refusal) = w
+after_removal w (Ok next) = delivered most_deliveries (length (chain_of w).messages) next
+
+abbrev pub removed : Chained → ℕ → Chained
+removed w node = after_removal w (after_taking w (moves.Remove node))
+
+-- the chain after a node stopped and was removed
+abbrev pub without_node : Chained → ℕ → Chained
+without_node w node = removed (after_one w (moves.Stop node)) node
+
+-- how many updates are committed
+abbrev pub committed : Chained → ℕ
+committed w = length (explain w.chain w.run).asks
+
+-- the line of a cut
+abbrev pub cut_line : ℕ → ℕ → List ℕ
+cut_line cut count = codes "cut " ++ decimal cut ++ codes " committed " ++ decimal count ++ codes " " ++ verdict_text
+
+-- what is printed where the node stops after so many moves of the lines, on a new chain of so many nodes
+abbrev pub cut_text : ℕ → ℕ → List Line → ℕ → List ℕ
+cut_text nodes node lines cut = cut_line cut (committed (without_node (up_to cut (opening nodes) lines) node))
+
+-- the same of the first so many cuts, from that before any move on
+abbrev pub cuts_text : ℕ → ℕ → List Line → ℕ → List ℕ
+cuts_text nodes node lines zero = []
+cuts_text nodes node lines (suc cut) = cuts_text nodes node lines cut ++ cut_text nodes node lines cut
+
+-- what is printed of each cut, from that before any move to that after all that are taken
+abbrev pub stops_text : ℕ → ℕ → List Line → List ℕ
+stops_text nodes node lines = cuts_text nodes node lines (taken (after_lines (opening nodes) lines) + 1)
+
+-- the same of a script, or which line is outside the grammar
+abbrev pub stopped : ℕ → ℕ → List ℕ → Result (List ℕ) Refusal
+stopped nodes node script = of_lines (stops_text nodes node) (script_of script)

@@ -12,6 +12,3 @@ mod strong;
 mod verdict;
 
 pub use verdict::check;
-
-#[cfg(test)]
-mod tests;

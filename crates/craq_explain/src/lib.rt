@@ -11,6 +11,3 @@ mod replay;
 mod tables;
 
 pub use replay::explain_run;
-
-#[cfg(test)]
-mod tests;

@@ -6,6 +6,3 @@ mod lookups;
 mod states;
 
 pub use history::PlainHistory;
-
-#[cfg(test)]
-mod tests;

@@ -1,8 +1,8 @@
 //! A past with three writes, with ample memory.
-use crate::PlainHistory;
 use craq_commands::{Entry, Reply, Write};
 use craq_history::History;
 use craq_names::{ClientId, Items, Key, NodeId, Refusal, RequestNo, Seq, Ticket, Value, Version};
+use craq_plain::PlainHistory;
 use std::alloc::Global;
 use std::test::Fail;
 

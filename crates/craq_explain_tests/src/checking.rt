@@ -1,5 +1,5 @@
 //! Runs and explanations written down by hand, with ample memory.
-use crate::check;
+use craq_check::check;
 use craq_commands::{Command, Entry, ReadMode, Reply, Update, Write};
 use craq_model::{Answer, Ask, Body, LinkMessage, Out, Step};
 use craq_names::{

@@ -1,5 +1,5 @@
 use Rattle.std.proofs.Common.{◌≡◌}
-use Rattle.craq_check.proofs.tests.explained.Given as goal
+use Rattle.craq_explain_tests.proofs.checking.explained.Given as goal
 
 -- a ticket for each place so far
 abbrev pub invariant-loop-position : goal.invariant-loop-position

@@ -1,7 +1,7 @@
 //! Chains that take moves, with ample memory: what explains their runs.
-use crate::explain_run;
 use craq_chain::ChainCore;
 use craq_commands::{Command, ReadMode, Update};
+use craq_explain::explain_run;
 use craq_model::Ask;
 use craq_names::{
     ChainId, ClientId, Key, NodeId, ObjectId, Refusal, RequestNo, Seq, Ticket, Value,

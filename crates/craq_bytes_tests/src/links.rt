@@ -1,9 +1,8 @@
-use bytes::Bytes;
-use craq_model::{Body, LinkMessage};
+use crate::say;
 use craq_names::Refusal;
 use craq_wire::{decode, encode, spelled};
 use std::alloc::{AllocError, Global};
-use std::test::*;
+use std::io;
 
 /// An acknowledgement of position 1, from node 3 to node 2, with stamp 5, in epoch 1.
 const ACK: [u8; 40] = [
@@ -26,92 +25,6 @@ const COPY: [u8; 99] = [
     0, 0, 0, 0, 0, 1,
 ];
 
-/// The bytes of what the bytes spell.
-fn again(alloc: Global, bytes: &[u8]) -> Result<Bytes, Refusal> {
-    let message = decode(alloc, bytes)?;
-    if spelled(&message) {
-        Ok(encode(alloc, &message)?)
-    } else {
-        Err(Refusal::Io)
-    }
-}
-
-#[test]
-fn a_header_is_read(rt: HostRuntime) -> Result<(), Fail> {
-    let message = decode(rt.alloc(), &ACK)?;
-    assert_eq!(rt; message.chain.get(), 0);
-    assert_eq!(rt; message.sender.get(), 3);
-    assert_eq!(rt; message.receiver.get(), 2);
-    assert_eq!(rt; message.stamp.get(), 5);
-    assert_eq!(rt; message.index, 0);
-    assert_eq!(rt; message.epoch.get(), 1);
-    Ok(())
-}
-
-/// The position that a message acknowledges.
-fn acknowledged(message: &LinkMessage) -> Option<u64> {
-    match &message.body {
-        Body::Ack(position) => Some(position.get()),
-        _ => None,
-    }
-}
-
-#[test]
-fn an_acknowledgement_is_read(rt: HostRuntime) -> Result<(), Fail> {
-    let message = decode(rt.alloc(), &ACK)?;
-    assert_eq!(rt; acknowledged(&message), Some(1));
-    Ok(())
-}
-
-/// The position, the client and the number of the entry that a message carries.
-fn carried(message: &LinkMessage) -> Option<(u64, u64, u64)> {
-    match &message.body {
-        Body::Entry(entry) => Some((entry.position.get(), entry.client.get(), entry.number.get())),
-        _ => None,
-    }
-}
-
-#[test]
-fn an_entry_is_read(rt: HostRuntime) -> Result<(), Fail> {
-    let message = decode(rt.alloc(), &ENTRY)?;
-    assert_eq!(rt; carried(&message), Some((1, 1, 1)));
-    Ok(())
-}
-
-#[test]
-fn messages_are_written_as_they_were_read(rt: HostRuntime) -> Result<(), Fail> {
-    for bytes in [ACK.as_slice(), ENTRY.as_slice(), COPY.as_slice()] {
-        assert_eq!(rt; again(rt.alloc(), bytes)?.as_slice(), bytes);
-    }
-    Ok(())
-}
-
-/// What is answered to bytes that are no message.
-fn refusal_of(alloc: Global, bytes: &[u8]) -> Option<Refusal> {
-    decode(alloc, bytes).err()
-}
-
-#[test]
-fn a_byte_after_a_message_is_refused(rt: HostRuntime) -> Result<(), Fail> {
-    let mut bytes = ACK.to_vec(rt.alloc())?;
-    bytes.push(0)?;
-    assert_eq!(rt;
-        refusal_of(rt.alloc(), bytes.as_slice()),
-        Some(Refusal::BadFrame)
-    );
-    Ok(())
-}
-
-#[test]
-fn cut_messages_are_refused(rt: HostRuntime) {
-    for len in 0..ENTRY.len() {
-        assert_eq!(rt;
-            refusal_of(rt.alloc(), &ENTRY[..len]),
-            Some(Refusal::BadFrame)
-        );
-    }
-}
-
 /// The start of a copy that counts 2^32 - 1 objects, and ends there.
 const MANY_OBJECTS: [u8; 44] = [
     1, 7, 0, 0, 0, 0, 0, 1, 0, 0, 0, 2, 0, 0, 0, 0, 0, 0, 0, 5, 0, 0, 0, 0, 0, 0, 0, 0, 0, 0, 0, 1,
@@ -124,18 +37,42 @@ const MANY_REPLIES: [u8; 48] = [
     0, 0, 0, 0, 0, 0, 0, 2, 0, 0, 0, 0, 255, 255, 255, 255,
 ];
 
-/// The test takes no memory of its own, so that it also passes where the first allocation fails:
-/// then a decoder that asked for room for what it counts would answer `Memory`.
-#[test]
-fn a_count_beyond_the_bytes_is_refused_without_memory(rt: HostRuntime) {
-    assert_eq!(rt;
-        refusal_of(rt.alloc(), &MANY_OBJECTS),
-        Some(Refusal::BadFrame)
-    );
-    assert_eq!(rt;
-        refusal_of(rt.alloc(), &MANY_REPLIES),
-        Some(Refusal::BadFrame)
-    );
+/// Whether what the bytes spell is written as these bytes.
+fn is_written_again(alloc: Global, bytes: &[u8]) -> Result<bool, Refusal> {
+    let message = decode(alloc, bytes)?;
+    if !spelled(&message) {
+        return Err(Refusal::Io);
+    }
+    Ok(encode(alloc, &message)?.as_slice() == bytes)
+}
+
+/// What is answered to bytes that are no message.
+fn refusal_of(alloc: Global, bytes: &[u8]) -> Option<Refusal> {
+    decode(alloc, bytes).err()
+}
+
+/// Counts beyond the bytes. They are refused with no memory: a decoder that asked for room for what it
+/// counts would answer `Memory` where the first allocation fails.
+pub(crate) fn print_counts<R: AllocGlobal + Print>(rt: &R) -> io::Result<()> {
+    say(rt, "many objects", refusal_of(rt.alloc(), &MANY_OBJECTS))?;
+    say(rt, "many replies", refusal_of(rt.alloc(), &MANY_REPLIES))
+}
+
+/// Whether each message that is cut short is refused as no message.
+fn are_cuts_refused(alloc: Global) -> bool {
+    for len in 0..ENTRY.len() {
+        if refusal_of(alloc, &ENTRY[..len]) != Some(Refusal::BadFrame) {
+            return false;
+        }
+    }
+    true
+}
+
+/// What is answered to the bytes and one more.
+fn refusal_of_longer(alloc: Global, bytes: &[u8]) -> Result<Option<Refusal>, AllocError> {
+    let mut longer = bytes.to_vec(alloc)?;
+    longer.push(0)?;
+    Ok(refusal_of(alloc, longer.as_slice()))
 }
 
 /// What is answered to the bytes with one of them changed.
@@ -152,32 +89,36 @@ fn refusal_of_changed(
     Ok(refusal_of(alloc, changed.as_slice()))
 }
 
-#[test]
-fn other_headers_are_refused(rt: HostRuntime) -> Result<(), Fail> {
-    // the version 2, the kind 9, the sender 0, the receiver 0, the stamp 0, the epoch 0
-    for (place, byte) in [(0, 2), (1, 9), (7, 0), (11, 0), (19, 0), (31, 0)] {
-        let refusal = refusal_of_changed(rt.alloc(), &ACK, place, byte)?;
-        assert_eq!(rt; refusal, Some(Refusal::BadFrame), "byte {place}");
+fn print_changed<R>(rt: &R, name: &str, bytes: &[u8], changes: &[(usize, u8)]) -> io::Result<()>
+where
+    R: AllocGlobal + Print,
+{
+    for (place, byte) in changes {
+        let refusal = refusal_of_changed(rt.alloc(), bytes, *place, *byte);
+        println!(rt; "{name} with {byte} at {place}: {refusal:?}")?;
     }
     Ok(())
 }
 
-#[test]
-fn other_entries_are_refused(rt: HostRuntime) -> Result<(), Fail> {
-    // the position 0, the origin 0, the ticket 0, the number 0, a stale reply, the version 0
-    for (place, byte) in [(39, 0), (43, 0), (51, 0), (67, 0), (68, 9), (87, 0)] {
-        let refusal = refusal_of_changed(rt.alloc(), &ENTRY, place, byte)?;
-        assert_eq!(rt; refusal, Some(Refusal::BadFrame), "byte {place}");
-    }
-    Ok(())
-}
+/// The version 2, the kind 9, the sender 0, the receiver 0, the stamp 0, the epoch 0.
+static HEADER_CHANGES: [(usize, u8); 6] = [(0, 2), (1, 9), (7, 0), (11, 0), (19, 0), (31, 0)];
 
-#[test]
-fn keys_that_do_not_rise_in_a_copy_are_refused(rt: HostRuntime) -> Result<(), Fail> {
-    // the second key is the first one, and then a lower one
-    for byte in [97, 96] {
-        let refusal = refusal_of_changed(rt.alloc(), &COPY, 58, byte)?;
-        assert_eq!(rt; refusal, Some(Refusal::BadFrame));
+/// The position 0, the origin 0, the ticket 0, the number 0, a stale reply, the version 0.
+static ENTRY_CHANGES: [(usize, u8); 6] = [(39, 0), (43, 0), (51, 0), (67, 0), (68, 9), (87, 0)];
+
+/// The second key is the first one, and then a lower one.
+static COPY_CHANGES: [(usize, u8); 2] = [(58, 97), (58, 96)];
+
+/// Messages of links: what is read, what is written again, and what is no message.
+pub(crate) fn run<R: AllocGlobal + Print>(rt: &R) -> io::Result<()> {
+    say(rt, "acknowledgement", decode(rt.alloc(), &ACK))?;
+    say(rt, "entry", decode(rt.alloc(), &ENTRY))?;
+    for bytes in [ACK.as_slice(), ENTRY.as_slice(), COPY.as_slice()] {
+        say(rt, "written again", is_written_again(rt.alloc(), bytes))?;
     }
-    Ok(())
+    say(rt, "a byte more", refusal_of_longer(rt.alloc(), &ACK))?;
+    say(rt, "cuts are refused", are_cuts_refused(rt.alloc()))?;
+    print_changed(rt, "acknowledgement", &ACK, &HEADER_CHANGES)?;
+    print_changed(rt, "entry", &ENTRY, &ENTRY_CHANGES)?;
+    print_changed(rt, "copy", &COPY, &COPY_CHANGES)
 }

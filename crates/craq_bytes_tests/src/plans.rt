@@ -1,14 +1,10 @@
+use crate::say;
 use craq_commands::Mini;
 use craq_names::{ChainId, Items, Key, ObjectId, Refusal};
 use craq_place::Plan;
-use std::alloc::Global;
+use std::alloc::{AllocError, Global};
 use std::fmt::Write;
-use std::test::*;
-
-/// What is answered to a text that stands for no plan.
-fn refusal_of(outcome: Result<Plan, Refusal>) -> Option<Refusal> {
-    outcome.err()
-}
+use std::io;
 
 /// A plan of two chains.
 const TWO_CHAINS: &str =
@@ -22,88 +18,87 @@ fn object_of(alloc: Global, chain: u16, key: &[u8]) -> Result<ObjectId, Refusal>
     })
 }
 
-#[test]
-fn a_plan_is_read(rt: HostRuntime) -> Result<(), Fail> {
-    let plan = Plan::read(rt.alloc(), TWO_CHAINS)?;
-    let object = object_of(rt.alloc(), 1, b"k")?;
-    let (name, nodes) = plan.chain_of(&object)?;
-    assert_eq!(rt; name, "b-2");
-    assert_eq!(rt; nodes.len(), 1);
-    assert_eq!(rt; nodes[0].get(), 4);
-    Ok(())
+/// Prints the chain of an object.
+fn print_place<R: Print>(rt: &R, plan: &Plan, object: &ObjectId) -> io::Result<()> {
+    let place = plan.chain_of(object);
+    println!(rt; "place: {place:?}")
 }
 
-#[test]
-fn an_object_of_no_chain_is_refused(rt: HostRuntime) -> Result<(), Fail> {
-    let plan = Plan::read(rt.alloc(), TWO_CHAINS)?;
-    let object = object_of(rt.alloc(), 2, b"k")?;
-    assert_eq!(rt; plan.chain_of(&object).err(), Some(Refusal::UnknownChain));
-    Ok(())
+/// The plan of two chains, and an object of this chain.
+fn plan_and_object(alloc: Global, chain: u16) -> Result<(Plan, ObjectId), Refusal> {
+    let plan = Plan::read(alloc, TWO_CHAINS)?;
+    Ok((plan, object_of(alloc, chain, b"k")?))
+}
+
+fn print_place_in<R: AllocGlobal + Print>(rt: &R, chain: u16) -> io::Result<()> {
+    match plan_and_object(rt.alloc(), chain) {
+        Ok((plan, object)) => print_place(rt, &plan, &object),
+        Err(refusal) => say(rt, "plan", refusal),
+    }
+}
+
+/// A transaction that reads an object of each of these chains.
+fn mini_of(alloc: Global, first: u16, second: u16) -> Result<Mini, Refusal> {
+    let mut reads = Items::new(alloc);
+    reads.push(object_of(alloc, first, b"a")?)?;
+    reads.push(object_of(alloc, second, b"b")?)?;
+    Mini::new(Items::new(alloc), reads, Items::new(alloc))
 }
 
 /// The chain that a plan of two chains finds for reads of an object of each of these chains.
 fn chain_of_reads(alloc: Global, first: u16, second: u16) -> Result<ChainId, Refusal> {
-    let plan = Plan::read(alloc, TWO_CHAINS)?;
-    let mut reads = Items::new(alloc);
-    reads.push(object_of(alloc, first, b"a")?)?;
-    reads.push(object_of(alloc, second, b"b")?)?;
-    let mini = Mini::new(Items::new(alloc), reads, Items::new(alloc))?;
-    plan.one_chain(&mini)
+    let mini = mini_of(alloc, first, second)?;
+    Plan::read(alloc, TWO_CHAINS)?.one_chain(&mini)
 }
 
-#[test]
-fn a_transaction_is_of_one_chain(rt: HostRuntime) {
-    let one = ChainId::new(1);
-    assert_eq!(rt; chain_of_reads(rt.alloc(), 1, 1), Ok(one));
-    assert_eq!(rt; chain_of_reads(rt.alloc(), 1, 0), Err(Refusal::TwoChains));
-    assert_eq!(rt;
-        chain_of_reads(rt.alloc(), 2, 0),
-        Err(Refusal::UnknownChain)
-    );
+/// What is answered to a text that stands for no plan.
+fn refusal_of(alloc: Global, text: &str) -> Option<Refusal> {
+    Plan::read(alloc, text).err()
 }
 
-#[test]
-fn texts_that_are_no_plan_are_refused(rt: HostRuntime) {
-    let texts = [
-        "",
-        "chain = 1",
-        "chain = []",
-        "[[chain]]\nname = \"a\"\nnodes = [-1]\n",
-        "[[chain]",
-        "[[chain]]\nname = \"a\"\nnodes = [1]\n[[chain]]\nname = \"a\"\nnodes = [2]\n",
-        "[[chain]]\nname = \"a\"\nnodes = [1]\nextra = 1\n",
-        "[[chain]]\nname = \"a\"\nnodes = [1]\n[other]\n",
-        "[[chain]]\nname = \"a\"\nnodes = [0]\n",
-        "[[chain]]\nname = \"a\"\nnodes = [1, 2, 3, 4, 5, 6, 7, 8, 9]\n",
-        "[[chain]]\nname = \"a\"\nnodes = [1, 1]\n",
-        "[[chain]]\nname = \"a\"\nnodes = []\n",
-        "[[chain]]\nname = \"a\"\nnodes = [4294967296]\n",
-        "[[chain]]\nname = \"a\"\nnodes = [\"1\"]\n",
-        "[[chain]]\nname = \"\"\nnodes = [1]\n",
-        "[[chain]]\nname = \"a b\"\nnodes = [1]\n",
-        "[[chain]]\nname = 1\nnodes = [1]\n",
-        "[[chain]]\nname = \"a\"\n",
-    ];
-    for text in texts {
-        assert_eq!(rt;
-            refusal_of(Plan::read(rt.alloc(), text)),
-            Some(Refusal::BadConfig),
-            "{text}"
-        );
-    }
-}
+static TEXTS: [&str; 18] = [
+    "",
+    "chain = 1",
+    "chain = []",
+    "[[chain]]\nname = \"a\"\nnodes = [-1]\n",
+    "[[chain]",
+    "[[chain]]\nname = \"a\"\nnodes = [1]\n[[chain]]\nname = \"a\"\nnodes = [2]\n",
+    "[[chain]]\nname = \"a\"\nnodes = [1]\nextra = 1\n",
+    "[[chain]]\nname = \"a\"\nnodes = [1]\n[other]\n",
+    "[[chain]]\nname = \"a\"\nnodes = [0]\n",
+    "[[chain]]\nname = \"a\"\nnodes = [1, 2, 3, 4, 5, 6, 7, 8, 9]\n",
+    "[[chain]]\nname = \"a\"\nnodes = [1, 1]\n",
+    "[[chain]]\nname = \"a\"\nnodes = []\n",
+    "[[chain]]\nname = \"a\"\nnodes = [4294967296]\n",
+    "[[chain]]\nname = \"a\"\nnodes = [\"1\"]\n",
+    "[[chain]]\nname = \"\"\nnodes = [1]\n",
+    "[[chain]]\nname = \"a b\"\nnodes = [1]\n",
+    "[[chain]]\nname = 1\nnodes = [1]\n",
+    "[[chain]]\nname = \"a\"\n",
+];
 
-#[test]
-fn a_plan_has_at_most_64_chains(rt: HostRuntime) -> Result<(), Fail> {
-    let mut text = String::new(rt.alloc());
-    for chain in 0..64u32 {
+/// A plan of so many chains.
+fn chains(alloc: Global, count: u32) -> Result<String, AllocError> {
+    let mut text = String::new(alloc);
+    for chain in 0..count {
         write!(text, "[[chain]]\nname = \"c{chain}\"\nnodes = [1]\n")?;
     }
-    assert!(rt; Plan::read(rt.alloc(), text.as_str()).is_ok());
-    write!(text, "[[chain]]\nname = \"one-more\"\nnodes = [1]\n")?;
-    assert_eq!(rt;
-        refusal_of(Plan::read(rt.alloc(), text.as_str())),
-        Some(Refusal::BadConfig)
-    );
+    Ok(text)
+}
+
+/// Plans: where objects stand, the chain of a transaction, and texts that are no plan.
+pub(crate) fn run<R: AllocGlobal + Print>(rt: &R) -> io::Result<()> {
+    print_place_in(rt, 1)?;
+    print_place_in(rt, 2)?;
+    for (first, second) in [(1, 1), (1, 0), (2, 0)] {
+        say(rt, "reads", chain_of_reads(rt.alloc(), first, second))?;
+    }
+    for text in &TEXTS {
+        say(rt, "no plan", refusal_of(rt.alloc(), *text))?;
+    }
+    for count in [64, 65] {
+        let text = chains(rt.alloc(), count)?;
+        say(rt, "many chains", refusal_of(rt.alloc(), text.as_str()))?;
+    }
     Ok(())
 }

@@ -17,8 +17,8 @@ use Rattle.craq_runs.specs.Chain.{Chain, opening_chain, sent_in, move_progress, 
 use Rattle.craq_runs.specs.Runs.{Takes, after_move, after_moves, progressed}
 use Rattle.craq_runs.specs.Typed.{AreOfType, IsMoveOfType}
 use Rattle.craq_laws.proofs.Nodes.{goes_on}
-use Rattle.craq_sound.proofs.Lists.{all_append}
-use Rattle.craq_sound.specs.Sound.{AreSpelled}
+use Rattle.craq_node_invariant.proofs.Lists.{all_append}
+use Rattle.craq_node_invariant.specs.Sound.{AreSpelled}
 use Rattle.craq_chain.specs.Chained.{Chained, chain_of, with_move, after_taking}
 use Rattle.craq_chain.specs.Parts.{AreParts, Moves}
 use Rattle.craq_chain.specs.Sent.{counts_from, sent_by}

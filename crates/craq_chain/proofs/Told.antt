@@ -11,7 +11,7 @@ use Rattle.craq_model.specs.declared.step.Step.{Step}
 use Rattle.craq_model.specs.Members.{without}
 use Rattle.craq_epochs.proofs.Memberships.{mastered_after_removal}
 use Rattle.craq_epochs.specs.Mastered.{Mastered, IsMastered}
-use Rattle.craq_sound.specs.Sound.{AreSpelled}
+use Rattle.craq_node_invariant.specs.Sound.{AreSpelled}
 use Rattle.craq_chain.specs.Parts.{told, told_step, removal_step, join_step}
 
 told_all : (chain epoch : ℕ) (members ids : List ℕ) → 1 ≤ epoch → IsMembership members → AllByRecursion (λ id. (1 ≤ id) × (id ≤ greatest_count)) ids → AreSpelled (map (told chain epoch members) ids)

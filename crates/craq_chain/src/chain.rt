@@ -7,7 +7,7 @@ ghost use Rattle.craq_model.specs.Plain.{Plain};
 ghost use Rattle.craq_model.specs.Spelled.{IsSpelled};
 ghost use Rattle.craq_runs.specs.Chain.{Chain, message_at, move_progress, node_at, sent_in};
 ghost use Rattle.craq_runs.specs.Typed.{IsMoveOfType, IsTypedRunOf};
-ghost use Rattle.craq_sound.specs.Sound.{AreSpelled};
+ghost use Rattle.craq_node_invariant.specs.Sound.{AreSpelled};
 ghost use Rattle.craq_chain.specs.Chained.{GivesMove, after_taking, chain_of, mover, opened, openings};
 ghost use Rattle.craq_chain.specs.Parts.{AreParts, Moves};
 ghost use Rattle.craq_chain.specs.Sent.{counts_from, sent_by};

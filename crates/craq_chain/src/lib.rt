@@ -1,4 +1,5 @@
-//! A chain that runs: its master, its nodes, and the run so far.
+//! A chain that takes moves: its master, its nodes, its messages and its run so far.
+//! Code that runs in the program.
 #![tactic(auto)]
 
 mod chain;

@@ -4,7 +4,7 @@ ghost use Rattle.craq_model.specs.Members.{without, IsMembership};
 ghost use Rattle.craq_model.specs.Plain.{Plain, opening_joined};
 ghost use Rattle.craq_epochs.specs.Mastered.{Mastered, IsMastered};
 ghost use Rattle.craq_runs.specs.Chain.{Chain, config_progress, tick_progress, removal_progress, join_progress, next_epoch, with_node};
-ghost use Rattle.craq_sound.specs.Sound.{AreSpelled};
+ghost use Rattle.craq_node_invariant.specs.Sound.{AreSpelled};
 ghost use Rattle.craq_chain.specs.Parts.{AreParts, HasStopped, Moves, Plans, join_step, removal_step, told, told_step};
 
 use crate::nodes::place_of;

@@ -3,7 +3,7 @@ ghost use Rattle.std.specs.List.{AllByRecursion};
 ghost use Rattle.craq_model.specs.Spelled.{IsSpelled};
 ghost use Rattle.craq_epochs.specs.Mastered.{Mastered};
 ghost use Rattle.craq_runs.specs.Chain.{Chain, arrival_progress, message_at, move_progress, tick_progress};
-ghost use Rattle.craq_sound.specs.Sound.{AreSpelled};
+ghost use Rattle.craq_node_invariant.specs.Sound.{AreSpelled};
 ghost use Rattle.craq_chain.specs.Parts.{AreParts, Moves};
 ghost use Rattle.craq_chain.specs.Sent.{counts_from, sent_by};
 

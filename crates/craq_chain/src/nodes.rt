@@ -5,7 +5,7 @@ ghost use Rattle.craq_model.specs.Spelled.{IsSpelled};
 ghost use Rattle.craq_runs.specs.Chain.{Chain, node_at, node_progress};
 ghost use Rattle.craq_epochs.specs.Mastered.{Mastered};
 ghost use Rattle.craq_node.specs.Represented.{CanArrive};
-ghost use Rattle.craq_sound.specs.Sound.{AreSpelled};
+ghost use Rattle.craq_node_invariant.specs.Sound.{AreSpelled};
 ghost use Rattle.craq_chain.specs.Parts.{AreParts, Moves, place_from};
 
 use craq_model::{Ask, Event, LinkMessage, Step};

@@ -1,4 +1,4 @@
--- Asks in time are looked at once: those that are looked at stay in time.
+-- One pass tests every prefix: what passed for a prefix need not be tested again for a longer one.
 use Rattle.std.proofs.Common.{◌≡◌, ℕ, zero, suc, ◌+◌, ◌<◌, ◌≤◌, add-one, length, get_or, drop-cons, ap, Bool, true, false, take, drop, List, [], ◌∷◌, refl, sym, subst, ◌∙◌, arith}
 use Rattle.std.specs.Prelude.{nat_le, max}
 use Rattle.std.specs.List.{list_all}

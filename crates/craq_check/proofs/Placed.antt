@@ -1,4 +1,5 @@
--- Answers in the order of their places are looked at once, in any order to the same end.
+-- Whether every answer is right at its place does not depend on the order of the answers: sorted by place, one pass
+-- along the updates tests them all.
 use Rattle.std.proofs.Common.{◌≡◌, ℕ, suc, ◌+◌, ◌<◌, ◌≤◌, Bool, true, false, cond, length, get_or, drop, drop-cons, add-one, List, [], ◌∷◌, Option, Some, None, unwrap_or, refl, sym, ap, subst, ◌∙◌, arith}
 use Rattle.std.specs.Prelude.{◌==◌, ◌&&◌, not, if◌then◌else◌, is_some}
 use Rattle.std.specs.Option.{option_map}
@@ -46,7 +47,7 @@ none_here ask_at state count low (x ∷ xs) less h =
     both_and (is_said_here ask_at state count x) (list_all (is_said_here ask_at state count) xs) (elsewhere ask_at state count x apart)
     (none_here ask_at state count x.1 xs (omega (arith, less, first)) h.1)
 
--- one whose place is passed is looked at no more
+-- an answer whose place is passed is not tested again
 past : (ask_at : AskOf) (x : Placed) (xs : List Placed) (state : State) (k : ℕ) (us : List Update) → x.1 < k → are_said ask_at (x ∷ xs) state k us ≡ are_said ask_at xs state k us
 unfolding are_said
 past ask_at x xs state k [] low =

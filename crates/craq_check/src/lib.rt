@@ -1,4 +1,5 @@
-//! Tells whether an explanation of a run holds, from the run and the explanation alone.
+//! Whether an explanation of a run holds, from the run and the explanation alone.
+//! Code that runs in the program.
 #![tactic(auto)]
 
 mod form;

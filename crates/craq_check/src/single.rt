@@ -215,7 +215,7 @@ impl Single {
         Ok(())
     }
 
-    /// Whether this is what is said to a client about a number.
+    /// Whether this is the reply to a client's number.
     #[tactic(auto, unfolding(craq_commands::specs::Kept::said_of, crate::specs::Tests::is_reply))]
     fn says(&self, client: ClientId, number: RequestNo, reply: &Reply) -> bool
         ensures { result ≡ is_reply (said self.now client number) reply.now }

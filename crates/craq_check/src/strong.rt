@@ -128,8 +128,8 @@ fn said_from(
     Some(claims.len())
 }
 
-/// Whether each answer is the single copy's at its place. The copy takes the updates once, and the answers
-/// are looked at once, in the order of their places.
+/// Whether each answer is the single copy's at its place. The copy takes each update once, and each answer is
+/// tested once, in the order of places.
 fn are_said_in_order(
     alloc: Global,
     asks: &AskIndex,

@@ -1,4 +1,5 @@
-//! Commands and their replies, and what one copy of the objects makes of them.
+//! Commands, their replies, and what a command does to the objects.
+//! Code that runs in the program; `specs/` defines the single copy.
 #![tactic(auto)]
 
 mod command;

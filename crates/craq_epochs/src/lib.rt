@@ -1,5 +1,5 @@
-//! The memberships of a chain: the master, which alone makes the next one, and the switch of a node,
-//! which alone shows that the node has stopped.
+//! The master, which alone makes the next membership of a chain, and the switch that stops a node.
+//! Code that runs in the program.
 #![tactic(auto)]
 
 mod master;
@@ -10,6 +10,3 @@ pub use craq_model::Config;
 pub use master::Master;
 pub use membership::{MEMBER_LIMIT, all_but, is_among, is_membership};
 pub use switch::{StopReceipt, Switch};
-
-#[cfg(test)]
-mod tests;

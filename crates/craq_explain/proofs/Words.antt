@@ -1,4 +1,4 @@
--- The word of the tail leaves what is clean at a node.
+-- A version that the tail tells leaves the clean state of the node that asked as it is.
 use Rattle.std.proofs.Common.{◌≡◌, ◌+◌, ◌-◌, ℕ, Bool, true, false, List, [], ◌∷◌, ◌++◌, map, Option, Some, None, Result, Ok, Err, refl, sym, ap, subst, arith, ◌∙◌}
 use Rattle.std.specs.Prelude.{◌==◌, not, nat_lt, if◌then◌else◌, slice_index}
 use Rattle.craq_names.specs.declared.refusal.Refusal.{Refusal}

@@ -49,7 +49,7 @@ impl Notes {
         self.sent_at.as_slice()
     }
 
-    /// Notes of one more move, the last of these, after which its node stands so.
+    /// Notes of one more move, the last of these; `stands` is its node after the move.
     pub(crate) fn add(
         &mut self,
         alloc: Global,

@@ -108,7 +108,7 @@ impl Committed {
         Ok(())
     }
 
-    /// Once a node stands so: a tail commits all that it has.
+    /// What is committed after a step of this node: a tail commits all that it has.
     #[tactic(auto, unfolding(craq_model::specs::Plain::entries_after))]
     pub(crate) fn commit(
         &mut self,

@@ -1,4 +1,5 @@
-//! The explanation of any run of a chain, found by taking its moves once more.
+//! The explanation of any run of a chain, found by taking the run's moves once more.
+//! Code that runs in the program.
 #![tactic(auto)]
 
 mod account;

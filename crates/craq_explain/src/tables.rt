@@ -49,7 +49,7 @@ impl Tables {
         }
     }
 
-    /// One more move, of this number, after which its node stands so.
+    /// One more move, of this number; `stands` is its node after the move.
     pub(crate) fn add(
         &mut self,
         alloc: Global,

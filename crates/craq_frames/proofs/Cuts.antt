@@ -7,9 +7,9 @@ use Rattle.std.proofs.lemmas.List.{take_at, drop_at}
 use Rattle.tokio_util.specs.Codec.LengthField.{field_value, add_adjustment}
 use Rattle.tokio_util.specs.Codec.LengthDelimited.{frame as cut_off, too_big, overflows, cut_payload, cut_adjusted, cut_frame}
 use Rattle.tokio_util.specs.Codec.LengthDelimitedLaws.{cut_payload_whole, cut_payload_short, cut_frame_short, cut_frame_big, cut_frame_head}
-use Rattle.craq_numbers.specs.Spelling.{number}
-use Rattle.craq_numbers.specs.Reading.{number_at}
-use Rattle.craq_numbers.proofs.Exact.{IsBytes, wide32, u32_exact}
+use Rattle.craq_codec.specs.NumberSpelling.{number}
+use Rattle.craq_codec.specs.NumberReading.{number_at}
+use Rattle.craq_codec.proofs.NumberExact.{IsBytes, wide32, u32_exact}
 use Rattle.craq_frames.specs.Frame.{frame, frame_layout, payload_limit, BeginsTooLong}
 use Rattle.craq_frames.proofs.Frames.{digits, each_byte}
 

@@ -9,10 +9,10 @@ use Rattle.craq_commands.specs.declared.command.Update.{Update}
 use Rattle.craq_commands.specs.declared.read_mode.ReadMode.{ReadMode}
 use Rattle.craq_commands.specs.declared.read_mode.ReadMode.TheVariants.{Strong, Eventual, Bounded}
 use Rattle.craq_model.specs.Spelled.{IsReply}
-use Rattle.craq_numbers.specs.Spelling.{number}
-use Rattle.craq_bytes.specs.Spelling.{value, object, IsValue, IsObject}
-use Rattle.craq_bytes.specs.EntrySpelling.{reply, ReplyFits}
-use Rattle.craq_command_bytes.specs.Spelling.{command, CommandFits}
+use Rattle.craq_codec.specs.NumberSpelling.{number}
+use Rattle.craq_codec.specs.PartSpelling.{value, object, IsValue, IsObject}
+use Rattle.craq_codec.specs.EntrySpelling.{reply, ReplyFits}
+use Rattle.craq_codec.specs.CommandSpelling.{command, CommandFits}
 use Rattle.craq_frames.specs.declared.ask.ClientMessage.{ClientMessage}
 use Rattle.craq_frames.specs.declared.ask.ClientMessage.TheVariants as asks
 use Rattle.craq_frames.specs.declared.answer.ClientReply.{ClientReply}

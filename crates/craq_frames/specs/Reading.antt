@@ -11,10 +11,10 @@ use Rattle.craq_commands.specs.declared.command.Update.{Update}
 use Rattle.craq_commands.specs.declared.read_mode.ReadMode.{ReadMode}
 use Rattle.craq_commands.specs.declared.read_mode.ReadMode.TheVariants.{Strong, Eventual, Bounded}
 use Rattle.craq_commands.specs.declared.reply.Reply.{Reply}
-use Rattle.craq_numbers.specs.Reading.{◌>>=◌, number_at, bytes_at}
-use Rattle.craq_bytes.specs.Reading.{value_at, object_at, request_at, pair_at, mapped}
-use Rattle.craq_bytes.specs.EntryReading.{reply_at}
-use Rattle.craq_command_bytes.specs.Reading.{command_at}
+use Rattle.craq_codec.specs.NumberReading.{◌>>=◌, number_at, bytes_at}
+use Rattle.craq_codec.specs.PartReading.{value_at, object_at, request_at, pair_at, mapped}
+use Rattle.craq_codec.specs.EntryReading.{reply_at}
+use Rattle.craq_codec.specs.CommandReading.{command_at}
 use Rattle.craq_frames.specs.Payload.{payload_version}
 use Rattle.craq_frames.specs.declared.ask.ClientMessage.{ClientMessage}
 use Rattle.craq_frames.specs.declared.ask.ClientMessage.TheVariants as asks

@@ -2,7 +2,7 @@
 use Rattle.std.specs.Prelude.{◌^◌, ◌==◌, nat_le, nat_lt, Bool, true, not, ◌||◌, length}
 use Rattle.craq_names.specs.declared.refusal.Refusal.{Refusal}
 use Rattle.craq_names.specs.declared.refusal.Refusal.TheVariants.{NotHead}
-use Rattle.craq_bytes.specs.Tests.{is_reply}
+use Rattle.craq_codec.specs.Tests.{is_reply}
 use Rattle.craq_frames.specs.declared.answer.ClientReply.{ClientReply}
 use Rattle.craq_frames.specs.declared.answer.ClientReply.TheVariants as answers
 

@@ -1,7 +1,7 @@
 ghost use Rattle.std.specs.Prelude.{◌≡◌, ◌<◌, ◌^◌, ◌++◌, length, OnOk};
 ghost use Rattle.craq_names.specs.Refused.{detail_of};
-ghost use Rattle.craq_numbers.specs.Reading.{Gives};
-ghost use Rattle.craq_bytes.specs.Reading.{mapped};
+ghost use Rattle.craq_codec.specs.NumberReading.{Gives};
+ghost use Rattle.craq_codec.specs.PartReading.{mapped};
 ghost use Rattle.craq_frames.specs.declared.answer.ClientReply.TheVariants as answers;
 ghost use Rattle.craq_frames.specs.Payload.{refusal as spelled_refusal, text as spelled_text, answer_spelling, AnswerFits, RefusalFits, IsAnswer, IsText};
 ghost use Rattle.craq_frames.specs.Reading.{bare_refusal, refusal_named, refusal_at, text_at, answer_body_at};
@@ -9,10 +9,11 @@ ghost use Rattle.craq_frames.specs.Tests.{names_node, is_answer};
 
 use crate::{PAYLOAD_VERSION, Text};
 use bytes::{BufMut, BytesMut};
-use craq_bytes::{Part, is_spelled_reply};
+use craq_codec::{
+    Part, Unread, is_spelled_reply, read_u8, read_u32, read_u64, write_u8, write_u32, write_u64,
+};
 use craq_commands::Reply;
 use craq_names::{NodeId, Pass, Refusal, Stamp, Value, Version};
-use craq_numbers::{Unread, read_u8, read_u32, read_u64, write_u8, write_u32, write_u64};
 use std::alloc::{AllocError, Global};
 use std::str::from_utf8;
 
@@ -93,7 +94,7 @@ fn named_refusal(number: u8, detail: u64) -> Option<Refusal>
 }
 
 /// The refusal at the front, and the bytes after it.
-#[tactic(auto, unfolding(crate::specs::Reading::refusal_at, craq_bytes::specs::Reading::pair_at))]
+#[tactic(auto, unfolding(crate::specs::Reading::refusal_at, craq_codec::specs::PartReading::pair_at))]
 fn read_refused(bytes: &[u8]) -> Result<(ClientReply, &[u8]), Unread>
     ensures { Gives (λ x. (x.0, x.1.now)) result (mapped answers.Refused (refusal_at bytes.now)) }
 {
@@ -106,7 +107,7 @@ fn read_refused(bytes: &[u8]) -> Result<(ClientReply, &[u8]), Unread>
 }
 
 /// The text at the front, and the bytes after it.
-#[tactic(auto, using(crate::proofs::Utf8::test_of_text, crate::proofs::Utf8::test_of_no_text), unfolding(crate::specs::Reading::text_at, craq_numbers::specs::Reading::bytes_at))]
+#[tactic(auto, using(crate::proofs::Utf8::test_of_text, crate::proofs::Utf8::test_of_no_text), unfolding(crate::specs::Reading::text_at, craq_codec::specs::NumberReading::bytes_at))]
 fn read_text(alloc: Global, bytes: &[u8]) -> Result<(Text, &[u8]), Unread>
     ensures { Gives (λ x. (x.0, x.1.now)) result (text_at bytes.now) }
 {
@@ -123,7 +124,7 @@ fn read_text(alloc: Global, bytes: &[u8]) -> Result<(Text, &[u8]), Unread>
 }
 
 /// What goes with the kind of a reply to a client, and the bytes after it.
-#[tactic(auto, unfolding(crate::specs::Reading::answer_body_at, craq_bytes::specs::Reading::pair_at))]
+#[tactic(auto, unfolding(crate::specs::Reading::answer_body_at, craq_codec::specs::PartReading::pair_at))]
 pub(crate) fn read_answer_body(
     alloc: Global,
     kind: u8,

@@ -1,15 +1,16 @@
 ghost use Rattle.std.specs.Prelude.{◌≡◌, ◌++◌, OnOk};
-ghost use Rattle.craq_numbers.specs.Reading.{Gives};
+ghost use Rattle.craq_codec.specs.NumberReading.{Gives};
 ghost use Rattle.craq_frames.specs.Payload.{mode as spelled_mode, update as spelled_update, ask_spelling, AskFits, ModeFits, UpdateFits};
 ghost use Rattle.craq_frames.specs.Reading.{mode_at, mode_body_at, update_at, ask_body_at};
 
 use crate::PAYLOAD_VERSION;
 use bytes::BytesMut;
-use craq_bytes::Part;
-use craq_command_bytes::{read_command, write_command};
+use craq_codec::{
+    Part, Unread, read_command, read_u8, read_u32, read_u64, write_command, write_u8, write_u32,
+    write_u64,
+};
 use craq_commands::{ReadMode, Update};
 use craq_names::{ClientId, NodeId, ObjectId, Pass, RequestNo, Stamp};
-use craq_numbers::{Unread, read_u8, read_u32, read_u64, write_u8, write_u32, write_u64};
 use std::alloc::{AllocError, Global};
 
 /// What a client sends to a server of a store.
@@ -59,7 +60,7 @@ fn read_mode(bytes: &[u8]) -> Result<(ReadMode, &[u8]), Unread>
 }
 
 /// The update at the front, and the bytes after it.
-#[tactic(auto, unfolding(crate::specs::Reading::update_at, craq_bytes::specs::Reading::pair_at, craq_bytes::specs::Reading::request_at))]
+#[tactic(auto, unfolding(crate::specs::Reading::update_at, craq_codec::specs::PartReading::pair_at, craq_codec::specs::PartReading::request_at))]
 fn read_update(alloc: Global, bytes: &[u8]) -> Result<(Update, &[u8]), Unread>
     ensures { Gives (λ x. (x.0, x.1.now)) result (update_at bytes.now) }
 {
@@ -78,7 +79,7 @@ fn read_update(alloc: Global, bytes: &[u8]) -> Result<(Update, &[u8]), Unread>
 }
 
 /// What goes with the kind of a message of a client, and the bytes after it.
-#[tactic(auto, unfolding(crate::specs::Reading::ask_body_at, craq_bytes::specs::Reading::pair_at))]
+#[tactic(auto, unfolding(crate::specs::Reading::ask_body_at, craq_codec::specs::PartReading::pair_at))]
 pub(crate) fn read_ask_body(
     alloc: Global,
     kind: u8,

@@ -1,5 +1,5 @@
 ghost use Rattle.std.specs.Prelude.{◌≡◌, ◌⊎◌, ◌↔◌, ℕ, List, Err, IfOk, IfErr, IsTrue, true};
-ghost use Rattle.craq_numbers.specs.Reading.{Gives};
+ghost use Rattle.craq_codec.specs.NumberReading.{Gives};
 ghost use Rattle.craq_frames.specs.Payload.{IsAnswer, SpellsAsk, SpellsAnswer};
 ghost use Rattle.craq_frames.specs.Reading.{ask_body_at, answer_body_at, payload_at};
 
@@ -7,15 +7,15 @@ use crate::answer::{read_answer_body, test_answer, write_answer};
 use crate::ask::{read_ask_body, write_ask};
 use crate::{ClientMessage, ClientReply, PAYLOAD_VERSION};
 use bytes::{Bytes, BytesMut};
+use craq_codec::{Unread, read_u8};
 use craq_names::Refusal;
-use craq_numbers::{Unread, read_u8};
 use std::alloc::{AllocError, Global};
 
 /// The bytes that most payloads need at most.
 const USUAL_SIZE: usize = 128;
 
 /// The message that the bytes spell, all of the bytes.
-#[tactic(auto, unfolding(crate::specs::Reading::payload_at, craq_bytes::specs::Reading::pair_at))]
+#[tactic(auto, unfolding(crate::specs::Reading::payload_at, craq_codec::specs::PartReading::pair_at))]
 fn read_ask(alloc: Global, bytes: &[u8]) -> Result<ClientMessage, Unread>
     ensures { Gives (λ m. m) result (payload_at ask_body_at bytes.now) }
 {
@@ -32,7 +32,7 @@ fn read_ask(alloc: Global, bytes: &[u8]) -> Result<ClientMessage, Unread>
 }
 
 /// The reply that the bytes spell, all of the bytes, whose rules are not tested yet.
-#[tactic(auto, unfolding(crate::specs::Reading::payload_at, craq_bytes::specs::Reading::pair_at))]
+#[tactic(auto, unfolding(crate::specs::Reading::payload_at, craq_codec::specs::PartReading::pair_at))]
 fn read_answer(alloc: Global, bytes: &[u8]) -> Result<ClientReply, Unread>
     ensures { Gives (λ m. m) result (payload_at answer_body_at bytes.now) }
 {

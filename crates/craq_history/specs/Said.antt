@@ -1,4 +1,4 @@
--- What is said to a client, as a reply.
+-- The reply to a client's number, as definitions have it.
 use Rattle.std.specs.Prelude.{Option, Some, None}
 use Rattle.craq_commands.specs.declared.reply.Reply.{Reply}
 use Rattle.craq_commands.specs.declared.reply.Reply.TheVariants as replies

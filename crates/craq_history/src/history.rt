@@ -17,7 +17,7 @@ pub struct Snapshot {
     pub kept: Items<(ClientId, (RequestNo, Reply))>,
 }
 
-/// What is said to a client about the number of an update.
+/// The reply to a client's number.
 #[derive(Debug)]
 pub enum Said<'a> {
     /// Nothing: the number is new.

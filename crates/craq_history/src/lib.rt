@@ -1,4 +1,5 @@
-//! What a node keeps of the past, behind one trait, and what a step changes of a node.
+//! What a node keeps of the past, behind the trait `History`, and what a step changes of a node.
+//! Code that runs in the program.
 #![tactic(auto)]
 
 mod change;

@@ -3,7 +3,7 @@ use clap::{Arg, ArgAction, ArgMatches, Command, Error};
 use std::alloc::{AllocError, Global};
 
 /// What a command line asks for.
-#[derive(Clone, Copy, Debug)]
+#[derive(Clone, Copy)]
 pub enum Asked<'a> {
     /// To play the script of this file, or of standard input, on a chain of so many nodes.
     Play {
@@ -126,49 +126,79 @@ fn nodes_arg<'a>(alloc: Global) -> Arg<'a> {
         .help("How many nodes the chain has; they are numbered from 1, the head")
 }
 
+/// A command with its texts and its first argument, `[--nodes N]`.
+fn command_with_nodes<'a>(
+    alloc: Global,
+    name: &'a str,
+    about: &'a str,
+    help: &'a str,
+) -> Result<Command<'a>, AllocError> {
+    Command::new(alloc, name)
+        .about(about)
+        .after_help(help)
+        .arg(nodes_arg(alloc))
+}
+
+/// The argument `FILE`, which must be given.
+fn script_arg<'a>(alloc: Global) -> Arg<'a> {
+    Arg::new(alloc, "FILE").required(true).help("The script")
+}
+
 /// `play [--nodes N] [FILE]`.
 fn play_command<'a>(alloc: Global) -> Result<Command<'a>, AllocError> {
+    let command = command_with_nodes(alloc, "play", PLAY_ABOUT, PLAY_HELP)?;
     let file = Arg::new(alloc, "FILE").help("The script; without it, standard input is played");
-    Ok(
-        Command::new(alloc, "play")
-            .about(PLAY_ABOUT)
-            .after_help(PLAY_HELP)
-            .arg(nodes_arg(alloc))?
-            .arg(file)?,
-    )
+    command.arg(file)
 }
 
 /// `draw [--nodes N] FILE CHOICES`.
 fn draw_command<'a>(alloc: Global) -> Result<Command<'a>, AllocError> {
-    let file = Arg::new(alloc, "FILE").required(true).help("The script");
+    let command = command_with_nodes(alloc, "draw", DRAW_ABOUT, DRAW_HELP)?;
+    let command = command.arg(script_arg(alloc))?;
     let choices = Arg::new(alloc, "CHOICES")
         .required(true)
         .help("Numbers of 32 bits, parted by commas");
-    Ok(
-        Command::new(alloc, "draw")
-            .about(DRAW_ABOUT)
-            .after_help(DRAW_HELP)
-            .arg(nodes_arg(alloc))?
-            .arg(file)?
-            .arg(choices)?,
-    )
+    command.arg(choices)
 }
 
 /// `stops [--nodes N] FILE NODE`.
 fn stops_command<'a>(alloc: Global) -> Result<Command<'a>, AllocError> {
-    let file = Arg::new(alloc, "FILE").required(true).help("The script");
+    let command = command_with_nodes(alloc, "stops", STOPS_ABOUT, STOPS_HELP)?;
+    let command = command.arg(script_arg(alloc))?;
     let node = Arg::new(alloc, "NODE")
         .required(true)
         .value_parser(ValueParser::unsigned(0, GREATEST_NODE))
         .help("The id of the node that stops");
-    Ok(
-        Command::new(alloc, "stops")
-            .about(STOPS_ABOUT)
-            .after_help(STOPS_HELP)
-            .arg(nodes_arg(alloc))?
-            .arg(file)?
-            .arg(node)?,
-    )
+    command.arg(node)
+}
+
+/// `craq_lab COMMAND ..`, with no command yet.
+fn bare_command<'a>(alloc: Global) -> Command<'a> {
+    Command::new(alloc, "craq_lab")
+        .about(ABOUT)
+        .long_about(LONG_ABOUT)
+        .subcommand_required(true)
+        .arg_required_else_help(true)
+}
+
+/// `craq_lab COMMAND ..`.
+fn whole_command<'a>(alloc: Global) -> Result<Command<'a>, AllocError> {
+    let play = play_command(alloc)?;
+    let command = bare_command(alloc).subcommand(play)?;
+    with_schedules(alloc, command)
+}
+
+/// The command with `draw` and `stops` as its last commands.
+fn with_schedules<'a>(alloc: Global, command: Command<'a>) -> Result<Command<'a>, AllocError> {
+    let draw = draw_command(alloc)?;
+    let command = command.subcommand(draw)?;
+    with_stops(alloc, command)
+}
+
+/// The command with `stops` as its last command.
+fn with_stops<'a>(alloc: Global, command: Command<'a>) -> Result<Command<'a>, AllocError> {
+    let stops = stops_command(alloc)?;
+    command.subcommand(stops)
 }
 
 /// What the words after a command's name ask for.
@@ -193,17 +223,7 @@ fn asked_of<'a>(name: &str, given: &ArgMatches<'a>) -> Asked<'a> {
 /// What the words of a command line ask for, the program's own among them; else clap's error, which
 /// may be the help that was asked for.
 pub fn asked_by<'a>(alloc: Global, words: &'a [&'a str]) -> Result<Asked<'a>, Error> {
-    let play = play_command(alloc)?;
-    let draw = draw_command(alloc)?;
-    let stops = stops_command(alloc)?;
-    let command = Command::new(alloc, "craq_lab")
-        .about(ABOUT)
-        .long_about(LONG_ABOUT)
-        .subcommand_required(true)
-        .arg_required_else_help(true)
-        .subcommand(play)?
-        .subcommand(draw)?
-        .subcommand(stops)?;
+    let command = whole_command(alloc)?;
     let matches = command.try_get_matches_from(words)?;
     match matches.subcommand() {
         Some((name, given)) => Ok(asked_of(name, given)),

@@ -1,10 +1,11 @@
-//! Plays scripts on a chain of nodes: `craq_lab play [--nodes N] [FILE]`, `craq_lab draw [--nodes N] FILE CHOICES`,
+//! The program: `craq_lab play [--nodes N] [FILE]`, `craq_lab draw [--nodes N] FILE CHOICES`,
 //! `craq_lab stops [--nodes N] FILE NODE`.
 #![tactic(auto)]
 
 mod command_line;
 mod numbers;
 
+use clap::Error;
 use command_line::{Asked, asked_by};
 use craq_names::{NodeId, Refusal};
 use craq_play::{PlainCore, play};
@@ -90,7 +91,7 @@ where
 }
 
 /// How a script is played.
-#[derive(Clone, Copy, Debug)]
+#[derive(Clone, Copy)]
 enum Way<'a> {
     Play,
     Draw(&'a [u32]),
@@ -147,6 +148,20 @@ where
     }
 }
 
+/// Tells what is wrong with the words of the command line, or prints the help that they ask for. Gives
+/// the status.
+fn report_words<R>(rt: &R, error: &Error) -> io::Result<u8>
+where
+    R: AllocGlobal + Print + Eprint,
+{
+    if error.kind() == clap::error::ErrorKind::OutOfMemory {
+        eprintln!(rt; "no memory")?;
+        return Ok(NO_MEMORY);
+    }
+    error.print(rt)?;
+    Ok(if error.use_stderr() { BAD_INPUT } else { 0 })
+}
+
 /// Does what the words of the command line ask for. Gives the status.
 fn answer<'a, R>(rt: &R, words: &'a [&'a str]) -> io::Result<u8>
 where
@@ -163,14 +178,7 @@ where
         ) => draw_file(rt, nodes, file, choices),
         Ok(Asked::Stops { nodes, file, node }) => stops_file(rt, nodes, file, node),
         Ok(Asked::Nothing) => Ok(BAD_INPUT),
-        Err(error) => {
-            if error.kind() == clap::error::ErrorKind::OutOfMemory {
-                eprintln!(rt; "no memory")?;
-                return Ok(NO_MEMORY);
-            }
-            error.print(rt)?;
-            Ok(if error.use_stderr() { BAD_INPUT } else { 0 })
-        }
+        Err(error) => report_words(rt, &error),
     }
 }
 

@@ -1,254 +1,111 @@
-//! Plays each worked row of `data/`, and tells whether it prints what is expected.
+//! Plays each worked row of `data/`, and tells whether it prints what is expected; then reads texts that are scripts, or
+//! are not.
 #![tactic(auto)]
 
-#[cfg(test)]
-mod tests;
+ghost use Rattle.std.specs.Prelude.{◌≤◌};
+
+mod reading;
+mod rows;
 
 use craq_names::{NodeId, Refusal};
 use craq_play::{PlainCore, play};
 use craq_schedules::{draw, stops};
-use std::alloc::{AllocError, Global};
+use reading::{BAD_LINES, BAD_SCRIPTS, count_forms, is_told, is_unplayed};
+use rows::{Group, ROWS, Way};
+use std::alloc::Global;
 use std::rt::Files;
 use std::{fs, io};
 
-/// How a script is played.
-#[derive(Clone, Copy, Debug)]
-enum Way {
-    Play,
-    /// One schedule, drawn by `CHOICES`.
-    Draw,
-    /// The node of this id stops after each move.
-    Stops(u32),
+/// How many nodes the chain of a group has, from 1 to 8.
+fn count_of(group: &Group) -> u32
+    ensures { (1 ≤ result) × (result ≤ 8) }
+{
+    group.nodes.max(1).min(8)
 }
 
-/// A script of `data/`, with how many nodes its chain has, and how it is played.
-#[derive(Clone, Copy, Debug)]
-struct Row {
-    name: &'static str,
-    nodes: u32,
-    way: Way,
-}
-
-const CHOICES: [u32; 5] = [0, 0, 1, 1, 6];
-
-static ROWS: [Row; 35] = [
-    Row {
-        name: "acknowledged-while-a-query-travels",
-        nodes: 3,
-        way: Way::Play,
-    },
-    Row {
-        name: "append-to-the-limit",
-        nodes: 1,
-        way: Way::Play,
-    },
-    Row {
-        name: "bounded-reads-and-a-lower-number",
-        nodes: 3,
-        way: Way::Play,
-    },
-    Row {
-        name: "counters",
-        nodes: 1,
-        way: Way::Play,
-    },
-    Row {
-        name: "dirty-read-asks-the-tail",
-        nodes: 3,
-        way: Way::Play,
-    },
-    Row {
-        name: "draw-one-schedule",
-        nodes: 2,
-        way: Way::Draw,
-    },
-    Row {
-        name: "empty-script",
-        nodes: 3,
-        way: Way::Play,
-    },
-    Row {
-        name: "entries-out-of-order",
-        nodes: 3,
-        way: Way::Play,
-    },
-    Row {
-        name: "explain-nothing",
-        nodes: 3,
-        way: Way::Play,
-    },
-    Row {
-        name: "head-removed-after-it-forwarded",
-        nodes: 3,
-        way: Way::Play,
-    },
-    Row {
-        name: "head-removed-before-it-forwarded",
-        nodes: 3,
-        way: Way::Play,
-    },
-    Row {
-        name: "join-while-the-tail-is-removed",
-        nodes: 3,
-        way: Way::Play,
-    },
-    Row {
-        name: "mini-transactions",
-        nodes: 1,
-        way: Way::Play,
-    },
-    Row {
-        name: "old-config-is-ignored",
-        nodes: 3,
-        way: Way::Play,
-    },
-    Row {
-        name: "pending-full",
-        nodes: 3,
-        way: Way::Play,
-    },
-    Row {
-        name: "prepend",
-        nodes: 1,
-        way: Way::Play,
-    },
-    Row {
-        name: "put-then-read-everywhere",
-        nodes: 3,
-        way: Way::Play,
-    },
-    Row {
-        name: "read-absent-object",
-        nodes: 3,
-        way: Way::Play,
-    },
-    Row {
-        name: "refusals-1",
-        nodes: 3,
-        way: Way::Play,
-    },
-    Row {
-        name: "refusals-10",
-        nodes: 3,
-        way: Way::Play,
-    },
-    Row {
-        name: "refusals-2",
-        nodes: 1,
-        way: Way::Play,
-    },
-    Row {
-        name: "refusals-3",
-        nodes: 8,
-        way: Way::Play,
-    },
-    Row {
-        name: "refusals-4",
-        nodes: 3,
-        way: Way::Play,
-    },
-    Row {
-        name: "refusals-5",
-        nodes: 3,
-        way: Way::Play,
-    },
-    Row {
-        name: "refusals-6",
-        nodes: 3,
-        way: Way::Play,
-    },
-    Row {
-        name: "refusals-7",
-        nodes: 3,
-        way: Way::Play,
-    },
-    Row {
-        name: "refusals-8",
-        nodes: 3,
-        way: Way::Play,
-    },
-    Row {
-        name: "refusals-9",
-        nodes: 3,
-        way: Way::Play,
-    },
-    Row {
-        name: "refused-test-and-set-is-an-entry",
-        nodes: 1,
-        way: Way::Play,
-    },
-    Row {
-        name: "retry-waits-for-its-entry",
-        nodes: 3,
-        way: Way::Play,
-    },
-    Row {
-        name: "stops-at-the-head",
-        nodes: 2,
-        way: Way::Stops(1),
-    },
-    Row {
-        name: "stops-at-the-tail",
-        nodes: 2,
-        way: Way::Stops(2),
-    },
-    Row {
-        name: "tail-removed",
-        nodes: 3,
-        way: Way::Play,
-    },
-    Row {
-        name: "tick-sends-again",
-        nodes: 3,
-        way: Way::Play,
-    },
-    Row {
-        name: "whole-join",
-        nodes: 1,
-        way: Way::Play,
-    },
-];
-
-/// The name of a file of the row.
-fn file_of<R: AllocGlobal>(rt: &R, row: Row, ending: &str) -> Result<String, AllocError> {
-    let name = row.name;
-    format!(in rt.alloc(); "{name}.{ending}")
-}
-
-/// What a row's script prints.
-fn printed_of(alloc: Global, row: Row, script: &[u8]) -> Result<String, Refusal> {
-    let nodes = row.nodes.max(1).min(8);
-    match row.way {
+/// What a script prints, played as its group says.
+fn printed_of(alloc: Global, group: &Group, script: &[u8]) -> Result<String, Refusal> {
+    let nodes = count_of(group);
+    match group.way {
         Way::Play => play::<PlainCore>(alloc, nodes, script),
-        Way::Draw => draw::<PlainCore>(alloc, nodes, script, &CHOICES),
+        Way::Draw(choices) => draw::<PlainCore>(alloc, nodes, script, choices),
         Way::Stops(id) => stops::<PlainCore>(alloc, nodes, script, NodeId::new(id)),
     }
 }
 
-/// Whether the row's script prints what is expected.
-fn agrees<R: AllocGlobal + Files>(rt: &R, row: Row) -> io::Result<bool> {
-    let script_file = file_of(rt, row, "script")?;
-    let expected_file = file_of(rt, row, "expected")?;
-    let script = fs::read(rt, script_file.as_str())?;
-    let expected = fs::read(rt, expected_file.as_str())?;
-    match printed_of(rt.alloc(), row, script.as_slice()) {
-        Ok(printed) => Ok(printed.as_bytes() == expected.as_slice()),
-        Err(_) => Ok(false),
+/// Whether the script prints what is expected.
+fn prints(alloc: Global, group: &Group, script: &[u8], expected: &[u8]) -> bool {
+    match printed_of(alloc, group, script) {
+        Ok(printed) => printed.as_bytes() == expected,
+        Err(_) => false,
     }
 }
 
-fn run<R: AllocGlobal + Files + Print>(rt: &R) -> io::Result<()> {
-    for row in &ROWS {
-        let row = *row;
-        let name = row.name;
-        let word = if agrees(rt, row)? {
-            "agrees"
-        } else {
-            "differs"
-        };
-        println!(rt; "{name} {word}")?;
+/// The bytes of a file of the row of this name.
+fn bytes_of<R: AllocGlobal + Files>(rt: &R, name: &str, ending: &str) -> io::Result<Vec<u8>> {
+    let file = format!(in rt.alloc(); "{name}.{ending}")?;
+    fs::read(rt, file.as_str())
+}
+
+/// Plays the row of this name, and tells whether it agrees.
+fn tell_row<R: AllocGlobal + Files + Print>(rt: &R, group: &Group, name: &str) -> io::Result<()> {
+    let script = bytes_of(rt, name, "script")?;
+    let expected = bytes_of(rt, name, "expected")?;
+    let word = if prints(rt.alloc(), group, script.as_slice(), expected.as_slice()) {
+        "agrees"
+    } else {
+        "differs"
+    };
+    println!(rt; "{name} {word}")
+}
+
+/// Plays each row.
+fn tell_rows<R: AllocGlobal + Files + Print>(rt: &R) -> io::Result<()> {
+    for group in &ROWS {
+        for name in group.names {
+            tell_row(rt, group, name)?;
+        }
     }
     Ok(())
+}
+
+/// Tells how many lines the script of all forms has.
+fn tell_forms<R: AllocGlobal + Print>(rt: &R) -> io::Result<()> {
+    let count = count_forms(rt.alloc()).unwrap_or(0);
+    println!(rt; "all forms are {count} lines")
+}
+
+/// Tells of each bad line whether it is told as such.
+fn tell_bad_lines<R: AllocGlobal + Print>(rt: &R) -> io::Result<()> {
+    for (index, line) in BAD_LINES.iter().enumerate() {
+        let word = if is_told(rt.alloc(), line)? {
+            "told"
+        } else {
+            "missed"
+        };
+        println!(rt; "bad line {index} is {word}")?;
+    }
+    Ok(())
+}
+
+/// Tells of each bad script whether it is not played, and why.
+fn tell_bad_scripts<R: AllocGlobal + Print>(rt: &R) -> io::Result<()> {
+    for (text, line) in &BAD_SCRIPTS {
+        let word = if is_unplayed(rt.alloc(), text, *line) {
+            "told"
+        } else {
+            "missed"
+        };
+        println!(rt; "bad script with line {line} is {word}")?;
+    }
+    Ok(())
+}
+
+fn run<R: AllocGlobal + Files + Print>(rt: &R) -> io::Result<()> {
+    tell_rows(rt)?;
+    tell_forms(rt)?;
+    tell_bad_lines(rt)?;
+    tell_bad_scripts(rt)
 }
 
 fn main(rt: HostRuntime) -> io::Result<()> {

@@ -1,4 +1,5 @@
-//! Laws of the definitions.
+//! First laws of the definitions of the single copy, the node and the chain.
+//! Laws: functions without bodies, whose contracts are the theorems.
 #![tactic(auto)]
 
 ghost use Rattle.std.specs.Prelude.{◌≡◌, ◌≢◌, ◌≤◌, ◌↔◌, ℕ, true, false, Err, List, [], ◌∷◌, ◌++◌, map, None, Some, Ok, Option};
@@ -27,7 +28,7 @@ ghost use Rattle.craq_model.specs.declared.step.Step.{Step};
 ghost use Rattle.craq_model.specs.Node.{node_step, is_for};
 ghost use Rattle.craq_model.specs.Plain.{Plain, newest, id_of, is_first};
 
-/// A number is new just where nothing is said to it.
+/// A number is new exactly where it has no reply.
 pub fn new_numbers()
     ensures { (kept : Option Kept) (number : ℕ) → (is_new kept number ≡ true) ↔ (said_of kept number ≡ None) }
 {}
@@ -91,7 +92,7 @@ pub fn versions_tell_values()
     ensures { (us vs : List Update) (key : List ℕ) → version_of (after us).objects key ≡ version_of (after (us ++ vs)).objects key → object_of (after us).objects key ≡ object_of (after (us ++ vs)).objects key }
 {}
 
-/// What is said for a client changes only where an update of that client is applied.
+/// The reply to a client's number changes only where an update of that client is applied.
 pub fn said_until_asked_again()
     ensures others { (s : State) (u : Update) (client number : ℕ) → client ≢ u.client → said (apply s u) client number ≡ said s client number }
     ensures old { (s : State) (u : Update) → is_new_to s u.client u.number ≡ false → apply s u ≡ s }

@@ -1,9 +1,7 @@
-//! The entries that a node holds after a position of its history.
+//! The entries of a node after a base position of its history.
+//! Code that runs in tests alone.
 #![tactic(auto)]
 
 mod suffix;
 
 pub use suffix::Suffix;
-
-#[cfg(test)]
-mod tests;

@@ -1,4 +1,5 @@
-//! One node of a chain: what happens at it, what it does, and what nodes tell one another.
+//! The types of a node's events, messages and steps.
+//! Definitions: `specs/` defines a node's step (`node_step`). Of the code only copying runs.
 #![tactic(auto)]
 
 mod ask;

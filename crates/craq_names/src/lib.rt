@@ -1,4 +1,5 @@
-//! Names, numbers and limits of a store, each seen by a contract as plain data.
+//! Keys, values, ids, numbers and refusals, each in its range by its type.
+//! Code that runs in the program; `specs/` defines limits, maps and the numbers of refusals.
 #![tactic(auto)]
 
 mod copied;

@@ -1,4 +1,4 @@
--- A node stays sound, and what it says can be spelled.
+-- A step keeps the node's invariant, and all that it sends can be encoded as bytes.
 use Rattle.std.proofs.Common.{◌≡◌, ◌≤◌, true, false, Ok, Err, [], sym, ap, ◌∙◌, subst}
 use Rattle.std.specs.Prelude.{Result, IfOk}
 use Rattle.craq_names.specs.declared.name.NodeName.{NodeName}
@@ -8,9 +8,9 @@ use Rattle.craq_model.specs.declared.config.Config.{Config}
 use Rattle.craq_model.specs.declared.step.Step.{Step}
 use Rattle.craq_model.specs.Node.{event_turn, within_counts}
 use Rattle.craq_model.specs.Plain.{Plain, opening_member}
-use Rattle.craq_sound.specs.Sound.{AreSpelled, IsSound, IsSpelledEvent}
-use Rattle.craq_sound.proofs.Openings.{member_is_sound, joined_is_sound}
-use Rattle.craq_sound.proofs.Steps.{turn_is_sound}
+use Rattle.craq_node_invariant.specs.Sound.{AreSpelled, IsSound, IsSpelledEvent}
+use Rattle.craq_node_invariant.proofs.Openings.{member_is_sound, joined_is_sound}
+use Rattle.craq_node_invariant.proofs.Steps.{turn_is_sound}
 use Rattle.craq_node.specs.Represented.{Gives, IsFirstWith}
 
 pub sound_after : (p q : Plain) (e : Event) (r : Result Step Refusal) → Gives p q r (within_counts (event_turn p e)) → IsSound p → IsSpelledEvent e → IsSound q

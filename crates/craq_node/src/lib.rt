@@ -1,4 +1,5 @@
-//! The whole node: each event and message by its rule, and the trait of all representations.
+//! The whole step of a node: the trait `Core`, and `NodeCore`, which meets it over any `History`.
+//! Code that runs in the program.
 #![tactic(auto)]
 
 mod fitting;

@@ -2,7 +2,7 @@ ghost use Rattle.std.specs.Prelude.{◌≡◌, IfOk, IfErr, IsOk};
 ghost use Rattle.std.specs.Option.{option_copied};
 ghost use Rattle.craq_model.specs.Plain.{Plain};
 ghost use Rattle.craq_model.specs.Node.{node_step};
-ghost use Rattle.craq_sound.specs.Sound.{AreSpelled};
+ghost use Rattle.craq_node_invariant.specs.Sound.{AreSpelled};
 ghost use Rattle.craq_node.specs.Represented.{Answers, CanArrive, CanOpen, IsFree, opening_of};
 
 use craq_epochs::{Config, Switch};

@@ -2,8 +2,8 @@ ghost use Rattle.std.specs.Prelude.{◌≡◌, ◌≢◌, true, [], IfOk, IsOk, 
 ghost use Rattle.craq_model.specs.Deliveries.{delivery_turn};
 ghost use Rattle.craq_model.specs.Plain.{Plain, opening_member};
 ghost use Rattle.craq_model.specs.Node.{event_turn, is_for, within_counts, node_step};
-ghost use Rattle.craq_sound.specs.Sound.{AreSpelled, IsSound, IsSpelledAsk, IsSpelledEvent};
-ghost use Rattle.craq_sound.proofs.Props.{IsSound-prop};
+ghost use Rattle.craq_node_invariant.specs.Sound.{AreSpelled, IsSound, IsSpelledAsk, IsSpelledEvent};
+ghost use Rattle.craq_node_invariant.proofs.Props.{IsSound-prop};
 ghost use Rattle.craq_history.specs.Change.{changed, no_change};
 ghost use Rattle.craq_history.specs.Nodes.{plain_of};
 ghost use Rattle.craq_history.specs.Plans.{CanMake};

@@ -4,7 +4,7 @@ ghost use Rattle.craq_model.specs.Asks.{ask_turn};
 ghost use Rattle.craq_model.specs.Deliveries.{delivery_turn};
 ghost use Rattle.craq_history.specs.Nodes.{plain_of};
 ghost use Rattle.craq_history.specs.Plans.{Plans, IsPlanOf};
-ghost use Rattle.craq_sound.specs.Sound.{IsSound};
+ghost use Rattle.craq_node_invariant.specs.Sound.{IsSound};
 
 use craq_history::members::first_member;
 use craq_history::steps::ignoring;

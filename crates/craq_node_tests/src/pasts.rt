@@ -1,10 +1,9 @@
-//! A past with three writes, with ample memory.
+//! A past with three writes: the object a, then b, then a again.
 use craq_commands::{Entry, Reply, Write};
 use craq_history::History;
 use craq_names::{ClientId, Items, Key, NodeId, Refusal, RequestNo, Seq, Ticket, Value, Version};
 use craq_plain::PlainHistory;
 use std::alloc::Global;
-use std::test::Fail;
 
 /// The entry of a write of one object, asked by client 7 under the number of its position.
 fn write_at(
@@ -14,96 +13,121 @@ fn write_at(
     version: u64,
     value: &[u8],
 ) -> Result<Entry, Refusal> {
+    let number = RequestNo::new(position)?;
+    let version = Version::new(version);
+    let key = Key::new(alloc, key)?;
+    let value = Value::new(alloc, value)?;
     let mut writes = Items::new(alloc);
     writes.push(Write {
-        key: Key::new(alloc, key)?,
-        version: Version::new(version),
-        value: Value::new(alloc, value)?,
+        key,
+        version,
+        value,
     })?;
     Ok(Entry {
         position: Seq::new(position),
         origin_node: NodeId::new(1),
         origin_ticket: Ticket::new(position),
         client: ClientId::new(7),
-        number: RequestNo::new(position)?,
-        reply: Reply::Written(Version::new(version)),
+        number,
+        reply: Reply::Written(version),
         writes,
     })
 }
 
-/// The object a is written, then b, then a again.
+/// The writes, in order: each the key, the version and the value.
+static WRITES: [(&[u8], u64, &[u8]); 3] = [
+    (b"a", 1, b"one"),
+    (b"b", 1, b"two"),
+    (b"a", 2, b"three"),
+];
+
+/// A past of the three writes.
 fn three_writes(alloc: Global) -> Result<PlainHistory, Refusal> {
     let mut history = PlainHistory::new(alloc);
-    history.append(write_at(alloc, 1, b"a", 1, b"one")?)?;
-    history.append(write_at(alloc, 2, b"b", 1, b"two")?)?;
-    history.append(write_at(alloc, 3, b"a", 2, b"three")?)?;
+    for (key, version, value) in &WRITES {
+        let position = history.len();
+        if position < WRITES.len() as u64 {
+            history.append(write_at(alloc, position + 1, key, *version, value)?)?;
+        }
+    }
     Ok(history)
 }
 
-#[test]
-fn newest_and_clean(rt: HostRuntime) -> Result<(), Fail> {
-    let mut history = three_writes(rt.alloc())?;
-    history.acknowledge(Seq::new(2));
-    let a = Key::new(rt.alloc(), b"a")?;
-    let c = Key::new(rt.alloc(), b"c")?;
-    let (version, value) = history.newest(&a);
-    assert_eq!(rt; version.get(), 2);
-    assert_eq!(rt; value, b"three".as_slice());
-    let (version, value) = history.clean(&a);
-    assert_eq!(rt; version.get(), 1);
-    assert_eq!(rt; value, b"one".as_slice());
-    let (version, value) = history.newest(&c);
-    assert_eq!(rt; version.get(), 0);
-    assert!(rt; value.is_empty());
-    Ok(())
+/// Whether an object was found with this version and value.
+fn is(found: (Version, &[u8]), version: u64, value: &[u8]) -> bool {
+    let (last, bytes) = found;
+    last.get() == version && bytes == value
 }
 
-#[test]
-fn within_a_bound(rt: HostRuntime) -> Result<(), Fail> {
-    let mut history = three_writes(rt.alloc())?;
-    history.acknowledge(Seq::new(1));
-    let a = Key::new(rt.alloc(), b"a")?;
-    assert_eq!(rt; history.within(&a, 1, 0).0.get(), 1);
-    assert_eq!(rt; history.within(&a, 1, 1).0.get(), 2);
-    assert_eq!(rt; history.within(&a, u64::MAX, u64::MAX).0.get(), 2);
-    Ok(())
+/// The newest and the clean version of an object, and those of an object that was never written, where two writes are
+/// acknowledged.
+fn tells_versions(history: &PlainHistory, a: &Key, c: &Key) -> bool {
+    is(history.newest(a), 2, b"three")
+        && is(history.clean(a), 1, b"one")
+        && is(history.newest(c), 0, b"")
 }
 
-#[test]
-fn what_is_kept(rt: HostRuntime) -> Result<(), Fail> {
-    let history = three_writes(rt.alloc())?;
-    assert!(rt; history.kept(ClientId::new(7)).is_some());
-    assert!(rt; history.kept(ClientId::new(8)).is_none());
-    assert_eq!(rt; history.position_of(ClientId::new(7)), 3);
-    assert_eq!(rt; history.position_of(ClientId::new(8)), 0);
-    Ok(())
+/// The newest version that is at most so many above another, where one write is acknowledged.
+fn keeps_bounds(history: &PlainHistory, a: &Key) -> bool {
+    is(history.within(a, 1, 0), 1, b"one")
+        && is(history.within(a, 1, 1), 2, b"three")
+        && is(history.within(a, u64::MAX, u64::MAX), 2, b"three")
 }
 
-#[test]
-fn next_entries(rt: HostRuntime) -> Result<(), Fail> {
-    let history = three_writes(rt.alloc())?;
-    assert!(rt; history.is_next(&write_at(rt.alloc(), 4, b"a", 3, b"four")?));
-    assert!(rt; !history.is_next(&write_at(rt.alloc(), 4, b"a", 2, b"four")?));
-    assert!(rt; !history.is_next(&write_at(rt.alloc(), 3, b"a", 3, b"four")?));
-    assert_eq!(rt; history.len(), 3);
-    assert_eq!(rt; history.acknowledged(), 0);
-    assert_eq!(rt; history.after(1).len(), 2);
-    Ok(())
+/// A reply is kept for a client that asked, and its entries have a last position.
+fn keeps_replies(history: &PlainHistory) -> bool {
+    let (seven, eight) = (ClientId::new(7), ClientId::new(8));
+    history.kept(seven).is_some()
+        && history.kept(eight).is_none()
+        && history.position_of(seven) == 3
+        && history.position_of(eight) == 0
 }
 
-#[test]
-fn snapshot_and_install(rt: HostRuntime) -> Result<(), Fail> {
-    let mut history = three_writes(rt.alloc())?;
-    history.acknowledge(Seq::new(3));
-    let state = history.snapshot(rt.alloc())?;
-    assert_eq!(rt; state.objects.len(), 2);
-    assert_eq!(rt; state.kept.len(), 1);
-    let mut copy = PlainHistory::new(rt.alloc());
+/// Entries of more writes of a, each the position and the version, and whether it is the next.
+static LATER: [(u64, u64, bool); 3] = [(4, 3, true), (4, 2, false), (3, 3, false)];
+
+/// The next entry has the next version and a new number. Nothing is acknowledged.
+fn knows_next_entries(alloc: Global, history: &PlainHistory) -> Result<bool, Refusal> {
+    for (position, version, is_next) in &LATER {
+        let entry = write_at(alloc, *position, b"a", *version, b"four")?;
+        if history.is_next(&entry) != *is_next {
+            return Ok(false);
+        }
+    }
+    Ok(history.len() == 3 && history.acknowledged() == 0 && history.after(1).len() == 2)
+}
+
+/// The state after the entries takes the place of an empty past. All are acknowledged.
+fn installs_state(alloc: Global, history: &PlainHistory, a: &Key) -> Result<bool, Refusal> {
+    let state = history.snapshot(alloc)?;
+    let sizes = state.objects.len() == 2 && state.kept.len() == 1;
+    let mut copy = PlainHistory::new(alloc);
     copy.install(Seq::new(3), state);
-    assert_eq!(rt; copy.len(), 3);
-    assert_eq!(rt; copy.acknowledged(), 3);
-    let (version, value) = copy.newest(&Key::new(rt.alloc(), b"a")?);
-    assert_eq!(rt; version.get(), 2);
-    assert_eq!(rt; value, b"three".as_slice());
-    Ok(())
+    let counts = copy.len() == 3 && copy.acknowledged() == 3;
+    Ok(sizes && counts && is(copy.newest(a), 2, b"three"))
+}
+
+/// What is told of the past.
+pub static FACTS: [&str; 5] = [
+    "next entries, before any is acknowledged",
+    "what is kept for clients",
+    "versions within a bound",
+    "newest and clean versions",
+    "a state is sent and installed",
+];
+
+/// Whether each fact of the past holds.
+pub fn told(alloc: Global) -> Result<[bool; 5], Refusal> {
+    let mut history = three_writes(alloc)?;
+    let a = Key::new(alloc, b"a")?;
+    let c = Key::new(alloc, b"c")?;
+    let next = knows_next_entries(alloc, &history)?;
+    let replies = keeps_replies(&history);
+    history.acknowledge(Seq::new(1));
+    let bounds = keeps_bounds(&history, &a);
+    history.acknowledge(Seq::new(2));
+    let versions = tells_versions(&history, &a, &c);
+    history.acknowledge(Seq::new(3));
+    let installs = installs_state(alloc, &history, &a)?;
+    Ok([next, replies, bounds, versions, installs])
 }

@@ -1,4 +1,5 @@
-//! Where the chains of a store stand: its plan.
+//! The plan of a store, read from TOML: the chain of each object, and the nodes of each chain.
+//! Code that runs in tests alone.
 #![tactic(auto)]
 
 mod plan;

@@ -1,4 +1,5 @@
-//! The past of a node as a list: a state, and every entry after it.
+//! The past of a node as a state and a list of all entries after it.
+//! Code that runs in the program.
 #![tactic(auto)]
 
 mod history;

@@ -1,4 +1,5 @@
 pub mod Asked
+pub mod Explained
 pub mod Moves
 pub mod Printed
 pub mod Played

@@ -7,7 +7,7 @@ use Rattle.craq_runs.specs.declared.run.Move.{Move}
 use Rattle.craq_runs.specs.Chain.{Chain, Progress, chain_step}
 use Rattle.craq_runs.specs.Explain.{explain}
 use Rattle.craq_chain.specs.Chained.{Chained, after_taking, chain_of, mover, opened}
-use Rattle.craq_json.specs.Explained.{explanation_text}
+use Rattle.craq_play.specs.Explained.{explanation_text}
 use Rattle.craq_script.specs.declared.line.Line.{Line}
 use Rattle.craq_script.specs.Texts.{script_of}
 use Rattle.craq_play.specs.Printed.{step_text, refusal_text}

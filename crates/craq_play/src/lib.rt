@@ -1,7 +1,9 @@
-//! Scripts played on one chain: from the script's bytes to the printed lines.
+//! Plays a script on one chain: from the script's bytes to the printed lines, with explanations.
+//! Code that runs in the program.
 #![tactic(auto)]
 
 mod asking;
+mod explanation;
 mod moving;
 mod plain_core;
 mod playing;
@@ -9,6 +11,7 @@ mod printing;
 
 pub use asking::{read_of, update_of};
 pub use craq_script::Script;
+pub use explanation::explanation_text;
 pub use moving::move_of;
 pub use plain_core::PlainCore;
 pub use playing::{opened, play, play_line, play_move};

@@ -16,11 +16,11 @@ ghost use Rattle.craq_play.specs.Played.{
   Plays,
 };
 
+use crate::explanation::explanation_text;
 use crate::moving::move_of;
 use crate::printing::{print_refusal, print_step};
 use craq_chain::ChainCore;
 use craq_explain::explain_run;
-use craq_json::explanation_text;
 use craq_names::{ChainId, NodeId, Refusal};
 use craq_node::Core;
 use craq_runs::{Move, Run};

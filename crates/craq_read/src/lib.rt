@@ -1,5 +1,5 @@
-//! The read rules of a node: clean answers, questions to the tail, and the reads that wait for its
-//! word. Each call works out what changes and what is sent, and changes nothing itself.
+//! The read rules of a node: each call plans what changes and what is sent, and changes nothing.
+//! Code that runs in the program.
 #![tactic(auto)]
 
 mod asks;

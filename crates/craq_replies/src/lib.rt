@@ -1,4 +1,5 @@
-//! What a node keeps of the replies to each client.
+//! The kept replies of a node, as a map from client to number and reply.
+//! Code that runs in tests alone.
 #![tactic(auto)]
 
 mod items;
@@ -8,6 +9,3 @@ mod table;
 pub use items::KeptReplies;
 pub use look::Look;
 pub use table::ReplyTable;
-
-#[cfg(test)]
-mod tests;

@@ -35,7 +35,7 @@ abbrev pub opening_account : ℕ → List ℕ → Account
 opening_account chain members =
     record { chain = opening_chain chain members; asks = []; committed = []; lens = []; sent_at = []; due = []; places = [] }
 
--- what is committed, once a node stands so: a tail commits all that it has
+-- what is committed after a step of this node: a tail commits all that it has
 abbrev pub committed_by : List Entry → Option Plain → List Entry
 committed_by entries None = entries
 committed_by entries (Some p) = if is_tail p then entries ++ entries_after p (length entries) else entries

@@ -1,10 +1,10 @@
--- What is printed of an explanation, and of a script that is no script.
+-- The verdict that is printed of an explanation; the text of a script, or which line is outside the grammar.
 use Rattle.std.specs.Prelude.{ℕ, List, codes, Result, Ok, Err}
 use Rattle.craq_names.specs.declared.refusal.Refusal.{Refusal}
 use Rattle.craq_names.specs.declared.refusal.Refusal.TheVariants as refusals
 use Rattle.craq_script.specs.declared.line.Line.{Line}
 
--- what is said of an explanation, which is valid after every run
+-- the verdict on an explanation, which is valid after every run
 abbrev pub verdict_text : List ℕ
 verdict_text = codes "valid true\n"
 

@@ -1,4 +1,5 @@
-//! Schedules of a script: one drawn by choices, and one for each move after which a node may stop.
+//! Schedules of a script: one that numbers draw, and one for each move after which a node may stop.
+//! Code that runs in the program.
 #![tactic(auto)]
 
 mod drawing;

@@ -5,8 +5,8 @@ ghost use Rattle.craq_schedules.specs.Verdicts.{verdict_text};
 use craq_chain::ChainCore;
 use craq_check::check;
 use craq_explain::explain_run;
-use craq_headline::every_run_is_explained;
 use craq_node::Core;
+use craq_promise::every_run_is_explained;
 use std::alloc::{AllocError, Global};
 
 /// What can be said of a run: how many updates are committed, and whether its explanation passes `check`.

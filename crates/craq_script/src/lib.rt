@@ -1,4 +1,5 @@
 //! The language of scripts: its lines, and exactly which texts spell them.
+//! Code that runs in the program.
 #![tactic(auto)]
 
 mod line;

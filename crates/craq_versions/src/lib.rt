@@ -1,4 +1,5 @@
-//! The versions of objects that a node holds.
+//! The versions of objects that a node holds, as a list for each object and a table of them.
+//! Code that runs in tests alone.
 #![tactic(auto)]
 
 mod iterators;
@@ -9,6 +10,3 @@ mod table;
 pub use iterators::{Keys, Objects};
 pub use list::VersionList;
 pub use table::ObjectTable;
-
-#[cfg(test)]
-mod tests;

@@ -7,15 +7,15 @@ use Rattle.craq_model.specs.declared.message.Body.{Body}
 use Rattle.craq_model.specs.declared.message.Body.TheVariants as bodies
 use Rattle.craq_model.specs.declared.message.LinkMessage.{LinkMessage}
 use Rattle.craq_model.specs.Spelled.{IsSpelled}
-use Rattle.craq_numbers.specs.Spelling.{number}
-use Rattle.craq_bytes.specs.Spelling.{key, pair, counted, IsKey, IsPair, AreCounted}
-use Rattle.craq_numbers.specs.Reading.{number_at}
-use Rattle.craq_bytes.specs.Reading.{key_at, value_at, request_at, pair_at, counted_at, mapped}
-use Rattle.craq_bytes.specs.EntryReading.{reply_at}
-use Rattle.craq_numbers.proofs.Exact.{IsBytes, Takes, Takes-then, IsExact, bind_some, some_is, step, chosen, u8_exact, u16_exact, u32_exact, u64_exact, wide8, wide32}
-use Rattle.craq_bytes.proofs.Exact.{key_exact, request_exact, pair_exact, counted_exact, mapped_exact}
-use Rattle.craq_bytes.proofs.Tagged.{one_case}
-use Rattle.craq_bytes.proofs.EntryExact.{version_value_exact, reply_exact, entry_exact}
+use Rattle.craq_codec.specs.NumberSpelling.{number}
+use Rattle.craq_codec.specs.PartSpelling.{key, pair, counted, IsKey, IsPair, AreCounted}
+use Rattle.craq_codec.specs.NumberReading.{number_at}
+use Rattle.craq_codec.specs.PartReading.{key_at, value_at, request_at, pair_at, counted_at, mapped}
+use Rattle.craq_codec.specs.EntryReading.{reply_at}
+use Rattle.craq_codec.proofs.NumberExact.{IsBytes, Takes, Takes-then, IsExact, bind_some, some_is, step, chosen, u8_exact, u16_exact, u32_exact, u64_exact, wide8, wide32}
+use Rattle.craq_codec.proofs.PartExact.{key_exact, request_exact, pair_exact, counted_exact, mapped_exact}
+use Rattle.craq_codec.proofs.Tagged.{one_case}
+use Rattle.craq_codec.proofs.EntryExact.{version_value_exact, reply_exact, entry_exact}
 use Rattle.craq_wire.specs.Reading.{CopyParts, copy_of, copy_at, body_at, Header, header_of, header_at, message_of, message_at, all_of}
 use Rattle.craq_wire.specs.Spelling.{wire_version, kind_of, stored, kept_reply, said, header, spelling_of, StoredFits, KeptFits, BodyFits, MessageFits, Spells}
 use Rattle.craq_wire.specs.Tests.{is_spelled}

@@ -21,7 +21,7 @@ use Rattle.craq_model.specs.declared.message.Body.{Body}
 use Rattle.craq_model.specs.declared.message.Body.TheVariants as bodies
 use Rattle.craq_model.specs.declared.message.LinkMessage.{LinkMessage}
 use Rattle.craq_model.specs.Spelled.{IsReply, IsNotStale, IsSpelledEntry, IsSpelledState, IsSpelledBody, IsFromItsSender, IsSpelled}
-use Rattle.craq_bytes.proofs.Tests.{decides_le, decides_sure, decides_all, decides_reply, decides_not_stale}
+use Rattle.craq_codec.proofs.Tests.{decides_le, decides_sure, decides_all, decides_reply, decides_not_stale}
 use Rattle.craq_wire.specs.Tests.{stands_twice, is_below_first, is_rising, same_key, has_version, is_entry, is_stored, is_kept, is_state, is_node, is_membership, is_body, is_from_its_sender, is_spelled}
 
 -- ---- no two alike

@@ -5,9 +5,9 @@ use Rattle.craq_commands.specs.Kept.{Kept}
 use Rattle.craq_model.specs.declared.message.Body.{Body}
 use Rattle.craq_model.specs.declared.message.Body.TheVariants as bodies
 use Rattle.craq_model.specs.declared.message.LinkMessage.{LinkMessage}
-use Rattle.craq_numbers.specs.Reading.{◌>>=◌, number_at}
-use Rattle.craq_bytes.specs.Reading.{key_at, value_at, request_at, pair_at, counted_at, mapped}
-use Rattle.craq_bytes.specs.EntryReading.{reply_at, entry_at}
+use Rattle.craq_codec.specs.NumberReading.{◌>>=◌, number_at}
+use Rattle.craq_codec.specs.PartReading.{key_at, value_at, request_at, pair_at, counted_at, mapped}
+use Rattle.craq_codec.specs.EntryReading.{reply_at, entry_at}
 use Rattle.craq_wire.specs.Spelling.{wire_version}
 
 abbrev pub CopyParts : Type 0

@@ -6,11 +6,11 @@ use Rattle.craq_model.specs.declared.message.Body.{Body}
 use Rattle.craq_model.specs.declared.message.Body.TheVariants as bodies
 use Rattle.craq_model.specs.declared.message.LinkMessage.{LinkMessage}
 use Rattle.craq_model.specs.Spelled.{IsSpelled}
-use Rattle.craq_numbers.specs.Spelling.{number}
-use Rattle.craq_bytes.specs.Spelling.{key, value, pair, counted, IsKey, IsValue, IsPair, AreCounted}
-use Rattle.craq_bytes.specs.EntrySpelling.{reply, entry, ReplyFits, EntryFits}
+use Rattle.craq_codec.specs.NumberSpelling.{number}
+use Rattle.craq_codec.specs.PartSpelling.{key, value, pair, counted, IsKey, IsValue, IsPair, AreCounted}
+use Rattle.craq_codec.specs.EntrySpelling.{reply, entry, ReplyFits, EntryFits}
 
--- a message: the wire's version, the kind of what is said, the header, and what is said
+-- a message: the wire's version, the kind of the body, the header, and the body
 
 -- the version of the wire
 abbrev pub wire_version : ℕ

@@ -11,7 +11,7 @@ use Rattle.craq_commands.specs.Kept.{Kept}
 use Rattle.craq_model.specs.declared.message.Body.{Body}
 use Rattle.craq_model.specs.declared.message.Body.TheVariants as bodies
 use Rattle.craq_model.specs.declared.message.LinkMessage.{LinkMessage}
-use Rattle.craq_bytes.specs.Tests.{is_reply, is_not_stale}
+use Rattle.craq_codec.specs.Tests.{is_reply, is_not_stale}
 
 -- one of them is the same as one after it
 abbrev pub stands_twice : {A : Type 0} → (A → A → Bool) → List A → Bool

@@ -1,4 +1,5 @@
-//! The messages between nodes of a chain as bytes.
+//! The messages between the nodes of a chain as bytes: `encode` and `decode`.
+//! Code that runs in tests alone.
 #![tactic(auto)]
 
 mod alike;

@@ -1,21 +1,21 @@
 ghost use Rattle.std.specs.Prelude.{◌≡◌, ◌++◌, OnOk};
-ghost use Rattle.craq_numbers.specs.Reading.{Gives};
-ghost use Rattle.craq_bytes.specs.Reading.{mapped};
+ghost use Rattle.craq_codec.specs.NumberReading.{Gives};
+ghost use Rattle.craq_codec.specs.PartReading.{mapped};
 ghost use Rattle.std.specs.Int.{w32};
-ghost use Rattle.craq_bytes.specs.Spelling.{counted, AreCounted};
+ghost use Rattle.craq_codec.specs.PartSpelling.{counted, AreCounted};
 ghost use Rattle.craq_model.specs.Spelled.{IsSpelledBody, IsSpelledState, IsSpelled};
 ghost use Rattle.craq_wire.specs.Reading.{body_at, message_at, copy_at, copy_of};
 ghost use Rattle.craq_wire.specs.Spelling.{header, said, stored, kept_reply, kind_of, spelling_of, HeaderFits, StoredFits, KeptFits, BodyFits, MessageFits};
 
 use bytes::BytesMut;
-use craq_bytes::{Part, read_long_list, read_short_list, write_long_list, write_short_list};
+use craq_codec::{
+    Part, Unread, read_long_list, read_short_list, read_u8, read_u16, read_u32, read_u64,
+    write_long_list, write_short_list, write_u8, write_u16, write_u32, write_u64,
+};
 use craq_commands::{Entry, Reply};
 use craq_model::{Body, LinkMessage};
 use craq_names::{
     ChainId, ClientId, Epoch, Key, NodeId, RequestNo, Seq, Stamp, Ticket, Value, Version,
-};
-use craq_numbers::{
-    Unread, read_u8, read_u16, read_u32, read_u64, write_u8, write_u16, write_u32, write_u64,
 };
 use std::alloc::{AllocError, Global};
 
@@ -23,7 +23,7 @@ use std::alloc::{AllocError, Global};
 const WIRE_VERSION: u8 = 1;
 
 /// The copy of a state at the front, and the bytes after it.
-#[tactic(auto, unfolding(crate::specs::Reading::copy_at, craq_bytes::specs::Reading::pair_at))]
+#[tactic(auto, unfolding(crate::specs::Reading::copy_at, craq_codec::specs::PartReading::pair_at))]
 fn read_copy(alloc: Global, bytes: &[u8]) -> Result<(Body, &[u8]), Unread>
     ensures { Gives (λ x. (x.0, x.1.now)) result (mapped copy_of (copy_at bytes.now)) }
 {
@@ -39,7 +39,7 @@ fn read_copy(alloc: Global, bytes: &[u8]) -> Result<(Body, &[u8]), Unread>
 }
 
 /// What goes with the kind of a message, and the bytes after it.
-#[tactic(auto, unfolding(crate::specs::Reading::body_at, craq_bytes::specs::Reading::pair_at))]
+#[tactic(auto, unfolding(crate::specs::Reading::body_at, craq_codec::specs::PartReading::pair_at))]
 fn read_body(alloc: Global, kind: u8, bytes: &[u8]) -> Result<(Body, &[u8]), Unread>
     ensures { Gives (λ x. (x.0, x.1.now)) result (body_at kind bytes.now) }
 {
@@ -83,7 +83,7 @@ fn read_body(alloc: Global, kind: u8, bytes: &[u8]) -> Result<(Body, &[u8]), Unr
 }
 
 /// The message at the front, and the bytes after it.
-#[tactic(auto, unfolding(crate::specs::Reading::message_at, crate::specs::Reading::header_at, craq_bytes::specs::Reading::pair_at))]
+#[tactic(auto, unfolding(crate::specs::Reading::message_at, crate::specs::Reading::header_at, craq_codec::specs::PartReading::pair_at))]
 pub(crate) fn read_message(alloc: Global, bytes: &[u8]) -> Result<(LinkMessage, &[u8]), Unread>
     ensures { Gives (λ x. (x.0, x.1.now)) result (message_at bytes.now) }
 {
@@ -128,7 +128,7 @@ fn kind(body: &Body) -> u8
 }
 
 /// Writes the objects and the kept replies of a state at the end.
-#[tactic(auto, using(craq_bytes::proofs::Free::all_of_any))]
+#[tactic(auto, using(craq_codec::proofs::Free::all_of_any))]
 fn write_state(
     out: &mut BytesMut,
     objects: &[(Key, (Version, Value))],
@@ -144,7 +144,7 @@ fn write_state(
 }
 
 /// Writes what a message says at the end.
-#[tactic(auto, using(craq_bytes::proofs::Free::all_of_any))]
+#[tactic(auto, using(craq_codec::proofs::Free::all_of_any))]
 fn write_body(out: &mut BytesMut, body: &Body) -> Result<(), AllocError>
     requires { IsSpelledBody body.now }
     ensures fits { OnOk result (BodyFits body.now) }

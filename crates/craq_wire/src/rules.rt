@@ -3,7 +3,7 @@ ghost use Rattle.std.specs.List.{list_all};
 ghost use Rattle.craq_wire.specs.Tests.{has_version, is_body, is_entry, is_from_its_sender, is_kept, is_membership, is_node, is_spelled, is_state, is_stored};
 
 use crate::alike::{has_twice, rises};
-use craq_bytes::{is_fresh_reply, is_spelled_reply};
+use craq_codec::{is_fresh_reply, is_spelled_reply};
 use craq_commands::{Entry, Mini, Reply, Write};
 use craq_model::{Body, LinkMessage};
 use craq_names::{ClientId, Key, NodeId, RequestNo, Value, Version};

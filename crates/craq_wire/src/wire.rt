@@ -1,6 +1,6 @@
 ghost use Rattle.std.specs.Prelude.{◌≡◌, ◌⊎◌, ◌↔◌, ℕ, List, Err, IfOk, IfErr, IsTrue};
 ghost use Rattle.craq_model.specs.Spelled.{IsSpelled};
-ghost use Rattle.craq_numbers.specs.Reading.{Gives};
+ghost use Rattle.craq_codec.specs.NumberReading.{Gives};
 ghost use Rattle.craq_wire.specs.Reading.{all_of};
 ghost use Rattle.craq_wire.specs.Spelling.{Spells};
 
@@ -8,8 +8,8 @@ use crate::LinkMessage;
 use crate::message::{read_message, write_message};
 use crate::rules::test_message;
 use bytes::{Bytes, BytesMut};
+use craq_codec::Unread;
 use craq_names::Refusal;
-use craq_numbers::Unread;
 use std::alloc::{AllocError, Global};
 
 /// The bytes that most messages need at most.

@@ -12,9 +12,9 @@ use Rattle.craq_runs.specs.Chain.{Progress, chain_step}
 use Rattle.craq_runs.specs.Explain.{explain}
 use Rattle.craq_runs.specs.Typed.{IsTypedRunOf}
 use Rattle.craq_protocol.specs.Promises.{IsPrefix}
-use Rattle.craq_entries.specs.Genuine.{IsBeginning}
-use Rattle.craq_entries.proofs.Explained.{begins}
-use Rattle.craq_headline.proofs.Headline.{explained}
+use Rattle.craq_updates.specs.Genuine.{IsBeginning}
+use Rattle.craq_updates.proofs.Explained.{begins}
+use Rattle.craq_promise.proofs.Promised.{explained}
 use Rattle.craq_chain.specs.Chained.{Chained, chain_of, moved, after_taking, GivesMove, opened, with_move}
 use Rattle.craq_world.specs.Promise.{AreExplained, BeginsAs, NothingIsTakenBack}
 use Rattle.craq_world.specs.Worlds.{AreRunning, GivesWorld, opened_from, RunsTo, world_move, moves_in}

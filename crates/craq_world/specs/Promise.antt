@@ -1,7 +1,7 @@
 -- What a world promises of its chains at all times.
 use Rattle.std.specs.Prelude.{◌≡◌, ⊤, ℕ, ◌+◌, List, [], ◌∷◌}
 use Rattle.std.specs.List.{AllZip}
-use Rattle.craq_entries.specs.Genuine.{IsBeginning}
+use Rattle.craq_updates.specs.Genuine.{IsBeginning}
 use Rattle.craq_runs.specs.Explain.{explain}
 use Rattle.craq_runs.specs.Typed.{IsTypedRunOf}
 use Rattle.craq_runs.specs.Valid.{IsValid}
@@ -13,7 +13,7 @@ pub record IsExplained (id : ℕ) (w : Chained) : Type 0 where
   pub run : IsTypedRunOf id w.run
   pub valid : IsValid w.run (explain id w.run)
 
--- so it is of each chain, with the ids from this one on
+-- the same of each chain, with the ids from this one on
 abbrev pub AreExplained : ℕ → List Chained → Type 0
 AreExplained id [] = ⊤
 AreExplained id (w ∷ ws) = IsExplained id w × AreExplained (id + 1) ws

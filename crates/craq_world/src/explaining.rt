@@ -5,8 +5,8 @@ ghost use Rattle.craq_runs.specs.Typed.{AreOfType};
 ghost use Rattle.craq_runs.specs.Valid.{IsValid};
 
 use craq_chain::keep_limits;
-use craq_headline::every_run_is_explained;
 use craq_names::ChainId;
+use craq_promise::every_run_is_explained;
 use craq_runs::{Explanation, Run, Taken};
 use std::alloc::{AllocError, Global};
 

@@ -1,4 +1,5 @@
-//! Worlds: any number of chains, on which moves are taken one after another.
+//! Worlds of 1 to 64 chains that take moves; the calls' contracts are the promise of the store.
+//! Code that runs in tests alone.
 #![tactic(auto)]
 
 mod explaining;

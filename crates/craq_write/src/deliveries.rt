@@ -12,13 +12,12 @@ ghost use Rattle.craq_model.specs.Sends.{copy_bodies};
 ghost use Rattle.craq_write.specs.Settling.{IsIdle};
 
 use crate::making_entries::forward;
-use crate::readiness::taken_unready;
-use crate::updates::push_some;
+use crate::readiness::{growing, taken_unready};
 use craq_commands::Entry;
 use craq_history::members::{last_member, predecessor_of, successor_of};
 use craq_history::outs::{message, send_entries, tell_predecessor};
 use craq_history::steps::{done, ignoring};
-use craq_history::{Change, History, HistoryChange, Node, WaitingChange};
+use craq_history::{Change, History, Node, WaitingChange};
 use craq_model::{Answer, Body, Out, Step, WaitingUpdate, Why};
 use craq_names::{Copied, NodeId, Seq};
 use std::alloc::{AllocError, Global};
@@ -174,16 +173,15 @@ fn passed_on<H: History>(
 {
     let members = node.members.as_slice();
     let length = entry.position;
+    let is_tail = last_member(members) == node.name.node;
     let mut outs = Vec::new(alloc);
-    let mut change = Change::none();
-    if last_member(members) == node.name.node {
+    if is_tail {
         tell_predecessor(&mut outs, &node.sender(), members, Body::Ack(length))?;
-        change.acknowledged = Some(length);
     } else {
-        push_some(&mut outs, forward(alloc, &node.sender(), members, &entry)?)?;
+        forward(&mut outs, alloc, &node.sender(), members, &entry)?;
     }
-    change.history = HistoryChange::Grows(entry);
-    Ok((change, done(outs)))
+    let acknowledged = if is_tail { Some(length) } else { None };
+    Ok((growing(entry, acknowledged, false), done(outs)))
 }
 
 /// An entry from the predecessor: it is appended where it is the next and fits. The tail commits it, any

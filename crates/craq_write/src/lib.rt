@@ -1,6 +1,5 @@
-//! The update rules of a node: what the head makes of an update, and how entries, acknowledgements,
-//! memberships, copies and floors change a node. Each call works out what changes and what is sent,
-//! and changes nothing itself.
+//! The update rules of a node: each call plans what changes and what is sent, and changes nothing.
+//! Code that runs in the program.
 #![tactic(auto)]
 
 mod answers;

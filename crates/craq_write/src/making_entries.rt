@@ -1,4 +1,4 @@
-ghost use Rattle.std.specs.Prelude.{◌≡◌, ◌≢◌, ℕ, List, All, map, IfOk, option_to_list};
+ghost use Rattle.std.specs.Prelude.{◌≡◌, ◌≢◌, ℕ, List, All, map, ◌++◌, IfOk, OnOk};
 ghost use Rattle.craq_names.specs.Limits.{greatest};
 ghost use Rattle.craq_commands.specs.Objects.{version_of};
 ghost use Rattle.craq_model.specs.Asks.{versioned_write};
@@ -46,19 +46,20 @@ pub(crate) fn versioned<H: History>(
     Ok(made)
 }
 
-/// The entry as it is sent to the successor, if there is one.
+/// Adds the entry as it is sent to the successor, if there is one.
 #[tactic(auto, unfolding(craq_model::specs::Sends::entry_bodies))]
 pub(crate) fn forward(
+    outs: &mut Vec<Out>,
     alloc: Global,
     sender: &Sender,
     members: &[NodeId],
     entry: &Entry,
-) -> Result<Option<Out>, AllocError>
-    ensures { IfOk result (λ out. option_to_list out ≡ forwarded sender.now.name sender.now.epoch members.now entry.now) }
+) -> Result<(), AllocError>
+    ensures { OnOk result (outs.new.items ≡ outs.old.items ++ forwarded sender.now.name sender.now.epoch members.now entry.now) }
 {
-    let own = sender.id();
-    let Some(to) = successor_of(members, own) else {
-        return Ok(None);
-    };
-    Ok(Some(message(sender, to, Body::Entry(entry.copied(alloc)?))))
+    if let Some(to) = successor_of(members, sender.id()) {
+        let copy = entry.copied(alloc)?;
+        outs.push(message(sender, to, Body::Entry(copy)))?;
+    }
+    Ok(())
 }

@@ -59,6 +59,21 @@ fn outs_when_ready<H: History>(
     Ok(outs)
 }
 
+/// The change by one more entry.
+pub(crate) fn growing(entry: Entry, acknowledged: Option<Seq>, becomes_ready: bool) -> Change
+    ensures { result ≡ record no_change { history = HistoryChange.Grows entry; acknowledged = acknowledged; becomes_ready = becomes_ready } }
+{
+    Change {
+        accepted: false,
+        membership: None,
+        history: HistoryChange::Grows(entry),
+        acknowledged,
+        floor: None,
+        becomes_ready,
+        waiting: WaitingChange::Same,
+    }
+}
+
 /// An entry by which a node becomes ready. The last member commits all that it holds.
 #[tactic(auto, using(crate::proofs::Ends::nothing_after_all, crate::proofs::Ends::one_more_after), unfolding(craq_model::specs::Settle::readiness_turn, craq_model::specs::Settle::settling_turn, craq_model::specs::Settle::all_given, craq_model::specs::Settle::by_ticket, craq_model::specs::Sends::tick_sends, craq_model::specs::Sends::ready_sends, craq_model::specs::Sends::catch_up, craq_model::specs::Plain::entries_after))]
 fn ready_by_entry<H: History>(
@@ -74,20 +89,15 @@ fn ready_by_entry<H: History>(
     ensures { IfOk result (λ r. IsPlanOf (plain_of H.past node.now) r (readiness_turn (with_entry (plain_of H.past node.now) entry))) }
 {
     let length = entry.position;
-    let mut change = Change::none();
-    change.becomes_ready = true;
     if last_member(node.members.as_slice()) == node.name.node {
         let outs = outs_when_ready(alloc, node, &[], &[], length, length)?;
-        change.acknowledged = Some(length);
-        change.history = HistoryChange::Grows(entry);
-        return Ok((change, done(outs)));
+        return Ok((growing(entry, Some(length), true), done(outs)));
     }
     let acknowledged = node.history.acknowledged();
     let held = node.history.after(acknowledged);
     let last = std::slice::from_ref(&entry);
     let outs = outs_when_ready(alloc, node, held, last, length, Seq::new(acknowledged))?;
-    change.history = HistoryChange::Grows(entry);
-    Ok((change, done(outs)))
+    Ok((growing(entry, None, true), done(outs)))
 }
 
 /// The next entry of the predecessor, at a node that is not ready: it is appended, and the node becomes
@@ -107,9 +117,7 @@ pub(crate) fn taken_unready<H: History>(
     if is_floor_reached(node.floor, entry.position) {
         return ready_by_entry(alloc, node, entry);
     }
-    let mut change = Change::none();
-    change.history = HistoryChange::Grows(entry);
-    Ok((change, done(Vec::new(alloc))))
+    Ok((growing(entry, None, false), done(Vec::new(alloc))))
 }
 
 /// The change of a state that is taken.
@@ -206,17 +214,20 @@ fn ready_by_floor<H: History>(
     ensures { IfOk result (λ r. IsPlanOf (plain_of H.past node.now) r (readiness_turn (record (plain_of H.past node.now) { floor = Some count }))) }
 {
     let length = Seq::new(node.history.len());
-    let mut change = Change::none();
-    change.floor = Some(count);
-    change.becomes_ready = true;
     if last_member(node.members.as_slice()) == node.name.node {
         let outs = outs_when_ready(alloc, node, &[], &[], length, length)?;
+        let mut change = Change::none();
+        change.floor = Some(count);
+        change.becomes_ready = true;
         change.acknowledged = Some(length);
         return Ok((change, done(outs)));
     }
     let acknowledged = node.history.acknowledged();
     let held = node.history.after(acknowledged);
     let outs = outs_when_ready(alloc, node, held, &[], length, Seq::new(acknowledged))?;
+    let mut change = Change::none();
+    change.floor = Some(count);
+    change.becomes_ready = true;
     Ok((change, done(outs)))
 }
 

@@ -1,4 +1,4 @@
-ghost use Rattle.std.specs.Prelude.{◌≡◌, ◌<◌, ◌+◌, ◌-◌, ◌^◌, ◌++◌, [], true, false, Some, None, if◌then◌else◌, OnOk, IfOk, option_to_list};
+ghost use Rattle.std.specs.Prelude.{◌≡◌, ◌<◌, ◌+◌, ◌-◌, ◌^◌, ◌∷◌, [], true, false, Some, None, if◌then◌else◌, IfOk};
 ghost use Rattle.craq_commands.specs.Evaluation.{some_used_up, objects_named};
 ghost use Rattle.craq_commands.specs.SingleCopy.{said};
 ghost use Rattle.craq_model.specs.Asks.{reply_turn, update_turn, new_update_turn, committed_if_last};
@@ -33,57 +33,49 @@ fn accepting(change: Change, waiting: WaitingChange) -> Change
     }
 }
 
-/// One more out, if there is one.
-pub(crate) fn push_some(outs: &mut Vec<Out>, out: Option<Out>) -> Result<(), AllocError>
-    ensures { OnOk result (outs.new.items ≡ outs.old.items ++ option_to_list out) }
+/// The outs behind the reply under its ticket.
+fn answer_first(mut outs: Vec<Out>, ticket: Ticket, reply: Reply) -> Result<Vec<Out>, AllocError>
+    ensures { IfOk result (λ all. all.items ≡ Out.Answer ticket (Answer.Update reply) ∷ outs.items) }
 {
-    if let Some(out) = out {
-        outs.push(out)?;
-    }
-    Ok(())
+    let answer = Answer::Update(reply);
+    outs.insert(0, Out::Answer { ticket, answer })?;
+    Ok(outs)
 }
 
 /// The reply to an update is known, and due once the history up to a position is committed: it is
 /// answered in this step if that is so after the change, else it waits.
 #[tactic(auto, unfolding(craq_model::specs::Asks::reply_turn, craq_model::specs::Asks::is_full))]
 fn replied<H: History>(
-    alloc: Global,
     node: &Node<H>,
     change: Change,
     acknowledged: u64,
     position: u64,
     reply: Reply,
-    send: Option<Out>,
+    sends: Vec<Out>,
 ) -> Result<(Change, Step), Refusal>
     requires room { node.now.last_ticket < 2 ^ 64 - 1 }
     requires grows { CanGrow (length_of (plain_of H.past node.now)) change.history }
     requires not_yet { change.accepted ≡ false }
     requires same { change.waiting ≡ WaitingChange.Same }
     requires committed { acknowledged ≡ (changed (plain_of H.past node.now) change).acknowledged }
-    ensures { Plans (plain_of H.past node.now) result (reply_turn (changed (plain_of H.past node.now) change) position reply (option_to_list send)) }
+    ensures { Plans (plain_of H.past node.now) result (reply_turn (changed (plain_of H.past node.now) change) position reply sends.items) }
 {
     let ticket = Ticket::new(node.last_ticket.get() + 1);
-    let mut outs = Vec::new(alloc);
     if position <= acknowledged {
-        outs.push(Out::Answer {
-            ticket,
-            answer: Answer::Update(reply),
-        })?;
-        push_some(&mut outs, send)?;
+        let outs = answer_first(sends, ticket, reply)?;
         let change = accepting(change, WaitingChange::Same);
         return Ok((change, accepted(ticket, outs)));
     }
     if node.is_full() {
         return Err(Refusal::PendingFull);
     }
-    push_some(&mut outs, send)?;
     let waiting = WaitingUpdate {
         ticket,
         position: Seq::new(position),
         reply,
     };
     let change = accepting(change, WaitingChange::OneUpdate(waiting));
-    Ok((change, accepted(ticket, outs)))
+    Ok((change, accepted(ticket, sends)))
 }
 
 /// The change with all committed that the history has then, where the node is last in its membership;
@@ -120,7 +112,8 @@ fn asked_before<H: History>(
 {
     let position = node.history.position_of(client);
     let (change, acknowledged) = committing(node, Change::none(), node.history.len());
-    replied(alloc, node, change, acknowledged, position, reply, None)
+    let sends = Vec::new(alloc);
+    replied(node, change, acknowledged, position, reply, sends)
 }
 
 /// A new update makes an entry of its outcome, which goes to the successor.
@@ -135,11 +128,13 @@ fn entered<H: History>(
 {
     let length = entry.position.get();
     let reply = entry.reply.copied(alloc)?;
-    let send = forward(alloc, &node.sender(), node.members.as_slice(), &entry)?;
+    let mut sends = Vec::new(alloc);
+    let sender = node.sender();
+    forward(&mut sends, alloc, &sender, node.members.as_slice(), &entry)?;
     let mut change = Change::none();
     change.history = HistoryChange::Grows(entry);
     let (change, acknowledged) = committing(node, change, length);
-    replied(alloc, node, change, acknowledged, length, reply, send)
+    replied(node, change, acknowledged, length, reply, sends)
 }
 
 /// The outcome of a new update as the next entry.

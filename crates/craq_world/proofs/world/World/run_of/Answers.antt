@@ -1,5 +1,5 @@
 use Rattle.std.proofs.Common.{◌≡◌, arith, subst, ◌∙◌}
-use Rattle.craq_headline.proofs.Headline.{explained}
+use Rattle.craq_promise.proofs.Promised.{explained}
 use Rattle.craq_runs.specs.Typed.{IsTypedRunOf}
 use Rattle.craq_world.specs.Worlds.{AreRunning}
 use Rattle.craq_world.proofs.Chains.{chain_at}

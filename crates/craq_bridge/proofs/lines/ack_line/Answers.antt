@@ -1,5 +1,0 @@
-use Rattle.craq_bridge.proofs.EachLine.{ack_line}
-use Rattle.craq_bridge.proofs.lines.ack_line.Goals as goal
-
-pub returns : goal.returns
-returns c = ack_line

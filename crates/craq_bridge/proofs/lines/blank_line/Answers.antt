@@ -1,5 +1,0 @@
-use Rattle.craq_bridge.proofs.EachStep.{blank_line}
-use Rattle.craq_bridge.proofs.lines.blank_line.Goals as goal
-
-pub returns : goal.returns
-returns c = blank_line

@@ -1,5 +1,0 @@
-use Rattle.craq_bridge.proofs.EachLine.{config_line}
-use Rattle.craq_bridge.proofs.lines.config_line.Goals as goal
-
-pub returns : goal.returns
-returns c = config_line

@@ -1,5 +1,0 @@
-use Rattle.craq_bridge.proofs.EachStep.{copy_line}
-use Rattle.craq_bridge.proofs.lines.copy_line.Goals as goal
-
-pub returns : goal.returns
-returns c = copy_line

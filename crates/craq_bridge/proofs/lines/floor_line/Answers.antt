@@ -1,5 +1,0 @@
-use Rattle.craq_bridge.proofs.EachStep.{floor_line}
-use Rattle.craq_bridge.proofs.lines.floor_line.Goals as goal
-
-pub returns : goal.returns
-returns c = floor_line

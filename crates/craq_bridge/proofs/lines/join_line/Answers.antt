@@ -1,5 +1,0 @@
-use Rattle.craq_bridge.proofs.EachStep.{join_line}
-use Rattle.craq_bridge.proofs.lines.join_line.Goals as goal
-
-pub returns : goal.returns
-returns c = join_line

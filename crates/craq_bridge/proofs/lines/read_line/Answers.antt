@@ -1,5 +1,0 @@
-use Rattle.craq_bridge.proofs.EachStep.{read_line}
-use Rattle.craq_bridge.proofs.lines.read_line.Goals as goal
-
-pub returns : goal.returns
-returns c = read_line

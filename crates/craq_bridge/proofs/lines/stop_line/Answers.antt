@@ -1,5 +1,0 @@
-use Rattle.craq_bridge.proofs.EachStep.{stop_line}
-use Rattle.craq_bridge.proofs.lines.stop_line.Goals as goal
-
-pub returns : goal.returns
-returns c = stop_line

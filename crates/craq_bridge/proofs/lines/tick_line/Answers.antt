@@ -1,5 +1,0 @@
-use Rattle.craq_bridge.proofs.EachStep.{tick_line}
-use Rattle.craq_bridge.proofs.lines.tick_line.Goals as goal
-
-pub returns : goal.returns
-returns c = tick_line

@@ -1,5 +1,0 @@
-use Rattle.craq_bridge.proofs.EachLine.{update_line}
-use Rattle.craq_bridge.proofs.lines.update_line.Goals as goal
-
-pub returns : goal.returns
-returns c = update_line

@@ -1,5 +1,0 @@
-use Rattle.craq_bridge.proofs.EachStep.{version_line}
-use Rattle.craq_bridge.proofs.lines.version_line.Goals as goal
-
-pub returns : goal.returns
-returns c = version_line

@@ -1,5 +1,0 @@
-use Rattle.craq_bridge.proofs.EachStep.{every_moves}
-use Rattle.craq_bridge.proofs.runs.all_moves_follow.Goals as goal
-
-pub returns : goal.returns
-returns c = every_moves

@@ -1,5 +1,0 @@
-use Rattle.craq_bridge.proofs.EachStep.{every_step}
-use Rattle.craq_bridge.proofs.runs.every_move_follows.Goals as goal
-
-pub returns : goal.returns
-returns c = every_step

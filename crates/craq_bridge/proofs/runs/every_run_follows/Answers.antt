@@ -1,5 +1,0 @@
-use Rattle.craq_bridge.proofs.EachStep.{every_run}
-use Rattle.craq_bridge.proofs.runs.every_run_follows.Goals as goal
-
-pub returns : goal.returns
-returns c = every_run

@@ -1,5 +1,0 @@
-pub mod EntryReading
-pub mod EntrySpelling
-pub mod Reading
-pub mod Spelling
-pub mod Tests

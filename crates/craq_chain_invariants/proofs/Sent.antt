@@ -1,0 +1,307 @@
+-- A node that says how many entries it holds, holds so many: line by line of its step.
+use Rattle.std.proofs.Common.{◌≡◌, ℕ, ◌+◌, ◌≤◌, ◌==◌, nat_le, nat_lt, max, Bool, true, not, cond, ◌&&◌, ◌||◌, List, [], ◌∷◌, ◌++◌, map, Option, Some, None, Result, Ok, Err, refl, subst, arith}
+use Rattle.std.specs.Prelude.{⊤}
+use Rattle.std.specs.List.{AllByRecursion}
+use Rattle.std.proofs.lemmas.Bool.{cond_both}
+use Rattle.craq_names.specs.Limits.{greatest}
+use Rattle.craq_names.specs.declared.refusal.Refusal.TheVariants as refusals
+use Rattle.craq_names.specs.declared.name.ObjectId.{ObjectId}
+use Rattle.craq_commands.specs.declared.command.Update.{Update}
+use Rattle.craq_commands.specs.declared.entry.Entry.{Entry}
+use Rattle.craq_commands.specs.declared.reply.Reply.{Reply}
+use Rattle.craq_commands.specs.declared.read_mode.ReadMode.{ReadMode}
+use Rattle.craq_commands.specs.declared.read_mode.ReadMode.TheVariants.{Strong, Eventual, Bounded}
+use Rattle.craq_commands.specs.SingleCopy.{State, said}
+use Rattle.craq_commands.specs.Evaluation.{objects_named, all_of_chain, some_used_up}
+use Rattle.craq_model.specs.declared.message.Body.{Body}
+use Rattle.craq_model.specs.declared.message.Body.TheVariants as bodies
+use Rattle.craq_model.specs.declared.message.LinkMessage.{LinkMessage}
+use Rattle.craq_model.specs.declared.ask.Ask.TheVariants as asks
+use Rattle.craq_model.specs.declared.ask.Answer.TheVariants as answers
+use Rattle.craq_model.specs.declared.ask.Event.{Event}
+use Rattle.craq_model.specs.declared.ask.Event.TheVariants as events
+use Rattle.craq_model.specs.declared.step.Out.{Out}
+use Rattle.craq_model.specs.declared.step.Out.TheVariants as outs
+use Rattle.craq_model.specs.declared.step.Why.{Why}
+use Rattle.craq_model.specs.declared.step.Why.TheVariants.{OtherEpoch, NotNeighbour, OutOfOrder, AlreadyHave, NotReadyHere, TooFar}
+use Rattle.craq_model.specs.declared.waiting.WaitingRead.{WaitingRead}
+use Rattle.craq_model.specs.declared.waiting.WaitingUpdate.{WaitingUpdate}
+use Rattle.craq_model.specs.Members.{is_member, is_id, first_of, last_of}
+use Rattle.craq_model.specs.Plain.{Plain, id_of, successor, predecessor, is_first, is_last, is_tail, length_of, newest, newest_object, clean, position_of, entries_after}
+use Rattle.craq_model.specs.Sends.{send, send_all, to_neighbour, entry_bodies, copy_bodies, catch_up, queries, ready_sends, unready_sends, tick_sends}
+use Rattle.craq_model.specs.Settle.{Turn, Given, turn_with, turn_ignoring, all_committed, all_given, answer_outs, update_given, is_reached, settling_turn, readiness_turn, read_answer}
+use Rattle.craq_model.specs.Asks.{accepted_turn, answered_turn, is_full, is_clean, with_entry, committed_if_last, reply_turn, new_update_turn, update_turn, waiting_read_turn, read_turn, accepted_ask_turn, ask_turn}
+use Rattle.craq_model.specs.Deliveries.{config_turn, is_applicable, forwarding_turn, taken_entry_turn, entry_turn, due_updates, acknowledgement_turn, ack_turn, query_turn, told_version_turn, version_turn, read_with, fill_bodies, blank_turn, with_copy, copy_turn, floor_turn, turn_in_epoch, body_turn}
+use Rattle.craq_model.specs.Node.{event_turn}
+use Rattle.craq_refinement.proofs.Lists.{all_append}
+use Rattle.craq_refinement.proofs.Updates.{refused, turn_same}
+use Rattle.craq_updates.proofs.AtNodes.{for_node, tick_same, stop_same}
+use Rattle.craq_updates.proofs.EachMove.{entry_for}
+
+-- what is said of how much is held
+abbrev pub IsWithin : ℕ → Body → Type 0
+IsWithin held (bodies.Config members) = ⊤
+IsWithin held (bodies.Entry e) = ⊤
+IsWithin held (bodies.Ack position) = ⊤
+IsWithin held (bodies.Query ticket key) = ⊤
+IsWithin held (bodies.VersionIs ticket version) = ⊤
+IsWithin held (bodies.Blank count) = count ≤ held
+IsWithin held (bodies.Copy position objects kept) = ⊤
+IsWithin held (bodies.Floor count) = ⊤
+
+-- what the node of this id sends, while it holds so much
+abbrev pub AreWithin : ℕ → ℕ → List Out → Type 0
+AreWithin id held [] = ⊤
+AreWithin id held (outs.Send to m ∷ os) = ((m.sender ≡ id) × IsWithin held m.body) × AreWithin id held os
+AreWithin id held (outs.Answer ticket answer ∷ os) = AreWithin id held os
+
+both : (id held : ℕ) (os ps : List Out) → AreWithin id held os → AreWithin id held ps → AreWithin id held (os ++ ps)
+both id held [] ps a b = b
+both id held (outs.Send to m ∷ os) ps a b = (a.0, both id held os ps a.1 b)
+both id held (outs.Answer ticket answer ∷ os) ps a b = both id held os ps a b
+
+given : (id held : ℕ) (gs : List Given) → AreWithin id held (answer_outs gs)
+given id held [] = tt
+given id held (g ∷ gs) = given id held gs
+
+all_sent : (p : Plain) (held to : ℕ) (bs : List Body) → AllByRecursion (IsWithin held) bs → AreWithin (id_of p) held (send_all p to bs)
+all_sent p held to [] a = tt
+all_sent p held to (b ∷ bs) a = ((refl, a.0), all_sent p held to bs a.1)
+
+neighbour : (id held : ℕ) (o : Option ℕ) (sends : ℕ → List Out) → ((to : ℕ) → AreWithin id held (sends to)) → AreWithin id held (to_neighbour o sends)
+neighbour id held None sends f = tt
+neighbour id held (Some to) sends f = f to
+
+entries_within : (held : ℕ) (es : List Entry) → AllByRecursion (IsWithin held) (entry_bodies es)
+unfolding entry_bodies
+entries_within held [] = tt
+entries_within held (e ∷ es) = (tt, entries_within held es)
+
+catch_up_within : (p : Plain) (held position : ℕ) → AllByRecursion (IsWithin held) (catch_up p position)
+unfolding catch_up
+catch_up_within p held position = all_append (IsWithin held) (entry_bodies (entries_after p position)) (bodies.Floor (length_of p) ∷ []) (entries_within held (entries_after p position)) (tt, tt)
+
+queries_within : (p : Plain) (held : ℕ) (rs : List WaitingRead) → AreWithin (id_of p) held (map (λ (r : WaitingRead). send p (last_of p.members) (bodies.Query r.ticket r.key)) rs)
+queries_within p held [] = tt
+queries_within p held (r ∷ rs) = ((refl, tt), queries_within p held rs)
+
+ready_within : (p : Plain) (held : ℕ) → AreWithin (id_of p) held (ready_sends p)
+unfolding ready_sends
+ready_within p held =
+    let id : ℕ = id_of p in
+    let first : List Out = to_neighbour (successor p) (λ to. send_all p to (catch_up p p.acknowledged)) in
+    let second : List Out = to_neighbour (predecessor p) (λ to. send p to (bodies.Ack p.acknowledged) ∷ []) in
+    both id held (first ++ second) (cond (is_last p) [] (queries p))
+    (both id held first second
+    (neighbour id held (successor p) (λ to. send_all p to (catch_up p p.acknowledged)) (λ to. all_sent p held to (catch_up p p.acknowledged) (catch_up_within p held p.acknowledged)))
+    (neighbour id held (predecessor p) (λ to. send p to (bodies.Ack p.acknowledged) ∷ []) (λ to. ((refl, tt), tt))))
+    (cond_both (is_last p) [] (queries p) (λ (os : List Out). AreWithin id held os) (λ e. tt) (λ e. queries_within p held p.waiting_reads))
+
+unready_within : (p : Plain) → AreWithin (id_of p) (length_of p) (unready_sends p)
+unfolding unready_sends
+unready_within p = neighbour (id_of p) (length_of p) (predecessor p) (λ to. send p to (bodies.Blank (length_of p)) ∷ []) (λ to. ((refl, omega arith), tt))
+
+tick_within : (p : Plain) → AreWithin (id_of p) (length_of p) (tick_sends p)
+unfolding tick_sends
+tick_within p =
+    cond_both (p.epoch == 0) [] (cond p.ready (ready_sends p) (unready_sends p)) (λ (os : List Out). AreWithin (id_of p) (length_of p) os)
+    (λ e. tt)
+    (λ e. cond_both p.ready (ready_sends p) (unready_sends p) (λ (os : List Out). AreWithin (id_of p) (length_of p) os) (λ r. ready_within p (length_of p)) (λ r. unready_within p))
+
+-- ---- messages
+
+-- a turn says no more than what the node holds after it
+abbrev pub SaysHeld : Turn → Type 0
+SaysHeld t = AreWithin (id_of t.0) (length_of t.0) t.1.outs
+
+settles : (p : Plain) → SaysHeld (settling_turn p)
+unfolding settling_turn
+settles p =
+    let q : Plain = all_committed p in
+    cond_both (is_tail p) (turn_with q (answer_outs (all_given p) ++ tick_sends q)) (turn_with p (tick_sends p)) SaysHeld
+    (λ e. both (id_of q) (length_of q) (answer_outs (all_given p)) (tick_sends q) (given (id_of q) (length_of q) (all_given p)) (tick_within q))
+    (λ e. tick_within p)
+
+becomes : (p : Plain) → SaysHeld (readiness_turn p)
+unfolding readiness_turn
+becomes p = cond_both (not p.ready && is_reached p.floor (length_of p)) (settling_turn (record p { ready = true })) (turn_with p []) SaysHeld (λ e. settles (record p { ready = true })) (λ e. tt)
+
+guard : (p : Plain) (b : Bool) (why : Why) (t : Turn) → SaysHeld t → SaysHeld (cond b (turn_ignoring p why) t)
+guard p b why t go = cond_both b (turn_ignoring p why) t SaysHeld (λ e. tt) (λ e. go)
+
+config_held : (p : Plain) (epoch : ℕ) (members : List ℕ) → SaysHeld (config_turn p epoch members)
+unfolding config_turn
+config_held p epoch members =
+    let q : Plain = record p { epoch = epoch; members = members; floor = None } in
+    guard p (nat_le epoch p.epoch) OtherEpoch (cond (not (is_member members (id_of p))) (turn_ignoring p NotNeighbour) (settling_turn q)) (guard p (not (is_member members (id_of p))) NotNeighbour (settling_turn q) (settles q))
+
+forwards : (p : Plain) (e : Entry) → SaysHeld (forwarding_turn p e)
+unfolding forwarding_turn
+forwards p e =
+    let id : ℕ = id_of p in
+    let held : ℕ = length_of p in
+    let acks : ℕ → List Out = λ to. send p to (bodies.Ack (length_of p)) ∷ [] in
+    let entries : ℕ → List Out = λ to. send_all p to (entry_bodies (e ∷ [])) in
+    cond_both (is_tail p) (turn_with (record p { acknowledged = length_of p }) (to_neighbour (predecessor p) acks)) (turn_with p (to_neighbour (successor p) entries)) SaysHeld
+    (λ t. neighbour id held (predecessor p) acks (λ to. ((refl, tt), tt)))
+    (λ t. neighbour id held (successor p) entries (λ to. all_sent p held to (entry_bodies (e ∷ [])) (entries_within held (e ∷ []))))
+
+entry_held : (p : Plain) (sender : ℕ) (e : Entry) → SaysHeld (entry_turn p sender e)
+unfolding entry_turn
+entry_held p sender e =
+    let q : Plain = with_entry p e in
+    let last : Turn = taken_entry_turn q e in
+    let third : Turn = cond (not (is_applicable (newest p) e)) (turn_ignoring p TooFar) last in
+    let second : Turn = cond (nat_lt (length_of p + 1) e.position) (turn_ignoring p OutOfOrder) third in
+    let first : Turn = cond (nat_le e.position (length_of p)) (turn_ignoring p AlreadyHave) second in
+    guard p (not (is_id (predecessor p) sender)) NotNeighbour first
+    (guard p (nat_le e.position (length_of p)) AlreadyHave second
+    (guard p (nat_lt (length_of p + 1) e.position) OutOfOrder third
+    (guard p (not (is_applicable (newest p) e)) TooFar last
+    (cond_both p.ready (forwarding_turn q e) (readiness_turn q) SaysHeld (λ r. forwards q e) (λ r. becomes q)))))
+
+acknowledges : (p : Plain) (position : ℕ) → SaysHeld (acknowledgement_turn p position)
+unfolding acknowledgement_turn
+acknowledges p position =
+    let id : ℕ = id_of p in
+    let held : ℕ = length_of p in
+    let gs : List Given = map update_given (due_updates position p.waiting_updates) in
+    let acks : ℕ → List Out = λ to. send p to (bodies.Ack position) ∷ [] in
+    both id held (answer_outs gs) (to_neighbour (predecessor p) acks) (given id held gs) (neighbour id held (predecessor p) acks (λ to. ((refl, tt), tt)))
+
+ack_held : (p : Plain) (sender position : ℕ) → SaysHeld (ack_turn p sender position)
+unfolding ack_turn
+ack_held p sender position =
+    let last : Turn = acknowledgement_turn p position in
+    let third : Turn = cond (nat_lt (length_of p) position) (turn_ignoring p TooFar) last in
+    let second : Turn = cond (nat_le position p.acknowledged) (turn_ignoring p AlreadyHave) third in
+    let first : Turn = cond (not p.ready) (turn_ignoring p NotReadyHere) second in
+    guard p (not (is_id (successor p) sender)) NotNeighbour first
+    (guard p (not p.ready) NotReadyHere second (guard p (nat_le position p.acknowledged) AlreadyHave third (guard p (nat_lt (length_of p) position) TooFar last (acknowledges p position))))
+
+query_held : (p : Plain) (sender ticket : ℕ) (key : List ℕ) → SaysHeld (query_turn p sender ticket key)
+unfolding query_turn
+query_held p sender ticket key =
+    let last : Turn = turn_with p (send p sender (bodies.VersionIs ticket (newest_object p key).0) ∷ []) in
+    guard p ((sender == id_of p) || not (is_member p.members sender)) NotNeighbour (cond (not (is_tail p)) (turn_ignoring p NotReadyHere) last) (guard p (not (is_tail p)) NotReadyHere last ((refl, tt), tt))
+
+told_held : (p : Plain) (version : ℕ) (o : Option WaitingRead) → SaysHeld (told_version_turn p version o)
+unfolding told_version_turn
+told_held p version None = tt
+told_held p version (Some r) = guard p (nat_lt (newest_object p r.key).0 version) TooFar (turn_with _ (outs.Answer _ _ ∷ [])) tt
+
+version_held : (p : Plain) (sender ticket version : ℕ) → SaysHeld (version_turn p sender ticket version)
+unfolding version_turn
+version_held p sender ticket version =
+    guard p (not (sender == last_of p.members)) NotNeighbour (told_version_turn p version (read_with ticket p.waiting_reads)) (told_held p version (read_with ticket p.waiting_reads))
+
+fill_within : (p : Plain) (held count : ℕ) → AllByRecursion (IsWithin held) (fill_bodies p count)
+unfolding fill_bodies copy_bodies
+fill_within p held count =
+    let copies : List Body = copy_bodies p.acknowledged (clean p) in
+    all_append (IsWithin held) (cond (nat_lt count p.acknowledged) copies []) (catch_up p (max count p.acknowledged))
+    (cond_both (nat_lt count p.acknowledged) copies [] (λ (l : List Body). AllByRecursion (IsWithin held) l) (λ e. (tt, tt)) (λ e. tt))
+    (catch_up_within p held (max count p.acknowledged))
+
+blank_held : (p : Plain) (sender count : ℕ) → SaysHeld (blank_turn p sender count)
+unfolding blank_turn
+blank_held p sender count =
+    let last : Turn = turn_with p (send_all p sender (fill_bodies p count)) in
+    guard p (not (is_id (successor p) sender)) NotNeighbour (cond (not p.ready) (turn_ignoring p NotReadyHere) last)
+    (guard p (not p.ready) NotReadyHere last (all_sent p (length_of p) sender (fill_bodies p count) (fill_within p (length_of p) count)))
+
+copy_held : (p : Plain) (sender position : ℕ) (state : State) → SaysHeld (copy_turn p sender position state)
+unfolding copy_turn
+copy_held p sender position state =
+    let last : Turn = readiness_turn (with_copy p position state) in
+    guard p (not (is_id (predecessor p) sender)) NotNeighbour (cond (p.ready || nat_le position (length_of p)) (turn_ignoring p AlreadyHave) last)
+    (guard p (p.ready || nat_le position (length_of p)) AlreadyHave last (becomes (with_copy p position state)))
+
+floor_held : (p : Plain) (sender count : ℕ) → SaysHeld (floor_turn p sender count)
+unfolding floor_turn
+floor_held p sender count =
+    let q : Plain = record p { floor = Some count } in
+    guard p (not (is_id (predecessor p) sender)) NotNeighbour (cond p.ready (turn_ignoring p AlreadyHave) (readiness_turn q)) (guard p p.ready AlreadyHave (readiness_turn q) (becomes q))
+
+in_epoch : (p : Plain) (m : LinkMessage) (t : Turn) → SaysHeld t → SaysHeld (turn_in_epoch p m t)
+in_epoch p m t go = cond_both (m.epoch == p.epoch) t (turn_ignoring p OtherEpoch) SaysHeld (λ e. go) (λ e. tt)
+
+body_held : (p : Plain) (m : LinkMessage) (b : Body) → SaysHeld (body_turn p m b)
+body_held p m (bodies.Config members) = config_held p m.epoch members
+body_held p m (bodies.Entry e) = in_epoch p m (entry_turn p m.sender e) (entry_held p m.sender e)
+body_held p m (bodies.Ack position) = in_epoch p m (ack_turn p m.sender position) (ack_held p m.sender position)
+body_held p m (bodies.Query ticket key) = in_epoch p m (query_turn p m.sender ticket key) (query_held p m.sender ticket key)
+body_held p m (bodies.VersionIs ticket version) = in_epoch p m (version_turn p m.sender ticket version) (version_held p m.sender ticket version)
+body_held p m (bodies.Blank count) = in_epoch p m (blank_turn p m.sender count) (blank_held p m.sender count)
+body_held p m (bodies.Copy position objects kept) = in_epoch p m (copy_turn p m.sender position (record { objects = objects; kept = kept })) (copy_held p m.sender position (record { objects = objects; kept = kept }))
+body_held p m (bodies.Floor count) = in_epoch p m (floor_turn p m.sender count) (floor_held p m.sender count)
+
+-- ---- asks
+
+-- what is sent beside a reply says nothing of what is held
+reply_held : (p : Plain) (position : ℕ) (reply : Reply) (sends : List Out) (t : Turn) → ((held : ℕ) → AreWithin (id_of p) held sends) → reply_turn p position reply sends ≡ Ok t → SaysHeld t
+unfolding reply_turn
+reply_held p position reply sends t a h =
+    let now : Turn = answered_turn p (answers.Update reply) sends in
+    let u : WaitingUpdate = record { ticket = p.last_ticket + 1; position = position; reply = reply } in
+    let later : Turn = accepted_turn (record p { waiting_updates = p.waiting_updates ++ u ∷ [] }) sends in
+    cond_both (nat_le position p.acknowledged) (Ok now) (cond (is_full p) (Err refusals.PendingFull) (Ok later)) (λ (r : Result Turn _). r ≡ Ok t → SaysHeld t)
+    (λ e k. subst SaysHeld (turn_same now t (Ok now) refl k) (a (length_of p)))
+    (λ e k. subst SaysHeld (turn_same later t (Ok later) refl (refused (is_full p) refusals.PendingFull (Ok later) k).1) (a (length_of p)))
+    h
+
+replies_held : (p : Plain) (position : ℕ) (reply : Reply) (sends : List Out) (t : Turn) → ((held : ℕ) → AreWithin (id_of p) held sends) → reply_turn (committed_if_last p) position reply sends ≡ Ok t → SaysHeld t
+replies_held p position reply sends t a h =
+    cond_both (is_last p) (record p { acknowledged = length_of p }) p (λ (x : Plain). reply_turn x position reply sends ≡ Ok t → SaysHeld t)
+    (λ e k. reply_held (record p { acknowledged = length_of p }) position reply sends t a k)
+    (λ e k. reply_held p position reply sends t a k)
+    h
+
+update_held : (p : Plain) (u : Update) (t : Turn) → ask_turn p (asks.Update u) ≡ Ok t → SaysHeld t
+unfolding ask_turn update_turn
+update_held p u t k =
+    let a : _ = refused (not p.ready) refusals.NotReady (cond (not (all_of_chain p.name.chain (objects_named u.command))) (Err refusals.TwoChains) (accepted_ask_turn p (asks.Update u))) k in
+    let b : _ = refused (not (all_of_chain p.name.chain (objects_named u.command))) refusals.TwoChains (accepted_ask_turn p (asks.Update u)) a.1 in
+    let d : _ = refused (not (is_first p)) (refusals.NotHead (first_of p.members)) (cond (p.last_ticket == greatest) (Err refusals.Exhausted) (update_turn p u (said (newest p) u.client u.number))) b.1 in
+    let e : _ = refused (p.last_ticket == greatest) refusals.Exhausted (update_turn p u (said (newest p) u.client u.number)) d.1 in
+    by_reply (said (newest p) u.client u.number) e.1
+  where
+    by_reply : (o : Option Reply) → update_turn p u o ≡ Ok t → SaysHeld t
+    by_reply (Some reply) i = replies_held p (position_of p u.client) reply [] t (λ held. tt) i
+    by_reply None i =
+        let e : Entry = entry_for p u in
+        let entries : ℕ → List Out = λ to. send_all p to (entry_bodies (e ∷ [])) in
+        let g : _ = refused (length_of p == greatest || some_used_up (newest p).objects (objects_named u.command)) refusals.Exhausted (new_update_turn p e) i in
+        replies_held (with_entry p e) e.position e.reply (to_neighbour (successor p) entries) t
+        (λ held. neighbour (id_of p) held (successor p) entries (λ to. all_sent p held to (entry_bodies (e ∷ [])) (entries_within held (e ∷ [])))) g.1
+
+reads_held : (p : Plain) (mode : ReadMode) (key : List ℕ) (t : Turn) → read_turn p mode key ≡ Ok t → SaysHeld t
+unfolding read_turn waiting_read_turn
+reads_held p Eventual key t k = subst SaysHeld (turn_same (answered_turn p (read_answer (newest_object p key)) []) t (read_turn p Eventual key) refl k) tt
+reads_held p (Bounded b) key t k = subst SaysHeld (turn_same (answered_turn p _ []) t (read_turn p (Bounded b) key) refl k) tt
+reads_held p Strong key t k =
+    let now : Turn = answered_turn p (read_answer (newest_object p key)) [] in
+    let q : Plain = record p { waiting_reads = p.waiting_reads ++ (record { ticket = p.last_ticket + 1; key = key }) ∷ [] } in
+    let later : Turn = accepted_turn q (send p (last_of p.members) (bodies.Query (p.last_ticket + 1) key) ∷ []) in
+    cond_both (is_clean p key) (Ok now) (cond (is_full p) (Err refusals.PendingFull) (Ok later)) (λ (x : Result Turn _). x ≡ Ok t → SaysHeld t)
+    (λ e i. subst SaysHeld (turn_same now t (Ok now) refl i) tt)
+    (λ e i. subst SaysHeld (turn_same later t (Ok later) refl (refused (is_full p) refusals.PendingFull (Ok later) i).1) ((refl, tt), tt))
+    k
+
+read_held : (p : Plain) (mode : ReadMode) (object : ObjectId) (t : Turn) → ask_turn p (asks.Read mode object) ≡ Ok t → SaysHeld t
+unfolding ask_turn
+read_held p mode object t k =
+    let here : Bool = all_of_chain p.name.chain (object ∷ []) in
+    let a : _ = refused (not p.ready) refusals.NotReady (cond (not here) (Err refusals.TwoChains) (accepted_ask_turn p (asks.Read mode object))) k in
+    let b : _ = refused (not here) refusals.TwoChains (accepted_ask_turn p (asks.Read mode object)) a.1 in
+    let d : _ = refused (p.last_ticket == greatest) refusals.Exhausted (read_turn p mode object.key) b.1 in
+    reads_held p mode object.key t d.1
+
+-- ---- whatever happens at the node
+
+pub event_held : (p : Plain) (e : Event) (t : Turn) → event_turn p e ≡ Ok t → SaysHeld t
+event_held p (events.Ask (asks.Update u)) t h = update_held p u t h
+event_held p (events.Ask (asks.Read mode object)) t h = read_held p mode object t h
+event_held p (events.Deliver m) t h = subst SaysHeld (for_node p m t h) (body_held p m m.body)
+event_held p events.Tick t h = subst SaysHeld (tick_same p t h) (tick_within p)
+event_held p events.Stop t h = subst SaysHeld (stop_same p t h) tt

@@ -1,0 +1,99 @@
+-- Replies and entries are read as they are spelled, and spelled as they are read.
+use Rattle.std.proofs.Common.{◌≡◌, ℕ, ◌^◌, ◌<◌, List, ◌++◌, Option, Some, refl, arith}
+use Rattle.std.specs.Int.{w8, w64}
+use Rattle.craq_commands.specs.declared.reply.Reply.{Reply}
+use Rattle.craq_commands.specs.declared.reply.Reply.TheVariants.{Written, Mismatch, TooLong, NotANumber, Overflow, Underflow, Done, CompareFailed, Stale}
+use Rattle.craq_commands.specs.declared.entry.Entry.{Entry}
+use Rattle.craq_commands.specs.declared.entry.Write.{Write}
+use Rattle.craq_codec.specs.NumberSpelling.{number}
+use Rattle.craq_codec.specs.PartSpelling.{value, pair, counted, IsValue, IsPair, AreCounted}
+use Rattle.craq_codec.specs.EntrySpelling.{reply_tag, reply_body, reply, ReplyFits, write, WriteFits, entry, EntryFits}
+use Rattle.craq_codec.specs.NumberReading.{number_at}
+use Rattle.craq_codec.specs.PartReading.{value_at, pair_at, counted_at, mapped}
+use Rattle.craq_codec.specs.EntryReading.{reply_body_at, reply_at, write_of, write_at, entry_of, entry_at}
+use Rattle.craq_codec.proofs.NumberExact.{IsBytes, Takes, IsExact, chosen, u8_exact, u32_exact, u64_exact, wide8}
+use Rattle.craq_codec.proofs.PartExact.{key_exact, value_exact, request_exact, pair_exact, counted_exact, mapped_exact}
+use Rattle.craq_codec.proofs.Tagged.{one_case, bare_case, tagged_exact}
+
+-- ---- replies
+
+abbrev pub version_value_fits : ℕ × List ℕ → Type 0
+version_value_fits = IsPair (λ version. version < 2 ^ 64) IsValue
+
+pub version_value_exact : IsExact (pair (number w64) value) version_value_fits (pair_at (number_at w64) value_at)
+version_value_exact = pair_exact _ _ _ u64_exact _ _ _ value_exact
+
+done_exact : IsExact (counted w8 (pair (number w64) value)) (AreCounted w8 version_value_fits) (counted_at w8 (pair_at (number_at w64) value_at))
+done_exact = counted_exact _ _ _ version_value_exact w8 wide8
+
+reply_case : {A : Type 0} (spelling : A → List ℕ) (P : A → Type 0) (part : List ℕ → Option (A × List ℕ)) → IsExact spelling P part
+    → (f : A → Reply) → ((a : A) → reply_body (f a) ≡ spelling a) → ((a : A) → P a → ReplyFits (f a)) → (tag : ℕ) → ((a : A) → reply_tag (f a) ≡ tag)
+    → (bytes : List ℕ) (x : Reply × List ℕ) → IsBytes bytes → mapped f (part bytes) ≡ Some x → (Takes bytes (reply_body x.0) x.1 × ReplyFits x.0) × (reply_tag x.0 ≡ tag)
+reply_case = one_case reply_tag reply_body ReplyFits
+
+reply_takes : (tag : ℕ) (bytes : List ℕ) (x : Reply × List ℕ) → IsBytes bytes → reply_body_at tag bytes ≡ Some x → (Takes bytes (reply_body x.0) x.1 × ReplyFits x.0) × (reply_tag x.0 ≡ tag)
+unfolding reply_body_at
+reply_takes tag bytes x h e =
+    let P = λ (k : ℕ). (Takes bytes (reply_body x.0) x.1 × ReplyFits x.0) × (reply_tag x.0 ≡ k) in
+    let bare = bare_case reply_tag reply_body ReplyFits in
+    chosen tag 1 _ _ x e P (reply_case _ _ _ u64_exact Written (λ a. refl) (λ a q. q) 1 (λ a. refl) bytes x h) (λ e.
+    chosen tag 2 _ _ x e P (reply_case _ _ _ u64_exact Mismatch (λ a. refl) (λ a q. q) 2 (λ a. refl) bytes x h) (λ e.
+    chosen tag 3 _ _ x e P (bare TooLong refl tt bytes x h) (λ e.
+    chosen tag 4 _ _ x e P (bare NotANumber refl tt bytes x h) (λ e.
+    chosen tag 5 _ _ x e P (bare Overflow refl tt bytes x h) (λ e.
+    chosen tag 6 _ _ x e P (bare Underflow refl tt bytes x h) (λ e.
+    chosen tag 7 _ _ x e P (reply_case _ _ _ done_exact Done (λ a. refl) (λ a q. q) 7 (λ a. refl) bytes x h) (λ e.
+    chosen tag 8 _ _ x e P (reply_case _ _ _ u8_exact CompareFailed (λ a. refl) (λ a q. q) 8 (λ a. refl) bytes x h) (λ e.
+    chosen tag 9 _ _ x e P (reply_case _ _ _ request_exact Stale (λ a. refl) (λ a q. q) 9 (λ a. refl) bytes x h) (λ e.
+    absurd cc)))))))))
+
+reply_again : (r : Reply) (rest : List ℕ) → ReplyFits r → reply_body_at (reply_tag r) (reply_body r ++ rest) ≡ Some (r, rest)
+unfolding reply_body_at
+reply_again (Written version) rest h = rw (u64_exact.again version rest h) refl
+reply_again (Mismatch version) rest h = rw (u64_exact.again version rest h) refl
+reply_again TooLong rest h = refl
+reply_again NotANumber rest h = refl
+reply_again Overflow rest h = refl
+reply_again Underflow rest h = refl
+reply_again (Done objects) rest h = rw (done_exact.again objects rest h) refl
+reply_again (CompareFailed place) rest h = rw (u8_exact.again place rest h) refl
+reply_again (Stale last) rest h = rw (request_exact.again last rest h) refl
+
+reply_small : (r : Reply) → reply_tag r < 2 ^ 8
+reply_small (Written version) = omega arith
+reply_small (Mismatch version) = omega arith
+reply_small TooLong = omega arith
+reply_small NotANumber = omega arith
+reply_small Overflow = omega arith
+reply_small Underflow = omega arith
+reply_small (Done objects) = omega arith
+reply_small (CompareFailed place) = omega arith
+reply_small (Stale last) = omega arith
+
+pub reply_exact : IsExact reply ReplyFits reply_at
+unfolding reply reply_at
+reply_exact = tagged_exact reply_tag reply_body ReplyFits reply_body_at (record { small = reply_small; takes = reply_takes; again = reply_again })
+
+-- ---- entries
+
+write_exact : IsExact write WriteFits write_at
+unfolding write write_at
+write_exact =
+    mapped_exact _ _ _ (pair_exact _ _ _ key_exact _ _ _ version_value_exact) write_of (λ (w : Write). (w.key, (w.version, w.value))) write WriteFits
+    (λ a q. record { key = q.0; version = q.1.0; value = q.1.1 }) (λ w q. (q.key, (q.version, q.value))) (λ w. refl) (λ a. refl)
+
+writes_exact : IsExact (counted w8 write) (AreCounted w8 WriteFits) (counted_at w8 write_at)
+writes_exact = counted_exact _ _ _ write_exact w8 wide8
+
+abbrev entry_parts : Entry → ℕ × (ℕ × (ℕ × (ℕ × (ℕ × (Reply × List Write)))))
+entry_parts e = (e.position, (e.origin_node, (e.origin_ticket, (e.client, (e.number, (e.reply, e.writes))))))
+
+pub entry_exact : IsExact entry EntryFits entry_at
+unfolding entry entry_at
+entry_exact =
+    mapped_exact _ _ _
+    (pair_exact _ _ _ u64_exact _ _ _ (pair_exact _ _ _ u32_exact _ _ _ (pair_exact _ _ _ u64_exact _ _ _ (pair_exact _ _ _ u64_exact _ _ _
+    (pair_exact _ _ _ request_exact _ _ _ (pair_exact _ _ _ reply_exact _ _ _ writes_exact))))))
+    entry_of entry_parts entry EntryFits
+    (λ a q. record { position = q.0; origin_node = q.1.0; origin_ticket = q.1.1.0; client = q.1.1.1.0; number = q.1.1.1.1.0; reply = q.1.1.1.1.1.0; writes = q.1.1.1.1.1.1 })
+    (λ e q. (q.position, (q.origin_node, (q.origin_ticket, (q.client, (q.number, (q.reply, q.writes))))))) (λ e. refl) (λ a. refl)

@@ -1,0 +1,9 @@
+pub mod NumberReading
+pub mod NumberSpelling
+pub mod PartReading
+pub mod PartSpelling
+pub mod EntryReading
+pub mod EntrySpelling
+pub mod CommandReading
+pub mod CommandSpelling
+pub mod Tests

@@ -1,0 +1,155 @@
+ghost use Rattle.std.specs.Prelude.{◌≡◌, ◌++◌, OnOk};
+ghost use Rattle.craq_codec.specs.NumberReading.{Gives};
+ghost use Rattle.craq_codec.specs.CommandReading.{command_at, command_body_at, transaction_at};
+ghost use Rattle.craq_codec.specs.PartSpelling.{object as object_bytes, value as value_bytes, IsObject, IsValue};
+ghost use Rattle.craq_codec.specs.CommandSpelling.{command as spelled_command, transaction, CommandFits, TransactionFits};
+
+use crate::{
+    Part, Unread, read_short_list, read_u8, read_u64, write_short_list, write_u8, write_u64,
+};
+use bytes::BytesMut;
+use craq_commands::{Command, Mini};
+use craq_names::{ObjectId, Value, Version};
+use std::alloc::{AllocError, Global};
+
+/// The transaction at the front, and the bytes after it.
+#[tactic(auto, unfolding(crate::specs::CommandReading::transaction_at, crate::specs::PartReading::pair_at))]
+fn read_transaction(alloc: Global, bytes: &[u8]) -> Result<(Mini, &[u8]), Unread>
+    ensures { Gives (λ x. (x.0, x.1.now)) result (transaction_at bytes.now) }
+{
+    let (compares, rest) = read_short_list(alloc, bytes)?;
+    let (reads, rest) = read_short_list(alloc, rest)?;
+    let (writes, rest) = read_short_list(alloc, rest)?;
+    match Mini::new(compares, reads, writes) {
+        Ok(mini) => Ok((mini, rest)),
+        Err(_) => Err(Unread::BadFrame),
+    }
+}
+
+/// What goes with the tag of a command, and the bytes after it.
+#[tactic(auto, unfolding(crate::specs::CommandReading::command_body_at, crate::specs::PartReading::pair_at))]
+fn read_command_body(alloc: Global, tag: u8, bytes: &[u8]) -> Result<(Command, &[u8]), Unread>
+    ensures { Gives (λ x. (x.0, x.1.now)) result (command_body_at tag bytes.now) }
+{
+    match tag {
+        1 => {
+            let (object, rest) = ObjectId::read(alloc, bytes)?;
+            let (value, rest) = Value::read(alloc, rest)?;
+            Ok((Command::Put { object, value }, rest))
+        }
+        2 => {
+            let (object, rest) = ObjectId::read(alloc, bytes)?;
+            let (expect, rest) = read_u64(rest)?;
+            let (value, rest) = Value::read(alloc, rest)?;
+            let command = Command::TestAndSet {
+                object,
+                expect: Version::new(expect),
+                value,
+            };
+            Ok((command, rest))
+        }
+        3 => {
+            let (object, rest) = ObjectId::read(alloc, bytes)?;
+            let (value, rest) = Value::read(alloc, rest)?;
+            Ok((Command::Append { object, value }, rest))
+        }
+        4 => {
+            let (object, rest) = ObjectId::read(alloc, bytes)?;
+            let (value, rest) = Value::read(alloc, rest)?;
+            Ok((Command::Prepend { object, value }, rest))
+        }
+        5 => {
+            let (object, rest) = ObjectId::read(alloc, bytes)?;
+            let (by, rest) = read_u64(rest)?;
+            Ok((Command::Increment { object, by }, rest))
+        }
+        6 => {
+            let (object, rest) = ObjectId::read(alloc, bytes)?;
+            let (by, rest) = read_u64(rest)?;
+            Ok((Command::Decrement { object, by }, rest))
+        }
+        7 => {
+            let (mini, rest) = read_transaction(alloc, bytes)?;
+            Ok((Command::Mini(mini), rest))
+        }
+        _ => Err(Unread::BadFrame),
+    }
+}
+
+/// The command that the bytes begin with, and the bytes after it. `BadFrame` exactly where they
+/// begin with none; `Memory` where a growth was refused.
+#[tactic(auto, unfolding(crate::specs::CommandReading::command_at))]
+pub fn read_command(alloc: Global, bytes: &[u8]) -> Result<(Command, &[u8]), Unread>
+    ensures { Gives (λ x. (x.0, x.1.now)) result (command_at bytes.now) }
+{
+    let (tag, rest) = read_u8(bytes)?;
+    read_command_body(alloc, tag, rest)
+}
+
+/// Writes an object and a value at the end.
+fn write_put(out: &mut BytesMut, object: &ObjectId, value: &Value) -> Result<(), AllocError>
+    ensures fits { OnOk result (IsObject object.now × IsValue value.now) }
+    ensures spelled { OnOk result (out.new.items
+        ≡ out.old.items ++ (object_bytes object.now ++ value_bytes value.now)) }
+{
+    object.write(out)?;
+    value.write(out)
+}
+
+/// Writes a transaction at the end.
+#[tactic(auto, using(crate::proofs::Free::all_of_any))]
+fn write_transaction(out: &mut BytesMut, mini: &Mini) -> Result<(), AllocError>
+    ensures fits { OnOk result (TransactionFits mini.now) }
+    ensures spelled { OnOk result (out.new.items ≡ out.old.items ++ transaction mini.now) }
+{
+    mini.keeps_limits();
+    write_short_list(out, mini.compares())?;
+    write_short_list(out, mini.reads())?;
+    write_short_list(out, mini.writes())
+}
+
+/// Writes a command at the end. It fails for want of memory alone.
+#[tactic(auto, unfolding(crate::specs::CommandSpelling::command))]
+pub fn write_command(out: &mut BytesMut, command: &Command) -> Result<(), AllocError>
+    ensures fits { OnOk result (CommandFits command.now) }
+    ensures spelled { OnOk result (out.new.items ≡ out.old.items ++ spelled_command command.now) }
+{
+    match command {
+        Command::Put { object, value } => {
+            write_u8(out, 1)?;
+            write_put(out, object, value)
+        }
+        Command::TestAndSet {
+            object,
+            expect,
+            value,
+        } => {
+            write_u8(out, 2)?;
+            object.write(out)?;
+            expect.write(out)?;
+            value.write(out)
+        }
+        Command::Append { object, value } => {
+            write_u8(out, 3)?;
+            write_put(out, object, value)
+        }
+        Command::Prepend { object, value } => {
+            write_u8(out, 4)?;
+            write_put(out, object, value)
+        }
+        Command::Increment { object, by } => {
+            write_u8(out, 5)?;
+            object.write(out)?;
+            write_u64(out, *by)
+        }
+        Command::Decrement { object, by } => {
+            write_u8(out, 6)?;
+            object.write(out)?;
+            write_u64(out, *by)
+        }
+        Command::Mini(mini) => {
+            write_u8(out, 7)?;
+            write_transaction(out, mini)
+        }
+    }
+}

@@ -1,0 +1,85 @@
+ghost use Rattle.std.specs.Prelude.{◌≡◌, ◌<◌, ◌^◌, ◌++◌, length, OnOk};
+ghost use Rattle.std.specs.List.{flat_map, AllByRecursion};
+ghost use Rattle.std.specs.Int.{w8, w32};
+ghost use Rattle.craq_codec.specs.NumberReading.{Gives};
+ghost use Rattle.craq_codec.specs.PartReading.{many_at, counted_at};
+ghost use Rattle.craq_codec.specs.PartSpelling.{counted, AreCounted};
+
+use crate::{Part, Unread, read_u8, read_u32, write_u8, write_u32};
+use bytes::BytesMut;
+use craq_names::Items;
+use std::alloc::{AllocError, Global};
+
+/// This many values from the front, and the bytes after them. `BadFrame` exactly where the bytes
+/// do not begin with so many. Room is asked for only for values that were read.
+pub fn read_parts<T: Part>(
+    alloc: Global,
+    count: usize,
+    bytes: &[u8],
+) -> Result<(Items<T>, &[u8]), Unread>
+    ensures { Gives (λ x. (x.0, x.1.now)) result (many_at T.part_at count bytes.now) }
+{
+    let mut parts = Items::new(alloc);
+    let mut rest = bytes;
+    for _ in 0..count {
+        let (part, after) = T::read(alloc, rest)?;
+        parts.push(part)?;
+        rest = after;
+    }
+    Ok((parts, rest))
+}
+
+/// Writes the values at the end, one after the other. It fails for want of memory alone.
+pub fn write_parts<T: Part>(out: &mut BytesMut, parts: &[T]) -> Result<(), AllocError>
+    requires { AllByRecursion T.is_writable parts.now }
+    ensures fits { OnOk result (AllByRecursion T.fits parts.now) }
+    ensures spelled { OnOk result (out.new.items ≡ out.old.items ++ flat_map T.spelling parts.now) }
+{
+    for part in parts {
+        part.write(out)?;
+    }
+    Ok(())
+}
+
+/// A byte of count at the front and so many values, and the bytes after them. `BadFrame` exactly
+/// where the bytes do not begin so.
+#[tactic(auto, unfolding(crate::specs::PartReading::counted_at))]
+pub fn read_short_list<T: Part>(alloc: Global, bytes: &[u8]) -> Result<(Items<T>, &[u8]), Unread>
+    ensures { Gives (λ x. (x.0, x.1.now)) result (counted_at w8 T.part_at bytes.now) }
+{
+    let (count, rest) = read_u8(bytes)?;
+    read_parts(alloc, count as usize, rest)
+}
+
+/// A count of 4 bytes at the front and so many values, and the bytes after them. `BadFrame`
+/// exactly where the bytes do not begin so.
+#[tactic(auto, unfolding(crate::specs::PartReading::counted_at))]
+pub fn read_long_list<T: Part>(alloc: Global, bytes: &[u8]) -> Result<(Items<T>, &[u8]), Unread>
+    ensures { Gives (λ x. (x.0, x.1.now)) result (counted_at w32 T.part_at bytes.now) }
+{
+    let (count, rest) = read_u32(bytes)?;
+    read_parts(alloc, count as usize, rest)
+}
+
+/// Writes at most 255 values at the end, after a byte of count. It fails for want of memory alone.
+pub fn write_short_list<T: Part>(out: &mut BytesMut, parts: &[T]) -> Result<(), AllocError>
+    requires few { length parts.now < 2 ^ 8 }
+    requires writable { AllByRecursion T.is_writable parts.now }
+    ensures fits { OnOk result (AreCounted w8 T.fits parts.now) }
+    ensures spelled { OnOk result (out.new.items ≡ out.old.items ++ counted w8 T.spelling parts.now) }
+{
+    write_u8(out, parts.len() as u8)?;
+    write_parts(out, parts)
+}
+
+/// Writes fewer than 2^32 values at the end, after a count of 4 bytes. It fails for want of memory
+/// alone.
+pub fn write_long_list<T: Part>(out: &mut BytesMut, parts: &[T]) -> Result<(), AllocError>
+    requires few { length parts.now < 2 ^ 32 }
+    requires writable { AllByRecursion T.is_writable parts.now }
+    ensures fits { OnOk result (AreCounted w32 T.fits parts.now) }
+    ensures spelled { OnOk result (out.new.items ≡ out.old.items ++ counted w32 T.spelling parts.now) }
+{
+    write_u32(out, parts.len() as u32)?;
+    write_parts(out, parts)
+}

@@ -1,0 +1,227 @@
+ghost use Rattle.std.specs.Prelude.{◌≡◌, ◌<◌, ◌≤◌, ◌^◌, ⊤, ℕ, List, Option, ◌++◌, OnOk};
+ghost use Rattle.std.specs.Int.{w16, w32, w64};
+ghost use Rattle.craq_codec.specs.NumberReading.{Gives, number_at};
+ghost use Rattle.craq_codec.specs.PartReading.{key_at, value_at, object_at, request_at, pair_at};
+ghost use Rattle.craq_codec.specs.NumberSpelling.{number};
+ghost use Rattle.craq_codec.specs.PartSpelling.{key, value, object, pair, IsKey, IsValue, IsObject, IsPair};
+
+use crate::{
+    Unread, read_bytes, read_u8, read_u16, read_u32, read_u64, write_u8, write_u16, write_u32,
+    write_u64,
+};
+use bytes::{BufMut, BytesMut};
+use craq_names::{ChainId, ClientId, Key, NodeId, ObjectId, RequestNo, Value, Version};
+use std::alloc::{AllocError, Global};
+
+/// A part of a message that stands in lists, or in other parts.
+pub trait Part: Drop {
+    /// How a value is spelled.
+    ghost spelling: { Self → List ℕ };
+
+    /// What numbers and lengths a value may have: each of a width.
+    ghost fits: { Self → Type 0 };
+
+    /// What has to be known of a value before it is written.
+    ghost is_writable: { Self → Type 0 };
+
+    /// The value that bytes begin with, and the bytes after it.
+    ghost part_at: { List ℕ → Option (Self × List ℕ) };
+
+    /// The value that the bytes begin with, and the bytes after it. `BadFrame` exactly where they
+    /// begin with none. Room is asked for only after the bytes of what goes there were seen.
+    fn read(alloc: Global, bytes: &[u8]) -> Result<(Self, &[u8]), Unread>
+        ensures { Gives (λ x. (x.0, x.1.now)) result (part_at bytes.now) };
+
+    /// Writes the value at the end. It fails for want of memory alone.
+    fn write(&self, out: &mut BytesMut) -> Result<(), AllocError>
+        requires { is_writable self.now }
+        ensures fits { OnOk result (fits self.now) }
+        ensures spelled { OnOk result (out.new.items ≡ out.old.items ++ spelling self.now) };
+}
+
+impl Part for NodeId {
+    ghost spelling = { number w32 };
+
+    ghost fits = { λ id. id < 2 ^ 32 };
+
+    ghost is_writable = { λ _. ⊤ };
+
+    ghost part_at = { number_at w32 };
+
+    fn read(_alloc: Global, bytes: &[u8]) -> Result<(Self, &[u8]), Unread> {
+        let (id, rest) = read_u32(bytes)?;
+        Ok((NodeId::new(id), rest))
+    }
+
+    fn write(&self, out: &mut BytesMut) -> Result<(), AllocError> {
+        write_u32(out, self.get())
+    }
+}
+
+impl Part for Version {
+    ghost spelling = { number w64 };
+
+    ghost fits = { λ version. version < 2 ^ 64 };
+
+    ghost is_writable = { λ _. ⊤ };
+
+    ghost part_at = { number_at w64 };
+
+    fn read(_alloc: Global, bytes: &[u8]) -> Result<(Self, &[u8]), Unread> {
+        let (version, rest) = read_u64(bytes)?;
+        Ok((Version::new(version), rest))
+    }
+
+    fn write(&self, out: &mut BytesMut) -> Result<(), AllocError> {
+        write_u64(out, self.get())
+    }
+}
+
+impl Part for ClientId {
+    ghost spelling = { number w64 };
+
+    ghost fits = { λ id. id < 2 ^ 64 };
+
+    ghost is_writable = { λ _. ⊤ };
+
+    ghost part_at = { number_at w64 };
+
+    fn read(_alloc: Global, bytes: &[u8]) -> Result<(Self, &[u8]), Unread> {
+        let (id, rest) = read_u64(bytes)?;
+        Ok((ClientId::new(id), rest))
+    }
+
+    fn write(&self, out: &mut BytesMut) -> Result<(), AllocError> {
+        write_u64(out, self.get())
+    }
+}
+
+impl Part for RequestNo {
+    ghost spelling = { number w64 };
+
+    ghost fits = { λ n. (1 ≤ n) × (n < 2 ^ 64) };
+
+    ghost is_writable = { λ _. ⊤ };
+
+    ghost part_at = { request_at };
+
+    #[tactic(auto, unfolding(crate::specs::PartReading::request_at))]
+    fn read(_alloc: Global, bytes: &[u8]) -> Result<(Self, &[u8]), Unread> {
+        let (n, rest) = read_u64(bytes)?;
+        match RequestNo::new(n) {
+            Ok(number) => Ok((number, rest)),
+            Err(_) => Err(Unread::BadFrame),
+        }
+    }
+
+    fn write(&self, out: &mut BytesMut) -> Result<(), AllocError> {
+        write_u64(out, self.get())
+    }
+}
+
+impl Part for Key {
+    ghost spelling = { key };
+
+    ghost fits = { IsKey };
+
+    ghost is_writable = { λ _. ⊤ };
+
+    ghost part_at = { key_at };
+
+    #[tactic(auto, unfolding(crate::specs::PartReading::key_at))]
+    fn read(alloc: Global, bytes: &[u8]) -> Result<(Self, &[u8]), Unread> {
+        let (len, rest) = read_u8(bytes)?;
+        if len == 0 {
+            return Err(Unread::BadFrame);
+        }
+        if 128 < len {
+            return Err(Unread::BadFrame);
+        }
+        let (text, rest) = read_bytes(len as usize, rest)?;
+        match Key::new(alloc, text) {
+            Ok(key) => Ok((key, rest)),
+            Err(_) => Err(Unread::Memory),
+        }
+    }
+
+    fn write(&self, out: &mut BytesMut) -> Result<(), AllocError> {
+        let text = self.as_slice();
+        write_u8(out, text.len() as u8)?;
+        out.put_slice(text)
+    }
+}
+
+impl Part for Value {
+    ghost spelling = { value };
+
+    ghost fits = { IsValue };
+
+    ghost is_writable = { λ _. ⊤ };
+
+    ghost part_at = { value_at };
+
+    #[tactic(auto, unfolding(crate::specs::PartReading::value_at))]
+    fn read(alloc: Global, bytes: &[u8]) -> Result<(Self, &[u8]), Unread> {
+        let (len, rest) = read_u16(bytes)?;
+        let len = len as usize;
+        if Value::MAX < len {
+            return Err(Unread::BadFrame);
+        }
+        let (text, rest) = read_bytes(len, rest)?;
+        match Value::new(alloc, text) {
+            Ok(value) => Ok((value, rest)),
+            Err(_) => Err(Unread::Memory),
+        }
+    }
+
+    fn write(&self, out: &mut BytesMut) -> Result<(), AllocError> {
+        let text = self.as_slice();
+        write_u16(out, text.len() as u16)?;
+        out.put_slice(text)
+    }
+}
+
+impl Part for ObjectId {
+    ghost spelling = { object };
+
+    ghost fits = { IsObject };
+
+    ghost is_writable = { λ _. ⊤ };
+
+    ghost part_at = { object_at };
+
+    #[tactic(auto, unfolding(crate::specs::PartReading::object_at))]
+    fn read(alloc: Global, bytes: &[u8]) -> Result<(Self, &[u8]), Unread> {
+        let (chain, rest) = read_u16(bytes)?;
+        let (key, rest) = Key::read(alloc, rest)?;
+        let chain = ChainId::new(chain);
+        Ok((ObjectId { chain, key }, rest))
+    }
+
+    fn write(&self, out: &mut BytesMut) -> Result<(), AllocError> {
+        write_u16(out, self.chain.get())?;
+        self.key.write(out)
+    }
+}
+
+impl<A: Part, B: Part> Part for (A, B) {
+    ghost spelling = { pair A.spelling B.spelling };
+
+    ghost fits = { IsPair A.fits B.fits };
+
+    ghost is_writable = { IsPair A.is_writable B.is_writable };
+
+    ghost part_at = { pair_at A.part_at B.part_at };
+
+    #[tactic(auto, unfolding(crate::specs::PartReading::pair_at))]
+    fn read(alloc: Global, bytes: &[u8]) -> Result<(Self, &[u8]), Unread> {
+        let (first, rest) = A::read(alloc, bytes)?;
+        let (second, rest) = B::read(alloc, rest)?;
+        Ok(((first, second), rest))
+    }
+
+    fn write(&self, out: &mut BytesMut) -> Result<(), AllocError> {
+        self.0.write(out)?;
+        self.1.write(out)
+    }
+}

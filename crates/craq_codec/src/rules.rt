@@ -1,0 +1,57 @@
+ghost use Rattle.std.specs.Prelude.{◌≡◌, ◌↔◌, IsTrue};
+ghost use Rattle.craq_codec.specs.Tests.{is_object_read, is_reply, is_not_stale};
+ghost use Rattle.std.specs.List.{list_all};
+ghost use Rattle.craq_model.specs.Spelled.{IsReply, IsNotStale};
+
+use craq_commands::{Mini, Reply};
+use craq_names::{Value, Version};
+
+/// Whether the object has no bytes if it is absent.
+fn may_be_read(object: &(Version, Value)) -> bool
+    ensures { result ≡ is_object_read object.now }
+{
+    object.0.get() != 0 || object.1.as_slice().is_empty()
+}
+
+/// Whether the objects may be told by a reply.
+fn may_all_be_read(objects: &[(Version, Value)]) -> bool
+    ensures { result ≡ list_all is_object_read objects.now }
+{
+    objects.iter().all(|object| may_be_read(object))
+}
+
+/// The rules of replies as a test.
+fn test_reply(reply: &Reply) -> bool
+    ensures { result ≡ is_reply reply.now }
+{
+    match reply {
+        Reply::Written(version) => version.get() >= 1,
+        Reply::Done(objects) => {
+            objects.len() <= Mini::MOST_ITEMS && may_all_be_read(objects.as_slice())
+        }
+        Reply::CompareFailed(place) => (*place as usize) < Mini::MOST_ITEMS,
+        _ => true,
+    }
+}
+
+/// Whether the reply keeps the rules of replies: a written version is at least 1, at most 16
+/// objects are told, an absent one has no bytes, and the compare that failed is one of 16.
+#[tactic(auto, using(crate::proofs::Tests::decides_reply))]
+pub fn is_spelled_reply(reply: &Reply) -> bool
+    ensures value { result ≡ is_reply reply.now }
+    ensures rules { IsTrue result ↔ IsReply reply.now }
+{
+    test_reply(reply)
+}
+
+/// Whether the reply is that of a new update, and not that the update's number is stale.
+#[tactic(auto, using(crate::proofs::Tests::decides_not_stale))]
+pub fn is_fresh_reply(reply: &Reply) -> bool
+    ensures value { result ≡ is_not_stale reply.now }
+    ensures rules { IsTrue result ↔ IsNotStale reply.now }
+{
+    match reply {
+        Reply::Stale(_) => false,
+        _ => true,
+    }
+}

@@ -1,5 +1,0 @@
-use Rattle.craq_entries.proofs.Explained.{form_asks, form_lens}
-use Rattle.craq_entries.proofs.explanations_have_form.Goals as goal
-
-pub returns : goal.returns
-returns c = record { asks = form_asks; lens = form_lens }

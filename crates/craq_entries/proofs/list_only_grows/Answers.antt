@@ -1,5 +1,0 @@
-use Rattle.craq_entries.proofs.Explained.{only_grows}
-use Rattle.craq_entries.proofs.list_only_grows.Goals as goal
-
-pub returns : goal.returns
-returns c = only_grows

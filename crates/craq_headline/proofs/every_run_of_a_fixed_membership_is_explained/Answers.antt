@@ -1,5 +1,0 @@
-use Rattle.craq_headline.proofs.Headline.{fixed}
-use Rattle.craq_headline.proofs.every_run_of_a_fixed_membership_is_explained.Goals as goal
-
-pub returns : goal.returns
-returns c = fixed

@@ -1,5 +1,0 @@
-use Rattle.craq_kept.proofs.Nodes.{are_nodes}
-use Rattle.craq_kept.proofs.members_are_nodes.Goals as goal
-
-pub returns : goal.returns
-returns c = are_nodes

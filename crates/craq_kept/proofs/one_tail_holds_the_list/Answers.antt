@@ -1,5 +1,0 @@
-use Rattle.craq_kept.proofs.Nodes.{one, list, known}
-use Rattle.craq_kept.proofs.one_tail_holds_the_list.Goals as goal
-
-pub returns : goal.returns
-returns c = record { one = one; list = list; known = known }

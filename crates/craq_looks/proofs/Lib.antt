@@ -1,5 +1,0 @@
-pub mod Writes
-pub mod Lows
-pub mod Facts
-pub mod Runs
-pub mod Holding

@@ -1,5 +1,0 @@
-use Rattle.craq_looks.proofs.Holding.{looks_hold}
-use Rattle.craq_looks.proofs.looks_hold.Goals as goal
-
-pub returns : goal.returns
-returns c = looks_hold

@@ -1,0 +1,59 @@
+-- A sound node hears that entries are committed.
+use Rattle.std.proofs.Common.{◌≡◌, ◌≤◌, ◌<◌, ℕ, nat_le, nat_lt, true, not, cond, [], ◌∷◌, map, arith}
+use Rattle.std.proofs.lemmas.Bool.{cond_both, not-false, leb-false, ltb-false}
+use Rattle.craq_model.specs.declared.message.Body.TheVariants as bodies
+use Rattle.craq_model.specs.declared.step.Why.TheVariants.{NotNeighbour, NotReadyHere, AlreadyHave, TooFar}
+use Rattle.craq_model.specs.declared.waiting.WaitingUpdate.{WaitingUpdate}
+use Rattle.craq_model.specs.Deliveries.{due_updates, later_updates, acknowledgement_turn, ack_turn}
+use Rattle.craq_model.specs.Members.{is_id}
+use Rattle.craq_model.specs.Plain.{Plain, successor, predecessor, length_of}
+use Rattle.craq_model.specs.Sends.{send, to_neighbour}
+use Rattle.craq_model.specs.Settle.{Turn, turn_ignoring, update_given, answer_outs}
+use Rattle.craq_model.specs.Spelled.{IsReply}
+use Rattle.craq_node_invariant.specs.Sound.{IsSound}
+use Rattle.craq_node_invariant.proofs.Lists.{all_append, all_filter}
+use Rattle.craq_node_invariant.proofs.Sends.{IsSpelledIfFitting, Speaks, ack_sent}
+use Rattle.craq_node_invariant.proofs.Settling.{IsSoundTurn, ignoring, updates_given, answers_spelled}
+
+heard_is : (p : Plain) (position : ℕ) → IsSound p → p.ready ≡ true → p.acknowledged < position → position ≤ length_of p
+    → IsSound (record p { acknowledged = position; waiting_updates = later_updates position p.waiting_updates })
+unfolding later_updates
+heard_is p position s r above below = record {
+  own = s.own;
+  ids = s.ids;
+  unknown = s.unknown;
+  known = s.known;
+  in_epoch = s.in_epoch;
+  idle_updates = λ e. absurd (cc);
+  idle_reads = s.idle_reads;
+  based = omega (arith, s.based, above);
+  within = below;
+  state = s.state;
+  entries = s.entries;
+  replies = all_filter (λ (u : WaitingUpdate). IsReply u.reply) (λ (u : WaitingUpdate). nat_lt position u.position) p.waiting_updates s.replies;
+  tickets = s.tickets;
+}
+
+acknowledgement_is : (p : Plain) (position : ℕ) → IsSound p → Speaks p → p.ready ≡ true → p.acknowledged < position → position ≤ length_of p → IsSoundTurn (acknowledgement_turn p position)
+unfolding acknowledgement_turn due_updates
+acknowledgement_is p position s w r above below = (
+  heard_is p position s r above below,
+  all_append IsSpelledIfFitting (answer_outs (map update_given (due_updates position p.waiting_updates))) (to_neighbour (predecessor p) (λ to. send p to (bodies.Ack position) ∷ []))
+      (answers_spelled (map update_given (due_updates position p.waiting_updates))
+      (updates_given (due_updates position p.waiting_updates)
+      (all_filter (λ (u : WaitingUpdate). IsReply u.reply) (λ (u : WaitingUpdate). nat_le u.position position) p.waiting_updates s.replies)))
+      (ack_sent p position s w),
+)
+
+pub ack_is : (p : Plain) (sender position : ℕ) → IsSound p → Speaks p → IsSoundTurn (ack_turn p sender position)
+unfolding ack_turn
+ack_is p sender position s w =
+    let last : Turn = acknowledgement_turn p position in
+    let third : Turn = cond (nat_lt (length_of p) position) (turn_ignoring p TooFar) last in
+    let second : Turn = cond (nat_le position p.acknowledged) (turn_ignoring p AlreadyHave) third in
+    let first : Turn = cond (not p.ready) (turn_ignoring p NotReadyHere) second in
+    cond_both (not (is_id (successor p) sender)) (turn_ignoring p NotNeighbour) first (λ (t : Turn). IsSoundTurn t) (λ a. ignoring p NotNeighbour s)
+    (λ a. cond_both (not p.ready) (turn_ignoring p NotReadyHere) second (λ (t : Turn). IsSoundTurn t) (λ b. ignoring p NotReadyHere s)
+    (λ b. cond_both (nat_le position p.acknowledged) (turn_ignoring p AlreadyHave) third (λ (t : Turn). IsSoundTurn t) (λ d. ignoring p AlreadyHave s)
+    (λ d. cond_both (nat_lt (length_of p) position) (turn_ignoring p TooFar) last (λ (t : Turn). IsSoundTurn t) (λ g. ignoring p TooFar s)
+    (λ g. acknowledgement_is p position s w (not-false p.ready b) (leb-false position p.acknowledged d) (ltb-false (length_of p) position g)))))

@@ -1,0 +1,96 @@
+-- A sound node takes an ask.
+use Rattle.std.proofs.Common.{◌≡◌, ◌≤◌, ℕ, ◌+◌, ◌==◌, true, not, Bool, cond, List, [], ◌∷◌, ◌++◌, Result, Ok, Err, arith}
+use Rattle.std.proofs.lemmas.Bool.{cond_both, not-false}
+use Rattle.craq_names.specs.Limits.{greatest}
+use Rattle.craq_names.specs.declared.refusal.Refusal.{Refusal}
+use Rattle.craq_names.specs.declared.refusal.Refusal.TheVariants as refusals
+use Rattle.craq_commands.specs.declared.read_mode.ReadMode.{ReadMode}
+use Rattle.craq_commands.specs.declared.read_mode.ReadMode.TheVariants.{Strong, Eventual, Bounded}
+use Rattle.craq_commands.specs.Evaluation.{all_of_chain}
+use Rattle.craq_commands.specs.SingleCopy.{said}
+use Rattle.craq_model.specs.declared.ask.Answer.{Answer}
+use Rattle.craq_model.specs.declared.ask.Ask.{Ask}
+use Rattle.craq_model.specs.declared.ask.Ask.TheVariants as asks
+use Rattle.craq_model.specs.declared.message.Body.TheVariants as bodies
+use Rattle.craq_model.specs.declared.step.Out.{Out}
+use Rattle.craq_model.specs.declared.step.Out.TheVariants as outs
+use Rattle.craq_model.specs.declared.waiting.WaitingRead.{WaitingRead}
+use Rattle.craq_model.specs.Asks.{accepted_turn, answered_turn, is_full, is_clean, waiting_read_turn, read_turn, update_turn, asked_objects, accepted_ask_turn, ask_turn}
+use Rattle.craq_model.specs.Members.{first_of, last_of}
+use Rattle.craq_model.specs.Plain.{Plain, is_first, newest, newest_object, clean_object, object_within}
+use Rattle.craq_model.specs.Sends.{send}
+use Rattle.craq_model.specs.Settle.{Turn, read_answer}
+use Rattle.craq_node_invariant.specs.Sound.{IsSound, IsSpelledAnswer, IsSpelledAsk}
+use Rattle.craq_node_invariant.proofs.Lists.{all_append}
+use Rattle.craq_node_invariant.proofs.Objects.{newest_read, bounded_read}
+use Rattle.craq_node_invariant.proofs.Sends.{Speaks, sent, last_member_is}
+use Rattle.craq_node_invariant.proofs.Updates.{IsSoundIfTaken, accepted_is, said_is, update_is}
+
+-- ---- reads
+
+waits : (p : Plain) (r : WaitingRead) → IsSound p → p.ready ≡ true → 1 ≤ r.ticket → IsSound (record p { waiting_reads = p.waiting_reads ++ r ∷ [] })
+waits p r s ready h = record {
+  own = s.own;
+  ids = s.ids;
+  unknown = s.unknown;
+  known = s.known;
+  in_epoch = s.in_epoch;
+  idle_updates = s.idle_updates;
+  idle_reads = λ e. absurd (cc);
+  based = s.based;
+  within = s.within;
+  state = s.state;
+  entries = s.entries;
+  replies = s.replies;
+  tickets = all_append (λ (r : WaitingRead). 1 ≤ r.ticket) p.waiting_reads (r ∷ []) s.tickets (h, tt);
+}
+
+waiting_is : (p : Plain) (key : List ℕ) → IsSound p → p.ready ≡ true → IsSoundIfTaken (waiting_read_turn p key)
+unfolding waiting_read_turn
+waiting_is p key s ready =
+    let r : WaitingRead = record { ticket = p.last_ticket + 1; key = key } in
+    let q : Plain = record p { waiting_reads = p.waiting_reads ++ r ∷ [] } in
+    let asked : List Out = send p (last_of p.members) (bodies.Query (p.last_ticket + 1) key) ∷ [] in
+    let w : Speaks p = (s.own, s.in_epoch ready) in
+    cond_both (is_full p) (Err refusals.PendingFull) (Ok (accepted_turn q asked)) (λ (r : Result Turn Refusal). IsSoundIfTaken r)
+    (λ e. tt)
+    (λ e. accepted_is q asked (waits p r s ready (omega arith)) (sent p (last_of p.members) (bodies.Query (p.last_ticket + 1) key) w (last_member_is p s w.1) (omega arith), tt))
+
+answered_is : (p : Plain) (answer : Answer) → IsSound p → IsSpelledAnswer answer → IsSoundIfTaken (Ok (answered_turn p answer []))
+answered_is p answer s h = accepted_is p (outs.Answer (p.last_ticket + 1) answer ∷ []) s (λ f. h, tt)
+
+read_is : (p : Plain) (mode : ReadMode) (key : List ℕ) → IsSound p → p.ready ≡ true → IsSoundIfTaken (read_turn p mode key)
+unfolding read_turn
+read_is p Eventual key s ready = answered_is p (read_answer (newest_object p key)) s (newest_read p key s)
+read_is p (Bounded k) key s ready =
+    let bound : ℕ = (clean_object p key).0 + k in answered_is p (read_answer (object_within p key bound)) s (bounded_read p key bound s)
+read_is p Strong key s ready =
+    cond_both (is_clean p key) (Ok (answered_turn p (read_answer (newest_object p key)) [])) (waiting_read_turn p key) (λ (r : Result Turn Refusal). IsSoundIfTaken r)
+    (λ e. answered_is p (read_answer (newest_object p key)) s (newest_read p key s))
+    (λ e. waiting_is p key s ready)
+
+-- ---- asks
+
+accepted_ask_is : (p : Plain) (ask : Ask) → IsSound p → p.ready ≡ true → IsSpelledAsk ask → all_of_chain p.name.chain (asked_objects ask) ≡ true → IsSoundIfTaken (accepted_ask_turn p ask)
+accepted_ask_is p (asks.Update u) s ready c h =
+    let last : Result Turn Refusal = update_turn p u (said (newest p) u.client u.number) in
+    cond_both (not (is_first p)) (Err (refusals.NotHead (first_of p.members))) (cond (p.last_ticket == greatest) (Err refusals.Exhausted) last) (λ (r : Result Turn Refusal). IsSoundIfTaken r)
+    (λ a. tt)
+    (λ a. cond_both (p.last_ticket == greatest) (Err refusals.Exhausted) last (λ (r : Result Turn Refusal). IsSoundIfTaken r)
+    (λ b. tt)
+    (λ b. update_is p u (said (newest p) u.client u.number) s ready c h (said_is p u.client u.number s)))
+accepted_ask_is p (asks.Read mode object) s ready c h =
+    cond_both (p.last_ticket == greatest) (Err refusals.Exhausted) (read_turn p mode object.key) (λ (r : Result Turn Refusal). IsSoundIfTaken r)
+    (λ a. tt)
+    (λ a. read_is p mode object.key s ready)
+
+pub ask_is : (p : Plain) (ask : Ask) → IsSound p → IsSpelledAsk ask → IsSoundIfTaken (ask_turn p ask)
+unfolding ask_turn
+ask_is p ask s c =
+    let here : Bool = all_of_chain p.name.chain (asked_objects ask) in
+    let last : Result Turn Refusal = accepted_ask_turn p ask in
+    cond_both (not p.ready) (Err refusals.NotReady) (cond (not here) (Err refusals.TwoChains) last) (λ (r : Result Turn Refusal). IsSoundIfTaken r)
+    (λ a. tt)
+    (λ a. cond_both (not here) (Err refusals.TwoChains) last (λ (r : Result Turn Refusal). IsSoundIfTaken r)
+    (λ b. tt)
+    (λ b. accepted_ask_is p ask s (not-false p.ready a) c (not-false here b)))

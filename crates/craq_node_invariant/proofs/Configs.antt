@@ -1,0 +1,39 @@
+-- A sound node takes a membership that can be spelled.
+use Rattle.std.proofs.Common.{◌≤◌, ℕ, nat_le, not, cond, List, None, arith}
+use Rattle.std.proofs.lemmas.Bool.{cond_both}
+use Rattle.craq_names.specs.Limits.{greatest_count}
+use Rattle.craq_model.specs.declared.step.Why.TheVariants.{OtherEpoch, NotNeighbour}
+use Rattle.craq_model.specs.Deliveries.{config_turn}
+use Rattle.craq_model.specs.Members.{IsMembership, is_member}
+use Rattle.craq_model.specs.Plain.{Plain, id_of}
+use Rattle.craq_model.specs.Settle.{Turn, turn_ignoring, settling_turn}
+use Rattle.craq_node_invariant.specs.Sound.{IsSound}
+use Rattle.craq_node_invariant.proofs.Lists.{all_like}
+use Rattle.craq_node_invariant.proofs.Settling.{IsSoundTurn, ignoring, settling_is}
+
+adopted_is : (p : Plain) (epoch : ℕ) (members : List ℕ) → IsSound p → 1 ≤ epoch → IsMembership members → IsSound (record p { epoch = epoch; members = members; floor = None })
+adopted_is p epoch members s h m = record {
+  own = s.own;
+  ids = all_like (λ (id : ℕ). (1 ≤ id) × (id ≤ greatest_count)) (λ (id : ℕ). 1 ≤ id) members (λ id a. a.0) m.ids;
+  unknown = λ e. absurd (omega (arith, h, e));
+  known = λ e. m.some;
+  in_epoch = λ e. h;
+  idle_updates = s.idle_updates;
+  idle_reads = s.idle_reads;
+  based = s.based;
+  within = s.within;
+  state = s.state;
+  entries = s.entries;
+  replies = s.replies;
+  tickets = s.tickets;
+}
+
+pub config_is : (p : Plain) (epoch : ℕ) (members : List ℕ) → IsSound p → 1 ≤ epoch → IsMembership members → IsSoundTurn (config_turn p epoch members)
+unfolding config_turn
+config_is p epoch members s h m =
+    let q : Plain = record p { epoch = epoch; members = members; floor = None } in
+    cond_both (nat_le epoch p.epoch) (turn_ignoring p OtherEpoch) (cond (not (is_member members (id_of p))) (turn_ignoring p NotNeighbour) (settling_turn q)) (λ (t : Turn). IsSoundTurn t)
+    (λ a. ignoring p OtherEpoch s)
+    (λ a. cond_both (not (is_member members (id_of p))) (turn_ignoring p NotNeighbour) (settling_turn q) (λ (t : Turn). IsSoundTurn t)
+    (λ b. ignoring p NotNeighbour s)
+    (λ b. settling_is q (adopted_is p epoch members s h m)))

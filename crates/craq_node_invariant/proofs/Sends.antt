@@ -1,0 +1,125 @@
+-- What a sound node sends can be spelled, if the counts in it fit.
+use Rattle.std.proofs.Common.{◌≡◌, ◌≤◌, ℕ, ◌-◌, ◌==◌, nat_le, true, cond, List, [], ◌∷◌, ◌++◌, Option, Some, None, map, length, refl, arith}
+use Rattle.std.proofs.lemmas.Bool.{cond_both, and_parts, leb-true, eqb-false}
+use Rattle.std.specs.List.{AllByRecursion}
+use Rattle.craq_names.specs.Limits.{greatest_count}
+use Rattle.craq_commands.specs.declared.entry.Entry.{Entry}
+use Rattle.craq_commands.specs.SingleCopy.{State}
+use Rattle.craq_model.specs.declared.message.Body.{Body}
+use Rattle.craq_model.specs.declared.message.Body.TheVariants as bodies
+use Rattle.craq_model.specs.declared.step.Out.{Out}
+use Rattle.craq_model.specs.declared.waiting.WaitingRead.{WaitingRead}
+use Rattle.craq_model.specs.Members.{last_of}
+use Rattle.craq_model.specs.Node.{out_fits}
+use Rattle.craq_model.specs.Plain.{Plain, id_of, successor, predecessor, is_last, length_of, entries_after}
+use Rattle.craq_model.specs.Sends.{send, send_all, to_neighbour, entry_bodies, copy_bodies, catch_up, queries, ready_sends, unready_sends, tick_sends}
+use Rattle.craq_model.specs.Spelled.{IsSpelledEntry, IsSpelledState}
+use Rattle.craq_node_invariant.specs.Sound.{IsSoundState, IsSound, IsSpelledOut}
+use Rattle.craq_node_invariant.proofs.Lists.{all_append, all_map, all_drop}
+use Rattle.craq_node_invariant.proofs.Neighbours.{IsIdIfAny, successor_is, predecessor_is, last_is}
+
+-- what is said can be spelled if its counts fit
+abbrev pub IsSpelledIfFitting : Out → Type 0
+IsSpelledIfFitting o = out_fits o ≡ true → IsSpelledOut o
+
+abbrev pub AreSpelledIfFitting : List Out → Type 0
+AreSpelledIfFitting os = AllByRecursion IsSpelledIfFitting os
+
+-- a node may say this, if its counts fit
+abbrev pub IsSayable : Body → Type 0
+IsSayable (bodies.Config members) = ⊥
+IsSayable (bodies.Entry e) = IsSpelledEntry e
+IsSayable (bodies.Ack position) = Unit {0}
+IsSayable (bodies.Query ticket key) = 1 ≤ ticket
+IsSayable (bodies.VersionIs ticket version) = 1 ≤ ticket
+IsSayable (bodies.Blank count) = Unit {0}
+IsSayable (bodies.Copy position objects kept) = (1 ≤ position) × IsSoundState (record { objects = objects; kept = kept })
+IsSayable (bodies.Floor count) = Unit {0}
+
+-- a node that is in a membership
+abbrev pub Speaks : Plain → Type 0
+Speaks p = (1 ≤ id_of p) × (1 ≤ p.epoch)
+
+pub sent : (p : Plain) (to : ℕ) (b : Body) → Speaks p → 1 ≤ to → IsSayable b → IsSpelledIfFitting (send p to b)
+sent p to (bodies.Config members) w t s = absurd s
+sent p to (bodies.Entry e) w t s = λ f. (record { sender = w.0; receiver = t; stamp = omega arith; epoch = w.1; body = s }, refl)
+sent p to (bodies.Ack position) w t s = λ f. (record { sender = w.0; receiver = t; stamp = omega arith; epoch = w.1; body = tt }, refl)
+sent p to (bodies.Query ticket key) w t s = λ f. (record { sender = w.0; receiver = t; stamp = omega arith; epoch = w.1; body = s }, refl)
+sent p to (bodies.VersionIs ticket version) w t s = λ f. (record { sender = w.0; receiver = t; stamp = omega arith; epoch = w.1; body = s }, refl)
+sent p to (bodies.Blank count) w t s = λ f. (record { sender = w.0; receiver = t; stamp = omega arith; epoch = w.1; body = tt }, refl)
+sent p to (bodies.Floor count) w t s = λ f. (record { sender = w.0; receiver = t; stamp = omega arith; epoch = w.1; body = tt }, refl)
+sent p to (bodies.Copy position objects kept) w t s = λ f.
+    let fit : (nat_le (length objects) greatest_count ≡ true) × (nat_le (length kept) greatest_count ≡ true) =
+    and_parts (nat_le (length objects) greatest_count) (nat_le (length kept) greatest_count) f
+    in
+    let state : IsSpelledState objects kept = record {
+      few_objects = leb-true (length objects) greatest_count fit.0;
+      few_kept = leb-true (length kept) greatest_count fit.1;
+      versions = (s.1).versions;
+      replies = (s.1).replies;
+      keys_rise = (s.1).keys_rise;
+      clients_rise = (s.1).clients_rise;
+    } in
+    (record { sender = w.0; receiver = t; stamp = omega arith; epoch = w.1; body = (s.0, state) }, refl)
+
+pub all_sent : (p : Plain) (to : ℕ) (bs : List Body) → Speaks p → 1 ≤ to → AllByRecursion IsSayable bs → AreSpelledIfFitting (send_all p to bs)
+all_sent p to [] w t a = tt
+all_sent p to (b ∷ bs) w t a = (sent p to b w t a.0, all_sent p to bs w t a.1)
+
+pub neighbour_sent : (o : Option ℕ) (sends : ℕ → List Out) → IsIdIfAny o → ((to : ℕ) → 1 ≤ to → AreSpelledIfFitting (sends to)) → AreSpelledIfFitting (to_neighbour o sends)
+neighbour_sent None sends a f = tt
+neighbour_sent (Some to) sends a f = f to a
+
+pub entries_sayable : (es : List Entry) → AllByRecursion IsSpelledEntry es → AllByRecursion IsSayable (entry_bodies es)
+unfolding entry_bodies
+entries_sayable es a = all_map IsSayable bodies.Entry es a
+
+pub copy_sayable : (position : ℕ) (s : State) → 1 ≤ position → IsSoundState s → AllByRecursion IsSayable (copy_bodies position s)
+unfolding copy_bodies
+copy_sayable position s h i = ((h, i), tt)
+
+pub catch_up_sayable : (p : Plain) (position : ℕ) → IsSound p → AllByRecursion IsSayable (catch_up p position)
+unfolding catch_up entries_after
+catch_up_sayable p position s =
+    all_append IsSayable (entry_bodies (entries_after p position)) (bodies.Floor (length_of p) ∷ [])
+    (entries_sayable (entries_after p position) (all_drop IsSpelledEntry (position - p.base) p.entries s.entries))
+    (tt, tt)
+
+queries_sent : (p : Plain) → Speaks p → 1 ≤ last_of p.members → (rs : List WaitingRead) → AllByRecursion (λ (r : WaitingRead). 1 ≤ r.ticket) rs
+    → AreSpelledIfFitting (map (λ (r : WaitingRead). send p (last_of p.members) (bodies.Query r.ticket r.key)) rs)
+queries_sent p w t [] a = tt
+queries_sent p w t (r ∷ rs) a = (sent p (last_of p.members) (bodies.Query r.ticket r.key) w t a.0, queries_sent p w t rs a.1)
+
+pub last_member_is : (p : Plain) → IsSound p → 1 ≤ p.epoch → 1 ≤ last_of p.members
+last_member_is p s e = last_is p.members s.ids (s.known e)
+
+pub ack_sent : (p : Plain) (position : ℕ) → IsSound p → Speaks p → AreSpelledIfFitting (to_neighbour (predecessor p) (λ to. send p to (bodies.Ack position) ∷ []))
+ack_sent p position s w =
+    neighbour_sent (predecessor p) (λ to. send p to (bodies.Ack position) ∷ []) (predecessor_is p.members (id_of p) s.ids) (λ to t. (sent p to (bodies.Ack position) w t tt, tt))
+
+ready_sent : (p : Plain) → IsSound p → Speaks p → AreSpelledIfFitting (ready_sends p)
+unfolding ready_sends
+ready_sent p s w =
+    let first : List Out = to_neighbour (successor p) (λ to. send_all p to (catch_up p p.acknowledged)) in
+    let second : List Out = to_neighbour (predecessor p) (λ to. send p to (bodies.Ack p.acknowledged) ∷ []) in
+    let third : List Out = cond (is_last p) [] (queries p) in
+    all_append IsSpelledIfFitting (first ++ second) third
+    (all_append IsSpelledIfFitting first second
+    (neighbour_sent (successor p) (λ to. send_all p to (catch_up p p.acknowledged)) (successor_is p.members (id_of p) s.ids)
+    (λ to t. all_sent p to (catch_up p p.acknowledged) w t (catch_up_sayable p p.acknowledged s)))
+    (ack_sent p p.acknowledged s w))
+    (cond_both (is_last p) [] (queries p) (λ (os : List Out). AreSpelledIfFitting os) (λ e. tt) (λ e. queries_sent p w (last_member_is p s w.1) p.waiting_reads s.tickets))
+
+unready_sent : (p : Plain) → IsSound p → Speaks p → AreSpelledIfFitting (unready_sends p)
+unfolding unready_sends
+unready_sent p s w =
+    neighbour_sent (predecessor p) (λ to. send p to (bodies.Blank (length_of p)) ∷ []) (predecessor_is p.members (id_of p) s.ids) (λ to t. (sent p to (bodies.Blank (length_of p)) w t tt, tt))
+
+pub tick_sent : (p : Plain) → IsSound p → AreSpelledIfFitting (tick_sends p)
+unfolding tick_sends
+tick_sent p s =
+    cond_both (p.epoch == 0) [] (cond p.ready (ready_sends p) (unready_sends p)) (λ (os : List Out). AreSpelledIfFitting os) (λ e. tt)
+    (λ e.
+    let none : p.epoch ≡ 0 → ⊥ = eqb-false p.epoch 0 e in
+    let w : Speaks p = (s.own, omega (arith, none)) in
+    cond_both p.ready (ready_sends p) (unready_sends p) (λ (os : List Out). AreSpelledIfFitting os) (λ r. ready_sent p s w) (λ r. unready_sent p s w))

@@ -1,0 +1,124 @@
+-- A sound node that settles in a membership, or becomes ready, is sound.
+use Rattle.std.proofs.Common.{◌≤◌, true, not, ◌&&◌, nat_lt, List, [], ◌∷◌, ◌++◌, map, refl, arith}
+use Rattle.std.proofs.lemmas.Bool.{cond_both}
+use Rattle.std.specs.List.{AllByRecursion}
+use Rattle.craq_model.specs.declared.step.Why.{Why}
+use Rattle.craq_model.specs.declared.waiting.WaitingRead.{WaitingRead}
+use Rattle.craq_model.specs.declared.waiting.WaitingUpdate.{WaitingUpdate}
+use Rattle.craq_model.specs.Plain.{Plain, is_tail, length_of}
+use Rattle.craq_model.specs.Sends.{tick_sends}
+use Rattle.craq_model.specs.Settle.{Turn, turn_with, turn_ignoring, Given, update_given, read_given, insert_given, by_ticket, answer_outs, all_given, all_committed, settling_turn, is_reached, readiness_turn}
+use Rattle.craq_model.specs.Spelled.{IsReply}
+use Rattle.craq_node_invariant.specs.Sound.{IsSound, IsSpelledAnswer}
+use Rattle.craq_node_invariant.proofs.Lists.{all_append, all_map, each}
+use Rattle.craq_node_invariant.proofs.Objects.{newest_read}
+use Rattle.craq_node_invariant.proofs.Sends.{IsSpelledIfFitting, AreSpelledIfFitting, tick_sent}
+
+-- a turn to a sound node that says what can be spelled, if its counts fit
+abbrev pub IsSoundTurn : Turn → Type 0
+IsSoundTurn t = IsSound t.0 × AreSpelledIfFitting t.1.outs
+
+pub ignoring : (p : Plain) (why : Why) → IsSound p → IsSoundTurn (turn_ignoring p why)
+ignoring p why s = (s, tt)
+
+-- ---- answers
+
+abbrev pub AreGiven : List Given → Type 0
+AreGiven gs = AllByRecursion (λ (g : Given). IsSpelledAnswer g.1) gs
+
+insert_keeps : (g : Given) (gs : List Given) → IsSpelledAnswer g.1 → AreGiven gs → AreGiven (insert_given g gs)
+unfolding insert_given
+insert_keeps g [] h a = (h, tt)
+insert_keeps g (k ∷ ks) h a =
+    cond_both (nat_lt g.0 k.0) (g ∷ k ∷ ks) (k ∷ insert_given g ks) (λ (gs : List Given). AreGiven gs) (λ e. (h, a)) (λ e. (a.0, insert_keeps g ks h a.1))
+
+by_ticket_keeps : (gs : List Given) → AreGiven gs → AreGiven (by_ticket gs)
+unfolding by_ticket
+by_ticket_keeps [] a = tt
+by_ticket_keeps (g ∷ gs) a = insert_keeps g (by_ticket gs) a.0 (by_ticket_keeps gs a.1)
+
+pub updates_given : (us : List WaitingUpdate) → AllByRecursion (λ (u : WaitingUpdate). IsReply u.reply) us → AreGiven (map update_given us)
+updates_given us a = all_map (λ (g : Given). IsSpelledAnswer g.1) update_given us a
+
+all_are_given : (p : Plain) → IsSound p → AreGiven (all_given p)
+unfolding all_given
+all_are_given p s =
+    by_ticket_keeps (map update_given p.waiting_updates ++ map (read_given p) p.waiting_reads)
+    (all_append (λ (g : Given). IsSpelledAnswer g.1) (map update_given p.waiting_updates) (map (read_given p) p.waiting_reads)
+    (updates_given p.waiting_updates s.replies)
+    (all_map (λ (g : Given). IsSpelledAnswer g.1) (read_given p) p.waiting_reads
+    (each (λ (r : WaitingRead). IsSpelledAnswer (read_given p r).1) p.waiting_reads (λ r. newest_read p r.key s))))
+
+pub answers_spelled : (gs : List Given) → AreGiven gs → AreSpelledIfFitting (answer_outs gs)
+answers_spelled [] a = tt
+answers_spelled (g ∷ gs) a = (λ f. a.0, answers_spelled gs a.1)
+
+-- ---- the node
+
+pub committed_is : (p : Plain) → IsSound p → IsSound (record p { acknowledged = length_of p })
+committed_is p s = record {
+  own = s.own;
+  ids = s.ids;
+  unknown = s.unknown;
+  known = s.known;
+  in_epoch = s.in_epoch;
+  idle_updates = s.idle_updates;
+  idle_reads = s.idle_reads;
+  based = omega arith;
+  within = omega arith;
+  state = s.state;
+  entries = s.entries;
+  replies = s.replies;
+  tickets = s.tickets;
+}
+
+all_committed_is : (p : Plain) → IsSound p → IsSound (all_committed p)
+all_committed_is p s = record {
+  own = s.own;
+  ids = s.ids;
+  unknown = s.unknown;
+  known = s.known;
+  in_epoch = s.in_epoch;
+  idle_updates = λ e. refl;
+  idle_reads = λ e. refl;
+  based = omega arith;
+  within = omega arith;
+  state = s.state;
+  entries = s.entries;
+  replies = tt;
+  tickets = tt;
+}
+
+pub settling_is : (p : Plain) → IsSound p → IsSoundTurn (settling_turn p)
+unfolding settling_turn
+settling_is p s =
+    let q : Plain = all_committed p in
+    let t : IsSound q = all_committed_is p s in
+    cond_both (is_tail p) (turn_with q (answer_outs (all_given p) ++ tick_sends q)) (turn_with p (tick_sends p)) (λ (t : Turn). IsSoundTurn t)
+    (λ e. (t, all_append IsSpelledIfFitting (answer_outs (all_given p)) (tick_sends q) (answers_spelled (all_given p) (all_are_given p s)) (tick_sent q t)))
+    (λ e. (s, tick_sent p s))
+
+ready_is : (p : Plain) → IsSound p → 1 ≤ p.epoch → IsSound (record p { ready = true })
+ready_is p s h = record {
+  own = s.own;
+  ids = s.ids;
+  unknown = s.unknown;
+  known = s.known;
+  in_epoch = λ e. h;
+  idle_updates = λ e. absurd (cc);
+  idle_reads = λ e. absurd (cc);
+  based = s.based;
+  within = s.within;
+  state = s.state;
+  entries = s.entries;
+  replies = s.replies;
+  tickets = s.tickets;
+}
+
+-- a node that is in a membership and may become ready
+pub readiness_is : (p : Plain) → IsSound p → 1 ≤ p.epoch → IsSoundTurn (readiness_turn p)
+unfolding readiness_turn
+readiness_is p s h =
+    cond_both (not p.ready && is_reached p.floor (length_of p)) (settling_turn (record p { ready = true })) (turn_with p []) (λ (t : Turn). IsSoundTurn t)
+    (λ e. settling_is (record p { ready = true }) (ready_is p s h))
+    (λ e. (s, tt))

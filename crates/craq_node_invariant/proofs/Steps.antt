@@ -1,0 +1,118 @@
+-- Each step keeps a node sound, and what it says can be spelled.
+use Rattle.std.proofs.Common.{◌≡◌, ◌≤◌, ◌==◌, nat_le, true, false, ◌+◌, cond, List, [], ◌∷◌, count_by, Result, Ok, Err, subst, arith}
+use Rattle.std.proofs.lemmas.Bool.{cond_both, and_parts, eqb-true}
+use Rattle.std.specs.List.{list_all}
+use Rattle.craq_names.specs.Limits.{greatest_count}
+use Rattle.craq_names.specs.declared.refusal.Refusal.{Refusal}
+use Rattle.craq_names.specs.declared.refusal.Refusal.TheVariants as refusals
+use Rattle.craq_commands.specs.SingleCopy.{State}
+use Rattle.craq_model.specs.declared.ask.Event.{Event}
+use Rattle.craq_model.specs.declared.ask.Event.TheVariants as events
+use Rattle.craq_model.specs.declared.message.Body.{Body}
+use Rattle.craq_model.specs.declared.message.Body.TheVariants as bodies
+use Rattle.craq_model.specs.declared.message.LinkMessage.{LinkMessage}
+use Rattle.craq_model.specs.declared.step.Out.{Out}
+use Rattle.craq_model.specs.declared.step.Step.{Step}
+use Rattle.craq_model.specs.declared.step.Why.TheVariants.{OtherEpoch}
+use Rattle.craq_model.specs.Deliveries.{body_turn, delivery_turn, turn_in_epoch, entry_turn, ack_turn, query_turn, version_turn, blank_turn, copy_turn, floor_turn}
+use Rattle.craq_model.specs.Node.{is_for, event_turn, is_send, out_fits, outs_fit, within_counts, node_step}
+use Rattle.craq_model.specs.Plain.{Plain}
+use Rattle.craq_model.specs.Settle.{Turn, turn_ignoring}
+use Rattle.craq_model.specs.Spelled.{IsSpelledBody, IsSpelledState, IsFromItsSender}
+use Rattle.craq_node_invariant.specs.Sound.{IsSoundState, IsSound, AreSpelled, IsSpelledEvent}
+use Rattle.craq_node_invariant.proofs.Acks.{ack_is}
+use Rattle.craq_node_invariant.proofs.Asks.{ask_is}
+use Rattle.craq_node_invariant.proofs.Configs.{config_is}
+use Rattle.craq_node_invariant.proofs.Copies.{blank_is, copy_is, floor_is}
+use Rattle.craq_node_invariant.proofs.Entries.{entry_is}
+use Rattle.craq_node_invariant.proofs.Queries.{query_is, version_is}
+use Rattle.craq_node_invariant.proofs.Sends.{AreSpelledIfFitting, Speaks, tick_sent}
+use Rattle.craq_node_invariant.proofs.Settling.{IsSoundTurn, ignoring}
+use Rattle.craq_node_invariant.proofs.Updates.{IsSoundIfTaken}
+
+-- ---- messages
+
+-- a message of the node's epoch: so the node is in a membership
+in_epoch : (p : Plain) (m : LinkMessage) (turn : Turn) → IsSound p → 1 ≤ m.epoch → (Speaks p → IsSoundTurn turn) → IsSoundTurn (turn_in_epoch p m turn)
+in_epoch p m turn s h f =
+    cond_both (m.epoch == p.epoch) turn (turn_ignoring p OtherEpoch) (λ (t : Turn). IsSoundTurn t)
+    (λ e. let same : m.epoch ≡ p.epoch = eqb-true m.epoch p.epoch e in f (s.own, omega (arith, same, h)))
+    (λ e. ignoring p OtherEpoch s)
+
+state_is : (s : State) → IsSpelledState s.objects s.kept → IsSoundState s
+state_is s h = record { versions = h.versions; replies = h.replies; keys_rise = h.keys_rise; clients_rise = h.clients_rise }
+
+body_is : (p : Plain) (m : LinkMessage) (b : Body) → IsSound p → 1 ≤ m.epoch → IsFromItsSender m.sender b → IsSpelledBody b → IsSoundTurn (body_turn p m b)
+body_is p m (bodies.Config members) s h from b = config_is p m.epoch members s h b
+body_is p m (bodies.Entry e) s h from b = in_epoch p m (entry_turn p m.sender e) s h (λ w. entry_is p m.sender e s w b)
+body_is p m (bodies.Ack position) s h from b = in_epoch p m (ack_turn p m.sender position) s h (λ w. ack_is p m.sender position s w)
+body_is p m (bodies.Query ticket key) s h from b = in_epoch p m (query_turn p m.sender ticket key) s h (λ w. query_is p m.sender ticket key s w from b)
+body_is p m (bodies.VersionIs ticket version) s h from b = in_epoch p m (version_turn p m.sender ticket version) s h (λ w. version_is p m.sender ticket version s)
+body_is p m (bodies.Blank count) s h from b = in_epoch p m (blank_turn p m.sender count) s h (λ w. blank_is p m.sender count s w from)
+body_is p m (bodies.Copy position objects kept) s h from b =
+    let state : State = record { objects = objects; kept = kept } in
+    in_epoch p m (copy_turn p m.sender position state) s h (λ w. copy_is p m.sender position state s w (state_is state b.1))
+body_is p m (bodies.Floor count) s h from b = in_epoch p m (floor_turn p m.sender count) s h (λ w. floor_is p m.sender count s w)
+
+-- ---- events
+
+stopped_is : (p : Plain) → IsSound p → IsSound (record p { running = false })
+stopped_is p s = record {
+  own = s.own;
+  ids = s.ids;
+  unknown = s.unknown;
+  known = s.known;
+  in_epoch = s.in_epoch;
+  idle_updates = s.idle_updates;
+  idle_reads = s.idle_reads;
+  based = s.based;
+  within = s.within;
+  state = s.state;
+  entries = s.entries;
+  replies = s.replies;
+  tickets = s.tickets;
+}
+
+event_is : (p : Plain) (e : Event) → IsSound p → IsSpelledEvent e → IsSoundIfTaken (event_turn p e)
+event_is p (events.Ask ask) s h = ask_is p ask s h
+event_is p (events.Deliver m) s h =
+    cond_both (is_for p m) (Ok (delivery_turn p m)) (Err refusals.WrongNode) (λ (r : Result Turn Refusal). IsSoundIfTaken r)
+    (λ e. body_is p m m.body s h.epoch h.sender h.body)
+    (λ e. tt)
+event_is p events.Tick s h = (s, tick_sent p s)
+event_is p events.Stop s h = (stopped_is p s, tt)
+
+-- ---- the counts fit
+
+all_spelled : (os : List Out) → list_all out_fits os ≡ true → AreSpelledIfFitting os → AreSpelled os
+all_spelled [] f a = tt
+all_spelled (o ∷ os) f a =
+    let parts : (out_fits o ≡ true) × (list_all out_fits os ≡ true) = and_parts (out_fits o) (list_all out_fits os) f in (a.0 parts.0, all_spelled os parts.1 a.1)
+
+-- a turn that is taken is sound
+abbrev IsSpelledIfTaken : Result Turn Refusal → Type 0
+IsSpelledIfTaken (Ok t) = IsSound t.0 × AreSpelled t.1.outs
+IsSpelledIfTaken (Err e) = Unit {0}
+
+within_is : (r : Result Turn Refusal) → IsSoundIfTaken r → IsSpelledIfTaken (within_counts r)
+unfolding outs_fit
+within_is (Ok t) h =
+    cond_both (outs_fit t.1.outs) (Ok t) (Err refusals.Exhausted) (λ (r : Result Turn Refusal). IsSpelledIfTaken r)
+    (λ e.
+    let parts : (nat_le (count_by is_send t.1.outs) (greatest_count + 1) ≡ true) × (list_all out_fits t.1.outs ≡ true) =
+    and_parts (nat_le (count_by is_send t.1.outs) (greatest_count + 1)) (list_all out_fits t.1.outs) e
+    in
+    (h.0, all_spelled t.1.outs parts.1 h.1))
+    (λ e. tt)
+within_is (Err e) h = tt
+
+pub turn_is_sound : (p q : Plain) (e : Event) (s : Step) → IsSound p → IsSpelledEvent e → within_counts (event_turn p e) ≡ Ok (q, s) → IsSound q × AreSpelled s.outs
+turn_is_sound p q e s i h is = subst IsSpelledIfTaken is (within_is (event_turn p e) (event_is p e i h))
+
+pub step_is_sound : (p q : Plain) (e : Event) (s : Step) → IsSound p → IsSpelledEvent e → node_step p e ≡ Ok (q, s) → IsSound q × AreSpelled s.outs
+unfolding node_step
+step_is_sound p q e s i h is =
+    let whole : IsSpelledIfTaken (cond p.running (within_counts (event_turn p e)) (Err refusals.Stopped)) =
+    cond_both p.running (within_counts (event_turn p e)) (Err refusals.Stopped) (λ (r : Result Turn Refusal). IsSpelledIfTaken r) (λ r. within_is (event_turn p e) (event_is p e i h)) (λ r. tt)
+    in
+    subst IsSpelledIfTaken is whole

@@ -1,0 +1,43 @@
+//! Moves, told as the lines of a script.
+use craq_names::{ChainId, Items, NodeId, Refusal};
+use craq_play::{Script, move_of, read_of, update_of};
+use craq_runs::Move;
+use craq_script::Line;
+use std::alloc::{AllocError, Global};
+
+/// A list of members.
+pub fn members(alloc: Global, ids: &[u32]) -> Result<Items<NodeId>, AllocError> {
+    let mut list = Vec::new(alloc);
+    for id in ids {
+        list.push(NodeId::new(*id))?;
+    }
+    Ok(Items::of(list))
+}
+
+/// The move that a line asks for, of whichever chain its object is, or none for `explain`.
+fn chosen_by(alloc: Global, line: &Line) -> Result<Option<Move>, Refusal> {
+    match line {
+        Line::Update { update } => {
+            let node = update.node;
+            let ask = update_of(alloc, update)?;
+            Ok(Some(Move::Ask { node, ask }))
+        }
+        Line::Read { node, mode, object } => {
+            let ask = read_of(alloc, *mode, object)?;
+            Ok(Some(Move::Ask { node: *node, ask }))
+        }
+        _ => move_of(alloc, line),
+    }
+}
+
+/// The moves that a script asks for.
+pub fn moves_of(alloc: Global, text: &str) -> Result<Vec<Move>, Refusal> {
+    let script = Script::read(alloc, text.as_bytes())?;
+    let mut moves = Vec::new(alloc);
+    for line in script.lines.as_slice() {
+        if let Some(chosen) = chosen_by(alloc, line)? {
+            moves.push(chosen)?;
+        }
+    }
+    Ok(moves)
+}

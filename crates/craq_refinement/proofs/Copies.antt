@@ -1,0 +1,144 @@
+-- A node takes a state, or a floor.
+use Rattle.std.proofs.Common.{◌≡◌, inl, inr, ℕ, ◌<◌, nat_le, false, not, cond, ◌||◌, List, [], ◌∷◌, length, Some, refl, ◌∙◌, arith, append-nil}
+use Rattle.std.proofs.lemmas.Bool.{not-false, leb-false, or_parts}
+use Rattle.craq_commands.specs.declared.entry.Entry.{Entry}
+use Rattle.craq_commands.specs.SingleCopy.{State, opening_state, after_entries}
+use Rattle.craq_model.specs.declared.message.LinkMessage.{LinkMessage}
+use Rattle.craq_model.specs.declared.step.Why.TheVariants.{NotNeighbour, AlreadyHave}
+use Rattle.craq_model.specs.Members.{is_id}
+use Rattle.craq_model.specs.Plain.{Plain, id_of, predecessor, length_of}
+use Rattle.craq_model.specs.Settle.{Turn, turn_ignoring, readiness_turn}
+use Rattle.craq_model.specs.Deliveries.{with_copy, copy_turn, floor_turn, turn_in_epoch}
+use Rattle.craq_protocol.specs.Members.{with_value}
+use Rattle.craq_protocol.specs.Machine as machine
+use Rattle.craq_protocol.specs.Machine.{World, Move, Take, Become_ready, after_move, after_receipt}
+use Rattle.craq_protocol.specs.Promises.{Sent}
+use Rattle.craq_protocol.proofs.Lists.{put_same, put_other}
+use Rattle.craq_protocol.proofs.Effects.{copy_does, floor_does}
+use Rattle.craq_runs.specs.Chain.{Chain}
+use Rattle.craq_refinement.specs.Follows.{IsHistory, IsPlaced, said, seen_of, NodeFollows}
+use Rattle.craq_refinement.specs.Lines.{IsTaking}
+use Rattle.craq_refinement.proofs.Members.{is_id-some}
+use Rattle.craq_refinement.proofs.Worlds.{history_length, history_like, placed_like}
+use Rattle.craq_refinement.proofs.Stages.{TurnFollows, Stage}
+use Rattle.craq_refinement.proofs.Settling.{readiness_follows}
+use Rattle.craq_refinement.proofs.Here.{Here, here_node, guard, in_epoch, takes, pred_is_next, with_pred_member}
+
+took_copy : {c : Chain} {w : World Entry} (p : Plain) → Here c w p → (m : LinkMessage) (position : ℕ) (state : State) (entries : List Entry) → m.receiver ≡ id_of p → m.epoch ≡ p.epoch
+    → length entries ≡ position → after_entries opening_state entries ≡ state → IsPlaced 0 entries → Sent w.messages (said m.epoch m.sender m.receiver (machine.Copy entries))
+    → predecessor p ≡ Some m.sender → p.ready ≡ false → length_of p < position
+    → (k : ℕ) × Stage c w (Take (id_of p) k ∷ []) (record w { history = with_value w.history (id_of p) entries; acknowledged = with_value w.acknowledged (id_of p) (length entries) }) (with_copy p position state)
+took_copy {c} {w} p h m position state entries to ep len after placed s pr r lt =
+    let id : ℕ = id_of p in
+    let n : NodeFollows w (seen_of p) = here_node p h in
+    let t : (k : ℕ) × (after_move w (Take id k) ≡ after_receipt w id m.sender (machine.Copy entries)) = takes p h m (machine.Copy entries) to ep s in
+    let same : with_value w.history id entries id ≡ entries = put_same w.history id entries in
+    let whole : IsHistory position state [] entries = record { front = entries; whole = append-nil entries; count = len; after = after } in (
+      t.0,
+      record {
+        was = p;
+        at = h.at;
+        is = t.1 ∙ copy_does w id m.sender entries (pred_is_next p h m.sender pr) (n.ready ∙ r) (omega (arith, lt, len, history_length n.history));
+        only = record {
+          memberships = refl;
+          joined = refl;
+          messages = refl;
+          running = λ n ne. refl;
+          epoch = λ n ne. refl;
+          ready = λ n ne. refl;
+          history = λ n ne. put_other w.history id entries n ne;
+          acknowledged = λ n ne. put_other w.acknowledged id (length entries) n ne;
+          floor = λ n ne. refl;
+        };
+        node = record {
+          running = n.running;
+          epoch = n.epoch;
+          members = n.members;
+          ready = n.ready;
+          history = history_like whole same;
+          placed = placed_like placed same;
+          acknowledged = put_same w.acknowledged id (length entries) ∙ len;
+          based = omega arith;
+          floor = n.floor;
+        };
+        running = h.running;
+      },
+    )
+
+pub copy_follows : {c : Chain} {w : World Entry} (p : Plain) → Here c w p → (m : LinkMessage) (position : ℕ) (state : State) (entries : List Entry) → m.receiver ≡ id_of p
+    → length entries ≡ position → after_entries opening_state entries ≡ state → IsPlaced 0 entries → Sent w.messages (said m.epoch m.sender m.receiver (machine.Copy entries))
+    → TurnFollows (IsTaking (id_of p)) c w (turn_in_epoch p m (copy_turn p m.sender position state))
+unfolding copy_turn
+copy_follows {c} {w} p h m position state entries to len after placed s =
+    let Own : List (Move Entry) → Type 0 = IsTaking (id_of p) in
+    let none : Own [] = inl refl in
+    let last : Turn = readiness_turn (with_copy p position state) in
+    let first : Turn = cond (p.ready || nat_le position (length_of p)) (turn_ignoring p AlreadyHave) last in
+    in_epoch p h none m (copy_turn p m.sender position state)
+    (λ ep. guard p h none (not (is_id (predecessor p) m.sender)) NotNeighbour first
+    (λ a. guard p h none (p.ready || nat_le position (length_of p)) AlreadyHave last
+    (λ b.
+    let d : (p.ready ≡ false) × (nat_le position (length_of p) ≡ false) = or_parts p.ready (nat_le position (length_of p)) b in
+    let pr : predecessor p ≡ Some m.sender = is_id-some (predecessor p) m.sender (not-false (is_id (predecessor p) m.sender) a) in
+    let t : (k : ℕ) × Stage c w (Take (id_of p) k ∷ []) (record w { history = with_value w.history (id_of p) entries; acknowledged = with_value w.acknowledged (id_of p) (length entries) }) (with_copy p position state) =
+    took_copy p h m position state entries to ep len after placed s pr d.0 (leb-false position (length_of p) d.1)
+    in
+    let line : Own (Take (id_of p) t.0 ∷ []) = inr (t.0, inl refl) in
+    let ready : Own (Take (id_of p) t.0 ∷ Become_ready (id_of p) ∷ []) = inr (t.0, inr refl) in
+    readiness_follows h.follows t.1 line ready (with_pred_member p m.sender pr))))
+
+took_floor : {c : Chain} {w : World Entry} (p : Plain) → Here c w p → (m : LinkMessage) (count : ℕ) → m.receiver ≡ id_of p → m.epoch ≡ p.epoch
+    → Sent w.messages (said m.epoch m.sender m.receiver (machine.Floor count)) → predecessor p ≡ Some m.sender → p.ready ≡ false
+    → (k : ℕ) × Stage c w (Take (id_of p) k ∷ []) (record w { floor = with_value w.floor (id_of p) (Some count) }) (record p { floor = Some count })
+took_floor {c} {w} p h m count to ep s pr r =
+    let id : ℕ = id_of p in
+    let n : NodeFollows w (seen_of p) = here_node p h in
+    let t : (k : ℕ) × (after_move w (Take id k) ≡ after_receipt w id m.sender (machine.Floor count)) = takes p h m (machine.Floor count) to ep s in (
+      t.0,
+      record {
+        was = p;
+        at = h.at;
+        is = t.1 ∙ floor_does w id m.sender count (pred_is_next p h m.sender pr) (n.ready ∙ r);
+        only = record {
+          memberships = refl;
+          joined = refl;
+          messages = refl;
+          running = λ n ne. refl;
+          epoch = λ n ne. refl;
+          ready = λ n ne. refl;
+          history = λ n ne. refl;
+          acknowledged = λ n ne. refl;
+          floor = λ n ne. put_other w.floor id (Some count) n ne;
+        };
+        node = record {
+          running = n.running;
+          epoch = n.epoch;
+          members = n.members;
+          ready = n.ready;
+          history = n.history;
+          placed = n.placed;
+          acknowledged = n.acknowledged;
+          based = n.based;
+          floor = put_same w.floor id (Some count);
+        };
+        running = h.running;
+      },
+    )
+
+pub floor_follows : {c : Chain} {w : World Entry} (p : Plain) → Here c w p → (m : LinkMessage) (count : ℕ) → m.receiver ≡ id_of p
+    → Sent w.messages (said m.epoch m.sender m.receiver (machine.Floor count)) → TurnFollows (IsTaking (id_of p)) c w (turn_in_epoch p m (floor_turn p m.sender count))
+unfolding floor_turn
+floor_follows {c} {w} p h m count to s =
+    let Own : List (Move Entry) → Type 0 = IsTaking (id_of p) in
+    let none : Own [] = inl refl in
+    let last : Turn = readiness_turn (record p { floor = Some count }) in
+    let first : Turn = cond p.ready (turn_ignoring p AlreadyHave) last in
+    in_epoch p h none m (floor_turn p m.sender count)
+    (λ ep. guard p h none (not (is_id (predecessor p) m.sender)) NotNeighbour first
+    (λ a. guard p h none p.ready AlreadyHave last
+    (λ b.
+    let pr : predecessor p ≡ Some m.sender = is_id-some (predecessor p) m.sender (not-false (is_id (predecessor p) m.sender) a) in
+    let t : (k : ℕ) × Stage c w (Take (id_of p) k ∷ []) (record w { floor = with_value w.floor (id_of p) (Some count) }) (record p { floor = Some count }) = took_floor p h m count to ep s pr b in
+    let line : Own (Take (id_of p) t.0 ∷ []) = inr (t.0, inl refl) in
+    let ready : Own (Take (id_of p) t.0 ∷ Become_ready (id_of p) ∷ []) = inr (t.0, inr refl) in
+    readiness_follows h.follows t.1 line ready (with_pred_member p m.sender pr))))

@@ -1,0 +1,107 @@
+-- What a node sends, it may send in the protocol.
+use Rattle.std.proofs.Common.{◌≡◌, inl, inr, ℕ, true, List, [], ◌∷◌, length, take, Some, refl, ap, sym, subst, ◌∙◌}
+use Rattle.std.specs.List.{AllByRecursion}
+use Rattle.craq_commands.specs.declared.entry.Entry.{Entry}
+use Rattle.craq_commands.specs.SingleCopy.{opening_state, after_entries}
+use Rattle.craq_model.specs.declared.message.Body.{Body}
+use Rattle.craq_model.specs.declared.message.Body.TheVariants as bodies
+use Rattle.craq_model.specs.declared.message.LinkMessage.{LinkMessage}
+use Rattle.craq_protocol.specs.Members.{is_next}
+use Rattle.craq_protocol.specs.Machine as machine
+use Rattle.craq_protocol.specs.Machine.{World, Message, Move, known_membership, entry_at, after_send, after_move, after_moves, Send_entry, Send_ack, Send_copy, Send_floor}
+use Rattle.craq_protocol.specs.Promises.{Sent}
+use Rattle.craq_protocol.proofs.Effects.{send_entry_does, send_ack_does, send_copy_does, send_floor_does}
+use Rattle.craq_protocol.proofs.Reached.{after_moves-append}
+use Rattle.craq_refinement.specs.Follows.{IsPlaced, said, BodyFollows, MessageFollows}
+use Rattle.craq_refinement.specs.Lines.{moves_of_send, moves_of_sends}
+
+-- the node may send this to that node
+abbrev pub BodySendable : World Entry → ℕ → ℕ → Body → Type 0
+BodySendable w id to (bodies.Config members) = ⊥
+BodySendable w id to (bodies.Entry e) = (is_next (known_membership w id) id to ≡ true) × (entry_at (w.history id) e.position ≡ Some e)
+BodySendable w id to (bodies.Ack position) = (is_next (known_membership w id) to id ≡ true) × (w.acknowledged id ≡ position)
+BodySendable w id to (bodies.Copy position objects kept) =
+    (is_next (known_membership w id) id to ≡ true) × (length (take (w.acknowledged id) (w.history id)) ≡ position)
+    × (after_entries opening_state (take (w.acknowledged id) (w.history id)) ≡ record { objects = objects; kept = kept }) × IsPlaced 0 (take (w.acknowledged id) (w.history id))
+BodySendable w id to (bodies.Floor count) = (is_next (known_membership w id) id to ≡ true) × (w.ready id ≡ true) × (length (w.history id) ≡ count)
+BodySendable w id to body = Unit {0}
+
+abbrev pub Sendable : World Entry → ℕ → LinkMessage → Type 0
+Sendable w id m = (m.sender ≡ id) × (m.epoch ≡ w.epoch id) × BodySendable w id m.receiver m.body
+
+-- messages were sent, and nothing else happened
+pub record AfterSends (w : World Entry) (moves : List (Move Entry)) (ms : List LinkMessage) : Type 0 where
+  pub messages : List (Message Entry)
+  pub is : after_moves w moves ≡ record w { messages = messages }
+  pub kept : (m : Message Entry) → Sent w.messages m → Sent messages m
+  pub said : AllByRecursion (MessageFollows w.memberships messages) ms
+
+-- one message that does not stand for one of the protocol
+nothing_sent : (w : World Entry) (m : LinkMessage) → BodyFollows w.memberships w.messages m.epoch m.sender m.receiver m.body → AfterSends w [] (m ∷ [])
+nothing_sent w m b = record { messages = w.messages; is = refl; kept = λ k s. s; said = (b, tt) }
+
+one_sent : (w : World Entry) (id to : ℕ) (b : machine.Body Entry) (move : Move Entry) (m : LinkMessage)
+    → after_move w move ≡ after_send w id to b
+    → (Sent (said (w.epoch id) id to b ∷ w.messages) (said (w.epoch id) id to b) → BodyFollows w.memberships (said (w.epoch id) id to b ∷ w.messages) m.epoch m.sender m.receiver m.body)
+    → AfterSends w (move ∷ []) (m ∷ [])
+one_sent w id to b move m e f = record {
+  messages = said (w.epoch id) id to b ∷ w.messages;
+  is = e;
+  kept = λ k s. inr s;
+  said = (f (inl refl), tt);
+}
+
+sends_one : (w : World Entry) (id : ℕ) → w.running id ≡ true → (m : LinkMessage) → Sendable w id m → AfterSends w (moves_of_send m.sender m.receiver m.body) (m ∷ [])
+sends_one w id u m s =
+    let P : ℕ → ℕ → Type 0 = λ e from. AfterSends w (moves_of_send from m.receiver m.body) (record m { epoch = e; sender = from } ∷ []) in
+    let Q : ℕ → Type 0 = λ e. P e m.sender in
+    let R : ℕ → Type 0 = λ from. P (w.epoch id) from in
+    subst Q (sym s.1) (subst R (sym s.0) (by_body m m.body s.2))
+  where
+    by_body : (m : LinkMessage) (b : Body) → BodySendable w id m.receiver b → AfterSends w (moves_of_send id m.receiver b) (record m { epoch = w.epoch id; sender = id; body = b } ∷ [])
+    by_body m (bodies.Config members) s = absurd s
+    by_body m (bodies.Entry e) s = one_sent w id m.receiver (machine.Entry e.position e) (Send_entry id m.receiver e.position) (record m { epoch = w.epoch id; sender = id; body = bodies.Entry e })
+        (send_entry_does w id m.receiver e.position e s.1 u s.0) (λ i. i)
+    by_body m (bodies.Ack position) s =
+        let b : machine.Body Entry = machine.Ack (w.acknowledged id) in
+        one_sent w id m.receiver b (Send_ack id m.receiver) (record m { epoch = w.epoch id; sender = id; body = bodies.Ack position })
+        (send_ack_does w id m.receiver u s.0)
+        (λ i. let P : ℕ → Type 0 = λ k. Sent (said (w.epoch id) id m.receiver b ∷ w.messages) (said (w.epoch id) id m.receiver (machine.Ack k)) in subst P s.1 i)
+    by_body m (bodies.Copy position objects kept) s =
+        one_sent w id m.receiver (machine.Copy (take (w.acknowledged id) (w.history id))) (Send_copy id m.receiver) (record m { epoch = w.epoch id; sender = id; body = bodies.Copy position objects kept })
+        (send_copy_does w id m.receiver u s.0)
+        (λ i. (take (w.acknowledged id) (w.history id), s.1, s.2, s.3, i))
+    by_body m (bodies.Floor count) s =
+        let b : machine.Body Entry = machine.Floor (length (w.history id)) in
+        one_sent w id m.receiver b (Send_floor id m.receiver) (record m { epoch = w.epoch id; sender = id; body = bodies.Floor count })
+        (send_floor_does w id m.receiver u s.1 s.0)
+        (λ i. let P : ℕ → Type 0 = λ k. Sent (said (w.epoch id) id m.receiver b ∷ w.messages) (said (w.epoch id) id m.receiver (machine.Floor k)) in subst P s.2 i)
+    by_body m (bodies.Query ticket key) s = nothing_sent w (record m { epoch = w.epoch id; sender = id; body = bodies.Query ticket key }) tt
+    by_body m (bodies.VersionIs ticket version) s = nothing_sent w (record m { epoch = w.epoch id; sender = id; body = bodies.VersionIs ticket version }) tt
+    by_body m (bodies.Blank count) s = nothing_sent w (record m { epoch = w.epoch id; sender = id; body = bodies.Blank count }) tt
+
+-- what was said stays said
+pub body_stays : (cs : List (List ℕ)) (old new : List (Message Entry)) → ((m : Message Entry) → Sent old m → Sent new m) → (epoch from to : ℕ) (b : Body)
+    → BodyFollows cs old epoch from to b → BodyFollows cs new epoch from to b
+body_stays cs old new f epoch from to (bodies.Config members) a = a
+body_stays cs old new f epoch from to (bodies.Entry e) a = f (said epoch from to (machine.Entry e.position e)) a
+body_stays cs old new f epoch from to (bodies.Ack position) a = f (said epoch from to (machine.Ack position)) a
+body_stays cs old new f epoch from to (bodies.Copy position objects kept) a = (a.0, a.1, a.2, a.3, f (said epoch from to (machine.Copy a.0)) a.4)
+body_stays cs old new f epoch from to (bodies.Floor count) a = f (said epoch from to (machine.Floor count)) a
+body_stays cs old new f epoch from to (bodies.Query ticket key) a = a
+body_stays cs old new f epoch from to (bodies.VersionIs ticket version) a = a
+body_stays cs old new f epoch from to (bodies.Blank count) a = a
+
+pub sends_all : (ms : List LinkMessage) (w : World Entry) (id : ℕ) → w.running id ≡ true → AllByRecursion (Sendable w id) ms → AfterSends w (moves_of_sends ms) ms
+sends_all [] w id u a = record { messages = w.messages; is = refl; kept = λ m s. s; said = tt }
+sends_all (m ∷ ms) w id u a =
+    let first : AfterSends w (moves_of_send m.sender m.receiver m.body) (m ∷ []) = sends_one w id u m a.0 in
+    let v : World Entry = record w { messages = first.messages } in
+    let rest : AfterSends v (moves_of_sends ms) ms = sends_all ms v id u a.1 in
+    record {
+      messages = rest.messages;
+      is = after_moves-append (moves_of_send m.sender m.receiver m.body) (moves_of_sends ms) w
+          ∙ (ap (λ (x : World Entry). after_moves x (moves_of_sends ms)) first.is ∙ rest.is);
+      kept = λ k s. rest.kept k (first.kept k s);
+      said = (body_stays w.memberships first.messages rest.messages rest.kept m.epoch m.sender m.receiver m.body first.said.0, rest.said);
+    }

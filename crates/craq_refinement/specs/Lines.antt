@@ -1,0 +1,67 @@
+-- Which moves of the protocol each line of a node's step stands for.
+use Rattle.std.specs.Prelude.{◌≡◌, ◌⊎◌, ℕ, List, [], ◌∷◌, ◌++◌}
+use Rattle.craq_commands.specs.declared.entry.Entry.{Entry}
+use Rattle.craq_model.specs.declared.message.Body.{Body}
+use Rattle.craq_model.specs.declared.message.Body.TheVariants as bodies
+use Rattle.craq_model.specs.declared.message.LinkMessage.{LinkMessage}
+use Rattle.craq_protocol.specs.Machine.{World, Move, after_moves, Append, Take, Become_ready, Adopt, Stop, Remove, Join, Send_entry, Send_ack, Send_copy, Send_floor}
+use Rattle.craq_protocol.specs.Promises.{IsReached}
+use Rattle.craq_runs.specs.Chain.{Chain, Progress, sent_in}
+use Rattle.craq_refinement.specs.Follows.{Follows}
+
+-- the move that sends what a message says; the protocol knows nothing of questions about versions, nor of who is not ready
+abbrev pub moves_of_send : ℕ → ℕ → Body → List (Move Entry)
+moves_of_send from to (bodies.Entry e) = Send_entry from to e.position ∷ []
+moves_of_send from to (bodies.Ack position) = Send_ack from to ∷ []
+moves_of_send from to (bodies.Copy position objects kept) = Send_copy from to ∷ []
+moves_of_send from to (bodies.Floor count) = Send_floor from to ∷ []
+moves_of_send from to body = []
+
+-- the moves that send messages, in their order
+abbrev pub moves_of_sends : List LinkMessage → List (Move Entry)
+moves_of_sends [] = []
+moves_of_sends (m ∷ ms) = moves_of_send m.sender m.receiver m.body ++ moves_of_sends ms
+
+-- after a step the world stands for the chain again, once it made the step's own moves and then sent what was sent
+pub record StandsFor (Own : List (Move Entry) → Type 0) (w : World Entry) (x : Progress) : Type 0 where
+  pub own : List (Move Entry)
+  pub line : Own own
+  pub follows : Follows x.0 (after_moves w (own ++ moves_of_sends (sent_in x.1.outs)))
+
+-- some moves lead from the world to one that stands for the chain
+abbrev pub CanFollow : World Entry → Chain → Type 0
+CanFollow w c = (moves : List (Move Entry)) × Follows c (after_moves w moves)
+
+-- some world that the protocol reaches stands for the chain
+abbrev pub IsFollowed : Chain → Type 0
+IsFollowed c = (w : World Entry) × IsReached w × Follows c w
+
+-- a node takes an entry, a copy or a floor, and may become ready by it; or it ignores it
+abbrev pub IsTaking : ℕ → List (Move Entry) → Type 0
+IsTaking id own = (own ≡ []) ⊎ ((which : ℕ) × ((own ≡ Take id which ∷ []) ⊎ (own ≡ Take id which ∷ Become_ready id ∷ [])))
+
+-- a node takes an acknowledgement, or ignores it
+abbrev pub IsHearing : ℕ → List (Move Entry) → Type 0
+IsHearing id own = (own ≡ []) ⊎ ((which : ℕ) × (own ≡ Take id which ∷ []))
+
+-- a node adopts a later membership, or ignores it
+abbrev pub IsAdopting : ℕ → ℕ → List (Move Entry) → Type 0
+IsAdopting id epoch own = (own ≡ []) ⊎ (own ≡ Adopt id epoch ∷ [])
+
+-- the head appends the entry of a new update; what was asked before has its reply already
+abbrev pub IsUpdating : ℕ → List (Move Entry) → Type 0
+IsUpdating id own = (own ≡ []) ⊎ ((e : Entry) × (own ≡ Append id e ∷ []))
+
+-- a node stops; the master removes a member, or adds one
+abbrev pub IsStopping : ℕ → List (Move Entry) → Type 0
+IsStopping id own = own ≡ Stop id ∷ []
+
+abbrev pub IsRemoving : ℕ → List (Move Entry) → Type 0
+IsRemoving id own = own ≡ Remove id ∷ []
+
+abbrev pub IsJoining : ℕ → List (Move Entry) → Type 0
+IsJoining id own = own ≡ Join id ∷ []
+
+-- a line that makes no move of its own
+abbrev pub IsNothing : List (Move Entry) → Type 0
+IsNothing own = own ≡ []

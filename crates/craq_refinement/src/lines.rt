@@ -1,0 +1,110 @@
+//! The lines of a node's step and the master's moves, each with the moves of the protocol that it stands for.
+
+ghost use Rattle.std.specs.Prelude.{◌≡◌, ℕ, List, Ok, Some};
+ghost use Rattle.craq_commands.specs.Kept.{Kept};
+ghost use Rattle.craq_commands.specs.Objects.{Objects};
+ghost use Rattle.craq_commands.specs.declared.command.Update.{Update};
+ghost use Rattle.craq_commands.specs.declared.entry.Entry.{Entry};
+ghost use Rattle.craq_commands.specs.declared.read_mode.ReadMode.{ReadMode};
+ghost use Rattle.craq_model.specs.declared.ask.Ask.{Ask};
+ghost use Rattle.craq_model.specs.declared.message.Body.{Body};
+ghost use Rattle.craq_model.specs.declared.message.LinkMessage.{LinkMessage};
+ghost use Rattle.craq_names.specs.declared.name.ObjectId.{ObjectId};
+ghost use Rattle.craq_protocol.specs.Machine.{World};
+ghost use Rattle.craq_protocol.specs.Promises.{IsReached};
+ghost use Rattle.craq_runs.specs.Chain.{Chain, Progress, chain_step, message_at};
+ghost use Rattle.craq_runs.specs.declared.run.Move.{Move};
+ghost use Rattle.craq_refinement.specs.Follows.{Follows};
+ghost use Rattle.craq_refinement.specs.Lines.{IsAdopting, IsHearing, IsJoining, IsNothing, IsRemoving, IsStopping, IsTaking, IsUpdating, StandsFor};
+
+/// An entry that arrives: it is ignored, or taken, and the node may become ready by it. A tail commits it.
+pub fn entry_line()
+    ensures { (c : Chain) (w : World Entry) (number : ℕ) (m : LinkMessage) (e : Entry) (x : Progress) → Follows c w
+        → message_at c.messages number ≡ Some m → m.body ≡ Body.Entry e → chain_step c (Move.Deliver number) ≡ Ok x
+        → StandsFor (IsTaking m.receiver) w x }
+{}
+
+/// An acknowledgement that arrives: it is ignored, or the node knows so many entries to be committed.
+pub fn ack_line()
+    ensures { (c : Chain) (w : World Entry) (number : ℕ) (m : LinkMessage) (position : ℕ) (x : Progress) → Follows c w
+        → message_at c.messages number ≡ Some m → m.body ≡ Body.Ack position → chain_step c (Move.Deliver number) ≡ Ok x
+        → StandsFor (IsHearing m.receiver) w x }
+{}
+
+/// A membership that arrives: it is ignored, or the node adopts it. A tail commits all that it holds.
+pub fn config_line()
+    ensures { (c : Chain) (w : World Entry) (number : ℕ) (m : LinkMessage) (members : List ℕ) (x : Progress) → Follows c w
+        → message_at c.messages number ≡ Some m → m.body ≡ Body.Config members → chain_step c (Move.Deliver number) ≡ Ok x
+        → StandsFor (IsAdopting m.receiver m.epoch) w x }
+{}
+
+/// A state that arrives: it is ignored, or stands for the entries that it is after, and the node may become ready by it.
+pub fn copy_line()
+    ensures { (c : Chain) (w : World Entry) (number : ℕ) (m : LinkMessage) (position : ℕ) (objects : Objects) (kept : List (ℕ × Kept)) (x : Progress) → Follows c w
+        → message_at c.messages number ≡ Some m → m.body ≡ Body.Copy position objects kept → chain_step c (Move.Deliver number) ≡ Ok x
+        → StandsFor (IsTaking m.receiver) w x }
+{}
+
+/// A floor that arrives: it is ignored, or the node must hold so many entries to become ready, and may be so at once.
+pub fn floor_line()
+    ensures { (c : Chain) (w : World Entry) (number : ℕ) (m : LinkMessage) (count : ℕ) (x : Progress) → Follows c w
+        → message_at c.messages number ≡ Some m → m.body ≡ Body.Floor count → chain_step c (Move.Deliver number) ≡ Ok x
+        → StandsFor (IsTaking m.receiver) w x }
+{}
+
+/// A successor that is not ready says how much it holds: it is sent what it lacks, and else nothing happens.
+pub fn blank_line()
+    ensures { (c : Chain) (w : World Entry) (number : ℕ) (m : LinkMessage) (count : ℕ) (x : Progress) → Follows c w → IsReached w
+        → message_at c.messages number ≡ Some m → m.body ≡ Body.Blank count → chain_step c (Move.Deliver number) ≡ Ok x
+        → StandsFor IsNothing w x }
+{}
+
+/// A question about a version: the protocol knows nothing of it.
+pub fn query_line()
+    ensures { (c : Chain) (w : World Entry) (number : ℕ) (m : LinkMessage) (ticket : ℕ) (key : List ℕ) (x : Progress) → Follows c w
+        → message_at c.messages number ≡ Some m → m.body ≡ Body.Query ticket key → chain_step c (Move.Deliver number) ≡ Ok x
+        → StandsFor IsNothing w x }
+{}
+
+/// The answer to such a question: the protocol knows nothing of it.
+pub fn version_line()
+    ensures { (c : Chain) (w : World Entry) (number : ℕ) (m : LinkMessage) (ticket version : ℕ) (x : Progress) → Follows c w
+        → message_at c.messages number ≡ Some m → m.body ≡ Body.VersionIs ticket version → chain_step c (Move.Deliver number) ≡ Ok x
+        → StandsFor IsNothing w x }
+{}
+
+/// An update that is asked of the head: it has its reply from before, or the head appends its entry.
+pub fn update_line()
+    ensures { (c : Chain) (w : World Entry) (node : ℕ) (update : Update) (x : Progress) → Follows c w → IsReached w
+        → chain_step c (Move.Ask node (Ask.Update update)) ≡ Ok x → StandsFor (IsUpdating node) w x }
+{}
+
+/// A read: the protocol knows nothing of it.
+pub fn read_line()
+    ensures { (c : Chain) (w : World Entry) (node : ℕ) (mode : ReadMode) (object : ObjectId) (x : Progress) → Follows c w
+        → chain_step c (Move.Ask node (Ask.Read mode object)) ≡ Ok x → StandsFor IsNothing w x }
+{}
+
+/// A tick: what a node or the master has to say is sent again, and else nothing happens.
+pub fn tick_line()
+    ensures { (c : Chain) (w : World Entry) (node : ℕ) (x : Progress) → Follows c w
+        → chain_step c (Move.Tick node) ≡ Ok x → StandsFor IsNothing w x }
+{}
+
+/// A node stops.
+pub fn stop_line()
+    ensures { (c : Chain) (w : World Entry) (node : ℕ) (x : Progress) → Follows c w
+        → chain_step c (Move.Stop node) ≡ Ok x → StandsFor (IsStopping node) w x }
+{}
+
+/// The master removes a member that stopped, and tells the others.
+pub fn removal_line()
+    ensures { (c : Chain) (w : World Entry) (node : ℕ) (x : Progress) → Follows c w → IsReached w
+        → chain_step c (Move.Remove node) ≡ Ok x → StandsFor (IsRemoving node) w x }
+{}
+
+/// The master adds a member at the end, and tells all.
+pub fn join_line()
+    ensures { (c : Chain) (w : World Entry) (node : ℕ) (x : Progress) → Follows c w → IsReached w
+        → chain_step c (Move.Join node) ≡ Ok x → StandsFor (IsJoining node) w x }
+{}

@@ -1,0 +1,37 @@
+//! A chain's runs are runs of the protocol.
+
+ghost use Rattle.std.specs.Prelude.{◌≡◌, ℕ, List, Ok};
+ghost use Rattle.craq_commands.specs.declared.entry.Entry.{Entry};
+ghost use Rattle.craq_protocol.specs.Machine.{World, opening};
+ghost use Rattle.craq_protocol.specs.Promises.{IsReached};
+ghost use Rattle.craq_runs.specs.Chain.{Chain, Progress, chain_step, opening_chain};
+ghost use Rattle.craq_runs.specs.Runs.{AreTaken, IsRunOf, after_moves};
+ghost use Rattle.craq_runs.specs.declared.run.Move.{Move};
+ghost use Rattle.craq_runs.specs.declared.run.Run.{Run};
+ghost use Rattle.craq_runs.specs.declared.run.Taken.{Taken};
+ghost use Rattle.craq_refinement.specs.Follows.{Follows};
+ghost use Rattle.craq_refinement.specs.Lines.{CanFollow, IsFollowed};
+
+/// The protocol's opening stands for a chain before any move.
+pub fn opening_follows()
+    ensures { (chain : ℕ) (members : List ℕ) → Follows (opening_chain chain members) (opening members) }
+{}
+
+/// Whatever move a chain takes, some moves of the protocol lead to a world that stands for it again.
+pub fn every_move_follows()
+    ensures { (c : Chain) (w : World Entry) (chosen : Move) (x : Progress) → Follows c w → IsReached w
+        → chain_step c chosen ≡ Ok x → CanFollow w x.0 }
+{}
+
+/// Likewise for the moves that a chain takes one after the other.
+pub fn all_moves_follow()
+    ensures { (moves : List Taken) (c : Chain) (w : World Entry) → Follows c w → IsReached w
+        → AreTaken c moves → CanFollow w (after_moves c moves) }
+{}
+
+/// Each run of a chain leads to what some world stands for that the protocol reaches. So all that holds of the protocol at
+/// all times holds of the chain after each run.
+pub fn every_run_follows()
+    ensures { (chain : ℕ) (run : Run) → IsRunOf chain run
+        → IsFollowed (after_moves (opening_chain chain run.members) run.moves) }
+{}

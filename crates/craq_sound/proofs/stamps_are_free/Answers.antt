@@ -1,5 +1,0 @@
-use Rattle.craq_sound.proofs.Stamps.{stamped_is_spelled}
-use Rattle.craq_sound.proofs.stamps_are_free.Goals as goal
-
-pub returns : goal.returns
-returns c = stamped_is_spelled

@@ -1,5 +1,0 @@
-use Rattle.craq_sound.proofs.Steps.{step_is_sound}
-use Rattle.craq_sound.proofs.steps_are_sound.Goals as goal
-
-pub returns : goal.returns
-returns c = step_is_sound

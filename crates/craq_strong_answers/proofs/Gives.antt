@@ -1,0 +1,313 @@
+-- What a step answers and asks on, and what waits after it, line by line.
+use Rattle.std.proofs.Common.{◌≡◌, ℕ, ◌+◌, ◌≤◌, ◌==◌, nat_le, nat_lt, max, Bool, true, false, not, cond, ◌&&◌, ◌||◌, List, [], ◌∷◌, ◌++◌, map, filter, find, Option, Some, None, refl, sym, subst}
+use Rattle.std.specs.Prelude.{⊤}
+use Rattle.std.specs.List.{AllByRecursion}
+use Rattle.std.proofs.lemmas.Bool.{cond_both, leb-true, ltb-false, not-false, eqb-true}
+use Rattle.craq_commands.specs.declared.entry.Entry.{Entry}
+use Rattle.craq_commands.specs.SingleCopy.{State}
+use Rattle.craq_model.specs.declared.message.Body.{Body}
+use Rattle.craq_model.specs.declared.message.Body.TheVariants as bodies
+use Rattle.craq_model.specs.declared.message.LinkMessage.{LinkMessage}
+use Rattle.craq_model.specs.declared.ask.Answer.{Answer}
+use Rattle.craq_model.specs.declared.ask.Answer.TheVariants as answers
+use Rattle.craq_model.specs.declared.step.Out.{Out}
+use Rattle.craq_model.specs.declared.step.Out.TheVariants as outs
+use Rattle.craq_model.specs.declared.step.Why.{Why}
+use Rattle.craq_model.specs.declared.step.Why.TheVariants.{OtherEpoch, NotNeighbour, OutOfOrder, AlreadyHave, NotReadyHere, UnknownTicket, TooFar}
+use Rattle.craq_model.specs.declared.waiting.WaitingUpdate.{WaitingUpdate}
+use Rattle.craq_model.specs.declared.waiting.WaitingRead.{WaitingRead}
+use Rattle.craq_model.specs.Members.{is_member, is_id, last_of}
+use Rattle.craq_model.specs.Plain.{Plain, id_of, successor, predecessor, is_tail, length_of, newest, newest_object, clean, object_within}
+use Rattle.craq_model.specs.Sends.{send, send_all, to_neighbour, entry_bodies, copy_bodies, catch_up, tick_sends}
+use Rattle.craq_model.specs.Settle.{Turn, turn_with, turn_ignoring, read_answer, Given, update_given, read_given, insert_given, by_ticket, all_given, all_committed, answer_outs, is_reached, settling_turn, readiness_turn}
+use Rattle.craq_model.specs.Asks.{with_entry}
+use Rattle.craq_model.specs.Deliveries.{config_turn, is_applicable, forwarding_turn, taken_entry_turn, entry_turn, due_updates, later_updates, acknowledgement_turn, ack_turn, query_turn, read_with, reads_without, answering_version, told_version_turn, version_turn, fill_bodies, blank_turn, with_copy, copy_turn, floor_turn, turn_in_epoch, body_turn}
+use Rattle.craq_strong_answers.proofs.Outs.{Says, AllTold, told_both, told_answers, told_sends, told_neighbour, says_entry_bodies, says_catch_up, told_tick}
+
+pub all_filter : {A : Type 0} (P : A → Type 0) (test : A → Bool) (xs : List A) → AllByRecursion P xs → AllByRecursion P (filter test xs)
+all_filter P test [] a = tt
+all_filter {A} P test (x ∷ xs) a =
+    cond_both (test x) (x ∷ filter test xs) (filter test xs) (λ (l : List A). AllByRecursion P l) (λ e. (a.0, all_filter P test xs a.1)) (λ e. all_filter P test xs a.1)
+
+-- what passes a test, passes it
+pub all_passing : {A : Type 0} (P S : A → Type 0) (test : A → Bool) (xs : List A) → ((x : A) → P x → test x ≡ true → S x) → AllByRecursion P xs → AllByRecursion S (filter test xs)
+all_passing P S test [] f a = tt
+all_passing {A} P S test (x ∷ xs) f a =
+    cond_both (test x) (x ∷ filter test xs) (filter test xs) (λ (l : List A). AllByRecursion S l) (λ e. (f x a.0 e, all_passing P S test xs f a.1)) (λ e. all_passing P S test xs f a.1)
+
+all_mapped : {A B : Type 0} (P : A → Type 0) (S : B → Type 0) (f : A → B) (xs : List A) → ((x : A) → P x → S (f x)) → AllByRecursion P xs → AllByRecursion S (map f xs)
+all_mapped P S f [] g a = tt
+all_mapped P S f (x ∷ xs) g a = (g x a.0, all_mapped P S f xs g a.1)
+
+pub all_joined : {A : Type 0} (P : A → Type 0) (xs ys : List A) → AllByRecursion P xs → AllByRecursion P ys → AllByRecursion P (xs ++ ys)
+all_joined P [] ys a b = b
+all_joined P (x ∷ xs) ys a b = (a.0, all_joined P xs ys a.1 b)
+
+all_inserted : (S : Given → Type 0) (g : Given) (gs : List Given) → S g → AllByRecursion S gs → AllByRecursion S (insert_given g gs)
+unfolding insert_given
+all_inserted S g [] s a = (s, tt)
+all_inserted S g (h ∷ hs) s a =
+    cond_both (nat_lt g.0 h.0) (g ∷ h ∷ hs) (h ∷ insert_given g hs) (λ (l : List Given). AllByRecursion S l) (λ e. (s, (a.0, a.1))) (λ e. (a.0, all_inserted S g hs s a.1))
+
+all_sorted : (S : Given → Type 0) (gs : List Given) → AllByRecursion S gs → AllByRecursion S (by_ticket gs)
+unfolding by_ticket
+all_sorted S [] a = tt
+all_sorted S (g ∷ gs) a = all_inserted S g (by_ticket gs) a.0 (all_sorted S gs a.1)
+
+module _ (P : WaitingUpdate → Type 0) (R : WaitingRead → Type 0) (G : ℕ → Answer → Type 0) (Q : ℕ → ℕ → List ℕ → Type 0) (V : ℕ → ℕ → ℕ → Type 0) where
+  -- what waits, and what a turn told
+  pub record Gives (t : Turn) : Type 0 where
+    pub updates : AllByRecursion P t.0.waiting_updates
+    pub reads : AllByRecursion R t.0.waiting_reads
+    pub told : AllTold G Q V t.1.outs
+
+  -- what a node may answer after its step
+  pub record MayAnswer (q : Plain) : Type 0 where
+    pub tail_updates : is_tail q ≡ true → (u : WaitingUpdate) → P u → G u.ticket (answers.Update u.reply)
+    pub tail_reads : is_tail q ≡ true → (r : WaitingRead) → R r → G r.ticket (read_answer (newest_object q r.key))
+    pub acknowledged : q.ready ≡ true → (u : WaitingUpdate) → P u → u.position ≤ q.acknowledged → G u.ticket (answers.Update u.reply)
+
+  -- what waits at a node, and the questions about it
+  pub record Waits (p : Plain) : Type 0 where
+    pub updates : AllByRecursion P p.waiting_updates
+    pub reads : AllByRecursion R p.waiting_reads
+    pub asks : (r : WaitingRead) → R r → Q (id_of p) r.ticket r.key
+
+  questions : (p : Plain) → Waits p → AllByRecursion (λ (r : WaitingRead). Q (id_of p) r.ticket r.key) p.waiting_reads
+  questions p w = like p.waiting_reads w.reads
+    where
+      like : (rs : List WaitingRead) → AllByRecursion R rs → AllByRecursion (λ (r : WaitingRead). Q (id_of p) r.ticket r.key) rs
+      like [] a = tt
+      like (r ∷ rs) a = (w.asks r a.0, like rs a.1)
+
+  quiet : (p : Plain) → Waits p → (os : List Out) → AllTold G Q V os → Gives (turn_with p os)
+  quiet p w os a = record { updates = w.updates; reads = w.reads; told = a }
+
+  ignored : (p : Plain) → Waits p → (why : Why) → Gives (turn_ignoring p why)
+  ignored p w why = record { updates = w.updates; reads = w.reads; told = tt }
+
+  -- a test by which a message is ignored
+  guard : (p : Plain) → Waits p → (b : Bool) (why : Why) (t : Turn) → MayAnswer (cond b (turn_ignoring p why) t).0 → (b ≡ false → MayAnswer t.0 → Gives t) → Gives (cond b (turn_ignoring p why) t)
+  guard p w b why t m go = cond_both b (turn_ignoring p why) t (λ (t : Turn). MayAnswer t.0 → Gives t) (λ e m. ignored p w why) (λ e m. go e m) m
+
+  all_answers : (p : Plain) → Waits p → is_tail p ≡ true → MayAnswer (all_committed p) → AllByRecursion (λ (g : Given). G g.0 g.1) (all_given p)
+  unfolding all_given newest
+  all_answers p w t m =
+      let S : Given → Type 0 = λ g. G g.0 g.1 in
+      all_sorted S (map update_given p.waiting_updates ++ map (read_given p) p.waiting_reads)
+      (all_joined S (map update_given p.waiting_updates) (map (read_given p) p.waiting_reads)
+      (all_mapped P S update_given p.waiting_updates (λ u h. m.tail_updates t u h) w.updates)
+      (all_mapped R S (read_given p) p.waiting_reads (λ r h. m.tail_reads t r h) w.reads))
+
+  settling : (p : Plain) → Waits p → MayAnswer (settling_turn p).0 → Gives (settling_turn p)
+  unfolding settling_turn
+  settling p w m =
+      let all : List Out = answer_outs (all_given p) ++ tick_sends (all_committed p) in
+      cond_both (is_tail p) (turn_with (all_committed p) all) (turn_with p (tick_sends p)) (λ (t : Turn). MayAnswer t.0 → Gives t)
+      (λ e m. record {
+        updates = tt;
+        reads = tt;
+        told = told_both G Q V (answer_outs (all_given p)) (tick_sends (all_committed p)) (told_answers G Q V (all_given p) (all_answers p w e m)) (told_tick G Q V (all_committed p) tt);
+      })
+      (λ e m. quiet p w (tick_sends p) (told_tick G Q V p (questions p w)))
+      m
+
+  pub like_waits : (p q : Plain) → Waits p → q.waiting_updates ≡ p.waiting_updates → q.waiting_reads ≡ p.waiting_reads → id_of q ≡ id_of p → Waits q
+  like_waits p q w u r i = record {
+    updates = let S : List WaitingUpdate → Type 0 = λ l. AllByRecursion P l in subst S (sym u) w.updates;
+    reads = let S : List WaitingRead → Type 0 = λ l. AllByRecursion R l in subst S (sym r) w.reads;
+    asks = λ x h. let S : ℕ → Type 0 = λ j. Q j x.ticket x.key in subst S (sym i) (w.asks x h);
+  }
+
+  becoming : (p : Plain) → Waits p → MayAnswer (readiness_turn p).0 → Gives (readiness_turn p)
+  unfolding readiness_turn
+  becoming p w m =
+      cond_both (not p.ready && is_reached p.floor (length_of p)) (settling_turn (record p { ready = true })) (turn_with p []) (λ (t : Turn). MayAnswer t.0 → Gives t)
+      (λ e m. settling (record p { ready = true }) (like_waits p (record p { ready = true }) w refl refl refl) m)
+      (λ e m. quiet p w [] tt)
+      m
+
+  config_gives : (p : Plain) → Waits p → (epoch : ℕ) (members : List ℕ) → MayAnswer (config_turn p epoch members).0 → Gives (config_turn p epoch members)
+  unfolding config_turn
+  config_gives p w epoch members m =
+      let q : Plain = record p { epoch = epoch; members = members; floor = None } in
+      guard p w (nat_le epoch p.epoch) OtherEpoch (cond (not (is_member members (id_of p))) (turn_ignoring p NotNeighbour) (settling_turn q)) m
+      (λ e m. guard p w (not (is_member members (id_of p))) NotNeighbour (settling_turn q) m (λ f m. settling q (like_waits p q w refl refl refl) m))
+
+  forwarding : (p : Plain) → Waits p → (e : Entry) → Gives (forwarding_turn p e)
+  unfolding forwarding_turn
+  forwarding p w e =
+      let acks : ℕ → List Out = λ to. send p to (bodies.Ack (length_of p)) ∷ [] in
+      let entries : ℕ → List Out = λ to. send_all p to (entry_bodies (e ∷ [])) in
+      let q : Plain = record p { acknowledged = length_of p } in
+      cond_both (is_tail p) (turn_with q (to_neighbour (predecessor p) acks)) (turn_with p (to_neighbour (successor p) entries)) (λ (t : Turn). Gives t)
+      (λ t. quiet q (like_waits p q w refl refl refl) (to_neighbour (predecessor p) acks) (told_neighbour G Q V (predecessor p) acks (λ to. ((refl, tt), tt))))
+      (λ t. quiet p w (to_neighbour (successor p) entries) (told_neighbour G Q V (successor p) entries (λ to. told_sends G Q V p to (entry_bodies (e ∷ [])) (says_entry_bodies G Q V (id_of p) to (e ∷ [])))))
+
+  entry_gives : (p : Plain) → Waits p → (sender : ℕ) (e : Entry) → MayAnswer (entry_turn p sender e).0 → Gives (entry_turn p sender e)
+  unfolding entry_turn
+  entry_gives p w sender e m =
+      let q : Plain = with_entry p e in
+      let wq : Waits q = like_waits p q w refl refl refl in
+      let last : Turn = taken_entry_turn q e in
+      let third : Turn = cond (not (is_applicable (newest p) e)) (turn_ignoring p TooFar) last in
+      let second : Turn = cond (nat_lt (length_of p + 1) e.position) (turn_ignoring p OutOfOrder) third in
+      let first : Turn = cond (nat_le e.position (length_of p)) (turn_ignoring p AlreadyHave) second in
+      guard p w (not (is_id (predecessor p) sender)) NotNeighbour first m
+      (λ a m. guard p w (nat_le e.position (length_of p)) AlreadyHave second m
+      (λ b m. guard p w (nat_lt (length_of p + 1) e.position) OutOfOrder third m
+      (λ d m. guard p w (not (is_applicable (newest p) e)) TooFar last m
+      (λ g m. cond_both p.ready (forwarding_turn q e) (readiness_turn q) (λ (t : Turn). MayAnswer t.0 → Gives t) (λ r m. forwarding q wq e) (λ r m. becoming q wq m) m))))
+
+  acknowledging : (p : Plain) → Waits p → (position : ℕ) → p.ready ≡ true → MayAnswer (acknowledgement_turn p position).0 → Gives (acknowledgement_turn p position)
+  unfolding acknowledgement_turn due_updates later_updates
+  acknowledging p w position ready m =
+      let S : Given → Type 0 = λ g. G g.0 g.1 in
+      let due : WaitingUpdate → Bool = λ u. nat_le u.position position in
+      let gs : List Given = map update_given (filter due p.waiting_updates) in
+      let acks : ℕ → List Out = λ to. send p to (bodies.Ack position) ∷ [] in
+      let T : WaitingUpdate → Type 0 = λ u. G u.ticket (answers.Update u.reply) in
+      record {
+        updates = all_filter P (λ (u : WaitingUpdate). nat_lt position u.position) p.waiting_updates w.updates;
+        reads = w.reads;
+        told = told_both G Q V (answer_outs gs) (to_neighbour (predecessor p) acks)
+            (told_answers G Q V gs (all_mapped T S update_given (filter due p.waiting_updates) (λ u h. h)
+            (all_passing P T due p.waiting_updates (λ u h e. m.acknowledged ready u h (leb-true u.position position e)) w.updates)))
+            (told_neighbour G Q V (predecessor p) acks (λ to. ((refl, tt), tt)));
+      }
+
+  ack_gives : (p : Plain) → Waits p → (sender position : ℕ) → MayAnswer (ack_turn p sender position).0 → Gives (ack_turn p sender position)
+  unfolding ack_turn
+  ack_gives p w sender position m =
+      let last : Turn = acknowledgement_turn p position in
+      let third : Turn = cond (nat_lt (length_of p) position) (turn_ignoring p TooFar) last in
+      let second : Turn = cond (nat_le position p.acknowledged) (turn_ignoring p AlreadyHave) third in
+      let first : Turn = cond (not p.ready) (turn_ignoring p NotReadyHere) second in
+      guard p w (not (is_id (successor p) sender)) NotNeighbour first m
+      (λ a m. guard p w (not p.ready) NotReadyHere second m
+      (λ b m. guard p w (nat_le position p.acknowledged) AlreadyHave third m
+      (λ d m. guard p w (nat_lt (length_of p) position) TooFar last m
+      (λ g m. acknowledging p w position (not-false p.ready b) m))))
+
+  -- what a tail says of a version
+  query_gives : (p : Plain) → Waits p → (sender ticket : ℕ) (key : List ℕ) → (is_tail p ≡ true → V sender ticket (newest_object p key).0) → Gives (query_turn p sender ticket key)
+  unfolding query_turn
+  query_gives p w sender ticket key v =
+      let last : Turn = turn_with p (send p sender (bodies.VersionIs ticket (newest_object p key).0) ∷ []) in
+      cond_both ((sender == id_of p) || not (is_member p.members sender)) (turn_ignoring p NotNeighbour) (cond (not (is_tail p)) (turn_ignoring p NotReadyHere) last) (λ (t : Turn). Gives t)
+      (λ e. ignored p w NotNeighbour)
+      (λ e. cond_both (not (is_tail p)) (turn_ignoring p NotReadyHere) last (λ (t : Turn). Gives t)
+      (λ f. ignored p w NotReadyHere)
+      (λ f. quiet p w (send p sender (bodies.VersionIs ticket (newest_object p key).0) ∷ []) ((refl, v (not-false (is_tail p) f)), tt)))
+
+  -- the answer to a read whose version is told
+  told_gives : (p : Plain) → Waits p → (ticket version : ℕ) (o : Option WaitingRead)
+      → ((r : WaitingRead) → o ≡ Some r → R r → version ≤ (newest_object p r.key).0 → G r.ticket (read_answer (object_within p r.key (answering_version p r.key version))))
+      → ((r : WaitingRead) → o ≡ Some r → R r) → Gives (told_version_turn p version o)
+  unfolding told_version_turn reads_without
+  told_gives p w ticket version None f g = ignored p w UnknownTicket
+  told_gives p w ticket version (Some r) f g =
+      let q : Plain = record p { waiting_reads = filter (λ (x : WaitingRead). not (x.ticket == r.ticket)) p.waiting_reads } in
+      let os : List Out = outs.Answer r.ticket (read_answer (object_within p r.key (answering_version p r.key version))) ∷ [] in
+      cond_both (nat_lt (newest_object p r.key).0 version) (turn_ignoring p TooFar) (turn_with q os) (λ (t : Turn). Gives t)
+      (λ e. ignored p w TooFar)
+      (λ e. record { updates = w.updates; reads = all_filter R (λ (x : WaitingRead). not (x.ticket == r.ticket)) p.waiting_reads w.reads; told = (f r refl (g r refl) (ltb-false (newest_object p r.key).0 version e), tt) })
+
+  read_found : (ticket : ℕ) (rs : List WaitingRead) (r : WaitingRead) → AllByRecursion R rs → read_with ticket rs ≡ Some r → R r × (r.ticket ≡ ticket)
+  unfolding read_with
+  read_found ticket [] r a h = absurd (cc)
+  read_found ticket (x ∷ rs) r a h =
+      cond_both (x.ticket == ticket) (Some x) (find (λ (r : WaitingRead). r.ticket == ticket) rs) (λ (o : Option WaitingRead). o ≡ Some r → R r × (r.ticket ≡ ticket))
+      (λ e i. let same : x ≡ r = cc in let S : WaitingRead → Type 0 = λ r. R r × (r.ticket ≡ ticket) in subst S same (a.0, eqb-true x.ticket ticket e))
+      (λ e i. read_found ticket rs r a.1 i)
+      h
+
+  version_gives : (p : Plain) → Waits p → (sender ticket version : ℕ)
+      → ((r : WaitingRead) → R r → r.ticket ≡ ticket → version ≤ (newest_object p r.key).0 → G r.ticket (read_answer (object_within p r.key (answering_version p r.key version))))
+      → Gives (version_turn p sender ticket version)
+  unfolding version_turn
+  version_gives p w sender ticket version f =
+      cond_both (not (sender == last_of p.members)) (turn_ignoring p NotNeighbour) (told_version_turn p version (read_with ticket p.waiting_reads)) (λ (t : Turn). Gives t)
+      (λ e. ignored p w NotNeighbour)
+      (λ e. told_gives p w ticket version (read_with ticket p.waiting_reads)
+      (λ r h x le. f r x (read_found ticket p.waiting_reads r w.reads h).1 le)
+      (λ r h. (read_found ticket p.waiting_reads r w.reads h).0))
+
+  says_fill : (p : Plain) (count to : ℕ) → AllByRecursion (Says Q V (id_of p) to) (fill_bodies p count)
+  unfolding fill_bodies copy_bodies
+  says_fill p count to =
+      let copies : List Body = copy_bodies p.acknowledged (clean p) in
+      all_joined (Says Q V (id_of p) to) (cond (nat_lt count p.acknowledged) copies []) (catch_up p (max count p.acknowledged))
+      (cond_both (nat_lt count p.acknowledged) copies [] (λ (l : List Body). AllByRecursion (Says Q V (id_of p) to) l) (λ e. (tt, tt)) (λ e. tt))
+      (says_catch_up G Q V p (max count p.acknowledged) (id_of p) to)
+
+  blank_gives : (p : Plain) → Waits p → (sender count : ℕ) → Gives (blank_turn p sender count)
+  unfolding blank_turn
+  blank_gives p w sender count =
+      let last : Turn = turn_with p (send_all p sender (fill_bodies p count)) in
+      cond_both (not (is_id (successor p) sender)) (turn_ignoring p NotNeighbour) (cond (not p.ready) (turn_ignoring p NotReadyHere) last) (λ (t : Turn). Gives t)
+      (λ e. ignored p w NotNeighbour)
+      (λ e. cond_both (not p.ready) (turn_ignoring p NotReadyHere) last (λ (t : Turn). Gives t)
+      (λ f. ignored p w NotReadyHere)
+      (λ f. quiet p w (send_all p sender (fill_bodies p count)) (told_sends G Q V p sender (fill_bodies p count) (says_fill p count sender))))
+
+  copy_gives : (p : Plain) → Waits p → (sender position : ℕ) (state : State) → MayAnswer (copy_turn p sender position state).0 → Gives (copy_turn p sender position state)
+  unfolding copy_turn
+  copy_gives p w sender position state m =
+      let q : Plain = with_copy p position state in
+      guard p w (not (is_id (predecessor p) sender)) NotNeighbour (cond (p.ready || nat_le position (length_of p)) (turn_ignoring p AlreadyHave) (readiness_turn q)) m
+      (λ a m. guard p w (p.ready || nat_le position (length_of p)) AlreadyHave (readiness_turn q) m (λ b m. becoming q (like_waits p q w refl refl refl) m))
+
+  floor_gives : (p : Plain) → Waits p → (sender count : ℕ) → MayAnswer (floor_turn p sender count).0 → Gives (floor_turn p sender count)
+  unfolding floor_turn
+  floor_gives p w sender count m =
+      let q : Plain = record p { floor = Some count } in
+      guard p w (not (is_id (predecessor p) sender)) NotNeighbour (cond p.ready (turn_ignoring p AlreadyHave) (readiness_turn q)) m
+      (λ a m. guard p w p.ready AlreadyHave (readiness_turn q) m (λ b m. becoming q (like_waits p q w refl refl refl) m))
+
+  -- ---- any message
+
+  -- what else has to be known of a message, by what it says
+  abbrev pub MayTell : Plain → LinkMessage → Body → Type 0
+  MayTell p m (bodies.Config members) = ⊤
+  MayTell p m (bodies.Entry e) = ⊤
+  MayTell p m (bodies.Ack position) = ⊤
+  MayTell p m (bodies.Query ticket key) = is_tail p ≡ true → V m.sender ticket (newest_object p key).0
+  MayTell p m (bodies.VersionIs ticket version) =
+      (r : WaitingRead) → R r → r.ticket ≡ ticket → version ≤ (newest_object p r.key).0 → G r.ticket (read_answer (object_within p r.key (answering_version p r.key version)))
+  MayTell p m (bodies.Blank count) = ⊤
+  MayTell p m (bodies.Copy position objects kept) = ⊤
+  MayTell p m (bodies.Floor count) = ⊤
+
+  -- what has to be known of answers, by what the message says
+  abbrev pub AnswersOf : Plain → LinkMessage → Body → Type 0
+  AnswersOf p m (bodies.Config members) = MayAnswer (body_turn p m (bodies.Config members)).0
+  AnswersOf p m (bodies.Entry e) = MayAnswer (body_turn p m (bodies.Entry e)).0
+  AnswersOf p m (bodies.Ack position) = MayAnswer (body_turn p m (bodies.Ack position)).0
+  AnswersOf p m (bodies.Query ticket key) = ⊤
+  AnswersOf p m (bodies.VersionIs ticket version) = ⊤
+  AnswersOf p m (bodies.Blank count) = ⊤
+  AnswersOf p m (bodies.Copy position objects kept) = MayAnswer (body_turn p m (bodies.Copy position objects kept)).0
+  AnswersOf p m (bodies.Floor count) = MayAnswer (body_turn p m (bodies.Floor count)).0
+
+  in_epoch : (p : Plain) → Waits p → (m : LinkMessage) (t : Turn) → MayAnswer (turn_in_epoch p m t).0 → (MayAnswer t.0 → Gives t) → Gives (turn_in_epoch p m t)
+  in_epoch p w m t a go = cond_both (m.epoch == p.epoch) t (turn_ignoring p OtherEpoch) (λ (t : Turn). MayAnswer t.0 → Gives t) (λ e a. go a) (λ e a. ignored p w OtherEpoch) a
+
+  still_in_epoch : (p : Plain) → Waits p → (m : LinkMessage) (t : Turn) → Gives t → Gives (turn_in_epoch p m t)
+  still_in_epoch p w m t go = cond_both (m.epoch == p.epoch) t (turn_ignoring p OtherEpoch) (λ (t : Turn). Gives t) (λ e. go) (λ e. ignored p w OtherEpoch)
+
+  pub body_gives : (p : Plain) → Waits p → (m : LinkMessage) (b : Body) → AnswersOf p m b → MayTell p m b → Gives (body_turn p m b)
+  body_gives p w m (bodies.Config members) a x = config_gives p w m.epoch members a
+  body_gives p w m (bodies.Entry e) a x = in_epoch p w m (entry_turn p m.sender e) a (λ a. entry_gives p w m.sender e a)
+  body_gives p w m (bodies.Ack position) a x = in_epoch p w m (ack_turn p m.sender position) a (λ a. ack_gives p w m.sender position a)
+  body_gives p w m (bodies.Query ticket key) a x = still_in_epoch p w m (query_turn p m.sender ticket key) (query_gives p w m.sender ticket key x)
+  body_gives p w m (bodies.VersionIs ticket version) a x = still_in_epoch p w m (version_turn p m.sender ticket version) (version_gives p w m.sender ticket version x)
+  body_gives p w m (bodies.Blank count) a x = still_in_epoch p w m (blank_turn p m.sender count) (blank_gives p w m.sender count)
+  body_gives p w m (bodies.Copy position objects kept) a x = in_epoch p w m (copy_turn p m.sender position (record { objects = objects; kept = kept })) a (λ a. copy_gives p w m.sender position (record { objects = objects; kept = kept }) a)
+  body_gives p w m (bodies.Floor count) a x = in_epoch p w m (floor_turn p m.sender count) a (λ a. floor_gives p w m.sender count a)
+
+  pub tick_gives : (p : Plain) → Waits p → Gives (turn_with p (tick_sends p))
+  tick_gives p w = quiet p w (tick_sends p) (told_tick G Q V p (questions p w))
+
+  pub stop_gives : (p : Plain) → Waits p → Gives (turn_with (record p { running = false }) [])
+  stop_gives p w = record { updates = w.updates; reads = w.reads; told = tt }

@@ -1,0 +1,178 @@
+-- What a node does with a message, in the account and the world after it.
+use Rattle.std.proofs.Common.{◌≡◌, ℕ, zero, suc, ◌-◌, ◌≤◌, ◌==◌, true, List, [], ◌∷◌, length, take, drop, slice_get, slice_index, Option, Some, None, ap, sym, subst, ◌∙◌, arith}
+use Rattle.std.specs.List.{AllZip}
+use Rattle.std.proofs.lemmas.Bool.{cond_both}
+use Rattle.craq_names.specs.declared.name.ObjectId.{ObjectId}
+use Rattle.craq_commands.specs.declared.entry.Entry.{Entry}
+use Rattle.craq_commands.specs.declared.read_mode.ReadMode.TheVariants.{Strong}
+use Rattle.craq_commands.specs.Objects.{object_of, version_of}
+use Rattle.craq_model.specs.declared.ask.Ask.{Ask}
+use Rattle.craq_model.specs.declared.ask.Ask.TheVariants as asks
+use Rattle.craq_model.specs.declared.message.Body.{Body}
+use Rattle.craq_model.specs.declared.message.Body.TheVariants as bodies
+use Rattle.craq_model.specs.declared.message.LinkMessage.{LinkMessage}
+use Rattle.craq_model.specs.declared.step.Why.TheVariants.{OtherEpoch}
+use Rattle.craq_model.specs.declared.waiting.WaitingRead.{WaitingRead}
+use Rattle.craq_model.specs.Plain.{Plain, is_tail, clean, newest_object, object_within, entries_after}
+use Rattle.craq_model.specs.Settle.{Turn, turn_ignoring, read_answer}
+use Rattle.craq_model.specs.Deliveries.{body_turn, turn_in_epoch, query_turn, version_turn, answering_version}
+use Rattle.craq_protocol.specs.Machine.{World}
+use Rattle.craq_protocol.specs.Promises.{IsPrefix}
+use Rattle.craq_protocol.proofs.Prefix.{prefix_is_take}
+use Rattle.craq_runs.specs.Chain.{message_at}
+use Rattle.craq_runs.specs.Seen.{Asked, ask_with}
+use Rattle.craq_runs.specs.Explain.{Account, read_place, word_of}
+use Rattle.craq_refinement.specs.Follows.{IsPlaced, seen_of, NodeFollows}
+use Rattle.craq_refinement.proofs.Lists.{placed_take}
+use Rattle.craq_updates.proofs.Known.{Known, some_same}
+use Rattle.craq_strong_answers.proofs.Gives.{Gives, MayAnswer, Waits, MayTell, AnswersOf, body_gives}
+use Rattle.craq_strong_answers.proofs.Same.{SameHistory, same_self, same_newest, same_clean, version_same}
+use Rattle.craq_strong_answers.proofs.Stands.{state_after, before, DueUpdate, AskedRead, DueRead, ToldVersion, IsTold, IsAnswer}
+use Rattle.craq_strong_answers.proofs.Nodes.{holds_log, Holds}
+use Rattle.craq_strong_answers.proofs.Looks.{PlacedRead, told_placed}
+use Rattle.craq_strong_answers.proofs.Answering.{Answered, Questions, Versions, owed_by, before_log, At, at_node, at_holds, at_running, tail_object, may_answer}
+
+pub holds_same : (asked : List Asked) (w : World Entry) (p q : Plain) (h : List Entry) → SameHistory p q → Holds asked w q h → Holds asked w p h
+unfolding entries_after
+holds_same asked w p q h s o =
+    let A : ℕ → Type 0 = λ k. (clean p ≡ state_after k h) × (drop (k - p.base) p.entries ≡ drop k h) × (k ≤ length h) × (k ≤ length w.log) × (take k h ≡ take k w.log) in
+    let after : drop (q.acknowledged - p.base) p.entries ≡ drop q.acknowledged h = ap (λ n. drop (q.acknowledged - n) p.entries) (sym s.base) ∙ (ap (drop (q.acknowledged - q.base)) (sym s.entries) ∙ o.after_is) in
+    let all : A q.acknowledged = (sym (same_clean p q s) ∙ o.clean_is, after, o.known, o.committed, o.same) in
+    let mine : A p.acknowledged = subst A s.acknowledged all in
+    record {
+      numbered = o.numbered;
+      genuine = o.genuine;
+      newest_is = sym (same_newest p q s) ∙ o.newest_is;
+      clean_is = mine.0;
+      after_is = mine.1;
+      known = mine.2;
+      committed = mine.3;
+      same = mine.4;
+    }
+
+-- the log stands at its positions
+log_placed : (b : Account) (v : World Entry) (id : ℕ) (q : Plain) → At b v id q → IsPrefix v.log (v.history id) → IsPlaced 0 v.log
+log_placed b v id q h l =
+    let n : NodeFollows v (seen_of q) = at_node b v id q h in
+    let P : ℕ → Type 0 = λ j. IsPlaced 0 (v.history j) in
+    let Q : List Entry → Type 0 = λ es. IsPlaced 0 es in
+    subst Q (prefix_is_take l) (placed_take 0 (length v.log) (v.history id) (subst P h.same n.placed))
+
+-- ---- a question
+
+query_stays : (p : Plain) (m : LinkMessage) (ticket : ℕ) (key : List ℕ) → (turn_in_epoch p m (query_turn p m.sender ticket key)).0 ≡ p
+unfolding query_turn
+query_stays p m ticket key = grind arith
+
+query_told : (b : Account) (v : World Entry) (id : ℕ) (p : Plain) (sender ticket : ℕ) (key : List ℕ) → At b v id p → p.running ≡ true → AskedRead b sender ticket key → is_tail p ≡ true
+    → ToldVersion b v sender ticket (newest_object p key).0 (length v.log)
+query_told b v id p sender ticket key h u a t =
+    let P : List ℕ → Type 0 = λ k. version_of (state_after (length v.log) v.log).objects k ≡ (newest_object p key).0 in
+    record {
+      ask = a.ask;
+      object = a.object;
+      is_ask = a.is_ask;
+      is = a.is;
+      not_before = before_log b v h.known a.ask;
+      committed = omega arith;
+      version_is = subst P (sym a.key_is) (ap (λ (o : ℕ × List ℕ). o.0) (tail_object b v id p key h u t));
+    }
+
+-- ---- a version
+
+read_object : (k : Ask) (o q : ObjectId) → k ≡ asks.Read Strong o → k ≡ asks.Read Strong q → o ≡ q
+read_object k o q h i = let e : asks.Read Strong o ≡ asks.Read Strong q = sym h ∙ i in cc
+
+version_told : (b : Account) (v : World Entry) (id : ℕ) (p q : Plain) (ticket version sent : ℕ) (position : List ℕ → ℕ) → At b v id q → q.running ≡ true → SameHistory p q → ToldVersion b v id ticket version sent
+    → ((key : List ℕ) → position key ≡ read_place v.log (Some p) (Some (version, sent)) key) → (r : WaitingRead) → DueRead b v id r → r.ticket ≡ ticket
+    → IsAnswer b v position id r.ticket (read_answer (object_within p r.key (answering_version p r.key version)))
+version_told b v id p q ticket version sent position h u s t at r d same =
+    let k : Known b v = h.known in
+    let a : AskedRead b id r.ticket r.key = d.asked in
+    let l : IsPrefix v.log (v.history id) = holds_log v id k.reached d.ready (at_running b v id q h u) in
+    let o : Holds b.asks v p (v.history id) = holds_same b.asks v p q (v.history id) s (at_holds b v id q h) in
+    let P : ℕ → Type 0 = λ j. ask_with b.asks id j ≡ Some a.ask in
+    let ask : a.ask ≡ t.ask = some_same (ask_with b.asks id ticket) (subst P same a.is_ask) t.is_ask in
+    let object : a.object ≡ t.object = read_object a.ask.ask a.object t.object a.is (ap (λ (x : Asked). x.ask) ask ∙ t.is) in
+    let key : t.object.key ≡ r.key = ap (λ (o : ObjectId). o.key) (sym object) ∙ a.key_is in
+    let V : List ℕ → Type 0 = λ k. version_of (state_after sent v.log).objects k ≡ version in
+    let held : _ = k.held in
+    let placed : PlacedRead v sent (read_place v.log (Some p) (Some (version, sent)) r.key) r.key (object_within p r.key (answering_version p r.key version)) =
+    told_placed b.asks v p (v.history id) r.key version sent o l (log_placed b v id q h l) held.log t.committed (subst V key t.version_is) in
+    let answer : ℕ × List ℕ = object_within p r.key (answering_version p r.key version) in
+    let place : position a.object.key ≡ read_place v.log (Some p) (Some (version, sent)) r.key = at a.object.key ∙ ap (read_place v.log (Some p) (Some (version, sent))) a.key_is in
+    let S : List ℕ → Type 0 = λ k. object_of (state_after (position a.object.key) v.log).objects k ≡ answer in
+    let N : ℕ → Type 0 = λ n. object_of (state_after n v.log).objects r.key ≡ answer in
+    let early : before b a.ask ≡ before b t.ask = ap (before b) ask in
+    owed_by b v position id r.ticket (read_answer answer) a.ask (asks.Read Strong a.object) a.is_ask a.is (record {
+      not_before = omega (arith, early, t.not_before, placed.from, place);
+      not_beyond = omega (arith, placed.within_log, place);
+      begins = l;
+      is_said = subst S (sym a.key_is) (subst N (sym place) placed.is);
+    })
+
+-- ---- any message
+
+-- the message among those that were sent, beside how many were committed then
+pub sent_with : (b : Account) (v : World Entry) (ms : List LinkMessage) (sents : List ℕ) (number : ℕ) (m : LinkMessage) → AllZip (IsTold b v) ms sents → message_at ms number ≡ Some m → IsTold b v m (slice_index sents (number - 1))
+sent_with b v ms sents zero m z h = absurd (cc)
+sent_with b v ms sents (suc i) m z h =
+    let P : ℕ → Type 0 = λ j. IsTold b v m (slice_index sents j) in
+    let same : i ≡ suc i - 1 = omega arith in
+    subst P same (zipped ms sents i z h)
+  where
+    zipped : (ms : List LinkMessage) (sents : List ℕ) (i : ℕ) → AllZip (IsTold b v) ms sents → slice_get ms i ≡ Some m → IsTold b v m (slice_index sents i)
+    zipped [] sents i z h = absurd (cc)
+    zipped (x ∷ ms) [] i z h = absurd z
+    zipped (x ∷ ms) (s ∷ sents) zero z h = let same : x ≡ m = cc in let Q : LinkMessage → Type 0 = λ m. IsTold b v m s in subst Q same z.0
+    zipped (x ∷ ms) (s ∷ sents) (suc i) z h = zipped ms sents i z.1 h
+
+version_keeps : (p : Plain) (m : LinkMessage) (ticket version : ℕ) → SameHistory p (turn_in_epoch p m (version_turn p m.sender ticket version)).0
+version_keeps p m ticket version =
+    cond_both (m.epoch == p.epoch) (version_turn p m.sender ticket version) (turn_ignoring p OtherEpoch) (λ (t : Turn). SameHistory p t.0) (λ e. version_same p m.sender ticket version) (λ e. same_self p)
+
+pub hears : (b : Account) (v : World Entry) (id : ℕ) (p : Plain) (m : LinkMessage) (body : Body) (t : Turn) (sent : ℕ) (word : Option (ℕ × ℕ)) (position : List ℕ → ℕ)
+    → At b v id t.0 → t.0.running ≡ true → p.running ≡ true → Waits (DueUpdate b v id) (DueRead b v id) (Answered b v position id) (Questions b) (Versions b v) p
+    → m.body ≡ body → m.receiver ≡ id → body_turn p m body ≡ t → IsTold b v m sent → word ≡ word_of sent body → ((key : List ℕ) → position key ≡ read_place v.log (Some p) word key)
+    → Gives (DueUpdate b v id) (DueRead b v id) (Answered b v position id) (Questions b) (Versions b v) t
+hears b v id p m body t sent word position h u up w is to turn told says at =
+    let P : Turn → Type 0 = λ t. Gives (DueUpdate b v id) (DueRead b v id) (Answered b v position id) (Questions b) (Versions b v) t in
+    subst P turn (body_gives (DueUpdate b v id) (DueRead b v id) (Answered b v position id) (Questions b) (Versions b v) p w m body (answers body turn says) (tells body is turn says))
+  where
+    M : Plain → Type 0
+    M q = MayAnswer (DueUpdate b v id) (DueRead b v id) (Answered b v position id) (Questions b) (Versions b v) q
+
+    last : word ≡ None → M t.0
+    last none = may_answer b v id t.0 position h u (λ key. at key ∙ ap (λ o. read_place v.log (Some p) o key) none)
+
+    by : (body : Body) → body_turn p m body ≡ t → word ≡ None → M (body_turn p m body).0
+    by body turn none = let Q : Turn → Type 0 = λ t. M t.0 in subst Q (sym turn) (last none)
+
+    answers : (body : Body) → body_turn p m body ≡ t → word ≡ word_of sent body → AnswersOf (DueUpdate b v id) (DueRead b v id) (Answered b v position id) (Questions b) (Versions b v) p m body
+    answers (bodies.Config members) turn says = by (bodies.Config members) turn says
+    answers (bodies.Entry e) turn says = by (bodies.Entry e) turn says
+    answers (bodies.Ack position) turn says = by (bodies.Ack position) turn says
+    answers (bodies.Query ticket key) turn says = tt
+    answers (bodies.VersionIs ticket version) turn says = tt
+    answers (bodies.Blank count) turn says = tt
+    answers (bodies.Copy position objects kept) turn says = by (bodies.Copy position objects kept) turn says
+    answers (bodies.Floor count) turn says = by (bodies.Floor count) turn says
+
+    tells : (body : Body) → m.body ≡ body → body_turn p m body ≡ t → word ≡ word_of sent body → MayTell (DueUpdate b v id) (DueRead b v id) (Answered b v position id) (Questions b) (Versions b v) p m body
+    tells (bodies.Config members) is turn says = tt
+    tells (bodies.Entry e) is turn says = tt
+    tells (bodies.Ack position) is turn says = tt
+    tells (bodies.Query ticket key) is turn says =
+        let still : t.0 ≡ p = ap (λ (t : Turn). t.0) (sym turn) ∙ query_stays p m ticket key in
+        let Q : Plain → Type 0 = λ q. At b v id q in
+        let R : Body → Type 0 = λ x. IsTold b v (record m { body = x }) sent in
+        query_told b v id p m.sender ticket key (subst Q still h) up (subst R is told)
+    tells (bodies.VersionIs ticket version) is turn says =
+        let same : SameHistory p t.0 = let Q : Turn → Type 0 = λ t. SameHistory p t.0 in subst Q turn (version_keeps p m ticket version) in
+        let R : Body → Type 0 = λ x. IsTold b v (record m { body = x }) sent in
+        let S : ℕ → Type 0 = λ j. ToldVersion b v j ticket version sent in
+        let known : ToldVersion b v id ticket version sent = subst S to (subst R is told) in
+        λ r d e le. version_told b v id p t.0 ticket version sent position h u same known (λ key. at key ∙ ap (λ o. read_place v.log (Some p) o key) says) r d e
+    tells (bodies.Blank count) is turn says = tt
+    tells (bodies.Copy position objects kept) is turn says = tt
+    tells (bodies.Floor count) is turn says = tt

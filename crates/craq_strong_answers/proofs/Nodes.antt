@@ -1,0 +1,133 @@
+-- What a node holds, in the world that stands for its chain.
+use Rattle.std.proofs.Common.{◌≡◌, ◌⊎◌, ⊎_elim, ℕ, zero, suc, ◌+◌, ◌-◌, ◌≤◌, true, List, [], ◌∷◌, ◌++◌, length, take, drop, refl, ap, sym, subst, ◌∙◌, arith, take-take, length-drop}
+use Rattle.std.proofs.Math.Seq.{take-add, take-append-add, drop-append-add}
+use Rattle.craq_commands.specs.declared.entry.Entry.{Entry}
+use Rattle.craq_commands.specs.Objects.{object_of, version_of}
+use Rattle.craq_commands.specs.SingleCopy.{State, opening_state, after_entries}
+use Rattle.craq_model.specs.Plain.{Plain, id_of, newest, clean, clean_object, entries_after, object_within, values_after, newest_within}
+use Rattle.craq_protocol.specs.Machine.{World}
+use Rattle.craq_protocol.specs.Promises.{IsPrefix, IsReached, IsSafe}
+use Rattle.craq_protocol.proofs.Prefix.{prefix_take}
+use Rattle.craq_protocol.proofs.Reached.{reached_safe}
+use Rattle.craq_runs.specs.Seen.{Asked}
+use Rattle.craq_refinement.specs.Follows.{seen_of, NodeFollows}
+use Rattle.craq_updates.specs.Genuine.{AllGenuine}
+use Rattle.craq_updates.proofs.Found.{IsNumbered}
+use Rattle.craq_updates.proofs.Entries.{genuine_closed}
+use Rattle.craq_updates.proofs.Known.{after_entries-append, newest_is}
+use Rattle.craq_strong_answers.proofs.Stands.{state_after}
+use Rattle.craq_strong_answers.proofs.Versions.{genuine_rest, no_older_prefix, version_rises, version_tells}
+use Rattle.craq_strong_answers.proofs.Within.{IsWithin, within, version_at}
+
+-- ---- beginnings of one history
+
+-- the version of an object after so many entries of a history
+abbrev pub version_after : List Entry → List ℕ → ℕ → ℕ
+version_after h key count = version_of (state_after count h).objects key
+
+shorter : (h : List Entry) (i j : ℕ) → i ≤ j → IsPrefix (take i h) (take j h)
+shorter h i j le = let P : List Entry → Type 0 = λ l. IsPrefix l (take j h) in subst P (take-take i j h le) (prefix_take i (take j h))
+
+taken_genuine : (asked : List Asked) (h : List Entry) (j : ℕ) → AllGenuine asked opening_state h → AllGenuine asked opening_state (take j h)
+taken_genuine asked h j g = genuine_closed asked opening_state (take j h) h (prefix_take j h) g
+
+pub rises_between : (asked : List Asked) (h : List Entry) (key : List ℕ) (i j : ℕ) → IsNumbered asked → AllGenuine asked opening_state h → i ≤ j → version_after h key i ≤ version_after h key j
+rises_between asked h key i j n g le =
+    version_rises (state_after i h).objects (state_after j h).objects key (no_older_prefix asked (take i h) (take j h) key n (taken_genuine asked h j g) (shorter h i j le))
+
+tells_between : (asked : List Asked) (h : List Entry) (key : List ℕ) (i j : ℕ) → IsNumbered asked → AllGenuine asked opening_state h → i ≤ j → version_after h key i ≡ version_after h key j
+    → object_of (state_after j h).objects key ≡ object_of (state_after i h).objects key
+tells_between asked h key i j n g le e =
+    version_tells (state_after i h).objects (state_after j h).objects key (no_older_prefix asked (take i h) (take j h) key n (taken_genuine asked h j g) (shorter h i j le)) (omega (arith, e))
+
+-- equal versions are equal objects
+pub same_objects : (asked : List Asked) (h : List Entry) (key : List ℕ) (i j : ℕ) → IsNumbered asked → AllGenuine asked opening_state h → version_after h key i ≡ version_after h key j
+    → object_of (state_after i h).objects key ≡ object_of (state_after j h).objects key
+same_objects asked h key i j n g e =
+    ⊎_elim (λ le. sym (tells_between asked h key i j n g le e)) (λ le. tells_between asked h key j i n g le (sym e)) (either i j)
+  where
+    either : (i j : ℕ) → (i ≤ j) ⊎ (j ≤ i)
+    either i j = grind arith
+
+-- ---- a node
+
+-- what is known of a node, whose history this is
+pub record Holds (asked : List Asked) (w : World Entry) (p : Plain) (h : List Entry) : Type 0 where
+  pub numbered : IsNumbered asked
+  pub genuine : AllGenuine asked opening_state h
+  pub newest_is : newest p ≡ after_entries opening_state h
+  pub clean_is : clean p ≡ state_after p.acknowledged h
+  pub after_is : entries_after p p.acknowledged ≡ drop p.acknowledged h
+  pub known : p.acknowledged ≤ length h
+  pub committed : p.acknowledged ≤ length w.log
+  pub same : take p.acknowledged h ≡ take p.acknowledged w.log
+
+pub node_holds : (asked : List Asked) (w : World Entry) (p : Plain) → IsReached w → IsNumbered asked → AllGenuine asked opening_state (w.history (id_of p)) → NodeFollows w (seen_of p) → Holds asked w p (w.history (id_of p))
+unfolding clean entries_after
+node_holds asked w p r n g f =
+    let h : List Entry = w.history (id_of p) in
+    let s : IsSafe w = reached_safe r in
+    let front : List Entry = f.history.front in
+    let k : ℕ = p.acknowledged - p.base in
+    let count : length front + k ≡ p.acknowledged = omega (arith, f.history.count, f.based) in
+    let parts : front ++ p.entries ≡ h = f.history.whole in
+    let start : take p.acknowledged h ≡ front ++ take k p.entries = ap (take p.acknowledged) (sym parts) ∙ (ap (λ j. take j (front ++ p.entries)) (sym count) ∙ take-append-add front p.entries k) in
+    let rest : drop p.acknowledged h ≡ drop k p.entries = ap (drop p.acknowledged) (sym parts) ∙ (ap (λ j. drop j (front ++ p.entries)) (sym count) ∙ drop-append-add front p.entries k) in
+    let a : _ = s.acknowledged (id_of p) in
+    let ack : w.acknowledged (id_of p) ≡ p.acknowledged = f.acknowledged in
+    let T : ℕ → Type 0 = λ j. take j h ≡ take j w.log in
+    record {
+      numbered = n;
+      genuine = g;
+      newest_is = newest_is p f;
+      clean_is = sym (ap (after_entries opening_state) start ∙ (after_entries-append opening_state front (take k p.entries) ∙ ap (λ s. after_entries s (take k p.entries)) f.history.after));
+      after_is = sym rest;
+      known = omega (arith, a.0, ack);
+      committed = omega (arith, a.1, ack);
+      same = subst T ack a.2;
+    }
+
+-- the version that a node gives within a bound
+pub record GivenWithin (h : List Entry) (p : Plain) (key : List ℕ) (bound : ℕ) : Type 0 where
+  pub count : ℕ
+  pub short : count ≤ length h
+  pub is : object_within p key bound ≡ object_of (state_after count h).objects key
+  pub below : version_after h key count ≤ bound
+  pub most : (k : ℕ) → p.acknowledged ≤ k → version_after h key k ≤ bound → version_after h key k ≤ version_after h key count
+
+state_add : (h : List Entry) (i j : ℕ) → state_after (i + j) h ≡ after_entries (state_after i h) (take j (drop i h))
+state_add h i j = ap (after_entries opening_state) (take-add i j h) ∙ after_entries-append opening_state (take i h) (take j (drop i h))
+
+pub given_within : (asked : List Asked) (w : World Entry) (p : Plain) (h : List Entry) (key : List ℕ) (bound : ℕ) → Holds asked w p h → (clean_object p key).0 ≤ bound → GivenWithin h p key bound
+given_within asked w p h key bound o le =
+    let a : ℕ = p.acknowledged in
+    let s : State = state_after a h in
+    let es : List Entry = drop a h in
+    let split : take a h ++ es ≡ h = take_drop a h in
+    let P : List Entry → Type 0 = λ l. AllGenuine asked opening_state l in
+    let g : AllGenuine asked s es = genuine_rest asked opening_state (take a h) es (subst P (sym split) o.genuine) in
+    let clean_version : (clean_object p key).0 ≡ version_of s.objects key = ap (λ (s : State). version_of s.objects key) o.clean_is in
+    let i : IsWithin s es key bound = within asked s es key bound o.numbered g (omega (arith, clean_version, le)) in
+    let at : (j : ℕ) → version_after h key (a + j) ≡ version_at s es key j = λ j. ap (λ (s : State). version_of s.objects key) (state_add h a j) in
+    record {
+      count = a + i.count;
+      short = omega (arith, i.short, length-drop a h, o.known);
+      is = ap (λ (s : State). newest_within bound (object_of s.objects key) (values_after (entries_after p p.acknowledged) key)) o.clean_is
+          ∙ (ap (λ l. newest_within bound (object_of s.objects key) (values_after l key)) o.after_is
+          ∙ (i.is ∙ sym (ap (λ (s : State). object_of s.objects key) (state_add h a i.count))));
+      below = omega (arith, at i.count, i.below);
+      most = λ k le h'.
+          let j : ℕ = k - a in
+          let same : a + j ≡ k = omega (arith, le) in
+          let there : version_after h key k ≡ version_at s es key j = ap (version_after h key) (sym same) ∙ at j in
+          omega (arith, there, at i.count, i.most j (omega (arith, there, h')));
+    }
+  where
+    take_drop : {A : Type 0} (i : ℕ) (l : List A) → take i l ++ drop i l ≡ l
+    take_drop zero l = refl
+    take_drop (suc i) [] = refl
+    take_drop (suc i) (x ∷ l) = ap (λ l. x ∷ l) (take_drop i l)
+
+-- a running node that is ready holds the log
+pub holds_log : (w : World Entry) (id : ℕ) → IsReached w → w.ready id ≡ true → w.running id ≡ true → IsPrefix w.log (w.history id)
+holds_log w id r ready running = let s : IsSafe w = reached_safe r in s.committed id ready (s.alive id running)

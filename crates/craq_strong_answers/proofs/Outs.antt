@@ -1,0 +1,95 @@
+-- What a step's outs tell: answers, questions about versions, and versions.
+use Rattle.std.proofs.Common.{◌≡◌, ℕ, ◌==◌, cond, List, [], ◌∷◌, ◌++◌, map, Option, Some, None, refl}
+use Rattle.std.specs.Prelude.{⊤}
+use Rattle.std.specs.List.{AllByRecursion}
+use Rattle.std.proofs.lemmas.Bool.{cond_both}
+use Rattle.craq_commands.specs.declared.entry.Entry.{Entry}
+use Rattle.craq_model.specs.declared.message.Body.{Body}
+use Rattle.craq_model.specs.declared.message.Body.TheVariants as bodies
+use Rattle.craq_model.specs.declared.ask.Answer.{Answer}
+use Rattle.craq_model.specs.declared.step.Out.{Out}
+use Rattle.craq_model.specs.declared.step.Out.TheVariants as outs
+use Rattle.craq_model.specs.declared.waiting.WaitingRead.{WaitingRead}
+use Rattle.craq_model.specs.Members.{last_of}
+use Rattle.craq_model.specs.Plain.{Plain, id_of, successor, predecessor, is_last, length_of, entries_after}
+use Rattle.craq_model.specs.Sends.{send, send_all, to_neighbour, entry_bodies, catch_up, queries, ready_sends, unready_sends, tick_sends}
+use Rattle.craq_model.specs.Settle.{Given, answer_outs}
+
+-- what a message tells: Q of a question's sender, ticket and key; V of a version's receiver, ticket and version
+abbrev pub Says : (ℕ → ℕ → List ℕ → Type 0) → (ℕ → ℕ → ℕ → Type 0) → ℕ → ℕ → Body → Type 0
+Says Q V sender receiver (bodies.Config members) = ⊤
+Says Q V sender receiver (bodies.Entry e) = ⊤
+Says Q V sender receiver (bodies.Ack position) = ⊤
+Says Q V sender receiver (bodies.Query ticket key) = Q sender ticket key
+Says Q V sender receiver (bodies.VersionIs ticket version) = V receiver ticket version
+Says Q V sender receiver (bodies.Blank count) = ⊤
+Says Q V sender receiver (bodies.Copy position objects kept) = ⊤
+Says Q V sender receiver (bodies.Floor count) = ⊤
+
+-- what outs tell: each is sent to its receiver; G of an answer's ticket and itself
+abbrev pub AllTold : (ℕ → Answer → Type 0) → (ℕ → ℕ → List ℕ → Type 0) → (ℕ → ℕ → ℕ → Type 0) → List Out → Type 0
+AllTold G Q V [] = ⊤
+AllTold G Q V (outs.Send to m ∷ os) = ((to ≡ m.receiver) × Says Q V m.sender m.receiver m.body) × AllTold G Q V os
+AllTold G Q V (outs.Answer ticket answer ∷ os) = G ticket answer × AllTold G Q V os
+
+module _ (G : ℕ → Answer → Type 0) (Q : ℕ → ℕ → List ℕ → Type 0) (V : ℕ → ℕ → ℕ → Type 0) where
+  pub told_both : (os ps : List Out) → AllTold G Q V os → AllTold G Q V ps → AllTold G Q V (os ++ ps)
+  told_both [] ps a b = b
+  told_both (outs.Send to m ∷ os) ps a b = (a.0, told_both os ps a.1 b)
+  told_both (outs.Answer ticket answer ∷ os) ps a b = (a.0, told_both os ps a.1 b)
+
+  pub told_answers : (gs : List Given) → AllByRecursion (λ (g : Given). G g.0 g.1) gs → AllTold G Q V (answer_outs gs)
+  told_answers [] a = tt
+  told_answers (g ∷ gs) a = (a.0, told_answers gs a.1)
+
+  pub told_sends : (p : Plain) (to : ℕ) (bs : List Body) → AllByRecursion (Says Q V (id_of p) to) bs → AllTold G Q V (send_all p to bs)
+  told_sends p to [] a = tt
+  told_sends p to (b ∷ bs) a = ((refl, a.0), told_sends p to bs a.1)
+
+  pub told_neighbour : (o : Option ℕ) (sends : ℕ → List Out) → ((to : ℕ) → AllTold G Q V (sends to)) → AllTold G Q V (to_neighbour o sends)
+  told_neighbour None sends f = tt
+  told_neighbour (Some to) sends f = f to
+
+  says_entries : (id to : ℕ) (es : List Entry) → AllByRecursion (Says Q V id to) (map bodies.Entry es)
+  says_entries id to [] = tt
+  says_entries id to (e ∷ es) = (tt, says_entries id to es)
+
+  pub says_entry_bodies : (id to : ℕ) (es : List Entry) → AllByRecursion (Says Q V id to) (entry_bodies es)
+  unfolding entry_bodies
+  says_entry_bodies id to es = says_entries id to es
+
+  says_more : (id to : ℕ) (bs cs : List Body) → AllByRecursion (Says Q V id to) bs → AllByRecursion (Says Q V id to) cs → AllByRecursion (Says Q V id to) (bs ++ cs)
+  says_more id to [] cs a b = b
+  says_more id to (x ∷ bs) cs a b = (a.0, says_more id to bs cs a.1 b)
+
+  pub says_catch_up : (p : Plain) (position id to : ℕ) → AllByRecursion (Says Q V id to) (catch_up p position)
+  unfolding catch_up
+  says_catch_up p position id to = says_more id to (entry_bodies (entries_after p position)) (bodies.Floor (length_of p) ∷ []) (says_entry_bodies id to (entries_after p position)) (tt, tt)
+
+  told_queries : (p : Plain) (rs : List WaitingRead) → AllByRecursion (λ (r : WaitingRead). Q (id_of p) r.ticket r.key) rs
+      → AllTold G Q V (map (λ (r : WaitingRead). send p (last_of p.members) (bodies.Query r.ticket r.key)) rs)
+  told_queries p [] a = tt
+  told_queries p (r ∷ rs) a = ((refl, a.0), told_queries p rs a.1)
+
+  told_ready : (p : Plain) → AllByRecursion (λ (r : WaitingRead). Q (id_of p) r.ticket r.key) p.waiting_reads → AllTold G Q V (ready_sends p)
+  unfolding ready_sends
+  told_ready p a =
+      let first : List Out = to_neighbour (successor p) (λ to. send_all p to (catch_up p p.acknowledged)) in
+      let second : List Out = to_neighbour (predecessor p) (λ to. send p to (bodies.Ack p.acknowledged) ∷ []) in
+      let third : List Out = cond (is_last p) [] (queries p) in
+      told_both (first ++ second) third
+      (told_both first second
+      (told_neighbour (successor p) (λ to. send_all p to (catch_up p p.acknowledged)) (λ to. told_sends p to (catch_up p p.acknowledged) (says_catch_up p p.acknowledged (id_of p) to)))
+      (told_neighbour (predecessor p) (λ to. send p to (bodies.Ack p.acknowledged) ∷ []) (λ to. ((refl, tt), tt))))
+      (cond_both (is_last p) [] (queries p) (λ (os : List Out). AllTold G Q V os) (λ e. tt) (λ e. told_queries p p.waiting_reads a))
+
+  told_unready : (p : Plain) → AllTold G Q V (unready_sends p)
+  unfolding unready_sends
+  told_unready p = told_neighbour (predecessor p) (λ to. send p to (bodies.Blank (length_of p)) ∷ []) (λ to. ((refl, tt), tt))
+
+  pub told_tick : (p : Plain) → AllByRecursion (λ (r : WaitingRead). Q (id_of p) r.ticket r.key) p.waiting_reads → AllTold G Q V (tick_sends p)
+  unfolding tick_sends
+  told_tick p a =
+      cond_both (p.epoch == 0) [] (cond p.ready (ready_sends p) (unready_sends p)) (λ (os : List Out). AllTold G Q V os)
+      (λ e. tt)
+      (λ e. cond_both p.ready (ready_sends p) (unready_sends p) (λ (os : List Out). AllTold G Q V os) (λ r. told_ready p a) (λ r. told_unready p))

@@ -1,0 +1,124 @@
+-- When a waiting ask is due, an answer is owed, and a message about a version is true.
+use Rattle.std.proofs.Common.{◌≡◌, ◌⊎◌, ℕ, ◌+◌, ◌-◌, ◌≤◌, ◌==◌, true, ◌&&◌, List, ◌∷◌, length, take, find, slice_index, Option, Some}
+use Rattle.craq_names.specs.declared.name.ObjectId.{ObjectId}
+use Rattle.craq_commands.specs.declared.command.Update.{Update}
+use Rattle.craq_commands.specs.declared.entry.Entry.{Entry}
+use Rattle.craq_commands.specs.declared.reply.Reply.{Reply}
+use Rattle.craq_commands.specs.declared.read_mode.ReadMode.TheVariants.{Strong, Eventual, Bounded}
+use Rattle.craq_commands.specs.Objects.{object_of, version_of}
+use Rattle.craq_commands.specs.SingleCopy.{opening_state, after_entries, said, State}
+use Rattle.craq_model.specs.declared.ask.Ask.{Ask}
+use Rattle.craq_model.specs.declared.ask.Ask.TheVariants as asks
+use Rattle.craq_model.specs.declared.ask.Answer.{Answer}
+use Rattle.craq_model.specs.declared.ask.Answer.TheVariants as answers
+use Rattle.craq_model.specs.declared.message.LinkMessage.{LinkMessage}
+use Rattle.craq_model.specs.declared.waiting.WaitingUpdate.{WaitingUpdate}
+use Rattle.craq_model.specs.declared.waiting.WaitingRead.{WaitingRead}
+use Rattle.craq_protocol.specs.Machine.{World}
+use Rattle.craq_protocol.specs.Promises.{IsPrefix}
+use Rattle.craq_runs.specs.declared.explanation.Place.{Place}
+use Rattle.craq_runs.specs.Seen.{Asked, ask_with}
+use Rattle.craq_runs.specs.Explain.{Account}
+use Rattle.craq_strong_answers.proofs.Outs.{Says}
+
+-- the state after the first so many entries
+abbrev pub state_after : ℕ → List Entry → State
+state_after count es = after_entries opening_state (take count es)
+
+-- how many were committed before an ask
+abbrev pub before : Account → Asked → ℕ
+before a ask = slice_index (0 ∷ a.lens) (ask.move - 1)
+
+-- the place that is due to an update ask
+abbrev pub due_of : List Place → ℕ → ℕ → Option Place
+due_of due node ticket = find (λ (p : Place). (p.node == node) && (p.ticket == ticket)) due
+
+-- an update that waits: its place is reached with its position, and its reply is said there
+pub record DueUpdate (a : Account) (w : World Entry) (id : ℕ) (u : WaitingUpdate) : Type 0 where
+  pub ready : w.ready id ≡ true
+  pub ask : Asked
+  pub update : Update
+  pub is_ask : ask_with a.asks id u.ticket ≡ Some ask
+  pub is : ask.ask ≡ asks.Update update
+  pub place : Place
+  pub due : due_of a.due id u.ticket ≡ Some place
+  pub not_before : before a ask ≤ place.position
+  pub reached : (place.position ≤ u.position) ⊎ (place.position ≤ length w.log)
+  pub held : place.position ≤ length (w.history id)
+  pub is_said : said (state_after place.position (w.history id)) update.client update.number ≡ Some u.reply
+  pub newest : u.position ≤ length (w.history id)
+  pub is_newest : said (state_after u.position (w.history id)) update.client update.number ≡ Some u.reply
+
+-- a strong read that was asked under a ticket
+pub record AskedRead (a : Account) (id ticket : ℕ) (key : List ℕ) : Type 0 where
+  pub ask : Asked
+  pub object : ObjectId
+  pub is_ask : ask_with a.asks id ticket ≡ Some ask
+  pub is : ask.ask ≡ asks.Read Strong object
+  pub key_is : object.key ≡ key
+
+pub record DueRead (a : Account) (w : World Entry) (id : ℕ) (r : WaitingRead) : Type 0 where
+  pub ready : w.ready id ≡ true
+  pub asked : AskedRead a id r.ticket r.key
+
+-- a version that was told: the object's, after so many committed updates
+pub record ToldVersion (a : Account) (w : World Entry) (id ticket version sent : ℕ) : Type 0 where
+  pub ask : Asked
+  pub object : ObjectId
+  pub is_ask : ask_with a.asks id ticket ≡ Some ask
+  pub is : ask.ask ≡ asks.Read Strong object
+  pub not_before : before a ask ≤ sent
+  pub committed : sent ≤ length w.log
+  pub version_is : version_of (state_after sent w.log).objects object.key ≡ version
+
+-- a message that was sent when so many were committed
+abbrev pub IsTold : Account → World Entry → LinkMessage → ℕ → Type 0
+IsTold a w m sent = Says (λ sender ticket key. AskedRead a sender ticket key) (λ receiver ticket version. ToldVersion a w receiver ticket version sent) m.sender m.receiver m.body
+
+-- ---- answers
+
+pub record UpdateTold (a : Account) (w : World Entry) (id ticket : ℕ) (ask : Asked) (u : Update) (reply : Reply) : Type 0 where
+  pub place : Place
+  pub due : due_of a.due id ticket ≡ Some place
+  pub not_before : before a ask ≤ place.position
+  pub not_beyond : place.position ≤ length w.log
+  pub is_said : said (state_after place.position w.log) u.client u.number ≡ Some reply
+  pub known : ℕ
+  pub acknowledged : known ≤ w.acknowledged id
+  pub is_known : said (state_after known (w.history id)) u.client u.number ≡ Some reply
+
+pub record StrongTold (a : Account) (w : World Entry) (id position : ℕ) (ask : Asked) (object : ObjectId) (version : ℕ) (value : List ℕ) : Type 0 where
+  pub not_before : before a ask ≤ position
+  pub not_beyond : position ≤ length w.log
+  pub begins : IsPrefix w.log (w.history id)
+  pub is_said : object_of (state_after position w.log).objects object.key ≡ (version, value)
+
+-- an answer of the node's whole history, or of a beginning of it
+pub record HistoryTold (w : World Entry) (id : ℕ) (object : ObjectId) (version : ℕ) (value : List ℕ) : Type 0 where
+  pub begins : IsPrefix w.log (w.history id)
+  pub is_said : object_of (after_entries opening_state (w.history id)).objects object.key ≡ (version, value)
+
+pub record BeginningTold (w : World Entry) (id k : ℕ) (object : ObjectId) (version : ℕ) (value : List ℕ) : Type 0 where
+  pub begins : IsPrefix w.log (w.history id)
+  pub count : ℕ
+  pub short : count ≤ length (w.history id)
+  pub is_said : object_of (state_after count (w.history id)).objects object.key ≡ (version, value)
+  pub near : version ≤ version_of (after_entries opening_state w.log).objects object.key + k
+  pub near_clean : version ≤ version_of (state_after (w.acknowledged id) (w.history id)).objects object.key + k
+  pub most : (c : ℕ) → w.acknowledged id ≤ c → version_of (state_after c (w.history id)).objects object.key ≤ version_of (state_after (w.acknowledged id) (w.history id)).objects object.key + k
+      → version_of (state_after c (w.history id)).objects object.key ≤ version
+
+-- what is owed of an answer, by its ask; a strong read stands at this place
+abbrev pub Owed : Account → World Entry → (List ℕ → ℕ) → ℕ → ℕ → Asked → Ask → Answer → Type 0
+Owed a w position id ticket ask (asks.Update u) (answers.Update reply) = UpdateTold a w id ticket ask u reply
+Owed a w position id ticket ask (asks.Update u) (answers.Read version value) = ⊥
+Owed a w position id ticket ask (asks.Read mode object) (answers.Update reply) = ⊥
+Owed a w position id ticket ask (asks.Read Strong object) (answers.Read version value) = StrongTold a w id (position object.key) ask object version value
+Owed a w position id ticket ask (asks.Read Eventual object) (answers.Read version value) = HistoryTold w id object version value
+Owed a w position id ticket ask (asks.Read (Bounded k) object) (answers.Read version value) = BeginningTold w id k object version value
+
+-- an answer to the ask of its ticket
+pub record IsAnswer (a : Account) (w : World Entry) (position : List ℕ → ℕ) (id ticket : ℕ) (answer : Answer) : Type 0 where
+  pub ask : Asked
+  pub is_ask : ask_with a.asks id ticket ≡ Some ask
+  pub owed : Owed a w position id ticket ask ask.ask answer

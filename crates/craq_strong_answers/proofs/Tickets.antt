@@ -1,0 +1,346 @@
+-- A step answers no ticket twice, and what it answers waits no more.
+use Rattle.std.proofs.Common.{◌≡◌, ℕ, ◌+◌, ◌≤◌, ◌==◌, nat_le, nat_lt, Bool, true, false, not, cond, ◌&&◌, ◌||◌, List, [], ◌∷◌, ◌++◌, map, filter, find, Option, Some, None, Result, Ok, Err, refl, ap, sym, subst, ◌∙◌, arith}
+use Rattle.std.specs.Prelude.{⊤}
+use Rattle.std.specs.List.{AllByRecursion}
+use Rattle.std.proofs.lemmas.Bool.{cond_both, eqb-true}
+use Rattle.craq_updates.proofs.Found.{find_true}
+use Rattle.craq_names.specs.Limits.{greatest}
+use Rattle.craq_names.specs.declared.refusal.Refusal.{Refusal}
+use Rattle.craq_names.specs.declared.refusal.Refusal.TheVariants as refusals
+use Rattle.craq_commands.specs.declared.command.Update.{Update}
+use Rattle.craq_commands.specs.declared.entry.Entry.{Entry}
+use Rattle.craq_commands.specs.declared.reply.Reply.{Reply}
+use Rattle.craq_commands.specs.declared.read_mode.ReadMode.{ReadMode}
+use Rattle.craq_commands.specs.declared.read_mode.ReadMode.TheVariants.{Strong, Eventual, Bounded}
+use Rattle.craq_commands.specs.Evaluation.{eval, objects_named, all_of_chain, some_used_up}
+use Rattle.craq_commands.specs.SingleCopy.{State, said}
+use Rattle.craq_model.specs.declared.ask.Ask.{Ask}
+use Rattle.craq_model.specs.declared.ask.Ask.TheVariants as asks
+use Rattle.craq_model.specs.declared.ask.Answer.{Answer}
+use Rattle.craq_model.specs.declared.ask.Answer.TheVariants as answers
+use Rattle.craq_model.specs.declared.message.Body.{Body}
+use Rattle.craq_model.specs.declared.message.Body.TheVariants as bodies
+use Rattle.craq_model.specs.declared.message.LinkMessage.{LinkMessage}
+use Rattle.craq_model.specs.declared.step.Out.{Out}
+use Rattle.craq_model.specs.declared.step.Out.TheVariants as outs
+use Rattle.craq_model.specs.declared.step.Why.{Why}
+use Rattle.craq_model.specs.declared.step.Why.TheVariants.{OtherEpoch, NotNeighbour, OutOfOrder, AlreadyHave, NotReadyHere, UnknownTicket, TooFar}
+use Rattle.craq_model.specs.declared.waiting.WaitingUpdate.{WaitingUpdate}
+use Rattle.craq_model.specs.declared.waiting.WaitingRead.{WaitingRead}
+use Rattle.craq_model.specs.Members.{is_member, is_id, first_of, last_of}
+use Rattle.craq_model.specs.Plain.{Plain, id_of, successor, predecessor, is_first, is_last, is_tail, length_of, newest, newest_object, clean_object, object_within, position_of}
+use Rattle.craq_model.specs.Sends.{send, send_all, to_neighbour, entry_bodies, tick_sends}
+use Rattle.craq_model.specs.Settle.{Turn, turn_with, turn_ignoring, read_answer, Given, update_given, read_given, by_ticket, all_given, all_committed, answer_outs, is_reached, settling_turn, readiness_turn}
+use Rattle.craq_model.specs.Asks.{accepted_turn, answered_turn, is_full, is_clean, asked_objects, entry_of, with_entry, committed_if_last, reply_turn, new_update_turn, update_turn, waiting_read_turn, read_turn, accepted_ask_turn, ask_turn}
+use Rattle.craq_model.specs.Deliveries.{config_turn, is_applicable, forwarding_turn, taken_entry_turn, entry_turn, due_updates, later_updates, acknowledgement_turn, ack_turn, query_turn, read_with, reads_without, answering_version, told_version_turn, version_turn, fill_bodies, blank_turn, with_copy, copy_turn, floor_turn, turn_in_epoch, body_turn}
+use Rattle.craq_strong_answers.proofs.Outs.{Says, AllTold, told_sends, told_neighbour, told_tick}
+use Rattle.craq_strong_answers.proofs.Times.{times, times_cons, times_nil, times_append, update_tickets, read_tickets, open_of, given_in, given_both, given_answers, none_given, sorted_times, parted_times, answered_times}
+
+-- the answered tickets and those that wait are among these
+pub record Closes (o : List ℕ) (t : Turn) : Type 0 where
+  pub at : (k : ℕ) → times k (given_in t.1.outs) + times k (open_of t.0) ≤ times k o
+
+-- a step that answers nothing, at a node whose tickets are the same
+silent : (o : List ℕ) (q : Plain) (os : List Out) → AllTold (λ ticket answer. ⊥) (λ a b c. ⊤) (λ a b c. ⊤) os → open_of q ≡ o → Closes o (turn_with q os)
+silent o q os a same = record {
+  at = λ k.
+      let none : times k (given_in os) ≡ 0 = ap (times k) (none_given (λ a b c. ⊤) (λ a b c. ⊤) os a) ∙ times_nil k in
+      let all : times k (open_of q) ≡ times k o = ap (times k) same in
+      omega (arith, none, all);
+}
+
+ignored : (p : Plain) (why : Why) → Closes (open_of p) (turn_ignoring p why)
+ignored p why = record { at = λ k. let none : times k (given_in []) ≡ 0 = ap (times k) (none_given (λ a b c. ⊤) (λ a b c. ⊤) [] tt) ∙ times_nil k in omega (arith, none) }
+
+guard : (p : Plain) (b : Bool) (why : Why) (t : Turn) → Closes (open_of p) t → Closes (open_of p) (cond b (turn_ignoring p why) t)
+guard p b why t c = cond_both b (turn_ignoring p why) t (λ (t : Turn). Closes (open_of p) t) (λ e. ignored p why) (λ e. c)
+
+-- sends answer nothing
+abbrev NoAnswer : List Out → Type 0
+NoAnswer os = AllTold (λ ticket answer. ⊥) (λ a b c. ⊤) (λ a b c. ⊤) os
+
+says_all : (id to : ℕ) (bs : List Body) → AllByRecursion (Says (λ a b c. ⊤) (λ a b c. ⊤) id to) bs
+says_all id to [] = tt
+says_all id to (b ∷ bs) = (one b, says_all id to bs)
+  where
+    one : (b : Body) → Says (λ a b c. ⊤) (λ a b c. ⊤) id to b
+    one (bodies.Config members) = tt
+    one (bodies.Entry e) = tt
+    one (bodies.Ack position) = tt
+    one (bodies.Query ticket key) = tt
+    one (bodies.VersionIs ticket version) = tt
+    one (bodies.Blank count) = tt
+    one (bodies.Copy position objects kept) = tt
+    one (bodies.Floor count) = tt
+
+no_sends : (p : Plain) (to : ℕ) (bs : List Body) → NoAnswer (send_all p to bs)
+no_sends p to bs = told_sends (λ ticket answer. ⊥) (λ a b c. ⊤) (λ a b c. ⊤) p to bs (says_all (id_of p) to bs)
+
+no_neighbour : (p : Plain) (o : Option ℕ) (bs : List Body) → NoAnswer (to_neighbour o (λ to. send_all p to bs))
+no_neighbour p o bs = told_neighbour (λ ticket answer. ⊥) (λ a b c. ⊤) (λ a b c. ⊤) o (λ to. send_all p to bs) (λ to. no_sends p to bs)
+
+no_ticks : (p : Plain) → NoAnswer (tick_sends p)
+no_ticks p = told_tick (λ ticket answer. ⊥) (λ a b c. ⊤) (λ a b c. ⊤) p (every p.waiting_reads)
+  where
+    every : {A : Type 0} → (xs : List A) → AllByRecursion (λ (x : A). ⊤) xs
+    every [] = tt
+    every (x ∷ xs) = (tt, every xs)
+
+map_map : {A B C : Type 0} (f : B → C) (g : A → B) (xs : List A) → map f (map g xs) ≡ map (λ x. f (g x)) xs
+map_map f g [] = refl
+map_map f g (x ∷ xs) = ap (λ l. f (g x) ∷ l) (map_map f g xs)
+
+map_both : {A B : Type 0} (f : A → B) (xs ys : List A) → map f (xs ++ ys) ≡ map f xs ++ map f ys
+map_both f [] ys = refl
+map_both f (x ∷ xs) ys = ap (λ l. f x ∷ l) (map_both f xs ys)
+
+-- the answers to all that waits
+all_tickets : (p : Plain) (k : ℕ) → times k (given_in (answer_outs (all_given p))) ≡ times k (open_of p)
+unfolding all_given
+all_tickets p k =
+    let us : List Given = map update_given p.waiting_updates in
+    let rs : List Given = map (read_given p) p.waiting_reads in
+    let f : Given → ℕ = λ g. g.0 in
+    ap (times k) (given_answers (by_ticket (us ++ rs)))
+    ∙ (sorted_times k (us ++ rs)
+    ∙ ap (times k) (map_both f us rs ∙ λ i. map_map f update_given p.waiting_updates i ++ map_map f (read_given p) p.waiting_reads i))
+
+settling : (p : Plain) → Closes (open_of p) (settling_turn p)
+unfolding settling_turn
+settling p =
+    let all : List Out = answer_outs (all_given p) ++ tick_sends (all_committed p) in
+    cond_both (is_tail p) (turn_with (all_committed p) all) (turn_with p (tick_sends p)) (λ (t : Turn). Closes (open_of p) t)
+    (λ e. record {
+      at = λ k.
+          let sends : times k (given_in (tick_sends (all_committed p))) ≡ 0 = ap (times k) (none_given (λ a b c. ⊤) (λ a b c. ⊤) (tick_sends (all_committed p)) (no_ticks (all_committed p))) ∙ times_nil k in
+          let split : times k (given_in all) ≡ times k (given_in (answer_outs (all_given p))) + times k (given_in (tick_sends (all_committed p))) =
+          ap (times k) (given_both (answer_outs (all_given p)) (tick_sends (all_committed p))) ∙ times_append k (given_in (answer_outs (all_given p))) (given_in (tick_sends (all_committed p))) in
+          omega (arith, sends, split, all_tickets p k, times_nil k);
+    })
+    (λ e. silent (open_of p) p (tick_sends p) (no_ticks p) refl)
+
+becoming : (p : Plain) → Closes (open_of p) (readiness_turn p)
+unfolding readiness_turn
+becoming p =
+    cond_both (not p.ready && is_reached p.floor (length_of p)) (settling_turn (record p { ready = true })) (turn_with p []) (λ (t : Turn). Closes (open_of p) t)
+    (λ e. settling (record p { ready = true }))
+    (λ e. silent (open_of p) p [] tt refl)
+
+config_closes : (p : Plain) (epoch : ℕ) (members : List ℕ) → Closes (open_of p) (config_turn p epoch members)
+unfolding config_turn
+config_closes p epoch members =
+    let last : Turn = settling_turn (record p { epoch = epoch; members = members; floor = None }) in
+    guard p (nat_le epoch p.epoch) OtherEpoch (cond (not (is_member members (id_of p))) (turn_ignoring p NotNeighbour) last)
+    (guard p (not (is_member members (id_of p))) NotNeighbour last (settling (record p { epoch = epoch; members = members; floor = None })))
+
+forwarding : (p : Plain) (e : Entry) → Closes (open_of p) (forwarding_turn p e)
+unfolding forwarding_turn
+forwarding p e =
+    let q : Plain = record p { acknowledged = length_of p } in
+    cond_both (is_tail p) (turn_with q (to_neighbour (predecessor p) (λ to. send p to (bodies.Ack (length_of p)) ∷ []))) (turn_with p (to_neighbour (successor p) (λ to. send_all p to (entry_bodies (e ∷ []))))) (λ (t : Turn). Closes (open_of p) t)
+    (λ t. silent (open_of p) q (to_neighbour (predecessor p) (λ to. send p to (bodies.Ack (length_of p)) ∷ [])) (no_neighbour p (predecessor p) (bodies.Ack (length_of p) ∷ [])) refl)
+    (λ t. silent (open_of p) p (to_neighbour (successor p) (λ to. send_all p to (entry_bodies (e ∷ [])))) (no_neighbour p (successor p) (entry_bodies (e ∷ []))) refl)
+
+entry_closes : (p : Plain) (sender : ℕ) (e : Entry) → Closes (open_of p) (entry_turn p sender e)
+unfolding entry_turn
+entry_closes p sender e =
+    let q : Plain = with_entry p e in
+    let last : Turn = taken_entry_turn q e in
+    let third : Turn = cond (not (is_applicable (newest p) e)) (turn_ignoring p TooFar) last in
+    let second : Turn = cond (nat_lt (length_of p + 1) e.position) (turn_ignoring p OutOfOrder) third in
+    let first : Turn = cond (nat_le e.position (length_of p)) (turn_ignoring p AlreadyHave) second in
+    guard p (not (is_id (predecessor p) sender)) NotNeighbour first
+    (guard p (nat_le e.position (length_of p)) AlreadyHave second
+    (guard p (nat_lt (length_of p + 1) e.position) OutOfOrder third
+    (guard p (not (is_applicable (newest p) e)) TooFar last
+    (cond_both p.ready (forwarding_turn q e) (readiness_turn q) (λ (t : Turn). Closes (open_of p) t) (λ r. forwarding q e) (λ r. becoming q)))))
+
+acknowledging : (p : Plain) (position : ℕ) → Closes (open_of p) (acknowledgement_turn p position)
+unfolding acknowledgement_turn due_updates later_updates
+acknowledging p position =
+    let due : List WaitingUpdate = filter (λ (u : WaitingUpdate). nat_le u.position position) p.waiting_updates in
+    let later : List WaitingUpdate = filter (λ (u : WaitingUpdate). nat_lt position u.position) p.waiting_updates in
+    let given : List Out = answer_outs (map update_given due) in
+    let sends : List Out = to_neighbour (predecessor p) (λ to. send p to (bodies.Ack position) ∷ []) in
+    let f : Given → ℕ = λ g. g.0 in
+    record {
+      at = λ k.
+          let none : times k (given_in sends) ≡ 0 = ap (times k) (none_given (λ a b c. ⊤) (λ a b c. ⊤) sends (no_neighbour p (predecessor p) (bodies.Ack position ∷ []))) ∙ times_nil k in
+          let split : times k (given_in (given ++ sends)) ≡ times k (given_in given) + times k (given_in sends) = ap (times k) (given_both given sends) ∙ times_append k (given_in given) (given_in sends) in
+          let tickets : times k (given_in given) ≡ times k (update_tickets due) = ap (times k) (given_answers (map update_given due) ∙ map_map f update_given due) in
+          omega (arith, none, split, tickets, parted_times k position p.waiting_updates, times_append k (update_tickets p.waiting_updates) (read_tickets p.waiting_reads), times_append k (update_tickets later) (read_tickets p.waiting_reads));
+    }
+
+ack_closes : (p : Plain) (sender position : ℕ) → Closes (open_of p) (ack_turn p sender position)
+unfolding ack_turn
+ack_closes p sender position =
+    let last : Turn = acknowledgement_turn p position in
+    let third : Turn = cond (nat_lt (length_of p) position) (turn_ignoring p TooFar) last in
+    let second : Turn = cond (nat_le position p.acknowledged) (turn_ignoring p AlreadyHave) third in
+    let first : Turn = cond (not p.ready) (turn_ignoring p NotReadyHere) second in
+    guard p (not (is_id (successor p) sender)) NotNeighbour first
+    (guard p (not p.ready) NotReadyHere second (guard p (nat_le position p.acknowledged) AlreadyHave third (guard p (nat_lt (length_of p) position) TooFar last (acknowledging p position))))
+
+query_closes : (p : Plain) (sender ticket : ℕ) (key : List ℕ) → Closes (open_of p) (query_turn p sender ticket key)
+unfolding query_turn
+query_closes p sender ticket key =
+    let os : List Out = send p sender (bodies.VersionIs ticket (newest_object p key).0) ∷ [] in
+    guard p ((sender == id_of p) || not (is_member p.members sender)) NotNeighbour (cond (not (is_tail p)) (turn_ignoring p NotReadyHere) (turn_with p os))
+    (guard p (not (is_tail p)) NotReadyHere (turn_with p os) (silent (open_of p) p os (no_sends p sender (bodies.VersionIs ticket (newest_object p key).0 ∷ [])) refl))
+
+told_closes : (p : Plain) (version ticket : ℕ) (o : Option WaitingRead) → find (λ (r : WaitingRead). r.ticket == ticket) p.waiting_reads ≡ o → Closes (open_of p) (told_version_turn p version o)
+unfolding told_version_turn reads_without given_in
+told_closes p version ticket None h = ignored p UnknownTicket
+told_closes p version ticket (Some r) h =
+    let left : List WaitingRead = filter (λ (x : WaitingRead). not (x.ticket == r.ticket)) p.waiting_reads in
+    let q : Plain = record p { waiting_reads = left } in
+    let os : List Out = outs.Answer r.ticket (read_answer (object_within p r.key (answering_version p r.key version))) ∷ [] in
+    let same : r.ticket ≡ ticket = eqb-true r.ticket ticket (find_true (λ (r : WaitingRead). r.ticket == ticket) p.waiting_reads r h) in
+    guard p (nat_lt (newest_object p r.key).0 version) TooFar (turn_with q os)
+    (record {
+      at = λ k.
+          let P : ℕ → Type 0 = λ t. find (λ (x : WaitingRead). x.ticket == t) p.waiting_reads ≡ Some r in
+          let one : times k (r.ticket ∷ []) ≡ cond (r.ticket == k) 1 0 + times k [] = times_cons k r.ticket [] in
+          omega (arith, one, times_nil k, answered_times k r.ticket p.waiting_reads r (subst P (sym same) h), times_append k (update_tickets p.waiting_updates) (read_tickets p.waiting_reads), times_append k (update_tickets p.waiting_updates) (read_tickets left));
+    })
+
+version_closes : (p : Plain) (sender ticket version : ℕ) → Closes (open_of p) (version_turn p sender ticket version)
+unfolding version_turn read_with
+version_closes p sender ticket version =
+    let o : Option WaitingRead = find (λ (r : WaitingRead). r.ticket == ticket) p.waiting_reads in
+    guard p (not (sender == last_of p.members)) NotNeighbour (told_version_turn p version o) (told_closes p version ticket o refl)
+
+blank_closes : (p : Plain) (sender count : ℕ) → Closes (open_of p) (blank_turn p sender count)
+unfolding blank_turn
+blank_closes p sender count =
+    let last : Turn = turn_with p (send_all p sender (fill_bodies p count)) in
+    guard p (not (is_id (successor p) sender)) NotNeighbour (cond (not p.ready) (turn_ignoring p NotReadyHere) last)
+    (guard p (not p.ready) NotReadyHere last (silent (open_of p) p (send_all p sender (fill_bodies p count)) (no_sends p sender (fill_bodies p count)) refl))
+
+copy_closes : (p : Plain) (sender position : ℕ) (state : State) → Closes (open_of p) (copy_turn p sender position state)
+unfolding copy_turn
+copy_closes p sender position state =
+    guard p (not (is_id (predecessor p) sender)) NotNeighbour (cond (p.ready || nat_le position (length_of p)) (turn_ignoring p AlreadyHave) (readiness_turn (with_copy p position state)))
+    (guard p (p.ready || nat_le position (length_of p)) AlreadyHave (readiness_turn (with_copy p position state)) (becoming (with_copy p position state)))
+
+floor_closes : (p : Plain) (sender count : ℕ) → Closes (open_of p) (floor_turn p sender count)
+unfolding floor_turn
+floor_closes p sender count =
+    guard p (not (is_id (predecessor p) sender)) NotNeighbour (cond p.ready (turn_ignoring p AlreadyHave) (readiness_turn (record p { floor = Some count })))
+    (guard p p.ready AlreadyHave (readiness_turn (record p { floor = Some count })) (becoming (record p { floor = Some count })))
+
+in_epoch : (p : Plain) (m : LinkMessage) (t : Turn) → Closes (open_of p) t → Closes (open_of p) (turn_in_epoch p m t)
+in_epoch p m t c = cond_both (m.epoch == p.epoch) t (turn_ignoring p OtherEpoch) (λ (t : Turn). Closes (open_of p) t) (λ e. c) (λ e. ignored p OtherEpoch)
+
+pub body_closes : (p : Plain) (m : LinkMessage) (b : Body) → Closes (open_of p) (body_turn p m b)
+body_closes p m (bodies.Config members) = config_closes p m.epoch members
+body_closes p m (bodies.Entry e) = in_epoch p m (entry_turn p m.sender e) (entry_closes p m.sender e)
+body_closes p m (bodies.Ack position) = in_epoch p m (ack_turn p m.sender position) (ack_closes p m.sender position)
+body_closes p m (bodies.Query ticket key) = in_epoch p m (query_turn p m.sender ticket key) (query_closes p m.sender ticket key)
+body_closes p m (bodies.VersionIs ticket version) = in_epoch p m (version_turn p m.sender ticket version) (version_closes p m.sender ticket version)
+body_closes p m (bodies.Blank count) = in_epoch p m (blank_turn p m.sender count) (blank_closes p m.sender count)
+body_closes p m (bodies.Copy position objects kept) = in_epoch p m (copy_turn p m.sender position (record { objects = objects; kept = kept })) (copy_closes p m.sender position (record { objects = objects; kept = kept }))
+body_closes p m (bodies.Floor count) = in_epoch p m (floor_turn p m.sender count) (floor_closes p m.sender count)
+
+pub tick_closes : (p : Plain) → Closes (open_of p) (turn_with p (tick_sends p))
+tick_closes p = silent (open_of p) p (tick_sends p) (no_ticks p) refl
+
+pub stop_closes : (p : Plain) → Closes (open_of p) (turn_with (record p { running = false }) [])
+stop_closes p = silent (open_of p) (record p { running = false }) [] tt refl
+
+-- ---- asks
+
+-- an ask takes the next ticket
+abbrev IfCloses : List ℕ → ℕ → Result Turn Refusal → Type 0
+IfCloses o last (Ok t) = Closes (o ++ (last + 1) ∷ []) t
+IfCloses o last (Err e) = ⊤
+
+answered : (p : Plain) (answer : Answer) (sends : List Out) → NoAnswer sends → Closes (open_of p ++ (p.last_ticket + 1) ∷ []) (answered_turn p answer sends)
+unfolding given_in
+answered p answer sends a = record {
+  at = λ k.
+      let none : times k (given_in sends) ≡ 0 = ap (times k) (none_given (λ a b c. ⊤) (λ a b c. ⊤) sends a) ∙ times_nil k in
+      omega (arith, none, times_cons k (p.last_ticket + 1) (given_in sends), times_append k (open_of p) ((p.last_ticket + 1) ∷ []), times_cons k (p.last_ticket + 1) [], times_nil k);
+}
+
+-- one more ticket waits
+waiting : (p q : Plain) (sends : List Out) → NoAnswer sends → ((k : ℕ) → times k (open_of q) ≡ times k (open_of p ++ (p.last_ticket + 1) ∷ [])) → Closes (open_of p ++ (p.last_ticket + 1) ∷ []) (accepted_turn q sends)
+waiting p q sends a same = record {
+  at = λ k.
+      let none : times k (given_in sends) ≡ 0 = ap (times k) (none_given (λ a b c. ⊤) (λ a b c. ⊤) sends a) ∙ times_nil k in
+      omega (arith, none, same k);
+}
+
+reply_closes : (p : Plain) (position : ℕ) (reply : Reply) (sends : List Out) → NoAnswer sends → IfCloses (open_of p) p.last_ticket (reply_turn p position reply sends)
+unfolding reply_turn
+reply_closes p position reply sends a =
+    let u : WaitingUpdate = record { ticket = p.last_ticket + 1; position = position; reply = reply } in
+    let q : Plain = record p { waiting_updates = p.waiting_updates ++ u ∷ [] } in
+    let rest : Result Turn Refusal = cond (is_full p) (Err refusals.PendingFull) (Ok (accepted_turn q sends)) in
+    let f : WaitingUpdate → ℕ = λ u. u.ticket in
+    let us : List ℕ = update_tickets p.waiting_updates in
+    let rs : List ℕ = read_tickets p.waiting_reads in
+    let new : List ℕ = (p.last_ticket + 1) ∷ [] in
+    cond_both (nat_le position p.acknowledged) (Ok (answered_turn p (answers.Update reply) sends)) rest (λ (r : Result Turn Refusal). IfCloses (open_of p) p.last_ticket r)
+    (λ e. answered p (answers.Update reply) sends a)
+    (λ e. cond_both (is_full p) (Err refusals.PendingFull) (Ok (accepted_turn q sends)) (λ (r : Result Turn Refusal). IfCloses (open_of p) p.last_ticket r)
+    (λ f. tt)
+    (λ g. waiting p q sends a
+    (λ k.
+    let one : times k (update_tickets (p.waiting_updates ++ u ∷ [])) ≡ times k (us ++ new) = ap (times k) (map_both f p.waiting_updates (u ∷ [])) in
+    omega (arith, one, times_append k us new, times_append k (update_tickets (p.waiting_updates ++ u ∷ [])) rs, times_append k us rs, times_append k (us ++ rs) new))))
+
+replies_after : (p : Plain) (position : ℕ) (reply : Reply) (sends : List Out) → NoAnswer sends → IfCloses (open_of p) p.last_ticket (reply_turn (committed_if_last p) position reply sends)
+replies_after p position reply sends a =
+    cond_both (is_last p) (record p { acknowledged = length_of p }) p (λ (q : Plain). IfCloses (open_of p) p.last_ticket (reply_turn q position reply sends))
+    (λ e. reply_closes (record p { acknowledged = length_of p }) position reply sends a)
+    (λ e. reply_closes p position reply sends a)
+
+update_closes : (p : Plain) (u : Update) (r : Option Reply) → IfCloses (open_of p) p.last_ticket (update_turn p u r)
+unfolding update_turn
+update_closes p u (Some reply) = replies_after p (position_of p u.client) reply [] tt
+update_closes p u None =
+    let e : Entry = entry_of p u (eval (newest p).objects u.command) in
+    cond_both (length_of p == greatest || some_used_up (newest p).objects (objects_named u.command)) (Err refusals.Exhausted) (new_update_turn p e) (λ (r : Result Turn Refusal). IfCloses (open_of p) p.last_ticket r)
+    (λ f. tt)
+    (λ f. replies_after (with_entry p e) e.position e.reply (to_neighbour (successor p) (λ to. send_all p to (entry_bodies (e ∷ [])))) (no_neighbour p (successor p) (entry_bodies (e ∷ []))))
+
+read_closes : (p : Plain) (mode : ReadMode) (key : List ℕ) → IfCloses (open_of p) p.last_ticket (read_turn p mode key)
+unfolding read_turn waiting_read_turn
+read_closes p Eventual key = answered p (read_answer (newest_object p key)) [] tt
+read_closes p (Bounded k) key = answered p (read_answer (object_within p key ((clean_object p key).0 + k))) [] tt
+read_closes p Strong key =
+    let r : WaitingRead = record { ticket = p.last_ticket + 1; key = key } in
+    let q : Plain = record p { waiting_reads = p.waiting_reads ++ r ∷ [] } in
+    let os : List Out = send p (last_of p.members) (bodies.Query (p.last_ticket + 1) key) ∷ [] in
+    let rest : Result Turn Refusal = cond (is_full p) (Err refusals.PendingFull) (Ok (accepted_turn q os)) in
+    let f : WaitingRead → ℕ = λ r. r.ticket in
+    let us : List ℕ = update_tickets p.waiting_updates in
+    let rs : List ℕ = read_tickets p.waiting_reads in
+    let new : List ℕ = (p.last_ticket + 1) ∷ [] in
+    cond_both (is_clean p key) (Ok (answered_turn p (read_answer (newest_object p key)) [])) rest (λ (r : Result Turn Refusal). IfCloses (open_of p) p.last_ticket r)
+    (λ e. answered p (read_answer (newest_object p key)) [] tt)
+    (λ e. cond_both (is_full p) (Err refusals.PendingFull) (Ok (accepted_turn q os)) (λ (r : Result Turn Refusal). IfCloses (open_of p) p.last_ticket r)
+    (λ f. tt)
+    (λ g. waiting p q os (no_sends p (last_of p.members) (bodies.Query (p.last_ticket + 1) key ∷ []))
+    (λ k.
+    let one : times k (read_tickets (p.waiting_reads ++ r ∷ [])) ≡ times k (rs ++ new) = ap (times k) (map_both f p.waiting_reads (r ∷ [])) in
+    omega (arith, one, times_append k rs new, times_append k us (read_tickets (p.waiting_reads ++ r ∷ [])), times_append k us rs, times_append k (us ++ rs) new))))
+
+if_refused : (p : Plain) (b : Bool) (e : Refusal) (r : Result Turn Refusal) → IfCloses (open_of p) p.last_ticket r → IfCloses (open_of p) p.last_ticket (cond b (Err e) r)
+if_refused p b e r a = cond_both b (Err e) r (λ (r : Result Turn Refusal). IfCloses (open_of p) p.last_ticket r) (λ f. tt) (λ f. a)
+
+accepted_ask : (p : Plain) (ask : Ask) → IfCloses (open_of p) p.last_ticket (accepted_ask_turn p ask)
+accepted_ask p (asks.Update u) =
+    if_refused p (not (is_first p)) (refusals.NotHead (first_of p.members)) (cond (p.last_ticket == greatest) (Err refusals.Exhausted) (update_turn p u (said (newest p) u.client u.number)))
+    (if_refused p (p.last_ticket == greatest) refusals.Exhausted (update_turn p u (said (newest p) u.client u.number)) (update_closes p u (said (newest p) u.client u.number)))
+accepted_ask p (asks.Read mode object) = if_refused p (p.last_ticket == greatest) refusals.Exhausted (read_turn p mode object.key) (read_closes p mode object.key)
+
+pub ask_closes : (p : Plain) (ask : Ask) (t : Turn) → ask_turn p ask ≡ Ok t → Closes (open_of p ++ (p.last_ticket + 1) ∷ []) t
+unfolding ask_turn
+ask_closes p ask t h =
+    let all : IfCloses (open_of p) p.last_ticket (ask_turn p ask) =
+    if_refused p (not p.ready) refusals.NotReady (cond (not (all_of_chain p.name.chain (asked_objects ask))) (Err refusals.TwoChains) (accepted_ask_turn p ask))
+    (if_refused p (not (all_of_chain p.name.chain (asked_objects ask))) refusals.TwoChains (accepted_ask_turn p ask) (accepted_ask p ask)) in
+    let P : Result Turn Refusal → Type 0 = λ r. IfCloses (open_of p) p.last_ticket r in
+    subst P h all

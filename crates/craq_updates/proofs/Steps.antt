@@ -1,0 +1,111 @@
+-- Each move of a chain, in the world that stands for it.
+use Rattle.std.proofs.Common.{◌≡◌, inl, inr, ℕ, Bool, cond, ◌&&◌, List, [], ◌∷◌, ◌++◌, length, take, Option, Some, None, refl, ap, sym, subst, ◌∙◌}
+use Rattle.std.proofs.lemmas.Bool.{cond_both}
+use Rattle.craq_commands.specs.declared.entry.Entry.{Entry}
+use Rattle.craq_model.specs.declared.message.Body.{Body}
+use Rattle.craq_model.specs.declared.message.Body.TheVariants as bodies
+use Rattle.craq_model.specs.declared.message.LinkMessage.{LinkMessage}
+use Rattle.craq_protocol.specs.Members.{is_next}
+use Rattle.craq_protocol.specs.Machine.{World, Message, Move, Entry as EntryBody, Ack as AckBody, Copy as CopyBody, Floor as FloorBody, known_membership, entry_at, after_send_entry, after_move, after_moves, Take, Become_ready, Adopt}
+use Rattle.craq_protocol.specs.Promises.{IsReached, Later}
+use Rattle.craq_protocol.proofs.Reached.{after_moves-append, reached_run, reached_later}
+use Rattle.craq_runs.specs.Chain.{Chain, Progress, sent_in}
+use Rattle.craq_refinement.specs.Follows.{Follows}
+use Rattle.craq_refinement.specs.Lines.{moves_of_send, moves_of_sends, StandsFor, IsTaking, IsHearing, IsAdopting}
+use Rattle.craq_updates.proofs.Machine.{IsClosed, Held}
+use Rattle.craq_updates.proofs.Moves.{IsQuiet, held_quiet, LogBy, log_by, log_taken_ready}
+
+-- ---- what is sent changes nothing else
+
+pub record OnlySent (w v : World Entry) : Type 0 where
+  pub messages : List (Message Entry)
+  pub is : v ≡ record w { messages = messages }
+
+sent_if : (w : World Entry) (b : Bool) (messages : List (Message Entry)) → OnlySent w (cond b (record w { messages = messages }) w)
+sent_if w b messages = cond_both b (record w { messages = messages }) w (λ v. OnlySent w v) (λ e. record { messages = messages; is = refl }) (λ e. record { messages = w.messages; is = refl })
+
+sent_entry : (w : World Entry) (n to place : ℕ) (o : Option Entry) → OnlySent w (after_send_entry w n to place o)
+sent_entry w n to place None = record { messages = w.messages; is = refl }
+sent_entry w n to place (Some e) = sent_if w (w.running n && is_next (known_membership w n) n to) (record { epoch = w.epoch n; from = n; to = to; body = EntryBody place e } ∷ w.messages)
+
+sent_body : (w : World Entry) (n to : ℕ) (b : Body) → OnlySent w (after_moves w (moves_of_send n to b))
+sent_body w n to (bodies.Config members) = record { messages = w.messages; is = refl }
+sent_body w n to (bodies.Entry e) = sent_entry w n to e.position (entry_at (w.history n) e.position)
+sent_body w n to (bodies.Ack position) = sent_if w (w.running n && is_next (known_membership w n) to n) (record { epoch = w.epoch n; from = n; to = to; body = AckBody (w.acknowledged n) } ∷ w.messages)
+sent_body w n to (bodies.Query ticket key) = record { messages = w.messages; is = refl }
+sent_body w n to (bodies.VersionIs ticket version) = record { messages = w.messages; is = refl }
+sent_body w n to (bodies.Blank count) = record { messages = w.messages; is = refl }
+sent_body w n to (bodies.Copy position objects kept) = sent_if w (w.running n && is_next (known_membership w n) n to) (record { epoch = w.epoch n; from = n; to = to; body = CopyBody (take (w.acknowledged n) (w.history n)) } ∷ w.messages)
+sent_body w n to (bodies.Floor count) = sent_if w ((w.running n && w.ready n) && is_next (known_membership w n) n to) (record { epoch = w.epoch n; from = n; to = to; body = FloorBody (length (w.history n)) } ∷ w.messages)
+
+pub all_sent : (ms : List LinkMessage) (w : World Entry) → OnlySent w (after_moves w (moves_of_sends ms))
+all_sent [] w = record { messages = w.messages; is = refl }
+all_sent (m ∷ ms) w =
+    let first : List (Move Entry) = moves_of_send m.sender m.receiver m.body in
+    let one : OnlySent w (after_moves w first) = sent_body w m.sender m.receiver m.body in
+    let more : OnlySent (after_moves w first) (after_moves (after_moves w first) (moves_of_sends ms)) = all_sent ms (after_moves w first) in
+    record {
+      messages = more.messages;
+      is = after_moves-append first (moves_of_sends ms) w ∙ (more.is ∙ ap (λ (v : World Entry). record v { messages = more.messages }) one.is);
+    }
+
+-- ---- a move of a chain
+
+-- the world after a move: where P is held it is held again, if it may be of the new entry
+pub record Went (P : List Entry → Type 0) (May : Type 0) (id : ℕ) (w : World Entry) (d : Chain) : Type 0 where
+  pub world : World Entry
+  pub reached : IsReached world
+  pub follows : Follows d world
+  pub later : Later w world
+  pub log : LogBy id w world
+  pub held : May → Held P w → Held P world
+
+-- what own moves do
+pub record Does (P : List Entry → Type 0) (May : Type 0) (id : ℕ) (w v : World Entry) : Type 0 where
+  pub log : LogBy id w v
+  pub held : May → Held P w → Held P v
+
+pub went : {P : List Entry → Type 0} {May : Type 0} {Own : List (Move Entry) → Type 0} {id : ℕ} {w : World Entry} {x : Progress} → IsReached w → (s : StandsFor Own w x)
+    → Does P May id w (after_moves w s.own) → Went P May id w x.0
+went {P} {May} {Own} {id} {w} {x} r s d =
+    let ms : List (Move Entry) = moves_of_sends (sent_in x.1.outs) in
+    let u : World Entry = after_moves w s.own in
+    let v : World Entry = after_moves w (s.own ++ ms) in
+    let sent : OnlySent u (after_moves u ms) = all_sent (sent_in x.1.outs) u in
+    let same : v ≡ record u { messages = sent.messages } = after_moves-append s.own ms w ∙ sent.is in
+    let L : World Entry → Type 0 = λ y. LogBy id w y in
+    let H : World Entry → Type 0 = λ y. May → Held P w → Held P y in
+    record {
+      world = v;
+      reached = reached_run r (s.own ++ ms);
+      follows = s.follows;
+      later = reached_later r (s.own ++ ms);
+      log = subst L (sym same) d.log;
+      held = subst H (sym same) (λ m h. let g : _ = d.held m h in record { histories = g.histories; log = g.log });
+    }
+
+pub does_nothing : (P : List Entry → Type 0) (May : Type 0) (id : ℕ) (w : World Entry) → Does P May id w w
+does_nothing P May id w = record { log = inl refl; held = λ m h. h }
+
+pub does_one : (P : List Entry → Type 0) → IsClosed P → (May : Type 0) (id : ℕ) (w : World Entry) (move : Move Entry) → IsReached w → IsQuiet move → LogBy id w (after_move w move) → Does P May id w (after_move w move)
+does_one P c May id w move r q l = record { log = l; held = λ m h. held_quiet P c w move r q h }
+
+pub like : {P : List Entry → Type 0} {May : Type 0} {id : ℕ} {w : World Entry} {own moves : List (Move Entry)} → own ≡ moves → Does P May id w (after_moves w moves) → Does P May id w (after_moves w own)
+like {P} {May} {id} {w} e d = let Q : List (Move Entry) → Type 0 = λ l. Does P May id w (after_moves w l) in subst Q (sym e) d
+
+pub taking : (P : List Entry → Type 0) → IsClosed P → (May : Type 0) (id : ℕ) (w : World Entry) (own : List (Move Entry)) → IsReached w → IsTaking id own → Does P May id w (after_moves w own)
+taking P c May id w own r (inl e) = like e (does_nothing P May id w)
+taking P c May id w own r (inr (k, inl e)) = like e (does_one P c May id w (Take id k) r tt (log_by id w (Take id k) refl))
+taking P c May id w own r (inr (k, inr e)) =
+    like e (record {
+      log = log_taken_ready w id k;
+      held = λ m h. held_quiet P c (after_move w (Take id k)) (Become_ready id) (reached_run r (Take id k ∷ [])) tt (held_quiet P c w (Take id k) r tt h);
+    })
+
+pub hearing : (P : List Entry → Type 0) → IsClosed P → (May : Type 0) (id : ℕ) (w : World Entry) (own : List (Move Entry)) → IsReached w → IsHearing id own → Does P May id w (after_moves w own)
+hearing P c May id w own r (inl e) = like e (does_nothing P May id w)
+hearing P c May id w own r (inr (k, e)) = like e (does_one P c May id w (Take id k) r tt (log_by id w (Take id k) refl))
+
+pub adopting : (P : List Entry → Type 0) → IsClosed P → (May : Type 0) (id epoch : ℕ) (w : World Entry) (own : List (Move Entry)) → IsReached w → IsAdopting id epoch own → Does P May id w (after_moves w own)
+adopting P c May id epoch w own r (inl e) = like e (does_nothing P May id w)
+adopting P c May id epoch w own r (inr e) = like e (does_one P c May id w (Adopt id epoch) r tt (log_by id w (Adopt id epoch) refl))

@@ -1,0 +1,52 @@
+-- Genuine entries: each was asked, was new, and is what its update comes to on one copy of the objects.
+use Rattle.std.specs.Prelude.{◌≡◌, true, ⊤, List, [], ◌∷◌, map, Some}
+use Rattle.std.specs.List.{IsDistinct}
+use Rattle.craq_names.specs.Maps.{same_bytes}
+use Rattle.craq_commands.specs.Evaluation.{eval}
+use Rattle.craq_commands.specs.SingleCopy.{State, opening_state, is_new_to, apply, after_entry}
+use Rattle.craq_commands.specs.declared.command.Update.{Update}
+use Rattle.craq_commands.specs.declared.entry.Entry.{Entry}
+use Rattle.craq_model.specs.declared.ask.Ask.TheVariants as asks
+use Rattle.craq_model.specs.Asks.{versioned_write}
+use Rattle.craq_runs.specs.Seen.{Asked, ask_with}
+use Rattle.craq_runs.specs.declared.explanation.Explanation.{Explanation}
+use Rattle.craq_model.specs.Plain.{Plain}
+use Rattle.craq_protocol.specs.Promises.{IsPrefix}
+use Rattle.craq_refinement.specs.Follows.{IsHistory}
+
+-- the entry names its ask, and bears the update's client and number
+pub record IsAskedBy (asked : List Asked) (e : Entry) (u : Update) : Type 0 where
+  pub ask : Asked
+  pub is_ask : ask_with asked e.origin_node e.origin_ticket ≡ Some ask
+  pub is : ask.ask ≡ asks.Update u
+  pub client : e.client ≡ u.client
+  pub number : e.number ≡ u.number
+
+-- the entry was asked, its number was new in this state, it is what its update comes to there, and writes no key twice
+pub record IsGenuine (asked : List Asked) (s : State) (e : Entry) : Type 0 where
+  pub update : Update
+  pub by : IsAskedBy asked e update
+  pub new : is_new_to s update.client update.number ≡ true
+  pub reply : e.reply ≡ (eval s.objects update.command).1
+  pub writes : e.writes ≡ map (versioned_write s.objects) (eval s.objects update.command).0
+  pub once : IsDistinct same_bytes (map (λ w. w.0) (eval s.objects update.command).0)
+  pub applied : after_entry s e ≡ apply s update
+
+-- each entry is genuine in the state after those before it
+abbrev pub AllGenuine : List Asked → State → List Entry → Type 0
+AllGenuine asked s [] = ⊤
+AllGenuine asked s (e ∷ es) = IsGenuine asked s e × AllGenuine asked (after_entry s e) es
+
+-- a history of genuine entries, of which the node has a base's state and the entries after it
+pub record HasGenuineHistory (asked : List Asked) (p : Plain) : Type 0 where
+  pub history : List Entry
+  pub is : IsHistory p.base p.base_state p.entries history
+  pub genuine : AllGenuine asked opening_state history
+
+-- ---- explanations
+
+-- each list is a beginning of the other's
+pub record IsBeginning (e f : Explanation) : Type 0 where
+  pub asks : IsPrefix e.asks f.asks
+  pub lens : IsPrefix e.lens f.lens
+  pub places : IsPrefix e.places f.places

@@ -1,0 +1,50 @@
+//! Each entry of a run was asked, and is what its update does on one copy of the objects.
+//! Laws: functions without bodies, whose contracts are the theorems.
+#![tactic(auto)]
+
+ghost use Rattle.std.specs.Prelude.{◌≡◌, ◌∷◌, ◌++◌, ℕ, IsSome, List, Some, [], length};
+ghost use Rattle.std.specs.List.{AllByRecursion};
+ghost use Rattle.craq_commands.specs.SingleCopy.{opening_state};
+ghost use Rattle.craq_model.specs.Plain.{Plain};
+ghost use Rattle.craq_runs.specs.Chain.{node_at, opening_chain};
+ghost use Rattle.craq_runs.specs.Explain.{account_of, explain, opening_account};
+ghost use Rattle.craq_runs.specs.Runs.{after_moves};
+ghost use Rattle.craq_runs.specs.Seen.{asks_from, seen, update_at};
+ghost use Rattle.craq_runs.specs.Valid.{OnlyGrows};
+ghost use Rattle.craq_runs.specs.declared.run.Run.{Run};
+ghost use Rattle.craq_runs.specs.declared.run.Taken.{Taken};
+ghost use Rattle.craq_updates.specs.Genuine.{AllGenuine, HasGenuineHistory, IsBeginning};
+ghost use Rattle.craq_runs.specs.Typed.{IsTypedRunOf};
+
+/// Each committed entry was asked, its number was new, and its writes and reply are those of its command on one copy of the
+/// objects that took the updates before it.
+pub fn committed_entries_are_genuine()
+    ensures { (chain : ℕ) (run : Run) → IsTypedRunOf chain run
+        → AllGenuine (asks_from 1 run.moves) opening_state (account_of (opening_account chain run.members) run.moves).committed }
+{}
+
+/// Likewise each entry that a node of the chain holds, or knows by a state alone.
+pub fn held_entries_are_genuine()
+    ensures { (chain : ℕ) (run : Run) (id : ℕ) (p : Plain) → IsTypedRunOf chain run
+        → node_at (after_moves (opening_chain chain run.members) run.moves).nodes id ≡ Some p
+        → HasGenuineHistory (asks_from 1 run.moves) p }
+{}
+
+/// Each number of the explanation names an update that was asked, and each move has a length.
+pub fn explanations_have_form()
+    ensures asks { (chain : ℕ) (run : Run) → IsTypedRunOf chain run
+        → AllByRecursion (λ number. IsSome (update_at (seen run).asks number)) (explain chain run).asks }
+    ensures lens { (chain : ℕ) (run : Run) → IsTypedRunOf chain run
+        → length (explain chain run).lens ≡ (seen run).moves }
+{}
+
+/// The list of committed updates only grows, by updates that were asked, no request twice.
+pub fn list_only_grows()
+    ensures { (chain : ℕ) (run : Run) → IsTypedRunOf chain run → OnlyGrows (seen run) (explain chain run) }
+{}
+
+/// The explanation before a move is, list by list, a beginning of the one after it.
+pub fn explanations_only_grow()
+    ensures { (chain : ℕ) (members : List ℕ) (moves : List Taken) (next : Taken) → IsTypedRunOf chain (record { members = members; moves = moves ++ next ∷ [] })
+        → IsBeginning (explain chain (record { members = members; moves = moves })) (explain chain (record { members = members; moves = moves ++ next ∷ [] })) }
+{}

@@ -1,5 +1,0 @@
-//! Tests of worlds whose nodes keep the list of entries, with ample memory.
-#![tactic(auto)]
-
-#[cfg(test)]
-mod tests;

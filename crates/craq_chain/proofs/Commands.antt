@@ -1,19 +1,20 @@
 -- The master's moves, and the chain's.
-use Rattle.std.proofs.Common.{◌≡◌, ◌<◌, ◌+◌, ◌++◌, ◌==◌, ◌⊎◌, ◌||◌, ℕ, Bool, true, false, if◌then◌else◌, List, [], ◌∷◌, length, map, slice_index_or, Option, Some, None, Result, Ok, Err, refl, sym, ap, subst, arith, ◌∙◌, inl, inr}
-use Rattle.std.specs.Prelude.{is_some, nat_le}
+use Rattle.std.proofs.Common.{◌≡◌, ◌<◌, ◌+◌, ◌++◌, ◌==◌, ◌||◌, ℕ, Bool, true, false, if◌then◌else◌, List, [], ◌∷◌, length, map, slice_index_or, Option, Some, None, Result, Ok, Err, refl, sym, ap, subst, arith, ◌∙◌, inl, inr}
+use Rattle.std.specs.Prelude.{is_some, nat_le, IsOk}
 use Rattle.std.specs.List.{AllByRecursion}
 use Rattle.craq_names.specs.Limits.{greatest, member_limit}
+use Rattle.craq_names.specs.Order.{Refuses}
 use Rattle.craq_names.specs.declared.name.NodeName.{NodeName}
 use Rattle.craq_names.specs.declared.refusal.Refusal.{Refusal}
-use Rattle.craq_names.specs.declared.refusal.Refusal.TheVariants.{Memory, NotMember, NotStopped, LastNode, Exhausted, ChainFull, UsedId}
+use Rattle.craq_names.specs.declared.refusal.Refusal.TheVariants.{NotMember, NotStopped, LastNode, Exhausted, ChainFull, UsedId}
 use Rattle.craq_model.specs.declared.step.Step.{Step}
 use Rattle.craq_model.specs.Members.{is_member, without}
 use Rattle.craq_model.specs.Plain.{Plain, id_of, opening_joined}
-use Rattle.craq_epochs.specs.Mastered.{Mastered, IsMastered, Refuses, removed, joined}
+use Rattle.craq_epochs.specs.Mastered.{Mastered, IsMastered, removed, joined}
 use Rattle.craq_epochs.specs.Switched.{Switched}
 use Rattle.craq_runs.specs.Chain.{Chain, Progress, config_progress, node_at, is_running, removal_progress, join_progress, next_epoch, with_node}
 use Rattle.craq_chain.specs.Parts.{AreParts, HasStopped, Moves, master_of, place_from, told_step, join_step, removal_step}
-use Rattle.craq_chain.proofs.Places.{stands_at, no_node, zip_push}
+use Rattle.craq_chain.proofs.Places.{stands_at, no_node, place_known, zip_push}
 use Rattle.craq_chain.proofs.Steps.{own_name, names_push}
 
 -- a member's id was used
@@ -89,7 +90,7 @@ unfolding removed
 removal_made m n stopped h = grind arith
 
 -- the master took a stopped member out
-pub removes : {C : Type 0} (R : C → Plain → Type 0) (cs : List C) (m n : Mastered) (c : Chain) (id : ℕ) (stopped : NodeName) (step : Step) → AreParts R cs m c → HasStopped c id (Ok stopped) → removal_step m id ≡ Ok step → removed m stopped ≡ Ok n → Moves (AreParts R cs n) c (Ok step) (removal_progress c id)
+pub removes : {C : Type 0} (R : C → Plain → Type 0) (cs : List C) (m n : Mastered) (c : Chain) (id : ℕ) (stopped : NodeName) (step : Step) → AreParts R cs m c → HasStopped c id (Ok stopped) → removal_step m id ≡ Ok step → removed m stopped ≡ Ok n → Moves (AreParts R cs n) c (IsOk (removal_progress c id)) (Ok step) (removal_progress c id)
 removes R cs m n c id stopped step h k s r =
     let t : removal_step (master_of c) id ≡ Ok step = subst (λ (x : Mastered). removal_step x id ≡ Ok step) h.master s in
     let u : n ≡ master_of (next_epoch c (without c.members id)) = removal_made m n stopped r ∙ rw (h.master, k.2) refl in
@@ -102,32 +103,36 @@ keeps_member R cs m c id stopped e h k s =
     let t : removal_step (master_of c) id ≡ Err e = subst (λ (x : Mastered). removal_step x id ≡ Err e) h.master s in
     rw (k.0, k.1) (two_refusals (length c.members == 1) (c.epoch == greatest) LastNode Exhausted (told_step c.chain (c.epoch + 1) (without c.members id)) (removal_told c id) e t)
 
+-- or it was to tell the membership
+two_can : (a b : Bool) (x y : Refusal) (t : Step) (w : Progress) → IsOk (if a then Err x else if b then Err y else Ok t) → IsOk (if a then Err x else if b then Err y else Ok w)
+two_can true b x y t w h = cc
+two_can false true x y t w h = cc
+two_can false false x y t w h = refl
+
+pub can_remove : {C : Type 0} (R : C → Plain → Type 0) (cs : List C) (m : Mastered) (c : Chain) (id : ℕ) (stopped : NodeName) → AreParts R cs m c → HasStopped c id (Ok stopped) → IsOk (removal_step m id) → IsOk (removal_progress c id)
+unfolding removal_progress removal_step
+can_remove R cs m c id stopped h k s =
+    let t : IsOk (removal_step (master_of c) id) = subst (λ (x : Mastered). IsOk (removal_step x id)) h.master s in
+    rw (k.0, k.1) (two_can (length c.members == 1) (c.epoch == greatest) LastNode Exhausted (told_step c.chain (c.epoch + 1) (without c.members id)) (removal_told c id) t)
+
 -- nor would it refuse what its step was made for
 removal_allowed : (c : Chain) (id : ℕ) (step : Step) (e : Refusal) → is_member c.members id ≡ true → removal_step (master_of c) id ≡ Ok step → removed (master_of c) (record { chain = c.chain; node = id }) ≡ Err e → ⊥
 unfolding removal_step removed
 removal_allowed c id step e member s r = grind arith
 
-pub not_kept : {C : Type 0} (R : C → Plain → Type 0) (cs : List C) (m : Mastered) (c : Chain) (id : ℕ) (stopped : NodeName) (step : Step) (e : Refusal) → AreParts R cs m c → HasStopped c id (Ok stopped) → removal_step m id ≡ Ok step → Refuses e (removed m stopped) → (e ≡ Memory) ⊎ (removal_progress c id ≡ Err e)
-not_kept R cs m c id stopped step e h k s (inl memory) = inl memory.0
+pub not_kept : {C : Type 0} (R : C → Plain → Type 0) (cs : List C) (m : Mastered) (c : Chain) (id : ℕ) (stopped : NodeName) (step : Step) (e : Refusal) → AreParts R cs m c → HasStopped c id (Ok stopped) → removal_step m id ≡ Ok step → Refuses e (removed m stopped) → Refuses e (removal_progress c id)
+not_kept R cs m c id stopped step e h k s (inl memory) =
+    inl (memory.0, can_remove R cs m c id stopped h k (rw s refl))
 not_kept R cs m c id stopped step e h k s (inr r) =
     let t : removal_step (master_of c) id ≡ Ok step = subst (λ (x : Mastered). removal_step x id ≡ Ok step) h.master s in
     let u : removed (master_of c) (record { chain = c.chain; node = id }) ≡ Err e = subst (λ (x : Mastered). removed x (record { chain = c.chain; node = id }) ≡ Err e) h.master (subst (λ (n : NodeName). removed m n ≡ Err e) k.2 r) in
     absurd (removal_allowed c id step e k.0 t u)
-
--- a refusal that is passed on
-pub passed_on : (now : Chain → Type 0) (old : Chain) (r : Result Step Refusal) (e : Refusal) (wanted : Result Progress Refusal) → (x : Refusal) × (r ≡ Err x) × (x ≡ e) → (e ≡ Memory) ⊎ (wanted ≡ Err e) → now old → Moves now old r wanted
-passed_on now old r e wanted p h n = subst (λ s. Moves now old s wanted) (sym (p.1 ∙ ap Err p.2)) (h, n)
 
 -- ---- joins
 
 pub zero_used : (c : Chain) (id : ℕ) → id ≡ 0 → join_progress c id ≡ Err UsedId
 unfolding join_progress
 zero_used c id e = rw e refl
-
-place_known : (k j : ℕ) (ps : List Plain) (id : ℕ) → place_from k ps id ≡ Some j → is_some (node_at ps id) ≡ true
-unfolding node_at
-place_known k j [] id h = cc
-place_known k j (p ∷ ps) id h = grind (arith, place_known (k + 1) j ps id)
 
 -- refused whatever stands after it
 used_by : (a b : Bool) → b ≡ true → (w : Result Progress Refusal) → (if a || b then Err UsedId else w) ≡ Err UsedId
@@ -175,6 +180,12 @@ pub stays_out : {C : Type 0} (R : C → Plain → Type 0) (cs : List C) (m : Mas
 stays_out R cs m c id e h zero place s =
     join_refused c id e (new_id c id zero place) (subst (λ (x : Mastered). join_step x id ≡ Err e) h.master s)
 
+pub can_join : {C : Type 0} (R : C → Plain → Type 0) (cs : List C) (m : Mastered) (c : Chain) (id : ℕ) → AreParts R cs m c → (id == 0) ≡ false → is_some (place_from 0 c.nodes id) ≡ false → IsOk (join_step m id) → IsOk (join_progress c id)
+unfolding join_progress join_step
+can_join R cs m c id h zero place s =
+    let t : IsOk (join_step (master_of c) id) = subst (λ (x : Mastered). IsOk (join_step x id)) h.master s in
+    rw (new_id c id zero place) (two_can (nat_le member_limit (length c.members)) (c.epoch == greatest) ChainFull Exhausted (told_step c.chain (c.epoch + 1) (c.members ++ id ∷ [])) (join_told c id) t)
+
 join_allowed : (c : Chain) (id : ℕ) (step : Step) (e : Refusal) → (id == 0) ≡ false → is_member (map id_of c.nodes) id ≡ false → join_step (master_of c) id ≡ Ok step → joined (master_of c) id ≡ Err e → ⊥
 unfolding join_step joined
 join_allowed c id step e zero new s r = grind arith
@@ -183,8 +194,9 @@ join_allowed c id step e zero new s r = grind arith
 not_used : (c : Chain) (id : ℕ) → is_some (place_from 0 c.nodes id) ≡ false → is_member (map id_of c.nodes) id ≡ false
 not_used c id h = let none = no_node 0 c.nodes id (is_none (place_from 0 c.nodes id) h) in used_are_nodes c.nodes id ∙ rw none refl
 
-pub not_out : {C : Type 0} (R : C → Plain → Type 0) (cs : List C) (m : Mastered) (c : Chain) (id : ℕ) (step : Step) (e : Refusal) → AreParts R cs m c → (id == 0) ≡ false → is_some (place_from 0 c.nodes id) ≡ false → join_step m id ≡ Ok step → Refuses e (joined m id) → (e ≡ Memory) ⊎ (join_progress c id ≡ Err e)
-not_out R cs m c id step e h zero place s (inl memory) = inl memory.0
+pub not_out : {C : Type 0} (R : C → Plain → Type 0) (cs : List C) (m : Mastered) (c : Chain) (id : ℕ) (step : Step) (e : Refusal) → AreParts R cs m c → (id == 0) ≡ false → is_some (place_from 0 c.nodes id) ≡ false → join_step m id ≡ Ok step → Refuses e (joined m id) → Refuses e (join_progress c id)
+not_out R cs m c id step e h zero place s (inl memory) =
+    inl (memory.0, can_join R cs m c id h zero place (rw s refl))
 not_out R cs m c id step e h zero place s (inr r) =
     absurd (join_allowed c id step e zero (not_used c id place) (subst (λ (x : Mastered). join_step x id ≡ Ok step) h.master s) (subst (λ (x : Mastered). joined x id ≡ Err e) h.master r))
 
@@ -197,7 +209,7 @@ ids_push [] p = refl
 ids_push (q ∷ ps) p = ap (λ xs. id_of q ∷ xs) (ids_push ps p)
 
 -- the master took a new member in, and its core was added
-pub joins : {C : Type 0} (R : C → Plain → Type 0) (cs : List C) (m n : Mastered) (c : Chain) (id : ℕ) (core : C) (step : Step) → AreParts R cs m c → (id == 0) ≡ false → is_some (place_from 0 c.nodes id) ≡ false → R core (opening_joined (record { chain = m.chain; node = id })) → join_step m id ≡ Ok step → joined m id ≡ Ok n → Moves (AreParts R (cs ++ core ∷ []) n) c (Ok step) (join_progress c id)
+pub joins : {C : Type 0} (R : C → Plain → Type 0) (cs : List C) (m n : Mastered) (c : Chain) (id : ℕ) (core : C) (step : Step) → AreParts R cs m c → (id == 0) ≡ false → is_some (place_from 0 c.nodes id) ≡ false → R core (opening_joined (record { chain = m.chain; node = id })) → join_step m id ≡ Ok step → joined m id ≡ Ok n → Moves (AreParts R (cs ++ core ∷ []) n) c (IsOk (join_progress c id)) (Ok step) (join_progress c id)
 joins R cs m n c id core step h zero place r s made =
     let t : join_step (master_of c) id ≡ Ok step = subst (λ (x : Mastered). join_step x id ≡ Ok step) h.master s in
     let p : R core (opening_joined (record { chain = c.chain; node = id })) = subst (λ (x : Mastered). R core (opening_joined (record { chain = x.chain; node = id }))) h.master r in

@@ -1,6 +1,8 @@
 pub mod Places
 pub mod Received
 pub mod Steps
+pub mod Refusing
+pub mod Finding
 pub mod Told
 pub mod Commands
 pub mod Sendings

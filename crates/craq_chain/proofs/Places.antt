@@ -1,5 +1,6 @@
 -- The places of nodes among those of a chain.
 use Rattle.std.proofs.Common.{◌≡◌, ◌≤◌, ◌<◌, ◌+◌, ◌==◌, ℕ, zero, suc, true, false, List, [], ◌∷◌, ◌++◌, length, set, drop, slice_index_or, Some, None, refl, sym, subst, arith}
+use Rattle.std.specs.Prelude.{is_some}
 use Rattle.std.proofs.lemmas.Bool.{eqb-true}
 use Rattle.std.specs.List.{AllZip}
 use Rattle.craq_model.specs.Plain.{Plain, id_of}
@@ -33,6 +34,12 @@ pub no_node : (k : ℕ) (ps : List Plain) (id : ℕ) → place_from k ps id ≡ 
 unfolding node_at
 no_node k [] id h = refl
 no_node k (p ∷ ps) id h = grind (arith, no_node (k + 1) ps id)
+
+-- a place: a node
+pub place_known : (k j : ℕ) (ps : List Plain) (id : ℕ) → place_from k ps id ≡ Some j → is_some (node_at ps id) ≡ true
+unfolding node_at
+place_known k j [] id h = cc
+place_known k j (p ∷ ps) id h = grind (arith, place_known (k + 1) j ps id)
 
 -- the search goes on, or ends here
 pub place_goes_on : (k : ℕ) (ps : List Plain) (p : Plain) (id : ℕ) → drop k ps ≡ p ∷ drop (suc k) ps → (id_of p == id) ≡ false → place_from k (drop k ps) id ≡ place_from (k + 1) (drop (k + 1) ps) id

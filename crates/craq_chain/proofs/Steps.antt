@@ -1,12 +1,12 @@
 -- A core takes a step: the chain has its node's step.
 use Rattle.std.proofs.Common.{◌≡◌, ◌<◌, ◌+◌, ◌==◌, ℕ, Bool, true, false, if◌then◌else◌, List, [], ◌∷◌, ◌++◌, length, map, set, slice_index_or, Some, None, Result, Ok, Err, refl, ap, subst, arith, ◌∙◌, inl, inr}
+use Rattle.std.specs.Prelude.{IsSome}
 use Rattle.std.proofs.lemmas.Bool.{eqb-true}
 use Rattle.std.specs.List.{AllByRecursion, AllZip}
 use Rattle.craq_names.specs.declared.refusal.Refusal.{Refusal}
 use Rattle.craq_names.specs.declared.refusal.Refusal.TheVariants.{WrongNode}
 use Rattle.craq_model.specs.declared.ask.Event.{Event}
 use Rattle.craq_model.specs.declared.step.Step.{Step}
-use Rattle.craq_model.specs.Node.{node_step}
 use Rattle.craq_model.specs.Plain.{Plain, id_of}
 use Rattle.craq_epochs.specs.Mastered.{Mastered}
 use Rattle.craq_node.specs.Represented.{Answers}
@@ -45,7 +45,7 @@ names_push chain [] q h e = (e, tt)
 names_push chain (p ∷ ps) q h e = (h.0, names_push chain ps q h.1 e)
 
 -- the core of a place took its step
-pub stepped : {C : Type 0} (R : C → Plain → Type 0) (cs : List C) (m : Mastered) (c : Chain) (id i : ℕ) (event : Event) (core d : C) (r : Result Step Refusal) → AreParts R cs m c → place_from 0 c.nodes id ≡ Some i → i < length cs → core ≡ slice_index_or cs i core → ((p : Plain) → R core p → Answers (R d) p r (node_step p event)) → Moves (AreParts R (set cs i d) m) c r (node_progress c (node_at c.nodes id) event)
+pub stepped : {C : Type 0} (R : C → Plain → Type 0) (cs : List C) (m : Mastered) (c : Chain) (id i : ℕ) (event : Event) (core d : C) (r : Result Step Refusal) → AreParts R cs m c → place_from 0 c.nodes id ≡ Some i → i < length cs → core ≡ slice_index_or cs i core → ((p : Plain) → R core p → Answers (R d) p event r) → Moves (AreParts R (set cs i d) m) c (IsSome (node_at c.nodes id)) r (node_progress c (node_at c.nodes id) event)
 stepped R cs m c id i event core d (Ok step) h e w is a =
     let s = stands_at R cs c.nodes id 0 i core h.nodes (subst (λ n. place_from 0 c.nodes id ≡ Some n) (let z : i ≡ 0 + i = omega arith in z) e) w is in
     let t = a s.node s.stands in
@@ -62,12 +62,12 @@ stepped R cs m c id i event core d (Ok step) h e w is a =
 stepped R cs m c id i event core d (Err e) h at w is a =
     let s = stands_at R cs c.nodes id 0 i core h.nodes (subst (λ n. place_from 0 c.nodes id ≡ Some n) (let z : i ≡ 0 + i = omega arith in z) at) w is in
     let t = a s.node s.stands in (
-      elim t.0 [ inl memory ↦ inl memory | inr wanted ↦ inr (rw (s.at, wanted) refl) ],
+      elim t.0 [ inl memory ↦ inl (memory.0, rw s.at refl) | inr wanted ↦ inr (rw (s.at, wanted) refl) ],
       record { nodes = s.stays d t.1; master = h.master; names = h.names },
     )
 
 -- where no core has the id, no node has it
-pub unknown : {C : Type 0} (R : C → Plain → Type 0) (cs : List C) (m : Mastered) (c : Chain) (id : ℕ) (event : Event) → AreParts R cs m c → place_from 0 c.nodes id ≡ None → Moves (AreParts R cs m) c (Err WrongNode) (node_progress c (node_at c.nodes id) event)
+pub unknown : {C : Type 0} (R : C → Plain → Type 0) (cs : List C) (m : Mastered) (c : Chain) (id : ℕ) (event : Event) → AreParts R cs m c → place_from 0 c.nodes id ≡ None → Moves (AreParts R cs m) c (IsSome (node_at c.nodes id)) (Err WrongNode) (node_progress c (node_at c.nodes id) event)
 unknown R cs m c id event h e = (inr (rw (no_node 0 c.nodes id e) refl), h)
 
 -- the core of a place stands for the node of its id

@@ -1,10 +1,10 @@
 -- A chain that runs takes one more move.
-use Rattle.std.proofs.Common.{◌≡◌, ◌≤◌, ◌<◌, ◌+◌, ◌++◌, ℕ, true, List, [], ◌∷◌, length, get_or, Ok, Err, refl, sym, ap, subst, arith, ◌∙◌, ◌⊎◌, inl, inr, append_assoc, length-append}
+use Rattle.std.proofs.Common.{◌≡◌, ◌≤◌, ◌<◌, ◌+◌, ◌++◌, ℕ, true, List, [], ◌∷◌, length, get_or, Ok, refl, sym, ap, subst, arith, ◌∙◌, inl, inr, append_assoc, length-append}
 use Rattle.std.specs.List.{AllByRecursion}
 use Rattle.std.proofs.lemmas.List.{append-nil}
 use Rattle.craq_names.specs.Limits.{greatest}
 use Rattle.craq_names.specs.declared.refusal.Refusal.{Refusal}
-use Rattle.craq_names.specs.declared.refusal.Refusal.TheVariants.{Memory}
+use Rattle.craq_names.specs.Order.{RefusesWhere}
 use Rattle.craq_model.specs.declared.step.Out.{Out}
 use Rattle.craq_model.specs.declared.step.Out.TheVariants as outs
 use Rattle.craq_model.specs.declared.step.Step.{Step}
@@ -19,7 +19,7 @@ use Rattle.craq_runs.specs.Typed.{AreOfType, IsMoveOfType}
 use Rattle.craq_laws.proofs.Nodes.{goes_on}
 use Rattle.craq_node_invariant.proofs.Lists.{all_append}
 use Rattle.craq_node_invariant.specs.Sound.{AreSpelled}
-use Rattle.craq_chain.specs.Chained.{Chained, chain_of, with_move, after_taking}
+use Rattle.craq_chain.specs.Chained.{Chained, Finds, chain_of, with_move, after_taking}
 use Rattle.craq_chain.specs.Parts.{AreParts, Moves}
 use Rattle.craq_chain.specs.Sent.{counts_from, sent_by}
 use Rattle.craq_chain.specs.Standing.{IsStanding}
@@ -64,7 +64,7 @@ pub record Took {C : Type 0} (R : C → Plain → Type 0) (cs : List C) (m : Mas
   pub standing : IsStanding R cs m sent (with_move w t)
   pub wanted : after_taking w t.chosen ≡ Ok (with_move w t)
 
-pub took : {C : Type 0} (R : C → Plain → Type 0) (cs ds : List C) (m n : Mastered) (sent : List ℕ) (count : ℕ) (w : Chained) (t : Taken) → IsStanding R cs m sent w → Moves (AreParts R ds n) (chain_of w) (Ok t.step) (move_progress (chain_of w) t.chosen) → AreSpelled t.step.outs → IsMoveOfType t.chosen → length w.run.moves < greatest → length (sent_by w.run.moves) + length (sent_in t.step.outs) ≤ greatest → count ≡ length (sent_by w.run.moves) + length (sent_in t.step.outs) → Took R ds n (sent ++ count ∷ []) w t
+pub took : {C : Type 0} (R : C → Plain → Type 0) (cs ds : List C) (m n : Mastered) (sent : List ℕ) (count : ℕ) (w : Chained) (t : Taken) → IsStanding R cs m sent w → Moves (AreParts R ds n) (chain_of w) (Finds (chain_of w) t.chosen) (Ok t.step) (move_progress (chain_of w) t.chosen) → AreSpelled t.step.outs → IsMoveOfType t.chosen → length w.run.moves < greatest → length (sent_by w.run.moves) + length (sent_in t.step.outs) ≤ greatest → count ≡ length (sent_by w.run.moves) + length (sent_in t.step.outs) → Took R ds n (sent ++ count ∷ []) w t
 took R cs ds m n sent count w t h a spelled typed few fits was =
     let c = chain_of w in
     let d = a.0 in
@@ -91,7 +91,7 @@ took R cs ds m n sent count w t h a spelled typed few fits was =
     }
 
 -- the move is refused
-pub refused : (w : Chained) (m : Move) (e : Refusal) → (e ≡ Memory) ⊎ (move_progress (chain_of w) m ≡ Err e) → (e ≡ Memory) ⊎ (after_taking w m ≡ Err e)
+pub refused : (w : Chained) (m : Move) (e : Refusal) → RefusesWhere (Finds (chain_of w) m) e (move_progress (chain_of w) m) → RefusesWhere (Finds (chain_of w) m) e (after_taking w m)
 unfolding chain_step
 refused w m e (inl memory) = inl memory
 refused w m e (inr h) = inr (rw h refl)

@@ -1,13 +1,14 @@
 -- A chain that runs, and what a move of it answers.
-use Rattle.std.specs.Prelude.{◌≡◌, ◌⊎◌, ℕ, List, [], ◌∷◌, ◌++◌, map, length, Result, Ok, Err}
+use Rattle.std.specs.Prelude.{◌≡◌, ◌⊎◌, ⊤, ℕ, List, [], ◌∷◌, ◌++◌, map, length, Option, Some, None, IsSome, Result, Ok, Err}
+use Rattle.craq_names.specs.Order.{RefusesWhere}
 use Rattle.craq_names.specs.declared.refusal.Refusal.{Refusal}
-use Rattle.craq_names.specs.declared.refusal.Refusal.TheVariants.{Memory}
 use Rattle.craq_model.specs.declared.message.LinkMessage.{LinkMessage}
 use Rattle.craq_model.specs.Plain.{Plain, opening_member}
 use Rattle.craq_runs.specs.declared.run.Move.{Move}
+use Rattle.craq_runs.specs.declared.run.Move.TheVariants.{Ask, Deliver, Tick, Stop, Remove, Join}
 use Rattle.craq_runs.specs.declared.run.Taken.{Taken}
 use Rattle.craq_runs.specs.declared.run.Run.{Run}
-use Rattle.craq_runs.specs.Chain.{Chain, Progress, opening_chain, chain_step}
+use Rattle.craq_runs.specs.Chain.{Chain, Progress, opening_chain, chain_step, message_at, move_progress, node_at}
 use Rattle.craq_runs.specs.Runs.{after_moves}
 use Rattle.craq_runs.specs.Seen.{node_of}
 
@@ -39,10 +40,30 @@ moved w m (Err e) = Err e
 abbrev pub after_taking : Chained → Move → Result Chained Refusal
 after_taking w m = moved w m (chain_step (chain_of w) m)
 
--- the move was taken and has this number, or it was refused as wanted or for want of memory, and nothing changed
-abbrev pub GivesMove : Chained → Chained → Result ℕ Refusal → Result Chained Refusal → Type 0
-GivesMove old new (Ok number) wanted = (wanted ≡ Ok new) × (number ≡ length new.run.moves)
-GivesMove old new (Err e) wanted = ((e ≡ Memory) ⊎ (wanted ≡ Err e)) × (new ≡ old)
+-- the receiver of a message that was sent is a node of the chain
+abbrev pub FindsReceiver : Chain → Option LinkMessage → Type 0
+FindsReceiver c None = ⊥
+FindsReceiver c (Some message) = IsSome (node_at c.nodes message.receiver)
+
+-- the chain has the node of a move, and its message was sent; the master, which is node 0, is always there
+abbrev pub Finds : Chain → Move → Type 0
+Finds c (Ask node ask) = IsSome (node_at c.nodes node)
+Finds c (Deliver number) = FindsReceiver c (message_at c.messages number)
+Finds c (Tick node) = (node ≡ 0) ⊎ IsSome (node_at c.nodes node)
+Finds c (Stop node) = IsSome (node_at c.nodes node)
+Finds c (Remove node) = ⊤
+Finds c (Join node) = ⊤
+
+-- a look for them found them, or refuses the move as the chain does
+abbrev pub HasFound : Chain → Move → Result Unit Refusal → Type 0
+HasFound c m (Ok done) = Finds c m
+HasFound c m (Err e) = move_progress c m ≡ Err e
+
+-- the move was taken and has this number; or nothing changed, and it was refused as wanted, or for want of memory,
+-- which comes after the look for the node and the message, and before what the node or the master says
+abbrev pub GivesMove : Chained → Chained → Move → Result ℕ Refusal → Type 0
+GivesMove old new m (Ok number) = (after_taking old m ≡ Ok new) × (number ≡ length new.run.moves)
+GivesMove old new m (Err e) = RefusesWhere (Finds (chain_of old) m) e (after_taking old m) × (new ≡ old)
 
 -- the members of a chain before any move; `all` are all of its members
 abbrev pub openings : ℕ → List ℕ → List ℕ → List Plain

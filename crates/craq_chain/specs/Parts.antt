@@ -1,10 +1,10 @@
 -- The chain that a master and cores stand for.
-use Rattle.std.specs.Prelude.{◌≡◌, ◌⊎◌, ℕ, ◌+◌, ◌==◌, nat_le, true, false, if◌then◌else◌, List, [], ◌∷◌, ◌++◌, map, length, Option, Some, None, Result, Ok, Err}
+use Rattle.std.specs.Prelude.{◌≡◌, ℕ, ◌+◌, ◌==◌, nat_le, true, false, if◌then◌else◌, List, [], ◌∷◌, ◌++◌, map, length, Option, Some, None, IsSome, Result, Ok, Err}
 use Rattle.std.specs.List.{AllZip, AllByRecursion}
 use Rattle.craq_names.specs.Limits.{greatest, member_limit}
+use Rattle.craq_names.specs.Order.{Refuses, RefusesWhere}
 use Rattle.craq_names.specs.declared.name.NodeName.{NodeName}
 use Rattle.craq_names.specs.declared.refusal.Refusal.{Refusal}
-use Rattle.craq_names.specs.declared.refusal.Refusal.TheVariants.{Memory}
 use Rattle.craq_names.specs.declared.refusal.Refusal.TheVariants as refusals
 use Rattle.craq_model.specs.declared.step.Step.{Step}
 use Rattle.craq_model.specs.declared.step.Out.{Out}
@@ -25,10 +25,10 @@ pub record AreParts {C : Type 0} (represents : C → Plain → Type 0) (cores : 
   pub master : m ≡ master_of c
   pub names : AllByRecursion (λ (p : Plain). p.name.chain ≡ c.chain) c.nodes
 
--- a move was made, with the chain's step, or it was refused as wanted or for want of memory
-abbrev pub Moves : (Chain → Type 0) → Chain → Result Step Refusal → Result Progress Refusal → Type 0
-Moves now old (Ok step) wanted = (new : Chain) × (wanted ≡ Ok (new, step)) × now new
-Moves now old (Err e) wanted = ((e ≡ Memory) ⊎ (wanted ≡ Err e)) × now old
+-- a move was made, with the chain's step; or it was refused as wanted, or for want of memory where that can come
+abbrev pub Moves : (Chain → Type 0) → Chain → Type 0 → Result Step Refusal → Result Progress Refusal → Type 0
+Moves now old can (Ok step) wanted = (new : Chain) × (wanted ≡ Ok (new, step)) × now new
+Moves now old can (Err e) wanted = RefusesWhere can e wanted × now old
 
 -- the place of the first node of an id, where the first of the nodes has this place
 abbrev pub place_from : ℕ → List Plain → ℕ → Option ℕ
@@ -44,16 +44,21 @@ told chain epoch members to =
 abbrev pub told_step : ℕ → ℕ → List ℕ → Step
 told_step chain epoch members = record { ticket = None; outs = map (told chain epoch members) members; ignored = None }
 
+-- the chain has the node of an id, or a move of that node is refused
+abbrev pub HasNode : Chain → ℕ → Result Unit Refusal → Type 0
+HasNode c id (Ok done) = IsSome (node_at c.nodes id)
+HasNode c id (Err e) = (e ≡ refusals.WrongNode) × (node_at c.nodes id ≡ None)
+
 -- the stop of a member was shown, or the removal is refused
 abbrev pub HasStopped : Chain → ℕ → Result NodeName Refusal → Type 0
 HasStopped c id (Ok stopped) =
     (is_member c.members id ≡ true) × (is_running (node_at c.nodes id) ≡ false) × (stopped ≡ record { chain = c.chain; node = id })
 HasStopped c id (Err e) = removal_progress c id ≡ Err e
 
--- the step is the wanted one, or it is refused as wanted or for want of memory
+-- the step is the wanted one, or it is refused as wanted; or memory ran out where a step is wanted
 abbrev pub Plans : Result Step Refusal → Result Step Refusal → Type 0
 Plans (Ok step) wanted = wanted ≡ Ok step
-Plans (Err e) wanted = (e ≡ Memory) ⊎ (wanted ≡ Err e)
+Plans (Err e) wanted = Refuses e wanted
 
 -- the master's step on the removal of a stopped member
 unfoldable pub removal_step : Mastered → ℕ → Result Step Refusal

@@ -8,13 +8,13 @@ ghost use Rattle.craq_model.specs.Spelled.{IsSpelled};
 ghost use Rattle.craq_runs.specs.Chain.{Chain, message_at, move_progress, node_at, sent_in};
 ghost use Rattle.craq_runs.specs.Typed.{IsMoveOfType, IsTypedRunOf};
 ghost use Rattle.craq_node_invariant.specs.Sound.{AreSpelled};
-ghost use Rattle.craq_chain.specs.Chained.{GivesMove, after_taking, chain_of, mover, opened, openings};
+ghost use Rattle.craq_chain.specs.Chained.{Finds, GivesMove, HasFound, chain_of, mover, opened, openings};
 ghost use Rattle.craq_chain.specs.Parts.{AreParts, Moves};
 ghost use Rattle.craq_chain.specs.Sent.{counts_from, sent_by};
 
 use crate::limits::keep_limits;
 use crate::messages::{counted_before, message_of, sends_in};
-use crate::moving::act;
+use crate::moving::{act, find};
 use crate::nodes::place_of;
 use craq_epochs::Master;
 use craq_model::{LinkMessage, Step};
@@ -50,8 +50,8 @@ impl<C: Core> Model for ChainCore<C> {
     ghost invariant = { λ s. IsStanding C.represents s.cores.items s.master s.sent.items (record { chain = s.chain; run = s.run }) };
 }
 
-/// A move of the chain that these parts stand for, with the number of messages that were sent up to it. There
-/// is room for both in the two vectors afterwards, except where the move is refused.
+/// A move of the chain that these parts stand for. The node and the message are looked for, then room is made
+/// for the move and its count in the two vectors, and then the node or the master is asked.
 fn step_of<C: Core>(
     alloc: Global,
     cores: &mut Vec<C>,
@@ -62,7 +62,7 @@ fn step_of<C: Core>(
 ) -> Result<Step, Refusal>
     requires counts { sent.old.items ≡ counts_from 0 moves.old.items }
     requires spelled { AllByRecursion IsSpelled (sent_by moves.old.items) }
-    ensures step { (c : Chain) → AreParts C.represents cores.old.items master.old c → c.messages ≡ sent_by moves.old.items → Moves (AreParts C.represents cores.new.items master.new) c result (move_progress c chosen.now) }
+    ensures step { (c : Chain) → AreParts C.represents cores.old.items master.old c → c.messages ≡ sent_by moves.old.items → Moves (AreParts C.represents cores.new.items master.new) c (Finds c chosen.now) result (move_progress c chosen.now) }
     ensures spelled { IfOk result (λ step. AreSpelled step.outs) }
     ensures same_moves { moves.new.items ≡ moves.old.items }
     ensures same_counts { sent.new.items ≡ sent.old.items }
@@ -72,6 +72,7 @@ fn step_of<C: Core>(
     ensures typed { IsMoveOfType chosen.now }
 {
     keep_limits(chosen);
+    find(cores.as_slice(), moves.as_slice(), sent.as_slice(), chosen)?;
     if counted_before(sent.as_slice(), sent.len()) > BEYOND_MEMORY {
         return Err(Refusal::Memory);
     }
@@ -130,15 +131,29 @@ impl<C: Core> ChainCore<C> {
         })
     }
 
+    /// Looks for the node and the message of a move. It changes nothing, and takes no memory.
+    ///
+    /// `UnknownMessage` for a delivery of a number that was not sent; `WrongNode` for an ask, tick or stop of a
+    /// node that the chain never had (a tick of node 0 is the master's).
+    pub fn find(&self, chosen: &Move) -> Result<(), Refusal>
+        ensures { HasFound (chain_of self.now) chosen.now result }
+    {
+        find(
+            self.cores.as_slice(),
+            self.run.moves.as_slice(),
+            self.sent.as_slice(),
+            chosen,
+        )
+    }
+
     /// One move of the chain: its number, from 1. It is kept in the run with its step.
     ///
-    /// Refused, with nothing changed: `WrongNode` for an ask, tick or stop of a node that the chain never
-    /// had (a tick of node 0 is the master's); `UnknownMessage` for a delivery of a number that was not
-    /// sent; a removal as `NotMember`, `NotStopped`, `LastNode`, a join as `UsedId`, `ChainFull`, both then
-    /// as `Exhausted` in the last epoch, in this order; what happens at a node as the node's own step is;
-    /// `Memory` where a growth was refused, or more messages were sent than any memory holds.
+    /// Refused, with nothing changed, in this order: as `find` refuses it; `Memory` where the chain's own room
+    /// for the move was refused, or more messages were sent than any memory holds; what happens at a node as
+    /// the node's own step is; a removal as `NotMember`, `NotStopped`, `LastNode`, a join as `UsedId`,
+    /// `ChainFull`, both then as `Exhausted` in the last epoch; and `Memory` where a growth was refused.
     pub fn take(&mut self, alloc: Global, chosen: Move) -> Result<u64, Refusal>
-        ensures gives { GivesMove self.old self.new result (after_taking self.old chosen) }
+        ensures gives { GivesMove self.old self.new chosen result }
         ensures typed { IsTypedRunOf self.new.chain self.new.run }
     {
         let mut moves = mem::replace(&mut self.run.moves, Items::new(alloc)).into_vec();

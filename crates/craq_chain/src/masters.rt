@@ -1,4 +1,4 @@
-ghost use Rattle.std.specs.Prelude.{◌≡◌, ◌≢◌, ◌⊎◌, ◌<◌, ◌+◌, ◌++◌, ◌∷◌, [], ℕ, Ok, Err, IfOk, IfErr, OnErr, OnOk};
+ghost use Rattle.std.specs.Prelude.{◌≡◌, ◌≢◌, ◌⊎◌, ◌<◌, ◌+◌, ◌++◌, ◌∷◌, [], ℕ, Ok, Err, IfOk, IfErr, IsOk, OnErr, OnOk};
 ghost use Rattle.craq_names.specs.Limits.{greatest};
 ghost use Rattle.craq_model.specs.Members.{without, IsMembership};
 ghost use Rattle.craq_model.specs.Plain.{Plain, opening_joined};
@@ -154,7 +154,7 @@ pub(crate) fn remove<C: Core>(
     master: &mut Master,
     id: NodeId,
 ) -> Result<Step, Refusal>
-    ensures step { (c : Chain) → AreParts C.represents cores.now master.old c → Moves (AreParts C.represents cores.now master.new) c result (removal_progress c id) }
+    ensures step { (c : Chain) → AreParts C.represents cores.now master.old c → Moves (AreParts C.represents cores.now master.new) c (IsOk (removal_progress c id)) result (removal_progress c id) }
     ensures spelled { IfOk result (λ step. AreSpelled step.outs) }
 {
     let receipt = stopped_member(cores, master, id)?;
@@ -172,7 +172,7 @@ pub(crate) fn join<C: Core>(
     master: &mut Master,
     id: NodeId,
 ) -> Result<Step, Refusal>
-    ensures step { (c : Chain) → AreParts C.represents cores.old.items master.old c → Moves (AreParts C.represents cores.new.items master.new) c result (join_progress c id) }
+    ensures step { (c : Chain) → AreParts C.represents cores.old.items master.old c → Moves (AreParts C.represents cores.new.items master.new) c (IsOk (join_progress c id)) result (join_progress c id) }
     ensures spelled { IfOk result (λ step. AreSpelled step.outs) }
 {
     if id.get() == 0 {

@@ -1,15 +1,16 @@
-ghost use Rattle.std.specs.Prelude.{◌≡◌, IfOk};
+ghost use Rattle.std.specs.Prelude.{◌≡◌, ◌⊎◌, IfOk, IsSome};
 ghost use Rattle.std.specs.List.{AllByRecursion};
 ghost use Rattle.craq_model.specs.Spelled.{IsSpelled};
 ghost use Rattle.craq_epochs.specs.Mastered.{Mastered};
-ghost use Rattle.craq_runs.specs.Chain.{Chain, arrival_progress, message_at, move_progress, tick_progress};
+ghost use Rattle.craq_runs.specs.Chain.{Chain, arrival_progress, message_at, move_progress, node_at, tick_progress};
 ghost use Rattle.craq_node_invariant.specs.Sound.{AreSpelled};
-ghost use Rattle.craq_chain.specs.Parts.{AreParts, Moves};
+ghost use Rattle.craq_chain.specs.Chained.{Finds, FindsReceiver, HasFound};
+ghost use Rattle.craq_chain.specs.Parts.{AreParts, HasNode, Moves};
 ghost use Rattle.craq_chain.specs.Sent.{counts_from, sent_by};
 
 use crate::masters::{announce, join, remove};
 use crate::messages::message_of;
-use crate::nodes::{ask, deliver, stop, tick};
+use crate::nodes::{ask, deliver, place_of, stop, tick};
 use craq_epochs::Master;
 use craq_model::Step;
 use craq_names::{NodeId, Refusal};
@@ -27,7 +28,7 @@ fn arrival<C: Core>(
 ) -> Result<Step, Refusal>
     requires counts { sent.now ≡ counts_from 0 moves.now }
     requires spelled { AllByRecursion IsSpelled (sent_by moves.now) }
-    ensures step { (m : Mastered) (c : Chain) → AreParts C.represents cores.old.items m c → c.messages ≡ sent_by moves.now → Moves (AreParts C.represents cores.new.items m) c result (arrival_progress c (message_at c.messages number)) }
+    ensures step { (m : Mastered) (c : Chain) → AreParts C.represents cores.old.items m c → c.messages ≡ sent_by moves.now → Moves (AreParts C.represents cores.new.items m) c (FindsReceiver c (message_at c.messages number)) result (arrival_progress c (message_at c.messages number)) }
     ensures spelled { IfOk result (λ step. AreSpelled step.outs) }
 {
     match message_of(moves, sent, number) {
@@ -43,13 +44,46 @@ fn repeat<C: Core>(
     master: &Master,
     id: NodeId,
 ) -> Result<Step, Refusal>
-    ensures step { (c : Chain) → AreParts C.represents cores.old.items master.now c → Moves (AreParts C.represents cores.new.items master.now) c result (tick_progress c id) }
+    ensures step { (c : Chain) → AreParts C.represents cores.old.items master.now c → Moves (AreParts C.represents cores.new.items master.now) c ((id ≡ 0) ⊎ IsSome (node_at c.nodes id)) result (tick_progress c id) }
     ensures spelled { IfOk result (λ step. AreSpelled step.outs) }
 {
     if id.get() == 0 {
         announce(alloc, master)
     } else {
         tick(alloc, cores, id)
+    }
+}
+
+/// Whether the chain has the node of this id. `WrongNode` where it has not.
+fn find_node<C: Core>(cores: &[C], id: NodeId) -> Result<(), Refusal>
+    ensures { (m : Mastered) (c : Chain) → AreParts C.represents cores.now m c → HasNode c id result }
+{
+    match place_of(cores, id) {
+        None => Err(Refusal::WrongNode),
+        Some(_place) => Ok(()),
+    }
+}
+
+/// Looks for the node and the message of a move, and takes no memory. `UnknownMessage` for a delivery of a
+/// number that was not sent, `WrongNode` where the chain never had the node; node 0 is the master.
+pub(crate) fn find<C: Core>(
+    cores: &[C],
+    moves: &[Taken],
+    sent: &[usize],
+    chosen: &Move,
+) -> Result<(), Refusal>
+    requires { sent.now ≡ counts_from 0 moves.now }
+    ensures { (m : Mastered) (c : Chain) → AreParts C.represents cores.now m c → c.messages ≡ sent_by moves.now → HasFound c chosen.now result }
+{
+    match chosen {
+        Move::Ask { node, .. } => find_node(cores, *node),
+        Move::Deliver(number) => match message_of(moves, sent, *number) {
+            None => Err(Refusal::UnknownMessage),
+            Some(message) => find_node(cores, message.receiver),
+        },
+        Move::Tick(node) if node.get() != 0 => find_node(cores, *node),
+        Move::Stop(node) => find_node(cores, *node),
+        _ => Ok(()),
     }
 }
 
@@ -65,7 +99,7 @@ pub(crate) fn act<C: Core>(
 ) -> Result<Step, Refusal>
     requires counts { sent.now ≡ counts_from 0 moves.now }
     requires spelled { AllByRecursion IsSpelled (sent_by moves.now) }
-    ensures step { (c : Chain) → AreParts C.represents cores.old.items master.old c → c.messages ≡ sent_by moves.now → Moves (AreParts C.represents cores.new.items master.new) c result (move_progress c chosen.now) }
+    ensures step { (c : Chain) → AreParts C.represents cores.old.items master.old c → c.messages ≡ sent_by moves.now → Moves (AreParts C.represents cores.new.items master.new) c (Finds c chosen.now) result (move_progress c chosen.now) }
     ensures spelled { IfOk result (λ step. AreSpelled step.outs) }
 {
     match chosen {

@@ -1,4 +1,4 @@
-ghost use Rattle.std.specs.Prelude.{◌≡◌, ◌<◌, ℕ, List, Some, IfOk, IfSome, length, vec_len};
+ghost use Rattle.std.specs.Prelude.{◌≡◌, ◌<◌, ℕ, List, Some, IfOk, IfSome, IsSome, length, vec_len};
 ghost use Rattle.std.specs.List.{AllZip};
 ghost use Rattle.craq_model.specs.Plain.{Plain};
 ghost use Rattle.craq_model.specs.Spelled.{IsSpelled};
@@ -35,7 +35,7 @@ fn step_at<C: Core>(
 ) -> Result<Step, Refusal>
     requires arrives { CanArrive event }
     requires within { place < vec_len cores.old }
-    ensures step { (m : Mastered) (c : Chain) (id : ℕ) → AreParts C.represents cores.old.items m c → place_from 0 c.nodes id ≡ Some place → Moves (AreParts C.represents cores.new.items m) c result (node_progress c (node_at c.nodes id) event) }
+    ensures step { (m : Mastered) (c : Chain) (id : ℕ) → AreParts C.represents cores.old.items m c → place_from 0 c.nodes id ≡ Some place → Moves (AreParts C.represents cores.new.items m) c (IsSome (node_at c.nodes id)) result (node_progress c (node_at c.nodes id) event) }
     ensures spelled { IfOk result (λ step. AreSpelled step.outs) }
 {
     cores[place].step(alloc, event)
@@ -49,7 +49,7 @@ pub(crate) fn ask<C: Core>(
     id: NodeId,
     asked: &Ask,
 ) -> Result<Step, Refusal>
-    ensures step { (m : Mastered) (c : Chain) → AreParts C.represents cores.old.items m c → Moves (AreParts C.represents cores.new.items m) c result (node_progress c (node_at c.nodes id) (Event.Ask asked.now)) }
+    ensures step { (m : Mastered) (c : Chain) → AreParts C.represents cores.old.items m c → Moves (AreParts C.represents cores.new.items m) c (IsSome (node_at c.nodes id)) result (node_progress c (node_at c.nodes id) (Event.Ask asked.now)) }
     ensures spelled { IfOk result (λ step. AreSpelled step.outs) }
 {
     match place_of(cores.as_slice(), id) {
@@ -66,7 +66,7 @@ pub(crate) fn deliver<C: Core>(
     message: &LinkMessage,
 ) -> Result<Step, Refusal>
     requires { IsSpelled message.now }
-    ensures step { (m : Mastered) (c : Chain) → AreParts C.represents cores.old.items m c → Moves (AreParts C.represents cores.new.items m) c result (node_progress c (node_at c.nodes message.now.receiver) (Event.Deliver message.now)) }
+    ensures step { (m : Mastered) (c : Chain) → AreParts C.represents cores.old.items m c → Moves (AreParts C.represents cores.new.items m) c (IsSome (node_at c.nodes message.now.receiver)) result (node_progress c (node_at c.nodes message.now.receiver) (Event.Deliver message.now)) }
     ensures spelled { IfOk result (λ step. AreSpelled step.outs) }
 {
     match place_of(cores.as_slice(), message.receiver) {
@@ -78,7 +78,7 @@ pub(crate) fn deliver<C: Core>(
 /// The node of this id repeats what it has to send. `WrongNode` where there is none; else as its own step.
 #[tactic(auto, using(crate::proofs::Steps::unknown))]
 pub(crate) fn tick<C: Core>(alloc: Global, cores: &mut Vec<C>, id: NodeId) -> Result<Step, Refusal>
-    ensures step { (m : Mastered) (c : Chain) → AreParts C.represents cores.old.items m c → Moves (AreParts C.represents cores.new.items m) c result (node_progress c (node_at c.nodes id) Event.Tick) }
+    ensures step { (m : Mastered) (c : Chain) → AreParts C.represents cores.old.items m c → Moves (AreParts C.represents cores.new.items m) c (IsSome (node_at c.nodes id)) result (node_progress c (node_at c.nodes id) Event.Tick) }
     ensures spelled { IfOk result (λ step. AreSpelled step.outs) }
 {
     match place_of(cores.as_slice(), id) {
@@ -90,7 +90,7 @@ pub(crate) fn tick<C: Core>(alloc: Global, cores: &mut Vec<C>, id: NodeId) -> Re
 /// The node of this id halts. `WrongNode` where there is none; else as the node's own step.
 #[tactic(auto, using(crate::proofs::Steps::unknown))]
 pub(crate) fn stop<C: Core>(alloc: Global, cores: &mut Vec<C>, id: NodeId) -> Result<Step, Refusal>
-    ensures step { (m : Mastered) (c : Chain) → AreParts C.represents cores.old.items m c → Moves (AreParts C.represents cores.new.items m) c result (node_progress c (node_at c.nodes id) Event.Stop) }
+    ensures step { (m : Mastered) (c : Chain) → AreParts C.represents cores.old.items m c → Moves (AreParts C.represents cores.new.items m) c (IsSome (node_at c.nodes id)) result (node_progress c (node_at c.nodes id) Event.Stop) }
     ensures spelled { IfOk result (λ step. AreSpelled step.outs) }
 {
     match place_of(cores.as_slice(), id) {

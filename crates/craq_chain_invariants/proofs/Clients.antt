@@ -1,34 +1,35 @@
 -- The laws of what clients wait for: versions that were told, and replies of waiting updates.
-use Rattle.std.proofs.Common.{◌≡◌, ℕ, [], length, Some, ap, sym, subst, ◌∙◌, arith}
+use Rattle.std.proofs.Common.{◌≡◌, ℕ, List, [], length, take, Some, ap, sym, subst, ◌∙◌, arith}
 use Rattle.std.specs.List.{AllByRecursion}
-use Rattle.craq_commands.specs.SingleCopy.{said}
+use Rattle.craq_commands.specs.SingleCopy.{State, opening_state, after_entries, said}
 use Rattle.craq_commands.specs.Objects.{version_of}
 use Rattle.craq_model.specs.declared.message.Body.{Body}
 use Rattle.craq_model.specs.declared.message.Body.TheVariants as bodies
 use Rattle.craq_model.specs.declared.message.LinkMessage.{LinkMessage}
-use Rattle.craq_model.specs.declared.waiting.WaitingUpdate.{WaitingUpdate}
 use Rattle.craq_model.specs.Plain.{Plain, id_of}
 use Rattle.craq_runs.specs.Chain.{Chain, message_at, node_at}
 use Rattle.craq_runs.specs.Explain.{Account, opening_account}
-use Rattle.craq_runs.specs.Seen.{answers_from}
+use Rattle.craq_runs.specs.Seen.{Asked, answers_from, ask_with}
 use Rattle.craq_runs.specs.Typed.{IsTypedRunOf}
 use Rattle.craq_runs.specs.declared.run.Run.{Run}
 use Rattle.craq_refinement.proofs.Lists.{all_like}
 use Rattle.craq_updates.proofs.Explained.{chain_of_account}
 use Rattle.craq_updates.proofs.Known.{Known}
+use Rattle.craq_updates.proofs.Replay.{account_asks, as_many as all_updates, state_replayed}
 use Rattle.craq_strong_answers.proofs.Clients.{Clients}
 use Rattle.craq_strong_answers.proofs.Hearing.{sent_with}
 use Rattle.craq_strong_answers.proofs.Served.{Served}
 use Rattle.craq_strong_answers.proofs.Stands.{DueUpdate, ToldVersion, IsTold}
 use Rattle.craq_strong_answers.proofs.Strong.{ClientsRun, clients_run}
-use Rattle.craq_chain_invariants.specs.Kept.{IsNode, WasSent, TellsVersion, HasReply, account_in, chain_after, committed_in, committed_at, history_of, state_after}
+use Rattle.craq_chain_invariants.specs.Kept.{IsNode, WasSent, TellsVersion, HasReply, account_in, chain_after, committed_in, committed_at, history_of}
+use Rattle.craq_chain_invariants.proofs.Replayed.{held_many, replayed}
 use Rattle.craq_chain_invariants.proofs.Worlds.{Stands, stands_by, Node, node}
 
 chain_is : (chain : ℕ) (run : Run) → (account_in chain run).chain ≡ chain_after chain run
 chain_is chain run = chain_of_account run.moves (opening_account chain run.members)
 
 pub told : (chain : ℕ) (run : Run) (number : ℕ) (m : LinkMessage) (ticket version : ℕ) → IsTypedRunOf chain run → WasSent (chain_after chain run) number m → m.body ≡ bodies.VersionIs ticket version
-    → TellsVersion (account_in chain run) m.receiver ticket version (committed_at chain run number)
+    → TellsVersion chain run m.receiver ticket version (committed_at chain run number)
 told chain run number m ticket version i at is =
     let a : Account = account_in chain run in
     let r : ClientsRun a (answers_from 1 [] run.moves) = clients_run chain run i in
@@ -43,15 +44,16 @@ told chain run number m ticket version i at is =
     record {
       ask = t.ask;
       object = t.object;
-      is_ask = t.is_ask;
+      is_ask = ap (λ (asked : List Asked). ask_with asked m.receiver ticket) (sym (account_asks chain run i)) ∙ t.is_ask;
       is = t.is;
       not_before = t.not_before;
-      not_beyond = omega (arith, t.committed, ap length k.committed);
-      version_is = ap (λ l. version_of (state_after sent l).objects t.object.key) k.committed ∙ t.version_is;
+      not_beyond = omega (arith, t.committed, ap length k.committed, all_updates chain run i);
+      version_is = ap (λ (s : State). version_of s.objects t.object.key) (sym (state_replayed chain run sent i))
+          ∙ (ap (λ l. version_of (after_entries opening_state (take sent l)).objects t.object.key) k.committed ∙ t.version_is);
     }
 
 pub replies : (chain : ℕ) (run : Run) (p : Plain) → IsTypedRunOf chain run → IsNode (chain_after chain run) p
-    → AllByRecursion (λ (u : WaitingUpdate). HasReply (account_in chain run) (history_of (committed_in chain run) p) (id_of p) u) p.waiting_updates
+    → AllByRecursion (HasReply chain run p) p.waiting_updates
 replies chain run p i at =
     let a : Account = account_in chain run in
     let r : ClientsRun a (answers_from 1 [] run.moves) = clients_run chain run i in
@@ -62,13 +64,14 @@ replies chain run p i at =
     let n : Node chain run p s = node chain run p s at in
     let there : node_at a.chain.nodes (id_of p) ≡ Some p = ap (λ (c : Chain). node_at c.nodes (id_of p)) (chain_is chain run) ∙ at in
     let history : r.world.history (id_of p) ≡ history_of (committed_in chain run) p = n.history in
-    all_like (DueUpdate a r.world (id_of p)) (λ (u : WaitingUpdate). HasReply a (history_of (committed_in chain run) p) (id_of p) u) p.waiting_updates
+    all_like (DueUpdate a r.world (id_of p)) (HasReply chain run p) p.waiting_updates
     (λ u d. record {
       ask = d.ask;
       update = d.update;
-      is_ask = d.is_ask;
+      is_ask = ap (λ (asked : List Asked). ask_with asked (id_of p) u.ticket) (sym (account_asks chain run i)) ∙ d.is_ask;
       is = d.is;
-      held = omega (arith, d.newest, ap length history);
-      is_said = ap (λ l. said (state_after u.position l) d.update.client d.update.number) (sym history) ∙ d.is_newest;
+      held = omega (arith, d.newest, ap length history, held_many chain run p i at);
+      is_said = ap (λ (s : State). said s d.update.client d.update.number) (sym (replayed chain run p u.position i at))
+          ∙ (ap (λ l. said (after_entries opening_state (take u.position l)) d.update.client d.update.number) (sym history) ∙ d.is_newest);
     })
     (served.updates (id_of p) p there)

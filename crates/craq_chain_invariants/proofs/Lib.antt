@@ -7,3 +7,5 @@ pub mod Above
 pub mod Waiting
 pub mod Sent
 pub mod Blanks
+pub mod Replayed
+pub mod Invariants

@@ -1,9 +1,9 @@
 -- The laws of messages: what was sent stays true.
-use Rattle.std.proofs.Common.{◌≡◌, ℕ, ◌≤◌, true, List, length, Some, refl, ap, sym, subst, ◌∙◌, arith}
+use Rattle.std.proofs.Common.{◌≡◌, ℕ, ◌≤◌, true, List, length, take, Some, refl, ap, sym, subst, ◌∙◌, arith}
 use Rattle.craq_commands.specs.declared.entry.Entry.{Entry}
 use Rattle.craq_commands.specs.Kept.{Kept}
 use Rattle.craq_commands.specs.Objects.{Objects}
-use Rattle.craq_commands.specs.SingleCopy.{opening_state, after_entries}
+use Rattle.craq_commands.specs.SingleCopy.{opening_state, after, after_entries}
 use Rattle.craq_model.specs.declared.message.Body.{Body}
 use Rattle.craq_model.specs.declared.message.Body.TheVariants as bodies
 use Rattle.craq_model.specs.declared.message.LinkMessage.{LinkMessage}
@@ -23,7 +23,8 @@ use Rattle.craq_refinement.proofs.EachLine.{said_as}
 use Rattle.craq_refinement.proofs.Master.{found}
 use Rattle.craq_refinement.proofs.Nodes.{node_id}
 use Rattle.craq_refinement.proofs.Worlds.{history_length}
-use Rattle.craq_chain_invariants.specs.Kept.{WasSent, HasSender, chain_after, committed_in, history_of, state_after}
+use Rattle.craq_updates.proofs.Replay.{as_many, state_replayed}
+use Rattle.craq_chain_invariants.specs.Kept.{WasSent, HasSender, chain_after, committed_in, history_of, updates_committed}
 use Rattle.craq_chain_invariants.proofs.Worlds.{Stands, stands, Node, node}
 use Rattle.craq_chain_invariants.proofs.Blanks.{HeldIn, IsOf, message_held, run_held}
 use Rattle.craq_chain_invariants.proofs.Senders.{SenderHas, all_have}
@@ -48,16 +49,17 @@ copy_of chain run number m position objects kept i at is =
     record { entries = b.0; count = b.1; after = b.2; begins = subst P s.log (safe.copy (said m.epoch m.sender m.receiver (machine.Copy b.0)) b.0 sent refl) }
 
 pub copy_committed : (chain : ℕ) (run : Run) (number : ℕ) (m : LinkMessage) (position : ℕ) (objects : Objects) (kept : List (ℕ × Kept)) → IsTypedRunOf chain run
-    → WasSent (chain_after chain run) number m → m.body ≡ bodies.Copy position objects kept → position ≤ length (committed_in chain run)
+    → WasSent (chain_after chain run) number m → m.body ≡ bodies.Copy position objects kept → position ≤ length (updates_committed chain run)
 copy_committed chain run number m position objects kept i at is =
     let c : CopyOf chain run position objects kept = copy_of chain run number m position objects kept i at is in
-    omega (arith, c.count, prefix_length c.begins)
+    omega (arith, c.count, prefix_length c.begins, as_many chain run i)
 
 pub copy_state : (chain : ℕ) (run : Run) (number : ℕ) (m : LinkMessage) (position : ℕ) (objects : Objects) (kept : List (ℕ × Kept)) → IsTypedRunOf chain run
-    → WasSent (chain_after chain run) number m → m.body ≡ bodies.Copy position objects kept → state_after position (committed_in chain run) ≡ record { objects = objects; kept = kept }
+    → WasSent (chain_after chain run) number m → m.body ≡ bodies.Copy position objects kept → after (take position (updates_committed chain run)) ≡ record { objects = objects; kept = kept }
 copy_state chain run number m position objects kept i at is =
     let c : CopyOf chain run position objects kept = copy_of chain run number m position objects kept i at is in
-    ap (λ k. state_after k (committed_in chain run)) (sym c.count) ∙ (ap (after_entries opening_state) (prefix_is_take c.begins) ∙ c.after)
+    sym (state_replayed chain run position i)
+    ∙ (ap (λ k. after_entries opening_state (take k (committed_in chain run))) (sym c.count) ∙ (ap (after_entries opening_state) (prefix_is_take c.begins) ∙ c.after))
 
 -- ---- senders
 

@@ -1,8 +1,8 @@
--- The words of the laws that every move keeps: a run's chain, its committed entries, and a node's whole history.
-use Rattle.std.specs.Prelude.{◌≡◌, ℕ, ◌-◌, ◌≤◌, List, ◌∷◌, ◌++◌, length, take, slice_index, Some}
+-- The words of a chain's invariants: a run's chain, its committed entries and updates, and a node's whole history.
+use Rattle.std.specs.Prelude.{◌≡◌, ℕ, ◌-◌, ◌≤◌, List, ◌++◌, length, take, slice_index, Some}
 use Rattle.craq_names.specs.declared.name.ObjectId.{ObjectId}
 use Rattle.craq_commands.specs.Objects.{version_of}
-use Rattle.craq_commands.specs.SingleCopy.{State, opening_state, after_entries, said}
+use Rattle.craq_commands.specs.SingleCopy.{after, said}
 use Rattle.craq_commands.specs.declared.command.Update.{Update}
 use Rattle.craq_commands.specs.declared.entry.Entry.{Entry}
 use Rattle.craq_commands.specs.declared.read_mode.ReadMode.TheVariants.{Strong}
@@ -11,10 +11,12 @@ use Rattle.craq_model.specs.declared.ask.Ask.TheVariants as asks
 use Rattle.craq_model.specs.declared.message.LinkMessage.{LinkMessage}
 use Rattle.craq_model.specs.declared.waiting.WaitingUpdate.{WaitingUpdate}
 use Rattle.craq_runs.specs.Chain.{Chain, opening_chain, node_at, message_at}
-use Rattle.craq_runs.specs.Explain.{Account, account_of, opening_account}
+use Rattle.craq_runs.specs.Explain.{Account, account_of, explain, opening_account}
 use Rattle.craq_runs.specs.Runs.{after_moves}
-use Rattle.craq_runs.specs.Seen.{Asked, ask_with}
+use Rattle.craq_runs.specs.Seen.{Asked, ask_with, seen}
+use Rattle.craq_runs.specs.Valid.{committed, committed_before}
 use Rattle.craq_runs.specs.declared.run.Run.{Run}
+use Rattle.craq_updates.specs.Updates.{updates_in}
 
 -- the chain after a run
 abbrev pub chain_after : ℕ → Run → Chain
@@ -28,6 +30,10 @@ account_in chain run = account_of (opening_account chain run.members) run.moves
 abbrev pub committed_in : ℕ → Run → List Entry
 committed_in chain run = (account_in chain run).committed
 
+-- the committed updates after a run: those of its explanation, in order
+abbrev pub updates_committed : ℕ → Run → List Update
+updates_committed chain run = committed (seen run) (explain chain run)
+
 -- how many entries were committed after the step that sent the message of this number
 abbrev pub committed_at : ℕ → Run → ℕ → ℕ
 committed_at chain run number = slice_index (account_in chain run).sent_at (number - 1)
@@ -38,11 +44,11 @@ IsNode c p = node_at c.nodes (id_of p) ≡ Some p
 
 -- a node's whole history: the committed entries that it knows by their state alone, then those that it holds
 abbrev pub history_of : List Entry → Plain → List Entry
-history_of committed p = take p.base committed ++ p.entries
+history_of entries p = take p.base entries ++ p.entries
 
--- the state after the first so many entries
-abbrev pub state_after : ℕ → List Entry → State
-state_after count entries = after_entries opening_state (take count entries)
+-- the updates that the entries of a node's whole history were made of
+abbrev pub updates_held : ℕ → Run → Plain → List Update
+updates_held chain run p = updates_in (seen run) (history_of (committed_in chain run) p)
 
 -- ---- messages
 
@@ -56,23 +62,25 @@ pub record HasSender (c : Chain) (m : LinkMessage) (Holds : Plain → Type 0) : 
   pub at : node_at c.nodes m.sender ≡ Some sender
   pub holds : Holds sender
 
--- a version that a strong read was told: its object's after so many committed entries, no fewer than before the ask
-pub record TellsVersion (a : Account) (receiver ticket version count : ℕ) : Type 0 where
+-- a version that a strong read was told: that of its object on the single copy after so many committed updates, no fewer than
+-- before the ask
+pub record TellsVersion (chain : ℕ) (run : Run) (receiver ticket version count : ℕ) : Type 0 where
   pub ask : Asked
   pub object : ObjectId
-  pub is_ask : ask_with a.asks receiver ticket ≡ Some ask
+  pub is_ask : ask_with (seen run).asks receiver ticket ≡ Some ask
   pub is : ask.ask ≡ asks.Read Strong object
-  pub not_before : slice_index (0 ∷ a.lens) (ask.move - 1) ≤ count
-  pub not_beyond : count ≤ length a.committed
-  pub version_is : version_of (state_after count a.committed).objects object.key ≡ version
+  pub not_before : committed_before (explain chain run) ask.move ≤ count
+  pub not_beyond : count ≤ length (updates_committed chain run)
+  pub version_is : version_of (after (take count (updates_committed chain run))).objects object.key ≡ version
 
 -- ---- what waits
 
--- a waiting update's ask, and its reply: what is said to its client and number after so many entries as it waits for
-pub record HasReply (a : Account) (history : List Entry) (id : ℕ) (u : WaitingUpdate) : Type 0 where
+-- a waiting update's ask, and its reply: what the single copy says to its client and number after so many updates of the node's
+-- history as it waits for
+pub record HasReply (chain : ℕ) (run : Run) (p : Plain) (u : WaitingUpdate) : Type 0 where
   pub ask : Asked
   pub update : Update
-  pub is_ask : ask_with a.asks id u.ticket ≡ Some ask
+  pub is_ask : ask_with (seen run).asks (id_of p) u.ticket ≡ Some ask
   pub is : ask.ask ≡ asks.Update update
-  pub held : u.position ≤ length history
-  pub is_said : said (state_after u.position history) update.client update.number ≡ Some u.reply
+  pub held : u.position ≤ length (updates_held chain run p)
+  pub is_said : said (after (take u.position (updates_held chain run p))) update.client update.number ≡ Some u.reply

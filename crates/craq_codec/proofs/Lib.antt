@@ -6,3 +6,4 @@ pub mod Free
 pub mod Loop
 pub mod Tagged
 pub mod Tests
+pub mod Typed

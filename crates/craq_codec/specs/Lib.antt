@@ -7,3 +7,4 @@ pub mod EntrySpelling
 pub mod CommandReading
 pub mod CommandSpelling
 pub mod Tests
+pub mod Typed

@@ -82,6 +82,11 @@ objects_named (Increment object by) = object ∷ []
 objects_named (Decrement object by) = object ∷ []
 objects_named (Mini t) = map (λ c. c.0) t.compares ++ t.reads ++ map (λ w. w.0) t.writes
 
+-- the chain of the first object, 0 where there is none
+abbrev pub chain_of_first : List ObjectId → ℕ
+chain_of_first [] = 0
+chain_of_first (object ∷ objects) = object.chain
+
 -- each object is of the chain
 unfoldable pub all_of_chain : ℕ → List ObjectId → Bool
 all_of_chain chain objects = list_all (λ o. o.chain == chain) objects

@@ -1,5 +1,8 @@
+ghost use Rattle.std.specs.Prelude.{◌≡◌};
+ghost use Rattle.craq_commands.specs.Evaluation.{chain_of_first, objects_named};
+
 use crate::Mini;
-use craq_names::{ClientId, Copied, ObjectId, RequestNo, Value, Version};
+use craq_names::{ChainId, ClientId, Copied, ObjectId, RequestNo, Value, Version};
 use std::alloc::{AllocError, Global};
 
 /// What an update does to the objects of one chain.
@@ -38,6 +41,27 @@ pub enum Command {
     },
     /// A mini-transaction.
     Mini(Mini),
+}
+
+impl Command {
+    /// The chain that the command is for: that of its first object.
+    pub fn chain(&self) -> ChainId
+        ensures { result ≡ chain_of_first (objects_named self.now) }
+    {
+        match self {
+            Command::Put { object, value: _ } => object.chain,
+            Command::TestAndSet {
+                object,
+                expect: _,
+                value: _,
+            } => object.chain,
+            Command::Append { object, value: _ } => object.chain,
+            Command::Prepend { object, value: _ } => object.chain,
+            Command::Increment { object, by: _ } => object.chain,
+            Command::Decrement { object, by: _ } => object.chain,
+            Command::Mini(mini) => mini.chain(),
+        }
+    }
 }
 
 impl Copied for Command {

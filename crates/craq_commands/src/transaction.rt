@@ -2,9 +2,11 @@ ghost use Rattle.std.specs.Prelude.{◌≡◌, ◌≤◌, length, map};
 ghost use Rattle.std.specs.List.{list_any};
 ghost use Rattle.craq_names.specs.Limits.{item_limit};
 ghost use Rattle.craq_names.specs.declared.name.ObjectId.{ObjectId};
+ghost use Rattle.craq_commands.specs.Evaluation.{chain_of_first, objects_named};
 ghost use Rattle.craq_commands.specs.Transaction.{IsWithinLimits, mini_of, same_object, stands_twice, has_doubles};
 
-use craq_names::{Copied, Items, ObjectId, Refusal, Value, Version};
+use crate::Command;
+use craq_names::{ChainId, Copied, Items, ObjectId, Refusal, Value, Version};
 use std::alloc::{AllocError, Global};
 use std::marker::Model;
 
@@ -130,6 +132,22 @@ impl Mini {
         ensures { IsWithinLimits self.now }
     {
         let _ = &self.compares;
+    }
+
+    /// The chain of the first object: of the compares, else the reads, else the writes.
+    pub fn chain(&self) -> ChainId
+        ensures { result ≡ chain_of_first (objects_named (Command.Mini self.now)) }
+    {
+        if let Some(compare) = self.compares().first() {
+            return compare.0.chain;
+        }
+        if let Some(object) = self.reads().first() {
+            return object.chain;
+        }
+        match self.writes().first() {
+            Some(write) => write.0.chain,
+            None => ChainId::new(0),
+        }
     }
 
     /// The objects whose versions are compared, each with the version that it must have, in order.

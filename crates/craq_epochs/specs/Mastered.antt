@@ -1,5 +1,5 @@
 -- The master of a chain: the chain's membership, and the next one.
-use Rattle.std.specs.Prelude.{◌≡◌, ◌⊎◌, ℕ, ◌+◌, ◌≤◌, ◌==◌, nat_le, true, not, ◌&&◌, ◌||◌, if◌then◌else◌, List, [], ◌∷◌, ◌++◌, length, Result, Ok, Err, IsOk}
+use Rattle.std.specs.Prelude.{◌≡◌, ℕ, ◌+◌, ◌≤◌, ◌==◌, nat_le, true, not, ◌&&◌, ◌||◌, if◌then◌else◌, List, [], ◌∷◌, ◌++◌, length, Result, Ok, Err}
 use Rattle.std.specs.List.{AllByRecursion}
 use Rattle.craq_names.specs.Limits.{greatest, member_limit}
 use Rattle.craq_names.specs.declared.name.NodeName.{NodeName}
@@ -32,10 +32,6 @@ joined m id =
     else if nat_le member_limit (length m.members) then Err refusals.ChainFull
     else if m.epoch == greatest then Err refusals.Exhausted
     else Ok (record m { epoch = m.epoch + 1; members = m.members ++ id ∷ []; used = m.used ++ id ∷ [] })
-
--- a refusal is the wanted one, or memory ran out in what was to succeed
-abbrev pub Refuses : Refusal → Result Mastered Refusal → Type 0
-Refuses e wanted = ((e ≡ refusals.Memory) × IsOk wanted) ⊎ (wanted ≡ Err e)
 
 -- what a master keeps: a membership, in an epoch from 1, of ids that were all used
 pub record IsMastered (m : Mastered) : Type 0 where

@@ -1,6 +1,7 @@
 ghost use Rattle.std.specs.Prelude.{◌≡◌, ◌⊎◌, ◌↔◌, Ok, Err, IfOk, IfErr, OnOk, OnErr};
+ghost use Rattle.craq_names.specs.Order.{Refuses};
 ghost use Rattle.craq_model.specs.Members.{IsMembership};
-ghost use Rattle.craq_epochs.specs.Mastered.{IsMastered, opened, removed, joined, Refuses};
+ghost use Rattle.craq_epochs.specs.Mastered.{IsMastered, opened, removed, joined};
 
 use crate::membership::{MEMBER_LIMIT, all_but, is_among, is_membership};
 use crate::{Config, StopReceipt};

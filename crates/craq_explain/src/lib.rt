@@ -11,4 +11,4 @@ mod notes;
 mod replay;
 mod tables;
 
-pub use replay::explain_run;
+pub use replay::explain_run_of;

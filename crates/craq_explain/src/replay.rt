@@ -108,7 +108,7 @@ fn replay_all(alloc: Global, chain: ChainId, run: &Run) -> Result<Notes, AllocEr
 /// The explanation of a run of the chain of this id (which the run does not hold), by the definitions: the
 /// asks of the committed updates, how many were committed after each move, and where each strong answer
 /// stands. Every run has one, whoever made it. It fails for want of memory alone.
-pub fn explain_run(alloc: Global, chain: ChainId, run: &Run) -> Result<Explanation, AllocError>
+pub fn explain_run_of(alloc: Global, chain: ChainId, run: &Run) -> Result<Explanation, AllocError>
     requires { IsRunOf chain run.now }
     ensures { IfOk result (λ e. e ≡ explain chain run.now) }
 {

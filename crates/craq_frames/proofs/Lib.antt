@@ -2,4 +2,5 @@ pub mod Cuts
 pub mod Frames
 pub mod Payloads
 pub mod Tests
+pub mod Typed
 pub mod Utf8

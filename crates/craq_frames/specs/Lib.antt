@@ -2,3 +2,4 @@ pub mod Frame
 pub mod Payload
 pub mod Reading
 pub mod Tests
+pub mod Typed

@@ -49,7 +49,7 @@ fn read_answer(alloc: Global, bytes: &[u8]) -> Result<ClientReply, Unread>
 }
 
 impl ClientMessage {
-    /// Whether the message can be spelled: each one can.
+    /// Whether the message can be spelled: each one can (`asks_with_spellings`).
     pub fn spelled(&self) -> bool
         ensures { result ≡ true }
     {
@@ -85,9 +85,9 @@ impl ClientMessage {
 }
 
 impl ClientReply {
-    /// Whether the reply can be spelled: a reply to an update keeps its rules, an absent object
-    /// has no bytes, a refusal names no node 0 as the head, and a text has fewer than 2^32 bytes
-    /// (this project's profile).
+    /// Whether the reply can be spelled, that is, whether bytes exist that spell it
+    /// (`replies_with_spellings`): a reply to an update keeps its rules, an absent object has no bytes, a
+    /// refusal names no node 0 as the head, and a text has fewer than 2^32 bytes (this project's profile).
     pub fn spelled(&self) -> bool
         ensures { IsTrue result ↔ IsAnswer self.now }
     {

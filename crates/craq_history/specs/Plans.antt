@@ -1,8 +1,8 @@
 -- A change and a step that are worked out before they are made.
-use Rattle.std.specs.Prelude.{◌≡◌, ◌<◌, ◌⊎◌, ⊤, ℕ, true, [], IsSome, Result, Ok, Err}
+use Rattle.std.specs.Prelude.{◌≡◌, ◌<◌, ⊤, ℕ, true, [], IsSome, Result, Ok, Err}
 use Rattle.craq_names.specs.Limits.{greatest}
+use Rattle.craq_names.specs.Order.{Refuses}
 use Rattle.craq_names.specs.declared.refusal.Refusal.{Refusal}
-use Rattle.craq_names.specs.declared.refusal.Refusal.TheVariants.{Memory}
 use Rattle.craq_model.specs.declared.step.Step.{Step}
 use Rattle.craq_model.specs.Plain.{Plain, length_of}
 use Rattle.craq_model.specs.Settle.{Turn}
@@ -29,7 +29,11 @@ pub record IsPlanOf (p : Plain) (r : Change × Step) (turn : Turn) : Type 0 wher
   pub can : CanMake p r.0
   pub still : IsSome r.1.ignored → (r.0 ≡ no_change) × (r.1.outs ≡ [])
 
--- the wanted turn, or the wanted refusal, or memory ran out
+-- a change that can be made, and a step, which are those of the wanted turn
+abbrev pub IsPlanned : Plain → Change × Step → Result Turn Refusal → Type 0
+IsPlanned p r wanted = (wanted ≡ Ok (changed p r.0, r.1)) × CanMake p r.0
+
+-- the wanted turn, or the wanted refusal; or memory ran out where a turn is wanted
 abbrev pub Plans : Plain → Result (Change × Step) Refusal → Result Turn Refusal → Type 0
-Plans p (Ok r) wanted = (wanted ≡ Ok (changed p r.0, r.1)) × CanMake p r.0
-Plans p (Err e) wanted = (e ≡ Memory) ⊎ (wanted ≡ Err e)
+Plans p (Ok r) wanted = IsPlanned p r wanted
+Plans p (Err e) wanted = Refuses e wanted

@@ -64,7 +64,7 @@ pub fn entry_writes()
     ensures { (m : Objects) (ws : List (List ℕ × List ℕ)) → IsDistinct same_bytes (map (λ w. w.0) ws) → with_writes m (map (versioned_write m) ws) ≡ all_written m ws }
 {}
 
-/// Refusals come in their order.
+/// Refusals come in their order, up to the one for want of a ticket.
 pub fn refusals_in_order()
     ensures stopped { (p : Plain) (e : Event) → p.running ≡ false → node_step p e ≡ Err Refusal.Stopped }
     ensures not_ready { (p : Plain) (a : Ask) → p.running ≡ true → p.ready ≡ false → node_step p (Event.Ask a) ≡ Err Refusal.NotReady }

@@ -1,6 +1,10 @@
+ghost use Rattle.std.specs.Prelude.{◌≡◌};
+ghost use Rattle.craq_commands.specs.Evaluation.{chain_of_first};
+ghost use Rattle.craq_model.specs.Asks.{asked_objects};
+
 use crate::LinkMessage;
 use craq_commands::{ReadMode, Reply, Update};
-use craq_names::{Copied, ObjectId, Value, Version};
+use craq_names::{ChainId, Copied, ObjectId, Value, Version};
 use std::alloc::{AllocError, Global};
 
 /// What a client asks of a node.
@@ -10,6 +14,18 @@ pub enum Ask {
     Update(Update),
     /// A read of an object, asked of any node.
     Read { mode: ReadMode, object: ObjectId },
+}
+
+impl Ask {
+    /// The chain that is asked: that of the first object.
+    pub fn chain(&self) -> ChainId
+        ensures { result ≡ chain_of_first (asked_objects self.now) }
+    {
+        match self {
+            Ask::Update(update) => update.command.chain(),
+            Ask::Read { mode: _, object } => object.chain,
+        }
+    }
 }
 
 impl Copied for Ask {

@@ -64,6 +64,24 @@ module _ {K V X : Type 0} (R : K → K → Ordering) (f : V → Option X) where
         | Some x ↦ both _ _ (below_filled e.0 es (first _ _ h)) rest
       ]
 
+  all_filled : (P : K → Type 0) (es : List (K × V)) → AllByRecursion P (keys_of es) → AllByRecursion P (keys_of (filled f es))
+  all_filled P [] h = tt
+  all_filled P (e ∷ es) h =
+      elim (f e.1) as (λ x. AllByRecursion P (keys_of (with_filled e.0 x (filled f es)))) [
+        | None ↦ all_filled P es h.1
+        | Some x ↦ (h.0, all_filled P es h.1)
+      ]
+
+  -- the keys of what stands in the places rise
+  pub keys_filled : (es : List (K × V)) → IsStrictlySortedBy R (keys_of es) → IsStrictlySortedBy R (keys_of (filled f es))
+  unfolding IsStrictlySortedBy
+  keys_filled [] h = tt
+  keys_filled (e ∷ es) h =
+      elim (f e.1) as (λ x. IsStrictlySortedBy R (keys_of (with_filled e.0 x (filled f es)))) [
+        | None ↦ keys_filled es h.1
+        | Some x ↦ (all_filled (λ y. R e.0 y ≡ Less) es h.0, keys_filled es h.1)
+      ]
+
   below_all_of : (k : K) (es : List (K × V)) → AllByRecursion (λ y. R k y ≡ Less) (keys_of es) → T (below_all R k es)
   below_all_of k [] h = tt
   below_all_of k (e ∷ es) h = both _ _ (subst (λ r. T (is_lt r)) (sym h.0) tt) (below_all_of k es h.1)

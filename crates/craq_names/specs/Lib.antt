@@ -2,3 +2,4 @@ pub mod Limits
 pub mod Maps
 pub mod Places
 pub mod Refused
+pub mod Order

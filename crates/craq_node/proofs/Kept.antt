@@ -6,18 +6,18 @@ use Rattle.craq_names.specs.declared.refusal.Refusal.{Refusal}
 use Rattle.craq_model.specs.declared.ask.Event.{Event}
 use Rattle.craq_model.specs.declared.config.Config.{Config}
 use Rattle.craq_model.specs.declared.step.Step.{Step}
-use Rattle.craq_model.specs.Node.{event_turn, within_counts}
+use Rattle.craq_model.specs.Node.{event_turn}
 use Rattle.craq_model.specs.Plain.{Plain, opening_member}
 use Rattle.craq_node_invariant.specs.Sound.{AreSpelled, IsSound, IsSpelledEvent}
 use Rattle.craq_node_invariant.proofs.Openings.{member_is_sound, joined_is_sound}
 use Rattle.craq_node_invariant.proofs.Steps.{turn_is_sound}
 use Rattle.craq_node.specs.Represented.{Gives, IsFirstWith}
 
-pub sound_after : (p q : Plain) (e : Event) (r : Result Step Refusal) → Gives p q r (within_counts (event_turn p e)) → IsSound p → IsSpelledEvent e → IsSound q
+pub sound_after : (p q : Plain) (e : Event) (r : Result Step Refusal) → Gives p q r (event_turn p e) → IsSound p → IsSpelledEvent e → IsSound q
 sound_after p q e (Ok s) given h a = (turn_is_sound p q e s h a given).0
 sound_after p q e (Err refusal) given h a = subst IsSound (sym given.1) h
 
-pub said_spelled : (p q : Plain) (e : Event) (r : Result Step Refusal) → Gives p q r (within_counts (event_turn p e)) → IsSound p → IsSpelledEvent e → IfOk r (λ s. AreSpelled s.outs)
+pub said_spelled : (p q : Plain) (e : Event) (r : Result Step Refusal) → Gives p q r (event_turn p e) → IsSound p → IsSpelledEvent e → IfOk r (λ s. AreSpelled s.outs)
 said_spelled p q e (Ok s) given h a = (turn_is_sound p q e s h a given).1
 said_spelled p q e (Err refusal) given h a = tt
 

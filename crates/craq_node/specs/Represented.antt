@@ -1,15 +1,16 @@
 -- The plain nodes that a core stands for, and what its step answers.
-use Rattle.std.specs.Prelude.{◌≡◌, ◌≤◌, ◌⊎◌, ⊤, true, Bool, IsSome, Option, None, Some, Result, Ok, Err}
+use Rattle.std.specs.Prelude.{◌≡◌, ◌≤◌, ⊤, true, Bool, if◌then◌else◌, IsSome, IsOk, Option, None, Some, Result, Ok, Err}
+use Rattle.craq_names.specs.Order.{RefusesWhere}
 use Rattle.craq_names.specs.declared.name.NodeName.{NodeName}
 use Rattle.craq_names.specs.declared.refusal.Refusal.{Refusal}
-use Rattle.craq_names.specs.declared.refusal.Refusal.TheVariants.{Memory}
+use Rattle.craq_names.specs.declared.refusal.Refusal.TheVariants.{Stopped}
 use Rattle.craq_model.specs.declared.ask.Event.{Event}
 use Rattle.craq_model.specs.declared.ask.Event.TheVariants.{Ask, Deliver, Tick, Stop}
 use Rattle.craq_model.specs.declared.config.Config.{Config}
 use Rattle.craq_model.specs.declared.step.Step.{Step}
 use Rattle.craq_model.specs.Deliveries.{delivery_turn}
 use Rattle.craq_model.specs.Members.{IsMembership, is_member}
-use Rattle.craq_model.specs.Node.{is_for}
+use Rattle.craq_model.specs.Node.{event_turn, is_for, node_step, within_counts}
 use Rattle.craq_model.specs.Plain.{Plain, opening_joined, opening_member}
 use Rattle.craq_model.specs.Settle.{Turn}
 use Rattle.craq_model.specs.Spelled.{IsSpelled}
@@ -51,13 +52,18 @@ IsFree p (Ask ask) = ⊥
 IsFree p Tick = ⊥
 IsFree p Stop = p.running ≡ true
 
--- the core was seen as one plain node and is seen as another: it took the wanted step, or it was refused
--- as wanted or for want of memory, and is as it was
-abbrev pub Gives : Plain → Plain → Result Step Refusal → Result Turn Refusal → Type 0
-Gives old new (Ok step) wanted = wanted ≡ Ok (new, step)
-Gives old new (Err e) wanted = ((e ≡ Memory) ⊎ (wanted ≡ Err e)) × (new ≡ old)
+-- a step before its counts are looked at: of its sends, and of the items in a message
+abbrev pub uncounted_step : Plain → Event → Result Turn Refusal
+uncounted_step p e = if p.running then event_turn p e else Err Stopped
 
--- the same of a core that now stands for the plain nodes of `now`
-abbrev pub Answers : (Plain → Type 0) → Plain → Result Step Refusal → Result Turn Refusal → Type 0
-Answers now old (Ok step) wanted = (new : Plain) × (wanted ≡ Ok (new, step)) × now new
-Answers now old (Err e) wanted = ((e ≡ Memory) ⊎ (wanted ≡ Err e)) × now old
+-- a node was seen as one plain node and is seen as another: it took this turn, within its counts; or it is as it
+-- was, and was refused as the turn was, or for its counts, or for want of memory where there was a turn
+abbrev pub Gives : Plain → Plain → Result Step Refusal → Result Turn Refusal → Type 0
+Gives old new (Ok step) turn = within_counts turn ≡ Ok (new, step)
+Gives old new (Err e) turn = RefusesWhere (IsOk turn) e (within_counts turn) × (new ≡ old)
+
+-- a core that stood for a plain node, and stands for those of `now`, took its step at an event; or it was refused as
+-- the node is, or for want of memory, where no refusal but that of counts is wanted
+abbrev pub Answers : (Plain → Type 0) → Plain → Event → Result Step Refusal → Type 0
+Answers now old event (Ok step) = (new : Plain) × (node_step old event ≡ Ok (new, step)) × now new
+Answers now old event (Err e) = RefusesWhere (IsOk (uncounted_step old event)) e (node_step old event) × now old

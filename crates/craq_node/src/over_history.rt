@@ -1,13 +1,13 @@
 ghost use Rattle.std.specs.Prelude.{◌≡◌, ◌≢◌, true, [], IfOk, IsOk, IsSome, Ok};
 ghost use Rattle.craq_model.specs.Deliveries.{delivery_turn};
 ghost use Rattle.craq_model.specs.Plain.{Plain, opening_member};
-ghost use Rattle.craq_model.specs.Node.{event_turn, is_for, within_counts, node_step};
+ghost use Rattle.craq_model.specs.Node.{event_turn, is_for};
 ghost use Rattle.craq_node_invariant.specs.Sound.{AreSpelled, IsSound, IsSpelledAsk, IsSpelledEvent};
 ghost use Rattle.craq_node_invariant.proofs.Props.{IsSound-prop};
 ghost use Rattle.craq_history.specs.Change.{changed, no_change};
 ghost use Rattle.craq_history.specs.Nodes.{plain_of};
 ghost use Rattle.craq_history.specs.Plans.{CanMake};
-ghost use Rattle.craq_node.specs.Represented.{CanArrive, Gives, IsFree, plain_at};
+ghost use Rattle.craq_node.specs.Represented.{Answers, CanArrive, Gives, IsFree, plain_at};
 
 use crate::Core;
 use crate::fitting::are_fitting;
@@ -46,7 +46,7 @@ fn keep_limits(event: &Event)
 #[tactic(auto, using(crate::proofs::Stops::nothing_fits))]
 fn made<H: History>(node: &mut Node<H>, change: Change, step: Step) -> Result<Step, Refusal>
     requires { CanMake (plain_of H.past node.old) change }
-    ensures gives { Gives (plain_of H.past node.old) (plain_of H.past node.new) result (within_counts (Ok (changed (plain_of H.past node.old) change, step))) }
+    ensures gives { Gives (plain_of H.past node.old) (plain_of H.past node.new) result (Ok (changed (plain_of H.past node.old) change, step)) }
     ensures name { (plain_of H.past node.new).name ≡ (plain_of H.past node.old).name }
     ensures free { change ≡ no_change → step.outs ≡ [] → IsOk result }
 {
@@ -64,7 +64,7 @@ fn hear<H: History>(
     message: &LinkMessage,
 ) -> Result<Step, Refusal>
     requires { IsSound (plain_of H.past node.old) }
-    ensures gives { Gives (plain_of H.past node.old) (plain_of H.past node.new) result (within_counts (event_turn (plain_of H.past node.old) (Event.Deliver message.now))) }
+    ensures gives { Gives (plain_of H.past node.old) (plain_of H.past node.new) result (event_turn (plain_of H.past node.old) (Event.Deliver message.now)) }
     ensures name { (plain_of H.past node.new).name ≡ (plain_of H.past node.old).name }
     ensures free { is_for (plain_of H.past node.old) message.now ≡ true → IsSome (delivery_turn (plain_of H.past node.old) message.now).1.ignored → IsOk result }
 {
@@ -80,7 +80,7 @@ fn hear<H: History>(
 fn meet<H: History>(alloc: Global, node: &mut Node<H>, event: &Event) -> Result<Step, Refusal>
     requires sound { IsSound (plain_of H.past node.old) }
     requires goes_on { event.now ≢ Event.Stop }
-    ensures gives { Gives (plain_of H.past node.old) (plain_of H.past node.new) result (within_counts (event_turn (plain_of H.past node.old) event.now)) }
+    ensures gives { Gives (plain_of H.past node.old) (plain_of H.past node.new) result (event_turn (plain_of H.past node.old) event.now) }
     ensures name { (plain_of H.past node.new).name ≡ (plain_of H.past node.old).name }
     ensures free { IsFree (plain_of H.past node.old) event.now → IsOk result }
 {
@@ -105,7 +105,7 @@ fn happen<H: History>(alloc: Global, node: &mut Node<H>, event: &Event) -> Resul
     requires sound { IsSound (plain_of H.past node.old) }
     requires arrives { CanArrive event.now }
     requires goes_on { event.now ≢ Event.Stop }
-    ensures gives { Gives (plain_of H.past node.old) (plain_of H.past node.new) result (within_counts (event_turn (plain_of H.past node.old) event.now)) }
+    ensures gives { Gives (plain_of H.past node.old) (plain_of H.past node.new) result (event_turn (plain_of H.past node.old) event.now) }
     ensures free { IsFree (plain_of H.past node.old) event.now → IsOk result }
     ensures sound { IsSound (plain_of H.past node.new) }
     ensures spelled { IfOk result (λ step. AreSpelled step.outs) }
@@ -155,7 +155,7 @@ impl<H: History> NodeCore<H> {
     #[tactic(auto, unfolding(craq_model::specs::Node::node_step))]
     fn take(&mut self, alloc: Global, event: &Event) -> Result<Step, Refusal>
         requires { CanArrive event.now }
-        ensures gives { Gives (plain_at H.past self.old.node self.old.switch.running) (plain_at H.past self.new.node self.new.switch.running) result (node_step (plain_at H.past self.old.node self.old.switch.running) event.now) }
+        ensures gives { Answers (λ p. p ≡ plain_at H.past self.new.node self.new.switch.running) (plain_at H.past self.old.node self.old.switch.running) event.now result }
         ensures spelled { IfOk result (λ step. AreSpelled step.outs) }
         ensures free { IsFree (plain_at H.past self.old.node self.old.switch.running) event.now → IsOk result }
     {

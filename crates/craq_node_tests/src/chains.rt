@@ -3,12 +3,13 @@
 use crate::moves::{members, moves_of};
 use craq_chain::ChainCore;
 use craq_check::check;
-use craq_explain::explain_run;
+use craq_explain::explain_run_of;
 use craq_model::{Answer, Out, Step};
 use craq_names::{ChainId, Items, NodeId, Refusal, Seq, Ticket, Value, Version};
 use craq_node::NodeCore;
 use craq_plain::PlainHistory;
 use craq_runs::{Explanation, Place, Run, Taken};
+use craq_world::explain_run;
 use std::alloc::{AllocError, Global};
 
 type Chain = ChainCore<NodeCore<PlainHistory>>;
@@ -40,7 +41,7 @@ deliver 2
 ";
 
 /// What is told of chains.
-pub static CASES: [Case; 20] = [
+pub static CASES: [Case; 21] = [
     Case {
         fact: "a put and clean reads",
         members: &[1, 2, 3],
@@ -63,6 +64,17 @@ read 3 strong k
         members: &[1, 2],
         script: "read 1 eventual k
 read 2 bounded:3 k
+",
+        asks: &[],
+        lens: &[0, 0],
+        places: &[],
+        holds: true,
+    },
+    Case {
+        fact: "nothing is asked",
+        members: &[1, 2],
+        script: "tick 1
+tick 0
 ",
         asks: &[],
         lens: &[0, 0],
@@ -339,10 +351,12 @@ fn are_same(one: &Explanation, other: &Explanation) -> bool {
         && one.places.as_slice() == other.places.as_slice()
 }
 
-/// Whether an explanation is the one that the definitions choose.
+/// Whether an explanation is the one that the definitions choose, for whoever knows the run's chain and for whoever does
+/// not.
 fn is_chosen(alloc: Global, chain: &Chain, given: &Explanation) -> Result<bool, AllocError> {
-    let chosen = explain_run(alloc, chain.chain(), chain.run())?;
-    Ok(are_same(given, &chosen))
+    let chosen = explain_run_of(alloc, chain.chain(), chain.run())?;
+    let anywhere = explain_run(alloc, chain.run())?;
+    Ok(are_same(given, &chosen) && are_same(given, &anywhere))
 }
 
 /// Whether an explanation holds of a chain exactly where it should, and is the chosen one there.

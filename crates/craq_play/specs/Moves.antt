@@ -1,8 +1,8 @@
 -- Which move a line of a script asks for.
-use Rattle.std.specs.Prelude.{ℕ, ◌==◌, List, [], ◌∷◌, Option, Some, None, Result, Ok, Err, if◌then◌else◌}
-use Rattle.craq_names.specs.declared.name.ObjectId.{ObjectId}
+use Rattle.std.specs.Prelude.{ℕ, ◌==◌, Option, Some, None, Result, Ok, Err, if◌then◌else◌}
 use Rattle.craq_names.specs.declared.refusal.Refusal.{Refusal}
 use Rattle.craq_names.specs.declared.refusal.Refusal.TheVariants as refusals
+use Rattle.craq_commands.specs.Evaluation.{chain_of_first}
 use Rattle.craq_model.specs.declared.ask.Ask.{Ask}
 use Rattle.craq_model.specs.Asks.{asked_objects}
 use Rattle.craq_runs.specs.declared.run.Move.{Move}
@@ -10,11 +10,6 @@ use Rattle.craq_runs.specs.declared.run.Move.TheVariants as moves
 use Rattle.craq_script.specs.declared.line.Line.{Line}
 use Rattle.craq_script.specs.declared.line.Line.TheVariants as lines
 use Rattle.craq_play.specs.Asked.{update_of, read_of}
-
--- the chain that is asked: that of the first object
-abbrev pub chain_of_first : List ObjectId → ℕ
-chain_of_first [] = 0
-chain_of_first (object ∷ objects) = object.chain
 
 -- an ask of a node; there is chain 0 alone
 abbrev pub asked_move : ℕ → Result Ask Refusal → Result (Option Move) Refusal

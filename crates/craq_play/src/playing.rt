@@ -20,7 +20,7 @@ use crate::explanation::explanation_text;
 use crate::moving::move_of;
 use crate::printing::{print_refusal, print_step};
 use craq_chain::ChainCore;
-use craq_explain::explain_run;
+use craq_explain::explain_run_of;
 use craq_names::{ChainId, NodeId, Refusal};
 use craq_node::Core;
 use craq_runs::{Move, Run};
@@ -88,7 +88,7 @@ fn print_explanation<C: Core>(
 ) -> Result<(), AllocError>
     ensures { OnOk result (string_bytes text.new ≡ string_bytes text.old ++ explanation_line (explain chain.now.chain chain.now.run)) }
 {
-    let explanation = explain_run(alloc, chain.chain(), chain.run())?;
+    let explanation = explain_run_of(alloc, chain.chain(), chain.run())?;
     let line = explanation_text(alloc, &explanation)?;
     text.push_str(line.as_str())?;
     text.push_str("\n")

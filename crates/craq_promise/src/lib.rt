@@ -2,7 +2,7 @@
 //! Laws: functions without bodies, whose contracts are the theorems.
 //!
 //! Whatever is asked, delivered, lost, repeated, stopped, removed or joined, in any order, each chain has one growing list of
-//! updates, with no request number twice, such that every strong answer is what a single copy says after a beginning of that
+//! updates, with no request number twice, such that every strong answer is what a single copy says after a prefix of that
 //! list that was the whole list at some moment from its ask to its answer, and every eventual answer is a version written by
 //! updates that were asked.
 #![tactic(auto)]
@@ -19,7 +19,7 @@ ghost use Rattle.craq_runs.specs.declared.run.Taken.{Taken};
 
 /// Each eventual answer is its object after some line: updates that were asked by then, no request twice, that begin with
 /// what was committed. It is no older than what the node told of the object before. A bounded answer is its object after a
-/// beginning of such a line, at most its bound above the committed version, and no older than what the node told of the
+/// prefix of such a line, at most its bound above the committed version, and no older than what the node told of the
 /// object before as written, or by a read of the same bound or less.
 pub fn looks_hold()
     ensures { (chain : ℕ) (run : Run) → IsTypedRunOf chain run → LooksHold (seen run) (explain chain run) }
@@ -39,7 +39,7 @@ pub fn every_run_of_a_fixed_membership_is_explained()
     ensures { (chain : ℕ) (run : Run) → IsTypedRunOf chain run → HasFixedMembership run.moves → IsValid run (explain chain run) }
 {}
 
-/// The explanation before a move is, list by list, a beginning of the one after it; both are valid. So what was explained is
+/// The explanation before a move is, list by list, a prefix of the one after it; both are valid. So what was explained is
 /// never explained in another way.
 pub fn explanations_are_never_taken_back()
     ensures grows { (chain : ℕ) (members : List ℕ) (moves : List Taken) (next : Taken) → IsTypedRunOf chain (record { members = members; moves = moves ++ next ∷ [] })

@@ -1,4 +1,5 @@
-ghost use Rattle.std.specs.Prelude.{◌≡◌, ℕ, [], Some, None, IsTrue, IsOk, OnOk, OnErr};
+ghost use Rattle.std.specs.Prelude.{◌≡◌, ℕ, [], Some, None, IsTrue, IsOk, OnOk, OnErr, map};
+ghost use Rattle.std.specs.List.Sorted.{IsStrictlySortedBy};
 ghost use Rattle.std.specs.Ordering.{nat_cmp};
 ghost use Rattle.std.specs.BTreeMap.{get, Updates, IsUnchanged, IsOrdered};
 ghost use Rattle.std.specs.Option.{option_copied};
@@ -95,7 +96,8 @@ impl ReplyTable {
 
     /// What is kept for each client, by rising client. It takes no memory.
     pub fn items(&self) -> KeptReplies<'_>
-        ensures { result ≡ self.now.kept }
+        ensures kept { result ≡ self.now.kept }
+        ensures rising { IsStrictlySortedBy nat_cmp (map (λ k. k.0) result) }
     {
         KeptReplies::of(self.places.iter())
     }

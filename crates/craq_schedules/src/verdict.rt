@@ -4,7 +4,7 @@ ghost use Rattle.craq_schedules.specs.Verdicts.{verdict_text};
 
 use craq_chain::ChainCore;
 use craq_check::check;
-use craq_explain::explain_run;
+use craq_explain::explain_run_of;
 use craq_node::Core;
 use craq_promise::every_run_is_explained;
 use std::alloc::{AllocError, Global};
@@ -26,7 +26,7 @@ pub(crate) fn verdict_of<C: Core>(
     ensures valid { IfOk result (λ v. v.is_valid ≡ true) }
 {
     every_run_is_explained();
-    let explanation = explain_run(alloc, chain.chain(), chain.run())?;
+    let explanation = explain_run_of(alloc, chain.chain(), chain.run())?;
     Ok(Verdict {
         committed: explanation.asks.as_slice().len() as u64,
         is_valid: check(alloc, chain.run(), &explanation)?,

@@ -17,7 +17,7 @@ pub fn strong_answers_have_places()
 
 /// Each reply to an update, and each strong read, has its ask, not after it, and is what one copy of the objects says after
 /// so many committed updates as its place tells: no fewer than were committed before the ask, and no more than were after
-/// the answer. No ask is answered twice.
+/// the answer. No update and no strong read is answered twice.
 pub fn strong_answers_hold()
     ensures { (chain : ℕ) (run : Run) → IsTypedRunOf chain run → StrongHold (seen run) (explain chain run) }
 {}

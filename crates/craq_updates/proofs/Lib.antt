@@ -16,3 +16,4 @@ pub mod NewAsks
 pub mod Accounts
 pub mod Runs
 pub mod Explained
+pub mod Replay

@@ -45,7 +45,7 @@ pub record HasGenuineHistory (asked : List Asked) (p : Plain) : Type 0 where
 
 -- ---- explanations
 
--- each list is a beginning of the other's
+-- each list of the first is a prefix of the same list of the second
 pub record IsBeginning (e f : Explanation) : Type 0 where
   pub asks : IsPrefix e.asks f.asks
   pub lens : IsPrefix e.lens f.lens

@@ -1,1 +1,2 @@
 pub mod Genuine
+pub mod Updates

@@ -2,18 +2,19 @@
 //! Laws: functions without bodies, whose contracts are the theorems.
 #![tactic(auto)]
 
-ghost use Rattle.std.specs.Prelude.{◌≡◌, ◌∷◌, ◌++◌, ℕ, IsSome, List, Some, [], length};
+ghost use Rattle.std.specs.Prelude.{◌≡◌, ◌∷◌, ◌++◌, ℕ, IsSome, List, Some, [], length, take};
 ghost use Rattle.std.specs.List.{AllByRecursion};
-ghost use Rattle.craq_commands.specs.SingleCopy.{opening_state};
+ghost use Rattle.craq_commands.specs.SingleCopy.{after_entries, opening_state};
 ghost use Rattle.craq_model.specs.Plain.{Plain};
 ghost use Rattle.craq_runs.specs.Chain.{node_at, opening_chain};
 ghost use Rattle.craq_runs.specs.Explain.{account_of, explain, opening_account};
 ghost use Rattle.craq_runs.specs.Runs.{after_moves};
 ghost use Rattle.craq_runs.specs.Seen.{asks_from, seen, update_at};
-ghost use Rattle.craq_runs.specs.Valid.{OnlyGrows};
+ghost use Rattle.craq_runs.specs.Valid.{OnlyGrows, committed, state_at};
 ghost use Rattle.craq_runs.specs.declared.run.Run.{Run};
 ghost use Rattle.craq_runs.specs.declared.run.Taken.{Taken};
 ghost use Rattle.craq_updates.specs.Genuine.{AllGenuine, HasGenuineHistory, IsBeginning};
+ghost use Rattle.craq_updates.specs.Updates.{updates_in};
 ghost use Rattle.craq_runs.specs.Typed.{IsTypedRunOf};
 
 /// Each committed entry was asked, its number was new, and its writes and reply are those of its command on one copy of the
@@ -21,6 +22,17 @@ ghost use Rattle.craq_runs.specs.Typed.{IsTypedRunOf};
 pub fn committed_entries_are_genuine()
     ensures { (chain : ℕ) (run : Run) → IsTypedRunOf chain run
         → AllGenuine (asks_from 1 run.moves) opening_state (account_of (opening_account chain run.members) run.moves).committed }
+{}
+
+/// Replaying the committed entries is applying the committed updates: the state after the first so many entries is that of the
+/// single copy after as many updates of the explanation. These are the updates that the entries were made of, one for each.
+pub fn replay_is_the_single_copy()
+    ensures state { (chain : ℕ) (run : Run) (count : ℕ) → IsTypedRunOf chain run
+        → after_entries opening_state (take count (account_of (opening_account chain run.members) run.moves).committed) ≡ state_at (seen run) (explain chain run) count }
+    ensures updates { (chain : ℕ) (run : Run) → IsTypedRunOf chain run
+        → updates_in (seen run) (account_of (opening_account chain run.members) run.moves).committed ≡ committed (seen run) (explain chain run) }
+    ensures count { (chain : ℕ) (run : Run) → IsTypedRunOf chain run
+        → length (committed (seen run) (explain chain run)) ≡ length (account_of (opening_account chain run.members) run.moves).committed }
 {}
 
 /// Likewise each entry that a node of the chain holds, or knows by a state alone.

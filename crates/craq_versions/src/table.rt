@@ -1,7 +1,8 @@
 ghost use Rattle.std.specs.Prelude.{◌≡◌, ◌+◌, ◌<◌, ◌≤◌, [], map, IsOk, OnOk, OnErr};
 ghost use Rattle.std.specs.Option.{option_map};
 ghost use Rattle.std.specs.List.{AllByRecursion};
-ghost use Rattle.craq_names.specs.Maps.{at_key, put_key};
+ghost use Rattle.std.specs.List.Sorted.{IsStrictlySortedBy};
+ghost use Rattle.craq_names.specs.Maps.{at_key, key_cmp, put_key};
 ghost use Rattle.craq_versions.specs.Versions.{CanPush, CanSettle};
 ghost use Rattle.craq_versions.specs.Tables.{held_at, held_in, room_at, pushed, settled, KeepsRoom, KeepsOthersRoom};
 
@@ -105,14 +106,16 @@ impl ObjectTable {
 
     /// The keys that have versions, rising, each with its versions. It takes no memory.
     pub fn iter(&self) -> Objects<'_>
-        ensures { result ≡ self.now.objects }
+        ensures objects { result ≡ self.now.objects }
+        ensures rising { IsStrictlySortedBy key_cmp (map (λ o. o.0) result) }
     {
         Objects::of(self.lists.iter())
     }
 
     /// The keys that have versions, rising. It takes no memory.
     pub fn keys(&self) -> Keys<'_>
-        ensures { result ≡ map (λ o. o.0) self.now.objects }
+        ensures keys { result ≡ map (λ o. o.0) self.now.objects }
+        ensures rising { IsStrictlySortedBy key_cmp result }
     {
         Keys::of(self.iter())
     }

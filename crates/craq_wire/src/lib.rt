@@ -3,9 +3,11 @@
 #![tactic(auto)]
 
 mod alike;
+mod laws;
 mod message;
 mod rules;
 mod wire;
 
 pub use craq_model::{Body, LinkMessage};
+pub use laws::messages_with_spellings;
 pub use wire::{decode, encode, one_spelling, spelled};

@@ -15,8 +15,9 @@ use std::alloc::{AllocError, Global};
 /// The bytes that most messages need at most.
 const USUAL_SIZE: usize = 128;
 
-/// Whether the message can be spelled: its sender is 0 exactly under a membership, receiver,
-/// stamp and epoch are at least 1, and what it says keeps its rules (this project's profile).
+/// Whether the message can be spelled, that is, whether bytes exist that spell it (`messages_with_spellings`):
+/// its sender is 0 exactly under a membership, receiver, stamp and epoch are at least 1, and what it says keeps
+/// its rules (this project's profile).
 pub fn spelled(message: &LinkMessage) -> bool
     ensures { IsTrue result ↔ IsSpelled message.now }
 {

@@ -51,7 +51,7 @@ after_own own w m = if own then result_unwrap_or (after_taking w m) w else w
 told_apart : (c id : ℕ) → (c == id) ≡ false → id ≢ c
 told_apart c id f e = grind arith
 
-one_taken : (old mid : List Chained) (m : ℕ × Move) (r : Result ℕ Refusal) (id : ℕ) (w : Chained) (b : Bool) → (m.0 == id) ≡ b → GivesWorld old mid m.0 r (world_move old m.0 m.1) → slice_get old id ≡ Some w → slice_get mid id ≡ Some (after_own (b && is_ok r) w m.1)
+one_taken : (old mid : List Chained) (m : ℕ × Move) (r : Result ℕ Refusal) (id : ℕ) (w : Chained) (b : Bool) → (m.0 == id) ≡ b → GivesWorld old mid m.0 m.1 r → slice_get old id ≡ Some w → slice_get mid id ≡ Some (after_own (b && is_ok r) w m.1)
 one_taken old mid m (Ok n) id w true t g e =
     let same : m.0 ≡ id = eqb-true m.0 id t in
     own_move old mid id m.1 w (subst (λ c. world_move old c m.1 ≡ Ok mid) same g.0) e
@@ -81,14 +81,14 @@ refused_with ws id w f (Err g) h = refl
 refused_own : (ws : List Chained) (id : ℕ) (m : Move) (w : Chained) (f : Refusal) → world_move ws id m ≡ Err f → slice_get ws id ≡ Some w → result_unwrap_or (after_taking w m) w ≡ w
 refused_own ws id m w f h e = refused_with ws id w f (after_taking w m) (subst (λ o. move_of ws id m o ≡ Err f) e h)
 
-one_given : (old mid : List Chained) (m : ℕ × Move) (r : Result ℕ Refusal) (id : ℕ) (w : Chained) (b : Bool) → (m.0 == id) ≡ b → GivesWorld old mid m.0 r (world_move old m.0 m.1) → r ≢ Err Memory → slice_get old id ≡ Some w → slice_get mid id ≡ Some (after_own b w m.1)
+one_given : (old mid : List Chained) (m : ℕ × Move) (r : Result ℕ Refusal) (id : ℕ) (w : Chained) (b : Bool) → (m.0 == id) ≡ b → GivesWorld old mid m.0 m.1 r → r ≢ Err Memory → slice_get old id ≡ Some w → slice_get mid id ≡ Some (after_own b w m.1)
 one_given old mid m (Ok n) id w true t g had e =
     let same : m.0 ≡ id = eqb-true m.0 id t in
     own_move old mid id m.1 w (subst (λ c. world_move old c m.1 ≡ Ok mid) same g.0) e
 one_given old mid m (Ok n) id w false t g had e = other_move old mid m.0 id m.1 g.0 (told_apart m.0 id t) ∙ e
 one_given old mid m (Err f) id w true t g had e =
     let same : m.0 ≡ id = eqb-true m.0 id t in
-    let wanted : world_move old m.0 m.1 ≡ Err f = elim g.0 [ inl memory ↦ absurd (had (ap Err memory)) | inr is ↦ is ] in
+    let wanted : world_move old m.0 m.1 ≡ Err f = elim g.0 [ inl memory ↦ absurd (had (ap Err memory.0)) | inr is ↦ is ] in
     let stays = refused_own old id m.1 w f (subst (λ c. world_move old c m.1 ≡ Err f) same wanted) e in
     subst (λ x. slice_get x id ≡ Some w) (sym g.1) e ∙ ap Some (sym stays)
 one_given old mid m (Err f) id w false t g had e = subst (λ x. slice_get x id ≡ Some w) (sym g.1) e
@@ -132,7 +132,7 @@ taken_more ws mid id w m (Ok x) h = chosen_push w.run.moves (record { chosen = m
 taken_more ws mid id w m (Err f) h = cc
 
 -- a move that is taken is the last of the chain's
-one_more : (old mid : List Chained) (m : ℕ × Move) (r : Result ℕ Refusal) (id : ℕ) (w : Chained) (b : Bool) → (m.0 == id) ≡ b → GivesWorld old mid m.0 r (world_move old m.0 m.1) → slice_get old id ≡ Some w → chosen_in (after_own (b && is_ok r) w m.1).run ≡ chosen_in w.run ++ (if b && is_ok r then m.1 ∷ [] else [])
+one_more : (old mid : List Chained) (m : ℕ × Move) (r : Result ℕ Refusal) (id : ℕ) (w : Chained) (b : Bool) → (m.0 == id) ≡ b → GivesWorld old mid m.0 m.1 r → slice_get old id ≡ Some w → chosen_in (after_own (b && is_ok r) w m.1).run ≡ chosen_in w.run ++ (if b && is_ok r then m.1 ∷ [] else [])
 one_more old mid m (Ok n) id w true t g e =
     let same : m.0 ≡ id = eqb-true m.0 id t in
     let own : world_move old id m.1 ≡ Ok mid = subst (λ c. world_move old c m.1 ≡ Ok mid) same g.0 in

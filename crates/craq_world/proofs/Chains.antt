@@ -15,9 +15,10 @@ use Rattle.craq_protocol.specs.Promises.{IsPrefix}
 use Rattle.craq_updates.specs.Genuine.{IsBeginning}
 use Rattle.craq_updates.proofs.Explained.{begins}
 use Rattle.craq_promise.proofs.Promised.{explained}
-use Rattle.craq_chain.specs.Chained.{Chained, chain_of, moved, after_taking, GivesMove, opened, with_move}
+use Rattle.craq_chain.specs.Chained.{Chained, HasFound, chain_of, moved, GivesMove, opened, with_move}
+use Rattle.craq_chain_invariants.proofs.Invariants.{runs_keep_invariants}
 use Rattle.craq_world.specs.Promise.{AreExplained, BeginsAs, NothingIsTakenBack}
-use Rattle.craq_world.specs.Worlds.{AreRunning, GivesWorld, opened_from, RunsTo, world_move, moves_in}
+use Rattle.craq_world.specs.Worlds.{AreRunning, GivesWorld, HasFoundIn, opened_from, RunsTo, moves_in}
 
 -- a list begins as itself, and as what begins as it
 prefix_self : {A : Type 0} (xs : List A) → IsPrefix xs xs
@@ -57,7 +58,7 @@ pub all_explained : (id : ℕ) (ws : List Chained) → AreRunning id ws → AreE
 all_explained id [] h = tt
 all_explained id (w ∷ ws) h =
     let run : IsTypedRunOf id w.run = subst (λ n. IsTypedRunOf n w.run) h.0 h.1 in
-    (record { own = h.0; run = run; valid = explained id w.run run }, all_explained (id + 1) ws h.2)
+    (record { own = h.0; run = run; valid = explained id w.run run; invariants = runs_keep_invariants id w.run run }, all_explained (id + 1) ws h.2)
 
 pub set_other : (ws : List Chained) (i id : ℕ) (v : Chained) → id ≢ i → slice_get (set ws i v) id ≡ slice_get ws id
 set_other [] i id v n = refl
@@ -110,7 +111,7 @@ moved_id : (w v : Chained) (m : Move) (r : Result Progress Refusal) → moved w 
 moved_id w v m (Ok x) h = let same = ap (λ (z : Result Chained Refusal). chain_in w z) h in sym same
 moved_id w v m (Err e) h = cc
 
-pub kept_id : (w v : Chained) (m : Move) (r : Result ℕ Refusal) → GivesMove w v r (after_taking w m) → v.chain ≡ w.chain
+pub kept_id : (w v : Chained) (m : Move) (r : Result ℕ Refusal) → GivesMove w v m r → v.chain ≡ w.chain
 kept_id w v m (Ok n) h = moved_id w v m (chain_step (chain_of w) m) h.0
 kept_id w v m (Err e) h = ap (λ (x : Chained). x.chain) h.1
 
@@ -122,30 +123,36 @@ moved_begins w v m (Ok x) h typed =
     subst (BeginsAs w) is (begins w.chain w.run.members w.run.moves t (subst (λ (y : Chained). IsTypedRunOf y.chain y.run) (sym is) typed))
 moved_begins w v m (Err e) h typed = cc
 
-begins_after : (w v : Chained) (m : Move) (r : Result ℕ Refusal) → GivesMove w v r (after_taking w m) → IsTypedRunOf v.chain v.run → BeginsAs w v
+begins_after : (w v : Chained) (m : Move) (r : Result ℕ Refusal) → GivesMove w v m r → IsTypedRunOf v.chain v.run → BeginsAs w v
 begins_after w v m (Ok n) h typed = moved_begins w v m (chain_step (chain_of w) m) h.0 typed
 begins_after w v m (Err e) h typed = subst (BeginsAs w) (sym h.1) (begins_self (explain w.chain w.run))
 
 -- the move of a chain is the world's
-world_gives : (ws : List Chained) (i : ℕ) (w v : Chained) (m : Move) (r : Result ℕ Refusal) → Place 0 ws i w → GivesMove w v r (after_taking w m) → GivesWorld ws (set ws i v) i r (world_move ws i m)
+world_gives : (ws : List Chained) (i : ℕ) (w v : Chained) (m : Move) (r : Result ℕ Refusal) → Place 0 ws i w → GivesMove w v m r → GivesWorld ws (set ws i v) i m r
 world_gives ws i w v m (Ok n) p h =
     (rw (p.at, h.0) refl, h.1 ∙ sym (ap moves_in (p.holds v)))
 world_gives ws i w v m (Err e) p h = (
-  elim h.0 [ inl memory ↦ inl memory | inr wanted ↦ inr (rw (p.at, wanted) refl) ],
+  elim h.0 [ inl memory ↦ inl (memory.0, rw p.at memory.1) | inr wanted ↦ inr (rw (p.at, wanted) refl) ],
   ap (λ x. set ws i x) h.1 ∙ p.same,
 )
 
+-- what the chain of an id finds, the world finds
+pub found_in : (ws : List Chained) (id : ℕ) (m : Move) (w : Chained) (r : Result Unit Refusal) → slice_get ws id ≡ Some w → HasFound (chain_of w) m r → HasFoundIn ws id m r
+unfolding chain_step
+found_in ws id m w (Ok done) at h = rw at h
+found_in ws id m w (Err e) at h = rw (at, h) refl
+
 -- a move was taken or refused by the chain of an id
 pub record HasMoved (old new : List Chained) (id : ℕ) (m : Move) (r : Result ℕ Refusal) : Type 0 where
-  pub gives : GivesWorld old new id r (world_move old id m)
+  pub gives : GivesWorld old new id m r
   pub others : (other : ℕ) → other ≢ id → slice_get new other ≡ slice_get old other
   pub explained : AreExplained 0 new
   pub grows : NothingIsTakenBack old new
 
-pub running_on : (ws : List Chained) (i : ℕ) (w v : Chained) (m : Move) (r : Result ℕ Refusal) → AreRunning 0 ws → i < length ws → w ≡ slice_index_or ws i w → GivesMove w v r (after_taking w m) → IsTypedRunOf v.chain v.run → AreRunning 0 (set ws i v)
+pub running_on : (ws : List Chained) (i : ℕ) (w v : Chained) (m : Move) (r : Result ℕ Refusal) → AreRunning 0 ws → i < length ws → w ≡ slice_index_or ws i w → GivesMove w v m r → IsTypedRunOf v.chain v.run → AreRunning 0 (set ws i v)
 running_on ws i w v m r h within is g typed = (chain_at 0 ws i w h within is).stays v (kept_id w v m r g) typed
 
-pub has_moved : (ws : List Chained) (i : ℕ) (w v : Chained) (m : Move) (r : Result ℕ Refusal) → AreRunning 0 ws → i < length ws → w ≡ slice_index_or ws i w → GivesMove w v r (after_taking w m) → IsTypedRunOf v.chain v.run → HasMoved ws (set ws i v) i m r
+pub has_moved : (ws : List Chained) (i : ℕ) (w v : Chained) (m : Move) (r : Result ℕ Refusal) → AreRunning 0 ws → i < length ws → w ≡ slice_index_or ws i w → GivesMove w v m r → IsTypedRunOf v.chain v.run → HasMoved ws (set ws i v) i m r
 has_moved ws i w v m r h within is g typed =
     let p = chain_at 0 ws i w h within is in
     record {
@@ -176,8 +183,8 @@ opened_more lists i chain members within is same =
     ∙ ap (λ n. opened_from 0 (take i lists) ++ opened n members ∷ []) (taken i lists within ∙ sym same)
 
 -- one more move was taken or refused
-pub runs_push : (a b c : List Chained) (ms : List (ℕ × Move)) (rs : List (Result ℕ Refusal)) (m : ℕ × Move) (r : Result ℕ Refusal) → RunsTo a ms rs b → GivesWorld b c m.0 r (world_move b m.0 m.1) → RunsTo a (ms ++ m ∷ []) (rs ++ r ∷ []) c
-runs_push a b c [] [] m r h g = (c, subst (λ x. GivesWorld x c m.0 r (world_move x m.0 m.1)) h g, refl)
+pub runs_push : (a b c : List Chained) (ms : List (ℕ × Move)) (rs : List (Result ℕ Refusal)) (m : ℕ × Move) (r : Result ℕ Refusal) → RunsTo a ms rs b → GivesWorld b c m.0 m.1 r → RunsTo a (ms ++ m ∷ []) (rs ++ r ∷ []) c
+runs_push a b c [] [] m r h g = (c, subst (λ x. GivesWorld x c m.0 m.1 r) h g, refl)
 runs_push a b c [] (s ∷ rs) m r h g = absurd h
 runs_push a b c (n ∷ ms) [] m r h g = absurd h
 runs_push a b c (n ∷ ms) (s ∷ rs) m r h g = (h.0, h.1, runs_push h.0 b c ms rs m r h.2 g)

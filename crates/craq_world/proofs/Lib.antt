@@ -1,2 +1,5 @@
 pub mod Chains
 pub mod Apart
+pub mod Named
+pub mod Unasked
+pub mod Chosen

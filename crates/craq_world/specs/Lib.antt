@@ -1,3 +1,4 @@
 pub mod Worlds
+pub mod Named
 pub mod Promise
 pub mod Apart

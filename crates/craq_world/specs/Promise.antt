@@ -6,12 +6,15 @@ use Rattle.craq_runs.specs.Explain.{explain}
 use Rattle.craq_runs.specs.Typed.{IsTypedRunOf}
 use Rattle.craq_runs.specs.Valid.{IsValid}
 use Rattle.craq_chain.specs.Chained.{Chained}
+use Rattle.craq_chain_invariants.specs.Invariants.{HasInvariants}
 
--- the chain of this id has a run by the definitions, and the explanation that `explain` chooses holds of it
+-- the chain of this id has a run by the definitions, the explanation that `explain` chooses holds of it, and the chain has its
+-- invariants
 pub record IsExplained (id : ℕ) (w : Chained) : Type 0 where
   pub own : w.chain ≡ id
   pub run : IsTypedRunOf id w.run
   pub valid : IsValid w.run (explain id w.run)
+  pub invariants : HasInvariants id w.run
 
 -- the same of each chain, with the ids from this one on
 abbrev pub AreExplained : ℕ → List Chained → Type 0

@@ -1,12 +1,13 @@
 -- A world: chains that run, numbered from 0.
-use Rattle.std.specs.Prelude.{◌≡◌, ◌≤◌, ◌⊎◌, ⊤, ℕ, ◌+◌, List, [], ◌∷◌, length, set, Option, Some, None, Result, Ok, Err, slice_get}
+use Rattle.std.specs.Prelude.{◌≡◌, ◌≤◌, ⊤, ℕ, ◌+◌, List, [], ◌∷◌, length, set, Option, Some, None, Result, Ok, Err, slice_get}
 use Rattle.std.specs.List.{AllByRecursion}
+use Rattle.craq_names.specs.Order.{RefusesWhere}
 use Rattle.craq_names.specs.declared.refusal.Refusal.{Refusal}
-use Rattle.craq_names.specs.declared.refusal.Refusal.TheVariants.{Memory, UnknownChain}
+use Rattle.craq_names.specs.declared.refusal.Refusal.TheVariants.{UnknownChain}
 use Rattle.craq_model.specs.Members.{IsMembership}
 use Rattle.craq_runs.specs.declared.run.Move.{Move}
 use Rattle.craq_runs.specs.Typed.{IsTypedRunOf}
-use Rattle.craq_chain.specs.Chained.{Chained, after_taking, opened}
+use Rattle.craq_chain.specs.Chained.{Chained, Finds, after_taking, chain_of, opened}
 
 -- the chains have the ids from this one on, and each has a run by the definitions
 abbrev pub AreRunning : ℕ → List Chained → Type 0
@@ -36,10 +37,21 @@ abbrev pub moves_in : Option Chained → ℕ
 moves_in None = 0
 moves_in (Some w) = length w.run.moves
 
--- the move was taken and has this number in its chain, or it was refused as wanted or for want of memory, and nothing changed
-abbrev pub GivesWorld : List Chained → List Chained → ℕ → Result ℕ Refusal → Result (List Chained) Refusal → Type 0
-GivesWorld old new id (Ok number) wanted = (wanted ≡ Ok new) × (number ≡ moves_in (slice_get new id))
-GivesWorld old new id (Err e) wanted = ((e ≡ Memory) ⊎ (wanted ≡ Err e)) × (new ≡ old)
+-- the world has the chain, and the chain has the node of a move and was sent its message
+abbrev pub FindsIn : Option Chained → Move → Type 0
+FindsIn None m = ⊥
+FindsIn (Some w) m = Finds (chain_of w) m
+
+-- a look for them found them, or refuses the move as the world does
+abbrev pub HasFoundIn : List Chained → ℕ → Move → Result Unit Refusal → Type 0
+HasFoundIn ws id m (Ok done) = FindsIn (slice_get ws id) m
+HasFoundIn ws id m (Err e) = world_move ws id m ≡ Err e
+
+-- the move was taken and has this number in its chain; or nothing changed, and it was refused as wanted, or for want of
+-- memory, which comes after the look for the chain, the node and the message
+abbrev pub GivesWorld : List Chained → List Chained → ℕ → Move → Result ℕ Refusal → Type 0
+GivesWorld old new id m (Ok number) = (world_move old id m ≡ Ok new) × (number ≡ moves_in (slice_get new id))
+GivesWorld old new id m (Err e) = RefusesWhere (FindsIn (slice_get old id) m) e (world_move old id m) × (new ≡ old)
 
 -- 1 to 64 chains can have these members
 pub record AreChains (lists : List (List ℕ)) : Type 0 where
@@ -52,4 +64,4 @@ abbrev pub RunsTo : List Chained → List (ℕ × Move) → List (Result ℕ Ref
 RunsTo old [] [] new = new ≡ old
 RunsTo old [] (r ∷ rs) new = ⊥
 RunsTo old (m ∷ ms) [] new = ⊥
-RunsTo old (m ∷ ms) (r ∷ rs) new = (mid : List Chained) × GivesWorld old mid m.0 r (world_move old m.0 m.1) × RunsTo mid ms rs new
+RunsTo old (m ∷ ms) (r ∷ rs) new = (mid : List Chained) × GivesWorld old mid m.0 m.1 r × RunsTo mid ms rs new

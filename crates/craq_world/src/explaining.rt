@@ -1,13 +1,15 @@
-ghost use Rattle.std.specs.Prelude.{◌≡◌, IfOk};
+ghost use Rattle.std.specs.Prelude.{◌≡◌, ℕ, IfOk};
 ghost use Rattle.craq_runs.specs.Explain.{explain};
-ghost use Rattle.craq_runs.specs.Runs.{IsRunOf};
+ghost use Rattle.craq_runs.specs.Runs.{IsRun, IsRunOf};
 ghost use Rattle.craq_runs.specs.Typed.{AreOfType};
 ghost use Rattle.craq_runs.specs.Valid.{IsValid};
+ghost use Rattle.craq_world.specs.Named.{named_in, unasked};
 
 use craq_chain::keep_limits;
-use craq_names::ChainId;
+use craq_explain::explain_run_of;
+use craq_names::{ChainId, Items};
 use craq_promise::every_run_is_explained;
-use craq_runs::{Explanation, Run, Taken};
+use craq_runs::{Explanation, Move, Run, Taken};
 use std::alloc::{AllocError, Global};
 
 /// Each transaction that the moves asked is within the limits that its type keeps. It does nothing.
@@ -19,14 +21,43 @@ fn keep_all_limits(moves: &[Taken])
     }
 }
 
-/// The explanation of a run of the chain of this id, whoever made the run: the one that the definitions choose, and it
-/// holds of the run. It fails for want of memory alone.
-pub fn explain_run(alloc: Global, chain: ChainId, run: &Run) -> Result<Explanation, AllocError>
-    requires { IsRunOf chain run.now }
-    ensures chosen { IfOk result (λ e. e ≡ explain chain run.now) }
+/// The chain that the first ask names, where something was asked.
+fn named_chain(moves: &[Taken]) -> Option<ChainId>
+    ensures { result ≡ named_in moves.now }
+{
+    for taken in moves {
+        if let Move::Ask { ask, .. } = &taken.chosen {
+            return Some(ask.chain());
+        }
+    }
+    None
+}
+
+/// The explanation of so many moves that ask nothing. It fails for want of memory alone.
+fn explain_unasked(alloc: Global, count: usize) -> Result<Explanation, AllocError>
+    ensures { IfOk result (λ e. e ≡ unasked count) }
+{
+    let lens = vec![in alloc; 0u64; count]?;
+    Ok(Explanation {
+        asks: Items::new(alloc),
+        lens: Items::of(lens),
+        places: Items::new(alloc),
+    })
+}
+
+/// The explanation of a run, whoever made it: the one that the definitions choose in each chain in which the run can
+/// happen, and it holds of the run. The run's first ask names its chain, and the explanation of a run that asks nothing
+/// depends on none. It fails for want of memory alone.
+pub fn explain_run(alloc: Global, run: &Run) -> Result<Explanation, AllocError>
+    requires { IsRun run.now }
+    ensures chosen { IfOk result (λ e. (chain : ℕ) → IsRunOf chain run.now → e ≡ explain chain run.now) }
     ensures valid { IfOk result (λ e. IsValid run.now e) }
 {
-    keep_all_limits(run.moves.as_slice());
+    let moves = run.moves.as_slice();
+    keep_all_limits(moves);
     every_run_is_explained();
-    craq_explain::explain_run(alloc, chain, run)
+    match named_chain(moves) {
+        Some(chain) => explain_run_of(alloc, chain, run),
+        None => explain_unasked(alloc, moves.len()),
+    }
 }

@@ -5,13 +5,14 @@ ghost use Rattle.craq_runs.specs.Explain.{explain};
 ghost use Rattle.craq_runs.specs.Typed.{IsTypedRunOf};
 ghost use Rattle.craq_runs.specs.Valid.{IsValid};
 ghost use Rattle.craq_chain.specs.Chained.{Chained};
+ghost use Rattle.craq_chain_invariants.specs.Invariants.{HasInvariants};
 ghost use Rattle.craq_world.specs.Apart.{chain_after, taken_of};
 ghost use Rattle.craq_world.specs.Promise.{AreExplained, NothingIsTakenBack};
-ghost use Rattle.craq_world.specs.Worlds.{AreChains, GivesWorld, RunsTo, opened_from, world_move};
+ghost use Rattle.craq_world.specs.Worlds.{AreChains, GivesWorld, HasFoundIn, RunsTo, opened_from};
 
 use craq_chain::ChainCore;
 use craq_epochs::is_membership;
-use craq_explain::explain_run;
+use craq_explain::explain_run_of;
 use craq_names::{ChainId, Copied, Items, NodeId, Refusal};
 use craq_node::Core;
 use craq_runs::{Explanation, Move, Run};
@@ -103,12 +104,13 @@ impl<C: Core> World<C> {
     }
 
     /// One move of the chain of this id: its number in the chain, from 1. Every other chain is as it was. Each chain's
-    /// run is explained, and what was explained before is explained so now.
+    /// run is explained and each chain has its invariants (`AreExplained`), and what was explained before is explained
+    /// so now.
     ///
-    /// Refused, with nothing changed: `UnknownChain` where the world has no such chain; else as
-    /// `ChainCore::take` is.
+    /// Refused, with nothing changed: first `UnknownChain` where the world has no such chain; then as
+    /// `ChainCore::take` is, so `Memory` comes only once the chain, the node and the message were found.
     pub fn take(&mut self, alloc: Global, chain: ChainId, chosen: Move) -> Result<u64, Refusal>
-        ensures gives { GivesWorld self.old self.new chain result (world_move self.old chain chosen) }
+        ensures gives { GivesWorld self.old self.new chain chosen result }
         ensures others { (other : ℕ) → other ≢ chain → slice_get self.new other ≡ slice_get self.old other }
         ensures explained { AreExplained 0 self.new }
         ensures grows { NothingIsTakenBack self.old self.new }
@@ -121,13 +123,25 @@ impl<C: Core> World<C> {
         self.chains[place].take(alloc, chosen)
     }
 
-    /// The same, of a copy of the move.
+    /// Looks for the chain, the node and the message of a move. It takes no memory.
+    fn find(&self, chain: ChainId, chosen: &Move) -> Result<(), Refusal>
+        ensures { HasFoundIn self.now chain chosen.now result }
+    {
+        let place = usize::from(chain.get());
+        let Some(core) = self.chains.get(place) else {
+            return Err(Refusal::UnknownChain);
+        };
+        core.find(chosen)
+    }
+
+    /// The same as `take`, of a copy of the move, which is made once the chain, the node and the message were found.
     fn take_copy(&mut self, alloc: Global, chain: ChainId, chosen: &Move) -> Result<u64, Refusal>
-        ensures gives { GivesWorld self.old self.new chain result (world_move self.old chain chosen.now) }
+        ensures gives { GivesWorld self.old self.new chain chosen.now result }
         ensures explained { AreExplained 0 self.new }
         ensures grows { NothingIsTakenBack self.old self.new }
     {
         self.keep_explained();
+        self.find(chain, chosen)?;
         let chosen = chosen.copied(alloc)?;
         self.take(alloc, chain, chosen)
     }
@@ -165,11 +179,12 @@ impl<C: Core> World<C> {
     }
 
     /// The run of the chain of this id: its opening members and its moves, each with its step. The explanation that the
-    /// definitions choose holds of it. `UnknownChain` exactly where the world has no such chain. It takes no memory.
+    /// definitions choose holds of it, and its chain has the invariants of chains. `UnknownChain` exactly where the world has no such chain. It takes no memory.
     pub fn run_of(&self, chain: ChainId) -> Result<&Run, Refusal>
         ensures ok { IfOk result (λ run. (w : Chained) → slice_get self.now chain ≡ Some w → run.now ≡ w.run) }
         ensures run { IfOk result (λ run. IsTypedRunOf chain run.now) }
         ensures explained { IfOk result (λ run. IsValid run.now (explain chain run.now)) }
+        ensures invariants { IfOk result (λ run. HasInvariants chain run.now) }
         ensures known { OnOk result (chain < length self.now) }
         ensures err { IfErr result (λ e. e ≡ Refusal.UnknownChain) }
         ensures unknown { OnErr result (slice_get self.now chain ≡ None) }
@@ -193,7 +208,7 @@ impl<C: Core> World<C> {
         ensures err { IfErr result (λ e. (e ≡ Refusal.UnknownChain) ⊎ (e ≡ Refusal.Memory)) }
     {
         let run = self.run_of(chain)?;
-        let explanation = explain_run(alloc, chain, run)?;
+        let explanation = explain_run_of(alloc, chain, run)?;
         Ok(explanation)
     }
 }

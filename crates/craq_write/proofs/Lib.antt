@@ -1,3 +1,4 @@
 pub mod Room
 pub mod Ends
 pub mod Copies
+pub mod Places

@@ -1,2 +1,3 @@
 pub mod Forward
 pub mod Settling
+pub mod Places

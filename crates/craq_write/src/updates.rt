@@ -1,13 +1,14 @@
-ghost use Rattle.std.specs.Prelude.{◌≡◌, ◌<◌, ◌+◌, ◌-◌, ◌^◌, ◌∷◌, [], true, false, Some, None, if◌then◌else◌, IfOk};
+ghost use Rattle.std.specs.Prelude.{◌≡◌, ◌<◌, ◌+◌, ◌-◌, ◌^◌, ◌∷◌, [], true, false, Some, None, ◌||◌, if◌then◌else◌, not, nat_le, IfOk};
 ghost use Rattle.craq_commands.specs.Evaluation.{some_used_up, objects_named};
 ghost use Rattle.craq_commands.specs.SingleCopy.{said};
-ghost use Rattle.craq_model.specs.Asks.{reply_turn, update_turn, new_update_turn, committed_if_last};
+ghost use Rattle.craq_model.specs.Asks.{reply_turn, update_turn, new_update_turn, committed_if_last, is_full};
 ghost use Rattle.craq_model.specs.Plain.{newest, length_of, is_last, position_of};
 ghost use Rattle.craq_history.specs.Change.{changed};
 ghost use Rattle.craq_history.specs.Nodes.{plain_of};
 ghost use Rattle.craq_history.specs.Past.{newest_in};
-ghost use Rattle.craq_history.specs.Plans.{CanGrow, Plans};
+ghost use Rattle.craq_history.specs.Plans.{CanGrow, IsPlanned, Plans};
 ghost use Rattle.craq_write.specs.Forward.{entry_in};
+ghost use Rattle.craq_write.specs.Places.{committed_then, has_place};
 
 use crate::making_entries::{Newest, forward, versioned};
 use craq_commands::{Entry, Reply, Update, evaluate};
@@ -42,8 +43,29 @@ fn answer_first(mut outs: Vec<Out>, ticket: Ticket, reply: Reply) -> Result<Vec<
     Ok(outs)
 }
 
-/// The reply to an update is known, and due once the history up to a position is committed: it is
-/// answered in this step if that is so after the change, else it waits.
+/// How much is committed once the history has this length: all of it where the node is last in its
+/// membership.
+fn committed_then<H: History>(node: &Node<H>, length: u64) -> u64
+    ensures { result ≡ committed_then (plain_of H.past node.now) length }
+{
+    if last_member(node.members.as_slice()) == node.name.node {
+        length
+    } else {
+        node.history.acknowledged()
+    }
+}
+
+/// Whether an update that is due at a position is answered in its step, once the history has this
+/// length, or can wait. It takes no memory.
+#[tactic(auto, unfolding(craq_model::specs::Asks::is_full))]
+fn has_place<H: History>(node: &Node<H>, length: u64, position: u64) -> bool
+    ensures { result ≡ has_place (plain_of H.past node.now) length position }
+{
+    position <= committed_then(node, length) || !node.is_full()
+}
+
+/// The reply to an update that can be taken is due once the history up to a position is committed: it
+/// is answered in this step if that is so after the change, else it waits.
 #[tactic(auto, unfolding(craq_model::specs::Asks::reply_turn, craq_model::specs::Asks::is_full))]
 fn replied<H: History>(
     node: &Node<H>,
@@ -52,22 +74,20 @@ fn replied<H: History>(
     position: u64,
     reply: Reply,
     sends: Vec<Out>,
-) -> Result<(Change, Step), Refusal>
+) -> Result<(Change, Step), AllocError>
     requires room { node.now.last_ticket < 2 ^ 64 - 1 }
     requires grows { CanGrow (length_of (plain_of H.past node.now)) change.history }
     requires not_yet { change.accepted ≡ false }
     requires same { change.waiting ≡ WaitingChange.Same }
     requires committed { acknowledged ≡ (changed (plain_of H.past node.now) change).acknowledged }
-    ensures { Plans (plain_of H.past node.now) result (reply_turn (changed (plain_of H.past node.now) change) position reply sends.items) }
+    requires place { (nat_le position acknowledged || not (is_full (plain_of H.past node.now))) ≡ true }
+    ensures { IfOk result (λ r. IsPlanned (plain_of H.past node.now) r (reply_turn (changed (plain_of H.past node.now) change) position reply sends.items)) }
 {
     let ticket = Ticket::new(node.last_ticket.get() + 1);
     if position <= acknowledged {
         let outs = answer_first(sends, ticket, reply)?;
         let change = accepting(change, WaitingChange::Same);
         return Ok((change, accepted(ticket, outs)));
-    }
-    if node.is_full() {
-        return Err(Refusal::PendingFull);
     }
     let waiting = WaitingUpdate {
         ticket,
@@ -83,7 +103,7 @@ fn replied<H: History>(
 fn committing<H: History>(node: &Node<H>, change: Change, length: u64) -> (Change, u64)
     requires { change.acknowledged ≡ None }
     ensures change { result.0 ≡ (if is_last (plain_of H.past node.now) then record change { acknowledged = Some length } else change) }
-    ensures committed { result.1 ≡ (if is_last (plain_of H.past node.now) then length else (H.past node.now.history).acknowledged) }
+    ensures committed { result.1 ≡ committed_then (plain_of H.past node.now) length }
 {
     if last_member(node.members.as_slice()) != node.name.node {
         return (change, node.history.acknowledged());
@@ -100,31 +120,51 @@ fn committing<H: History>(node: &Node<H>, change: Change, length: u64) -> (Chang
     (change, length)
 }
 
-/// An update whose number is not new: what is said to it is due at its client's newest entry.
-fn asked_before<H: History>(
+/// An update whose number is not new, and that can be taken: a reply is due at a position of the history.
+fn told_again<H: History>(
     alloc: Global,
     node: &Node<H>,
-    client: ClientId,
-    reply: Reply,
-) -> Result<(Change, Step), Refusal>
-    requires { node.now.last_ticket < 2 ^ 64 - 1 }
-    ensures { Plans (plain_of H.past node.now) result (reply_turn (committed_if_last (plain_of H.past node.now)) (position_of (plain_of H.past node.now) client) reply []) }
+    position: u64,
+    reply: &Reply,
+) -> Result<(Change, Step), AllocError>
+    requires room { node.now.last_ticket < 2 ^ 64 - 1 }
+    requires place { has_place (plain_of H.past node.now) (length_of (plain_of H.past node.now)) position ≡ true }
+    ensures { IfOk result (λ r. IsPlanned (plain_of H.past node.now) r (reply_turn (committed_if_last (plain_of H.past node.now)) position reply.now [])) }
 {
-    let position = node.history.position_of(client);
+    let reply = reply.copied(alloc)?;
     let (change, acknowledged) = committing(node, Change::none(), node.history.len());
     let sends = Vec::new(alloc);
     replied(node, change, acknowledged, position, reply, sends)
 }
 
-/// A new update makes an entry of its outcome, which goes to the successor.
+/// An update whose number is not new: what is said to it is due at its client's newest entry.
+fn asked_before<H: History>(
+    alloc: Global,
+    node: &Node<H>,
+    client: ClientId,
+    reply: &Reply,
+) -> Result<(Change, Step), Refusal>
+    requires { node.now.last_ticket < 2 ^ 64 - 1 }
+    ensures { Plans (plain_of H.past node.now) result (reply_turn (committed_if_last (plain_of H.past node.now)) (position_of (plain_of H.past node.now) client) reply.now []) }
+{
+    let position = node.history.position_of(client);
+    if !has_place(node, node.history.len(), position) {
+        return Err(Refusal::PendingFull);
+    }
+    let plan = told_again(alloc, node, position, reply)?;
+    Ok(plan)
+}
+
+/// A new update that can be taken makes an entry of its outcome, which goes to the successor.
 fn entered<H: History>(
     alloc: Global,
     node: &Node<H>,
     entry: Entry,
-) -> Result<(Change, Step), Refusal>
+) -> Result<(Change, Step), AllocError>
     requires room { node.now.last_ticket < 2 ^ 64 - 1 }
     requires next { entry.position ≡ length_of (plain_of H.past node.now) + 1 }
-    ensures { Plans (plain_of H.past node.now) result (new_update_turn (plain_of H.past node.now) entry) }
+    requires place { has_place (plain_of H.past node.now) entry.position entry.position ≡ true }
+    ensures { IfOk result (λ r. IsPlanned (plain_of H.past node.now) r (new_update_turn (plain_of H.past node.now) entry)) }
 {
     let length = entry.position.get();
     let reply = entry.reply.copied(alloc)?;
@@ -161,7 +201,8 @@ fn entry_made<H: History>(
     })
 }
 
-/// A new update at the head: it is evaluated on the newest state, and becomes the next entry.
+/// A new update at the head: it is evaluated on the newest state, and becomes the next entry. The
+/// refusals are found before anything is made: `Exhausted`, `PendingFull`; then comes `Memory`.
 #[tactic(auto, unfolding(craq_model::specs::Asks::update_turn, craq_model::specs::Plain::newest))]
 fn plan_new<H: History>(
     alloc: Global,
@@ -171,22 +212,30 @@ fn plan_new<H: History>(
     requires { node.now.last_ticket < 2 ^ 64 - 1 }
     ensures { Plans (plain_of H.past node.now) result (update_turn (plain_of H.past node.now) update.now None) }
 {
-    if node.history.len() == u64::MAX {
+    let length = node.history.len();
+    if length == u64::MAX {
         return Err(Refusal::Exhausted);
     }
     if update.command.names_used_up(&Newest(&node.history)) {
         return Err(Refusal::Exhausted);
     }
+    if !has_place(node, length + 1, length + 1) {
+        return Err(Refusal::PendingFull);
+    }
     let entry = entry_made(alloc, node, update)?;
-    entered(alloc, node, entry)
+    let plan = entered(alloc, node, entry)?;
+    Ok(plan)
 }
 
 /// An update at a ready head that has a ticket left. A number that was asked before has what is said to
 /// it, at the position of its client's newest entry; a new one makes an entry. It is answered in this
-/// step if its position is committed, else it waits. `Exhausted` where a new one finds no next position,
-/// or names an object without a next version; `PendingFull` where it would have to wait and 1,024 asks
-/// wait. The head decides an update and sends the resulting values (USENIX ATC 2009); that refused
-/// commands make entries, and that one reply is kept for a client, are this project's profile.
+/// step if its position is committed, else it waits. The head decides an update and sends the resulting
+/// values (USENIX ATC 2009); that refused commands make entries, and that one reply is kept for a client,
+/// are this project's profile.
+///
+/// The refusals, in order: `Exhausted` where a new one finds no next position, or names an object without
+/// a next version; `PendingFull` where it would have to wait and 1,024 asks wait; `Memory` only where none
+/// of these applies. They are found before anything is evaluated or copied.
 #[tactic(auto, unfolding(craq_model::specs::Asks::update_turn, craq_model::specs::Plain::newest))]
 pub fn plan_update<H: History>(
     alloc: Global,
@@ -198,7 +247,7 @@ pub fn plan_update<H: History>(
 {
     match node.history.said(update.client, update.number) {
         Said::Nothing => plan_new(alloc, node, update),
-        Said::Kept(reply) => asked_before(alloc, node, update.client, reply.copied(alloc)?),
-        Said::Stale(last) => asked_before(alloc, node, update.client, Reply::Stale(last)),
+        Said::Kept(reply) => asked_before(alloc, node, update.client, reply),
+        Said::Stale(last) => asked_before(alloc, node, update.client, &Reply::Stale(last)),
     }
 }

@@ -1,5 +1,5 @@
-use Rattle.craq_chain_invariants.proofs.Nodes.{held, committed, same}
+use Rattle.craq_chain_invariants.proofs.Invariants.{acknowledged_is_committed}
 use Rattle.craq_chain_invariants.proofs.acknowledged_is_committed.Goals as goal
 
 pub returns : goal.returns
-returns c = record { held = held; committed = committed; same = same }
+returns c = acknowledged_is_committed

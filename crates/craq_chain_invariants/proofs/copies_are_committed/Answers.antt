@@ -1,5 +1,5 @@
-use Rattle.craq_chain_invariants.proofs.Messages.{copy_committed, copy_state}
+use Rattle.craq_chain_invariants.proofs.Invariants.{copies_are_committed}
 use Rattle.craq_chain_invariants.proofs.copies_are_committed.Goals as goal
 
 pub returns : goal.returns
-returns c = record { committed = copy_committed; state = copy_state }
+returns c = copies_are_committed

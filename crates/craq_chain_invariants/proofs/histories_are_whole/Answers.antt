@@ -1,5 +1,5 @@
-use Rattle.craq_chain_invariants.proofs.Nodes.{whole, placed}
+use Rattle.craq_chain_invariants.proofs.Invariants.{histories_are_whole}
 use Rattle.craq_chain_invariants.proofs.histories_are_whole.Goals as goal
 
 pub returns : goal.returns
-returns c = record { whole = whole; placed = placed }
+returns c = histories_are_whole

@@ -1,4 +1,4 @@
-use Rattle.std.proofs.Common.{◌≡◌, true, None, sym, ap, ◌∙◌}
+use Rattle.std.proofs.Common.{◌≡◌, true, None, refl, sym, ap, ◌∙◌}
 use Rattle.std.specs.Prelude.{List, [], is_some}
 use Rattle.craq_epochs.specs.Switched.{Switched}
 use Rattle.craq_model.specs.declared.step.Out.{Out}
@@ -11,4 +11,4 @@ returns-in-Stop-clause-gives g c =
     let on : c.args.self.now.switch.running ≡ true = is_on c.args.self.now.switch.running c.args.self.now.switch.name (ap is_some (sym c.receipt.ensures) ∙ (sym c.is_some.ensures ∙ c.if-is_some.false)) in
     let empty : c.done.result ≡ record { ticket = None; outs = []; ignored = None } = c.done.ensures ∙ ap (λ (os : List Out). record { ticket = None; outs = os; ignored = None }) c.new.ensures.items in
     rw (ap (λ (s : Switched). s.running) c.stop.ensures.stopped)
-    (stops (plain_at g.H.History.past c.args.self.now.node c.args.self.now.switch.running) c.args.event.now c.done.result on c.in-Stop.is empty)
+    (_, stops (plain_at g.H.History.past c.args.self.now.node c.args.self.now.switch.running) c.args.event.now c.done.result on c.in-Stop.is empty, refl)

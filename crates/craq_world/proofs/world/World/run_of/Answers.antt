@@ -1,4 +1,5 @@
 use Rattle.std.proofs.Common.{◌≡◌, arith, subst, ◌∙◌}
+use Rattle.craq_chain_invariants.proofs.Invariants.{runs_keep_invariants}
 use Rattle.craq_promise.proofs.Promised.{explained}
 use Rattle.craq_runs.specs.Typed.{IsTypedRunOf}
 use Rattle.craq_world.specs.Worlds.{AreRunning}
@@ -15,3 +16,6 @@ returns-in-Some-clause-run g c =
 
 pub returns-in-Some-clause-explained : goal.returns-in-Some-clause-explained
 returns-in-Some-clause-explained g c = explained c.args.chain c.run.result.now (returns-in-Some-clause-run g c)
+
+pub returns-in-Some-clause-invariants : goal.returns-in-Some-clause-invariants
+returns-in-Some-clause-invariants g c = runs_keep_invariants c.args.chain c.run.result.now (returns-in-Some-clause-run g c)

@@ -1,0 +1,142 @@
+-- The invariants of a chain: what each run keeps true of the chain's nodes, of its messages and of what waits.
+use Rattle.std.specs.Prelude.{◌≡◌, ◌<◌, ◌≤◌, ℕ, IsSome, true, List, Some, length, take}
+use Rattle.std.specs.List.{AllByRecursion}
+use Rattle.craq_commands.specs.Kept.{Kept}
+use Rattle.craq_commands.specs.Objects.{Objects}
+use Rattle.craq_commands.specs.SingleCopy.{after, after_entries, opening_state}
+use Rattle.craq_commands.specs.declared.entry.Entry.{Entry}
+use Rattle.craq_model.specs.Members.{is_member}
+use Rattle.craq_model.specs.Plain.{Plain, id_of, is_tail, length_of}
+use Rattle.craq_model.specs.declared.message.Body.TheVariants as bodies
+use Rattle.craq_model.specs.declared.message.LinkMessage.{LinkMessage}
+use Rattle.craq_model.specs.declared.waiting.WaitingUpdate.{WaitingUpdate}
+use Rattle.craq_runs.specs.Chain.{node_at}
+use Rattle.craq_runs.specs.declared.run.Run.{Run}
+use Rattle.craq_protocol.specs.Machine.{entry_at}
+use Rattle.craq_protocol.specs.Promises.{Before, IsPrefix}
+use Rattle.craq_refinement.specs.Follows.{IsHistory, IsPlaced}
+use Rattle.craq_chain_invariants.specs.Kept.{HasReply, HasSender, IsNode, TellsVersion, WasSent, chain_after, committed_at, committed_in, history_of, updates_committed, updates_held}
+
+-- ---- nodes
+
+-- a node's state before the entries that it holds is that after so many committed entries; the entries of its whole history stand
+-- at their positions, from 1 on; and replaying them is applying the updates that they were made of on the single copy
+pub record HistoriesAreWhole (chain : ℕ) (run : Run) : Type 0 where
+  pub whole : (p : Plain) → IsNode (chain_after chain run) p → IsHistory p.base p.base_state p.entries (history_of (committed_in chain run) p)
+  pub placed : (p : Plain) → IsNode (chain_after chain run) p → IsPlaced 0 (history_of (committed_in chain run) p)
+  pub as_many : (p : Plain) → IsNode (chain_after chain run) p → length (updates_held chain run p) ≡ length_of p
+  pub replayed : (p : Plain) (count : ℕ) → IsNode (chain_after chain run) p
+      → after_entries opening_state (take count (history_of (committed_in chain run) p)) ≡ after (take count (updates_held chain run p))
+
+-- each member of the master's membership is a node of the chain
+abbrev pub MembersAreNodes : ℕ → Run → Type 0
+MembersAreNodes chain run = (id : ℕ) → is_member (chain_after chain run).members id ≡ true → IsSome (node_at (chain_after chain run).nodes id)
+
+-- the history of a later member is a prefix of that of each earlier one, in the master's membership and in the one that the later
+-- member knows
+pub record PredecessorsHoldMore (chain : ℕ) (run : Run) : Type 0 where
+  pub current : (p q : Plain) → IsNode (chain_after chain run) p → IsNode (chain_after chain run) q
+      → Before (chain_after chain run).members (id_of p) (id_of q)
+      → IsPrefix (history_of (committed_in chain run) q) (history_of (committed_in chain run) p)
+  pub known : (p q : Plain) → IsNode (chain_after chain run) p → IsNode (chain_after chain run) q
+      → Before q.members (id_of p) (id_of q)
+      → IsPrefix (history_of (committed_in chain run) q) (history_of (committed_in chain run) p)
+
+-- the members before a ready one are ready
+abbrev pub PredecessorsAreReady : ℕ → Run → Type 0
+PredecessorsAreReady chain run =
+    (p q : Plain) → IsNode (chain_after chain run) p → IsNode (chain_after chain run) q
+    → Before (chain_after chain run).members (id_of p) (id_of q) → q.ready ≡ true → p.ready ≡ true
+
+-- at most one running node is ready and last in the membership that it knows; its history is the committed entries, so their
+-- updates are the committed updates, and it knows that all of them are committed
+pub record OneTailHoldsTheList (chain : ℕ) (run : Run) : Type 0 where
+  pub one : (p q : Plain) → IsNode (chain_after chain run) p → IsNode (chain_after chain run) q
+      → p.running ≡ true → is_tail p ≡ true → q.running ≡ true → is_tail q ≡ true → p ≡ q
+  pub list : (p : Plain) → IsNode (chain_after chain run) p
+      → p.running ≡ true → is_tail p ≡ true → history_of (committed_in chain run) p ≡ committed_in chain run
+  pub updates : (p : Plain) → IsNode (chain_after chain run) p
+      → p.running ≡ true → is_tail p ≡ true → updates_held chain run p ≡ updates_committed chain run
+  pub known : (p : Plain) → IsNode (chain_after chain run) p
+      → p.running ≡ true → is_tail p ≡ true → p.acknowledged ≡ length (updates_committed chain run)
+
+-- the committed entries are a prefix of the history of each ready member of the master's membership, so the committed updates are
+-- a prefix of the updates that its entries were made of
+pub record ReadyMembersHoldTheList (chain : ℕ) (run : Run) : Type 0 where
+  pub entries : (p : Plain) → IsNode (chain_after chain run) p → is_member (chain_after chain run).members (id_of p) ≡ true → p.ready ≡ true
+      → IsPrefix (committed_in chain run) (history_of (committed_in chain run) p)
+  pub updates : (p : Plain) → IsNode (chain_after chain run) p → is_member (chain_after chain run).members (id_of p) ≡ true → p.ready ≡ true
+      → IsPrefix (updates_committed chain run) (updates_held chain run p)
+
+-- what a node knows to be committed it holds, it is committed, and it is the same
+pub record AcknowledgedIsCommitted (chain : ℕ) (run : Run) : Type 0 where
+  pub held : (p : Plain) → IsNode (chain_after chain run) p
+      → p.acknowledged ≤ length_of p
+  pub committed : (p : Plain) → IsNode (chain_after chain run) p
+      → p.acknowledged ≤ length (updates_committed chain run)
+  pub same : (p : Plain) → IsNode (chain_after chain run) p
+      → take p.acknowledged (history_of (committed_in chain run) p) ≡ take p.acknowledged (committed_in chain run)
+
+-- ---- messages
+
+-- each state that was ever sent is that of the single copy after so many committed updates as it says
+pub record CopiesAreCommitted (chain : ℕ) (run : Run) : Type 0 where
+  pub committed : (number : ℕ) (m : LinkMessage) (position : ℕ) (objects : Objects) (kept : List (ℕ × Kept))
+      → WasSent (chain_after chain run) number m → m.body ≡ bodies.Copy position objects kept
+      → position ≤ length (updates_committed chain run)
+  pub state : (number : ℕ) (m : LinkMessage) (position : ℕ) (objects : Objects) (kept : List (ℕ × Kept))
+      → WasSent (chain_after chain run) number m → m.body ≡ bodies.Copy position objects kept
+      → after (take position (updates_committed chain run)) ≡ record { objects = objects; kept = kept }
+
+-- each message that was ever sent agrees with its sender, a node of the chain: an entry stands at its position in the sender's
+-- history; of an acknowledgement and of a state the sender knows that so much is committed; of a floor the sender is ready and
+-- holds so many entries; and a sender that says how many entries it holds, holds as many
+pub record MessagesAgreeWithSenders (chain : ℕ) (run : Run) : Type 0 where
+  pub entry : (number : ℕ) (m : LinkMessage) (e : Entry)
+      → WasSent (chain_after chain run) number m → m.body ≡ bodies.Entry e
+      → HasSender (chain_after chain run) m (λ p. entry_at (history_of (committed_in chain run) p) e.position ≡ Some e)
+  pub ack : (number : ℕ) (m : LinkMessage) (position : ℕ)
+      → WasSent (chain_after chain run) number m → m.body ≡ bodies.Ack position
+      → HasSender (chain_after chain run) m (λ p. position ≤ p.acknowledged)
+  pub copy : (number : ℕ) (m : LinkMessage) (position : ℕ) (objects : Objects) (kept : List (ℕ × Kept))
+      → WasSent (chain_after chain run) number m → m.body ≡ bodies.Copy position objects kept
+      → HasSender (chain_after chain run) m (λ p. position ≤ p.acknowledged)
+  pub floor : (number : ℕ) (m : LinkMessage) (count : ℕ)
+      → WasSent (chain_after chain run) number m → m.body ≡ bodies.Floor count
+      → HasSender (chain_after chain run) m (λ p. (p.ready ≡ true) × (count ≤ length_of p))
+  pub blank : (number : ℕ) (m : LinkMessage) (count : ℕ)
+      → WasSent (chain_after chain run) number m → m.body ≡ bodies.Blank count
+      → HasSender (chain_after chain run) m (λ p. count ≤ length_of p)
+
+-- each version that was ever told names a strong read of its receiver, and is that of the read's object on the single copy after
+-- the updates that were committed when it was sent
+abbrev pub ToldVersionsWereCommitted : ℕ → Run → Type 0
+ToldVersionsWereCommitted chain run =
+    (number : ℕ) (m : LinkMessage) (ticket version : ℕ)
+    → WasSent (chain_after chain run) number m → m.body ≡ bodies.VersionIs ticket version
+    → TellsVersion chain run m.receiver ticket version (committed_at chain run number)
+
+-- ---- what waits
+
+-- each update that waits at a node waits for more entries than the node knows to be committed; it was asked there, and its reply
+-- is what the single copy says to its client and number after so many updates of the node's history as it waits for
+pub record WaitingUpdatesAreOwed (chain : ℕ) (run : Run) : Type 0 where
+  pub above : (p : Plain) → IsNode (chain_after chain run) p
+      → AllByRecursion (λ (u : WaitingUpdate). p.acknowledged < u.position) p.waiting_updates
+  pub reply : (p : Plain) → IsNode (chain_after chain run) p
+      → AllByRecursion (HasReply chain run p) p.waiting_updates
+
+-- ---- all of them
+
+pub record HasInvariants (chain : ℕ) (run : Run) : Type 0 where
+  pub histories : HistoriesAreWhole chain run
+  pub members : MembersAreNodes chain run
+  pub predecessors : PredecessorsHoldMore chain run
+  pub readiness : PredecessorsAreReady chain run
+  pub tail : OneTailHoldsTheList chain run
+  pub ready_members : ReadyMembersHoldTheList chain run
+  pub acknowledged : AcknowledgedIsCommitted chain run
+  pub copies : CopiesAreCommitted chain run
+  pub messages : MessagesAgreeWithSenders chain run
+  pub versions : ToldVersionsWereCommitted chain run
+  pub waiting : WaitingUpdatesAreOwed chain run

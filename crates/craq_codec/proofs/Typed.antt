@@ -1,0 +1,33 @@
+-- Replies and entries that keep their rules have few enough items for their counts.
+use Rattle.std.proofs.Common.{◌≤◌, ◌<◌, ℕ, length, arith}
+use Rattle.craq_commands.specs.declared.reply.Reply.{Reply}
+use Rattle.craq_commands.specs.declared.reply.Reply.TheVariants.{Written, Mismatch, TooLong, NotANumber, Overflow, Underflow, Done, CompareFailed, Stale}
+use Rattle.craq_commands.specs.declared.entry.Entry.{Entry}
+use Rattle.craq_model.specs.Spelled.{IsReply, IsSpelledEntry}
+use Rattle.craq_codec.specs.EntrySpelling.{ReplyFits, EntryFits}
+use Rattle.craq_codec.specs.Typed.{IsTypedReply, IsTypedEntry}
+
+pub within_byte : (n : ℕ) → n ≤ 16 → n < 256
+within_byte n h = omega (arith, h)
+
+pub reply_fits : (r : Reply) → IsTypedReply r → IsReply r → ReplyFits r
+reply_fits (Written version) t i = t
+reply_fits (Mismatch version) t i = t
+reply_fits TooLong t i = t
+reply_fits NotANumber t i = t
+reply_fits Overflow t i = t
+reply_fits Underflow t i = t
+reply_fits (Done objects) t i = record { few = within_byte (length objects) i.0; each = t }
+reply_fits (CompareFailed place) t i = t
+reply_fits (Stale last) t i = t
+
+pub entry_fits : (e : Entry) → IsTypedEntry e → IsSpelledEntry e → EntryFits e
+entry_fits e t i = record {
+  position = t.position;
+  origin_node = t.origin_node;
+  origin_ticket = t.origin_ticket;
+  client = t.client;
+  number = t.number;
+  reply = reply_fits e.reply t.reply i.reply;
+  writes = record { few = within_byte (length e.writes) i.few; each = t.writes };
+}

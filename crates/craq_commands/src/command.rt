@@ -2,7 +2,7 @@ ghost use Rattle.std.specs.Prelude.{◌≡◌};
 ghost use Rattle.craq_commands.specs.Evaluation.{chain_of_first, objects_named};
 
 use crate::Mini;
-use craq_names::{ChainId, ClientId, Copied, ObjectId, RequestNo, Value, Version};
+use craq_names::{ChainId, ClientId, Copied, ObjectId, RequestNo, Same, Value, Version};
 use std::alloc::{AllocError, Global};
 
 /// What an update does to the objects of one chain.
@@ -101,6 +101,62 @@ impl Copied for Command {
     }
 }
 
+impl Same for Command {
+    fn is_same(&self, other: &Self) -> bool {
+        match (self, other) {
+            (
+                Command::Put { object, value },
+                Command::Put {
+                    object: their_object,
+                    value: their_value,
+                },
+            )
+            | (
+                Command::Append { object, value },
+                Command::Append {
+                    object: their_object,
+                    value: their_value,
+                },
+            )
+            | (
+                Command::Prepend { object, value },
+                Command::Prepend {
+                    object: their_object,
+                    value: their_value,
+                },
+            ) => object == their_object && value == their_value,
+            (
+                Command::TestAndSet {
+                    object,
+                    expect,
+                    value,
+                },
+                Command::TestAndSet {
+                    object: their_object,
+                    expect: their_expect,
+                    value: their_value,
+                },
+            ) => object == their_object && expect == their_expect && value == their_value,
+            (
+                Command::Increment { object, by },
+                Command::Increment {
+                    object: their_object,
+                    by: their_by,
+                },
+            )
+            | (
+                Command::Decrement { object, by },
+                Command::Decrement {
+                    object: their_object,
+                    by: their_by,
+                },
+            ) => object == their_object && by == their_by,
+            (Command::Mini(mine), Command::Mini(theirs)) => mine.is_same(theirs),
+            _ => false,
+        }
+    }
+}
+
 /// A client's command and its number. In one chain a client numbers its updates from 1, rising.
 #[derive(Debug, Drop)]
 pub struct Update {
@@ -116,5 +172,13 @@ impl Copied for Update {
             number: self.number,
             command: self.command.copied(alloc)?,
         })
+    }
+}
+
+impl Same for Update {
+    fn is_same(&self, other: &Self) -> bool {
+        self.client == other.client
+            && self.number == other.number
+            && self.command.is_same(&other.command)
     }
 }

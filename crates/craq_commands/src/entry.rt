@@ -1,5 +1,7 @@
 use crate::Reply;
-use craq_names::{ClientId, Copied, Items, Key, NodeId, RequestNo, Seq, Ticket, Value, Version};
+use craq_names::{
+    ClientId, Copied, Items, Key, NodeId, RequestNo, Same, Seq, Ticket, Value, Version,
+};
 use std::alloc::{AllocError, Global};
 
 /// A value that an entry gives an object, with the version that the object has from then on.
@@ -17,6 +19,12 @@ impl Copied for Write {
             version: self.version,
             value: self.value.copied(alloc)?,
         })
+    }
+}
+
+impl Same for Write {
+    fn is_same(&self, other: &Self) -> bool {
+        self.key == other.key && self.version == other.version && self.value == other.value
     }
 }
 
@@ -44,5 +52,17 @@ impl Copied for Entry {
             reply: self.reply.copied(alloc)?,
             writes: self.writes.copied(alloc)?,
         })
+    }
+}
+
+impl Same for Entry {
+    fn is_same(&self, other: &Self) -> bool {
+        self.position == other.position
+            && self.origin_node == other.origin_node
+            && self.origin_ticket == other.origin_ticket
+            && self.client == other.client
+            && self.number == other.number
+            && self.reply.is_same(&other.reply)
+            && self.writes.is_same(&other.writes)
     }
 }

@@ -1,4 +1,4 @@
-use craq_names::{Copied, Items, RequestNo, Value, Version};
+use craq_names::{Copied, Items, RequestNo, Same, Value, Version};
 use std::alloc::{AllocError, Global};
 
 /// The reply to an update.
@@ -37,5 +37,22 @@ impl Copied for Reply {
             Reply::CompareFailed(place) => Reply::CompareFailed(*place),
             Reply::Stale(last) => Reply::Stale(*last),
         })
+    }
+}
+
+impl Same for Reply {
+    fn is_same(&self, other: &Self) -> bool {
+        match (self, other) {
+            (Reply::Written(mine), Reply::Written(theirs))
+            | (Reply::Mismatch(mine), Reply::Mismatch(theirs)) => mine == theirs,
+            (Reply::TooLong, Reply::TooLong)
+            | (Reply::NotANumber, Reply::NotANumber)
+            | (Reply::Overflow, Reply::Overflow)
+            | (Reply::Underflow, Reply::Underflow) => true,
+            (Reply::Done(mine), Reply::Done(theirs)) => mine.is_same(theirs),
+            (Reply::CompareFailed(mine), Reply::CompareFailed(theirs)) => mine == theirs,
+            (Reply::Stale(mine), Reply::Stale(theirs)) => mine == theirs,
+            _ => false,
+        }
     }
 }

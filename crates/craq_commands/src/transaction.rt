@@ -6,7 +6,7 @@ ghost use Rattle.craq_commands.specs.Evaluation.{chain_of_first, objects_named};
 ghost use Rattle.craq_commands.specs.Transaction.{IsWithinLimits, mini_of, same_object, stands_twice, has_doubles};
 
 use crate::Command;
-use craq_names::{ChainId, Copied, Items, ObjectId, Refusal, Value, Version};
+use craq_names::{ChainId, Copied, Items, ObjectId, Refusal, Same, Value, Version};
 use std::alloc::{AllocError, Global};
 use std::marker::Model;
 
@@ -182,5 +182,13 @@ impl Copied for Mini {
             reads: self.reads.copied(alloc)?,
             writes: self.writes.copied(alloc)?,
         })
+    }
+}
+
+impl Same for Mini {
+    fn is_same(&self, other: &Self) -> bool {
+        self.compares.is_same(&other.compares)
+            && self.reads.is_same(&other.reads)
+            && self.writes.is_same(&other.writes)
     }
 }

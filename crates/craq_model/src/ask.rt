@@ -4,7 +4,7 @@ ghost use Rattle.craq_model.specs.Asks.{asked_objects};
 
 use crate::LinkMessage;
 use craq_commands::{ReadMode, Reply, Update};
-use craq_names::{ChainId, Copied, ObjectId, Value, Version};
+use craq_names::{ChainId, Copied, ObjectId, Same, Value, Version};
 use std::alloc::{AllocError, Global};
 
 /// What a client asks of a node.
@@ -40,6 +40,22 @@ impl Copied for Ask {
     }
 }
 
+impl Same for Ask {
+    fn is_same(&self, other: &Self) -> bool {
+        match (self, other) {
+            (Ask::Update(mine), Ask::Update(theirs)) => mine.is_same(theirs),
+            (
+                Ask::Read { mode, object },
+                Ask::Read {
+                    mode: their_mode,
+                    object: their_object,
+                },
+            ) => { mode == their_mode && object == their_object }
+            _ => false,
+        }
+    }
+}
+
 /// What a node answers to an ask.
 #[derive(Debug, Drop)]
 pub enum Answer {
@@ -58,6 +74,22 @@ impl Copied for Answer {
                 value: value.copied(alloc)?,
             },
         })
+    }
+}
+
+impl Same for Answer {
+    fn is_same(&self, other: &Self) -> bool {
+        match (self, other) {
+            (Answer::Update(mine), Answer::Update(theirs)) => mine.is_same(theirs),
+            (
+                Answer::Read { version, value },
+                Answer::Read {
+                    version: their_version,
+                    value: their_value,
+                },
+            ) => version == their_version && value == their_value,
+            _ => false,
+        }
     }
 }
 
@@ -82,5 +114,16 @@ impl Copied for Event {
             Event::Tick => Event::Tick,
             Event::Stop => Event::Stop,
         })
+    }
+}
+
+impl Same for Event {
+    fn is_same(&self, other: &Self) -> bool {
+        match (self, other) {
+            (Event::Ask(mine), Event::Ask(theirs)) => mine.is_same(theirs),
+            (Event::Deliver(mine), Event::Deliver(theirs)) => mine.is_same(theirs),
+            (Event::Tick, Event::Tick) | (Event::Stop, Event::Stop) => true,
+            _ => false,
+        }
     }
 }

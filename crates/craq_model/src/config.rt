@@ -1,4 +1,4 @@
-use craq_names::{Copied, Epoch, Items, NodeId};
+use craq_names::{Copied, Epoch, Items, NodeId, Same};
 use std::alloc::{AllocError, Global};
 
 /// A membership of a chain: its members, head first, and its number. The first has epoch 1.
@@ -14,5 +14,11 @@ impl Copied for Config {
             epoch: self.epoch,
             members: self.members.copied(alloc)?,
         })
+    }
+}
+
+impl Same for Config {
+    fn is_same(&self, other: &Self) -> bool {
+        self.epoch == other.epoch && self.members.is_same(&other.members)
     }
 }

@@ -1,5 +1,5 @@
 //! The types of a node's events, messages and steps.
-//! Definitions: `specs/` defines a node's step (`node_step`). Of the code only copying runs.
+//! Definitions: `specs/` defines a node's step (`node_step`). Of the code only copies and tests of equality run.
 #![tactic(auto)]
 
 mod ask;

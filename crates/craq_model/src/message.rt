@@ -1,7 +1,7 @@
 use craq_commands::{Entry, Reply};
 use craq_names::{
-    ChainId, ClientId, Copied, Epoch, Items, Key, NodeId, RequestNo, Seq, Stamp, Ticket, Value,
-    Version,
+    ChainId, ClientId, Copied, Epoch, Items, Key, NodeId, RequestNo, Same, Seq, Stamp, Ticket,
+    Value, Version,
 };
 use std::alloc::{AllocError, Global};
 
@@ -69,6 +69,49 @@ impl Copied for Body {
     }
 }
 
+impl Same for Body {
+    fn is_same(&self, other: &Self) -> bool {
+        match (self, other) {
+            (Body::Config { members }, Body::Config { members: theirs }) => members.is_same(theirs),
+            (Body::Entry(mine), Body::Entry(theirs)) => mine.is_same(theirs),
+            (Body::Ack(mine), Body::Ack(theirs))
+            | (Body::Blank(mine), Body::Blank(theirs))
+            | (Body::Floor(mine), Body::Floor(theirs)) => mine == theirs,
+            (
+                Body::Query { ticket, key },
+                Body::Query {
+                    ticket: their_ticket,
+                    key: their_key,
+                },
+            ) => ticket == their_ticket && key == their_key,
+            (
+                Body::VersionIs { ticket, version },
+                Body::VersionIs {
+                    ticket: their_ticket,
+                    version: their_version,
+                },
+            ) => ticket == their_ticket && version == their_version,
+            (
+                Body::Copy {
+                    position,
+                    objects,
+                    kept,
+                },
+                Body::Copy {
+                    position: their_position,
+                    objects: their_objects,
+                    kept: their_kept,
+                },
+            ) => {
+                position == their_position
+                    && objects.is_same(their_objects)
+                    && kept.is_same(their_kept)
+            }
+            _ => false,
+        }
+    }
+}
+
 /// A message between nodes of a chain, named by its sender, stamp and index among the sends of
 /// the sender's step. Inside a step the stamp is 1 and the index 0: the cell that took the step
 /// sets them.
@@ -94,5 +137,17 @@ impl Copied for LinkMessage {
             epoch: self.epoch,
             body: self.body.copied(alloc)?,
         })
+    }
+}
+
+impl Same for LinkMessage {
+    fn is_same(&self, other: &Self) -> bool {
+        self.chain == other.chain
+            && self.sender == other.sender
+            && self.receiver == other.receiver
+            && self.stamp == other.stamp
+            && self.index == other.index
+            && self.epoch == other.epoch
+            && self.body.is_same(&other.body)
     }
 }

@@ -1,5 +1,5 @@
 use crate::{Answer, LinkMessage};
-use craq_names::{Items, NodeId, Ticket};
+use craq_names::{Items, NodeId, Same, Ticket};
 
 /// Why a message is ignored.
 #[derive(Clone, Copy, Debug, PartialEq, Eq)]
@@ -27,6 +27,28 @@ pub enum Out {
     Answer { ticket: Ticket, answer: Answer },
 }
 
+impl Same for Out {
+    fn is_same(&self, other: &Self) -> bool {
+        match (self, other) {
+            (
+                Out::Send { to, message },
+                Out::Send {
+                    to: their_to,
+                    message: their_message,
+                },
+            ) => { to == their_to && message.is_same(their_message) }
+            (
+                Out::Answer { ticket, answer },
+                Out::Answer {
+                    ticket: their_ticket,
+                    answer: their_answer,
+                },
+            ) => ticket == their_ticket && answer.is_same(their_answer),
+            _ => false,
+        }
+    }
+}
+
 /// What a node did: the ticket of an accepted ask, its outs in order, and why a message was
 /// ignored.
 #[derive(Debug, Drop)]
@@ -34,4 +56,12 @@ pub struct Step {
     pub ticket: Option<Ticket>,
     pub outs: Items<Out>,
     pub ignored: Option<Why>,
+}
+
+impl Same for Step {
+    fn is_same(&self, other: &Self) -> bool {
+        self.ticket == other.ticket
+            && self.outs.is_same(&other.outs)
+            && self.ignored == other.ignored
+    }
 }

@@ -8,6 +8,7 @@ mod list;
 mod name;
 mod number;
 mod refusal;
+mod same;
 
 pub use copied::{Copied, copies_of};
 pub use key::{Key, Value};
@@ -15,3 +16,4 @@ pub use list::Items;
 pub use name::{NodeName, ObjectId};
 pub use number::{ChainId, ClientId, Epoch, NodeId, Pass, RequestNo, Seq, Stamp, Ticket, Version};
 pub use refusal::Refusal;
+pub use same::{Same, are_same};

@@ -1,4 +1,4 @@
-ghost use Rattle.std.specs.Prelude.{◌≡◌, ◌≢◌, ◌++◌, Err, OnOk};
+ghost use Rattle.std.specs.Prelude.{◌≡◌, ◌≢◌, ◌++◌, Err, OnOk, OnErr};
 ghost use Rattle.std.specs.Int.{w8, w16, w32, w64};
 ghost use Rattle.craq_codec.specs.NumberReading.{Gives, bytes_at, number_at};
 ghost use Rattle.craq_codec.specs.NumberSpelling.{number};
@@ -81,34 +81,38 @@ pub fn read_bytes(count: usize, bytes: &[u8]) -> Result<(&[u8], &[u8]), Unread>
     Ok(bytes.split_at(count))
 }
 
-/// Writes a byte at the end. It fails for want of memory alone.
+/// Writes a byte at the end. It fails for want of memory alone, and the bytes are then as before.
 #[tactic(auto, unfolding(crate::specs::NumberSpelling::number))]
 pub fn write_u8(out: &mut BytesMut, n: u8) -> Result<(), AllocError>
-    ensures { OnOk result (out.new.items ≡ out.old.items ++ number w8 n) }
+    ensures spelled { OnOk result (out.new.items ≡ out.old.items ++ number w8 n) }
+    ensures same { OnErr result (out.new.items ≡ out.old.items) }
 {
     out.put_u8(n)
 }
 
-/// Writes a number as 2 bytes at the end. It fails for want of memory alone.
+/// Writes a number as 2 bytes at the end. It fails for want of memory alone, and the bytes are then as before.
 #[tactic(auto, unfolding(crate::specs::NumberSpelling::number))]
 pub fn write_u16(out: &mut BytesMut, n: u16) -> Result<(), AllocError>
-    ensures { OnOk result (out.new.items ≡ out.old.items ++ number w16 n) }
+    ensures spelled { OnOk result (out.new.items ≡ out.old.items ++ number w16 n) }
+    ensures same { OnErr result (out.new.items ≡ out.old.items) }
 {
     out.put_u16(n)
 }
 
-/// Writes a number as 4 bytes at the end. It fails for want of memory alone.
+/// Writes a number as 4 bytes at the end. It fails for want of memory alone, and the bytes are then as before.
 #[tactic(auto, unfolding(crate::specs::NumberSpelling::number))]
 pub fn write_u32(out: &mut BytesMut, n: u32) -> Result<(), AllocError>
-    ensures { OnOk result (out.new.items ≡ out.old.items ++ number w32 n) }
+    ensures spelled { OnOk result (out.new.items ≡ out.old.items ++ number w32 n) }
+    ensures same { OnErr result (out.new.items ≡ out.old.items) }
 {
     out.put_u32(n)
 }
 
-/// Writes a number as 8 bytes at the end. It fails for want of memory alone.
+/// Writes a number as 8 bytes at the end. It fails for want of memory alone, and the bytes are then as before.
 #[tactic(auto, unfolding(crate::specs::NumberSpelling::number))]
 pub fn write_u64(out: &mut BytesMut, n: u64) -> Result<(), AllocError>
-    ensures { OnOk result (out.new.items ≡ out.old.items ++ number w64 n) }
+    ensures spelled { OnOk result (out.new.items ≡ out.old.items ++ number w64 n) }
+    ensures same { OnErr result (out.new.items ≡ out.old.items) }
 {
     out.put_u64(n)
 }

@@ -85,7 +85,7 @@ unfolding removal_progress removal_step
 removal_said c id step member stopped h =
     rw (member, stopped) (two_tests (length c.members == 1) (c.epoch == greatest) LastNode Exhausted (told_step c.chain (c.epoch + 1) (without c.members id)) step (removal_told c id) (next_epoch c (without c.members id), step) (λ e. rw e refl) h)
 
-removal_made : (m n : Mastered) (stopped : NodeName) → removed m stopped ≡ Ok n → n ≡ record m { epoch = m.epoch + 1; members = without m.members stopped.node }
+pub removal_made : (m n : Mastered) (stopped : NodeName) → removed m stopped ≡ Ok n → n ≡ record m { epoch = m.epoch + 1; members = without m.members stopped.node }
 unfolding removed
 removal_made m n stopped h = grind arith
 

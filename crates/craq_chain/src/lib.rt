@@ -11,3 +11,4 @@ mod nodes;
 
 pub use chain::ChainCore;
 pub use limits::keep_limits;
+pub use masters::{announce, plan_join, plan_removal};

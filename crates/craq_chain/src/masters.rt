@@ -60,7 +60,7 @@ pub(crate) fn telling(
 
 /// The master tells the present members the membership. It fails for want of memory alone (`Memory`).
 #[tactic(auto, using(crate::proofs::Told::telling_spelled))]
-pub(crate) fn announce(alloc: Global, master: &Master) -> Result<Step, Refusal>
+pub fn announce(alloc: Global, master: &Master) -> Result<Step, Refusal>
     ensures ok { IfOk result (λ step. step ≡ told_step master.now.chain master.now.epoch master.now.members) }
     ensures err { IfErr result (λ e. e ≡ Refusal.Memory) }
     ensures spelled { IfOk result (λ step. AreSpelled step.outs) }
@@ -99,9 +99,11 @@ fn stopped_member<C: Core>(cores: &[C], master: &Master, id: NodeId) -> Result<S
     }
 }
 
-/// The step in which the master tells the membership without this member.
+/// The step in which the master tells the membership without this member. Refused for the first of these that
+/// applies: `LastNode` where there is one member, `Exhausted` where the epoch is 2^64 - 1, `Memory` where a growth
+/// was refused.
 #[tactic(auto, unfolding(crate::specs::Parts::removal_step))]
-fn plan_removal(alloc: Global, master: &Master, id: NodeId) -> Result<Step, Refusal>
+pub fn plan_removal(alloc: Global, master: &Master, id: NodeId) -> Result<Step, Refusal>
     ensures step { Plans result (removal_step master.now id) }
     ensures mastered { IsMastered master.now }
 {
@@ -124,9 +126,11 @@ fn plan_removal(alloc: Global, master: &Master, id: NodeId) -> Result<Step, Refu
     Ok(step)
 }
 
-/// The step in which the master tells the membership with this node after the last.
+/// The step in which the master tells the membership with this node after the last. Refused for the first of these
+/// that applies: `ChainFull` where there are 8 members, `Exhausted` where the epoch is 2^64 - 1, `Memory` where a
+/// growth was refused.
 #[tactic(auto, unfolding(crate::specs::Parts::join_step))]
-fn plan_join(alloc: Global, master: &Master, id: NodeId) -> Result<Step, Refusal>
+pub fn plan_join(alloc: Global, master: &Master, id: NodeId) -> Result<Step, Refusal>
     ensures { Plans result (join_step master.now id) }
 {
     let config = master.config();

@@ -77,6 +77,13 @@ impl Master {
         &self.config
     }
 
+    /// The ids that ever were members, in the order of joining. It takes no memory.
+    pub fn used(&self) -> &[NodeId]
+        ensures { result.now ≡ self.now.used }
+    {
+        self.used.as_slice()
+    }
+
     /// Adds a node after the last member. Refused, with nothing changed, for the first of these that applies:
     /// `UsedId` where the id is 0 or ever was a member, `ChainFull` where there are 8 members, `Exhausted`
     /// where the epoch is 2^64 - 1, `Memory` where a growth was refused.

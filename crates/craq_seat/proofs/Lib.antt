@@ -1,0 +1,6 @@
+pub mod Taking
+pub mod Senders
+pub mod Sending
+pub mod Spoken
+pub mod Keeping
+pub mod Booking

@@ -1,0 +1,87 @@
+-- Calls that wait at a desk, and what a step answers of them.
+use Rattle.std.specs.Prelude.{◌≡◌, ℕ, ◌==◌, not, Bool, false, List, [], ◌∷◌, ◌++◌, filter, find, flat_map, Option, Some, None, Result, Ok, Err, IsErr, Vec}
+use Rattle.std.specs.List.{list_any}
+use Rattle.std.specs.declared.alloc.AllocError.{AllocError}
+use Rattle.std.specs.declared.alloc.Global.{Global}
+use Rattle.craq_names.specs.declared.refusal.Refusal.{Refusal}
+use Rattle.craq_model.specs.declared.ask.Answer.{Answer}
+use Rattle.craq_model.specs.declared.ask.Ask.{Ask}
+use Rattle.craq_model.specs.declared.ask.Event.{Event}
+use Rattle.craq_model.specs.declared.ask.Event.TheVariants as events
+use Rattle.craq_model.specs.declared.step.Out.{Out}
+use Rattle.craq_model.specs.declared.step.Out.TheVariants as outs
+use Rattle.craq_model.specs.declared.step.Step.{Step}
+use Rattle.craq_seat.specs.declared.calls.Call.{Call}
+use Rattle.craq_seat.specs.declared.journal.Receipt.{Receipt}
+use Rattle.craq_seat.specs.Cells.{Celled}
+
+-- a call with its answer
+pub record Called : Type 0 where
+  pub call : Call
+  pub answered : Receipt  -- the step that answered it
+  pub answer : Answer
+
+-- a cell and the calls that wait at it, in the order of asking
+pub record Desked (C : Type 0) : Type 0 where
+  pub cell : Celled C Event
+  pub waiting : List Call
+
+-- the ask of an event, if it is one
+abbrev pub ask_of : Event → Option Ask
+ask_of (events.Ask ask) = Some ask
+ask_of (events.Deliver m) = None
+ask_of events.Tick = None
+ask_of events.Stop = None
+
+-- the call that a step accepts, if there is an ask and it has its ticket
+abbrev pub accepted : Option Ask → Option ℕ → Receipt → ℕ → List Call
+accepted None ticket receipt pass = []
+accepted (Some ask) None receipt pass = []
+accepted (Some ask) (Some ticket) receipt pass = record { asked = receipt; ticket = ticket; pass = pass; ask = ask } ∷ []
+
+-- the call that waits under a ticket
+abbrev pub call_under : List Call → ℕ → Option Call
+call_under calls ticket = find (λ (call : Call). call.ticket == ticket) calls
+
+-- a call is answered, if there is one
+abbrev pub answered_call : Option Call → Receipt → Answer → List Called
+answered_call None receipt answer = []
+answered_call (Some call) receipt answer = record { call = call; answered = receipt; answer = answer } ∷ []
+
+-- an answer to a waiting call is its call receipt
+abbrev pub called_by : List Call → Receipt → Out → List Called
+called_by calls receipt (outs.Send to m) = []
+called_by calls receipt (outs.Answer ticket answer) = answered_call (call_under calls ticket) receipt answer
+
+-- the call receipts of a step, in its order
+abbrev pub called_in : List Call → Receipt → List Out → List Called
+called_in calls receipt os = flat_map (called_by calls receipt) os
+
+abbrev pub answers_to : ℕ → Out → Bool
+answers_to ticket (outs.Send to m) = false
+answers_to ticket (outs.Answer t answer) = t == ticket
+
+-- the calls that no out answers
+abbrev pub waiting_after : List Call → List Out → List Call
+waiting_after calls os = filter (λ (call : Call). not (list_any (answers_to call.ticket) os)) calls
+
+-- the calls of a step are answered, and the others wait on; without memory the calls that it would accept or answer are dropped
+abbrev pub Serves : List Call → List Call → List Call → Receipt → List Out → Result (Vec Called Global) AllocError → Type 0
+Serves old new accepted receipt os (Ok receipts) =
+    (receipts.items ≡ called_in (old ++ accepted) receipt os) × (new ≡ waiting_after (old ++ accepted) os)
+Serves old new accepted receipt os (Err e) = new ≡ waiting_after old os
+
+-- the same, where the ask may not have been kept for want of memory
+abbrev pub ServesAsked : List Call → List Call → Result (Option Ask) AllocError → Option ℕ → Receipt → ℕ → List Out → Result (Vec Called Global) AllocError → Type 0
+ServesAsked old new (Ok ask) ticket receipt pass os result = Serves old new (accepted ask ticket receipt pass) receipt os result
+ServesAsked old new (Err e) ticket receipt pass os result = IsErr result × (new ≡ waiting_after old os)
+
+-- the calls of a step that was taken are served, or dropped for want of memory
+abbrev pub CallsOf : List Call → List Call → Event → Receipt → ℕ → Step → Result (Vec Called Global) AllocError → Type 0
+CallsOf old new event receipt pass step (Ok receipts) = Serves old new (accepted (ask_of event) step.ticket receipt pass) receipt step.outs (Ok receipts)
+CallsOf old new event receipt pass step (Err e) = new ≡ waiting_after old step.outs
+
+-- the receipt of a step that was taken, or its refusal
+abbrev pub receipt_in : {X : Type 0} → Result (Receipt × X) Refusal → Result Receipt Refusal
+receipt_in (Ok r) = Ok r.0
+receipt_in (Err e) = Err e

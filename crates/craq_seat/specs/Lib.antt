@@ -1,0 +1,10 @@
+pub mod Stamps
+pub mod Journal
+pub mod Numbered
+pub mod Cells
+pub mod Kept
+pub mod Books
+pub mod Taken
+pub mod Calls
+pub mod Merge
+pub mod Audits

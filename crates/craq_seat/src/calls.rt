@@ -1,0 +1,234 @@
+ghost use Rattle.std.specs.Prelude.{◌≡◌, ◌++◌, IfOk, OnErr, OnOk};
+ghost use Rattle.std.specs.List.{list_any};
+ghost use Rattle.std.specs.Option.{option_copied};
+ghost use Rattle.craq_seat.specs.Calls.{ServesAsked, accepted, answers_to, ask_of, call_under, called_in, waiting_after};
+
+use crate::Receipt;
+use craq_model::{Answer, Ask, Event, Out, Step};
+use craq_names::{Copied, Pass, Ticket};
+use std::alloc::{AllocError, Global};
+use std::marker::Model;
+
+/// An ask that a node accepted and has not answered: the step that accepted it, its ticket there, and the pass
+/// that was shown with it.
+#[derive(Debug, Drop)]
+pub struct Call {
+    pub asked: Receipt,
+    pub ticket: Ticket,
+    pub pass: Pass,
+    pub ask: Ask,
+}
+
+impl Copied for Call {
+    fn copied(&self, alloc: Global) -> Result<Self, AllocError> {
+        Ok(Call {
+            asked: self.asked,
+            ticket: self.ticket,
+            pass: self.pass,
+            ask: self.ask.copied(alloc)?,
+        })
+    }
+}
+
+/// A call with its answer and the step that gave it: what a desk, which alone makes these, tells of both.
+#[derive(Debug, Drop)]
+pub struct CallReceipt {
+    call: Call,
+    answered: Receipt,
+    answer: Answer,
+}
+
+impl Model for CallReceipt {
+    ghost use Rattle.craq_seat.specs.Calls.{Called};
+
+    ghost Value = { Called };
+
+    ghost view = { λ c. record { call = c.call; answered = c.answered; answer = c.answer } };
+}
+
+impl CallReceipt {
+    /// The step that accepted the ask.
+    pub fn asked(&self) -> Receipt
+        ensures { result ≡ self.now.call.asked }
+    {
+        self.call.asked
+    }
+
+    /// The step that answered it.
+    pub fn answered(&self) -> Receipt
+        ensures { result ≡ self.now.answered }
+    {
+        self.answered
+    }
+
+    /// The ask's ticket at its node.
+    pub fn ticket(&self) -> Ticket
+        ensures { result ≡ self.now.call.ticket }
+    {
+        self.call.ticket
+    }
+
+    /// The pass that was shown with the ask.
+    pub fn pass(&self) -> Pass
+        ensures { result ≡ self.now.call.pass }
+    {
+        self.call.pass
+    }
+
+    /// What was asked.
+    pub fn ask(&self) -> &Ask
+        ensures { result.now ≡ self.now.call.ask }
+    {
+        &self.call.ask
+    }
+
+    /// What was answered.
+    pub fn answer(&self) -> &Answer
+        ensures { result.now ≡ self.now.answer }
+    {
+        &self.answer
+    }
+}
+
+/// What an event asks, if it does, in memory of its own.
+pub(crate) fn ask_of(alloc: Global, event: &Event) -> Result<Option<Ask>, AllocError>
+    ensures { IfOk result (λ ask. ask ≡ ask_of event.now) }
+{
+    match event {
+        Event::Ask(ask) => Ok(Some(ask.copied(alloc)?)),
+        Event::Deliver(_) => Ok(None),
+        Event::Tick => Ok(None),
+        Event::Stop => Ok(None),
+    }
+}
+
+/// The call that waits under this ticket.
+fn call_under(calls: &[Call], ticket: Ticket) -> Option<&Call>
+    ensures { option_copied result ≡ call_under calls.now ticket }
+{
+    for call in calls {
+        if call.ticket == ticket {
+            return Some(call);
+        }
+    }
+    None
+}
+
+/// The call receipts of the outs, in order.
+fn called_in(
+    alloc: Global,
+    calls: &[Call],
+    outs: &[Out],
+    answered: Receipt,
+) -> Result<Vec<CallReceipt>, AllocError>
+    ensures { IfOk result (λ receipts. receipts.items ≡ called_in calls.now answered outs.now) }
+{
+    let mut receipts = Vec::new(alloc);
+    for out in outs {
+        if let Out::Answer { ticket, answer } = out {
+            if let Some(call) = call_under(calls, *ticket) {
+                receipts.push(CallReceipt {
+                    call: call.copied(alloc)?,
+                    answered,
+                    answer: answer.copied(alloc)?,
+                })?;
+            }
+        }
+    }
+    Ok(receipts)
+}
+
+/// Whether one of the outs answers the ticket.
+fn is_answered(outs: &[Out], ticket: Ticket) -> bool
+    ensures { result ≡ list_any (answers_to ticket) outs.now }
+{
+    for out in outs {
+        if let Out::Answer { ticket: own, .. } = out {
+            if *own == ticket {
+                return true;
+            }
+        }
+    }
+    false
+}
+
+/// Leaves the calls that no out answers.
+fn forget_answered(waiting: &mut Vec<Call>, outs: &[Out])
+    ensures { waiting.new.items ≡ waiting_after waiting.old.items outs.now }
+{
+    waiting.retain(|call| !is_answered(outs, call.ticket));
+}
+
+/// The accepted ask waits from now on, if there is one.
+fn accept(
+    waiting: &mut Vec<Call>,
+    asked: Option<Ask>,
+    ticket: Option<Ticket>,
+    receipt: Receipt,
+    pass: Pass,
+) -> Result<(), AllocError>
+    ensures ok { OnOk result (waiting.new.items ≡ waiting.old.items ++ accepted asked ticket receipt pass) }
+    ensures err { OnErr result (waiting.new.items ≡ waiting.old.items) }
+{
+    let Some(ask) = asked else {
+        return Ok(());
+    };
+    let Some(ticket) = ticket else {
+        drop(ask);
+        return Ok(());
+    };
+    waiting.push(Call {
+        asked: receipt,
+        ticket,
+        pass,
+        ask,
+    })?;
+    Ok(())
+}
+
+/// The accepted ask waits, and the call receipts of the step are made. Without memory nothing changes.
+fn answer_calls(
+    alloc: Global,
+    waiting: &mut Vec<Call>,
+    asked: Option<Ask>,
+    receipt: &Receipt,
+    pass: Pass,
+    step: &Step,
+) -> Result<Vec<CallReceipt>, AllocError>
+    ensures receipts { IfOk result (λ receipts. receipts.items ≡ called_in (waiting.old.items ++ accepted asked step.now.ticket receipt.now pass) receipt.now step.now.outs) }
+    ensures ok { OnOk result (waiting.new.items ≡ waiting.old.items ++ accepted asked step.now.ticket receipt.now pass) }
+    ensures err { OnErr result (waiting.new.items ≡ waiting.old.items) }
+{
+    let before = waiting.len();
+    accept(waiting, asked, step.ticket, *receipt, pass)?;
+    let receipts = called_in(alloc, waiting.as_slice(), step.outs.as_slice(), *receipt);
+    if receipts.is_err() {
+        waiting.truncate(before);
+    }
+    receipts
+}
+
+/// The calls of a step: the accepted ask waits from now on, and each waiting call that the step answers has its
+/// receipt and waits no more. Without memory the calls that the step accepts or answers are dropped.
+pub(crate) fn serve(
+    alloc: Global,
+    waiting: &mut Vec<Call>,
+    asked: Result<Option<Ask>, AllocError>,
+    receipt: &Receipt,
+    pass: Pass,
+    step: &Step,
+) -> Result<Vec<CallReceipt>, AllocError>
+    ensures { ServesAsked waiting.old.items waiting.new.items asked step.now.ticket receipt.now pass step.now.outs result }
+{
+    match asked {
+        Err(_) => {
+            forget_answered(waiting, step.outs.as_slice());
+            Err(AllocError)
+        }
+        Ok(asked) => {
+            let calls = answer_calls(alloc, waiting, asked, receipt, pass, step);
+            forget_answered(waiting, step.outs.as_slice());
+            calls
+        }
+    }
+}

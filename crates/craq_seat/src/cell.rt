@@ -1,0 +1,204 @@
+ghost use Rattle.std.specs.Prelude.{◌≡◌, ◌<◌, IfOk, IfErr, IfSome, IsNone, IsOk, OnOk, vec_capacity, vec_len};
+ghost use Rattle.std.specs.Option.{option_copied};
+ghost use Rattle.craq_model.specs.Plain.{Plain};
+ghost use Rattle.craq_node.specs.Represented.{CanArrive, CanOpen, IsFree, opening_of};
+ghost use Rattle.craq_node_invariant.specs.Sound.{AreSpelled};
+ghost use Rattle.craq_seat.specs.Cells.{opened, receipt_of, with_inside};
+ghost use Rattle.craq_seat.specs.Kept.{IsKept};
+ghost use Rattle.craq_seat.specs.Numbered.{CanBeSent};
+ghost use Rattle.craq_seat.specs.Stamps.{event_stamp, next_stamp};
+ghost use Rattle.craq_seat.specs.Taken.{AnswersAfter, TakesEvent};
+
+use crate::stamps::{event_stamp, next_stamp};
+use crate::{Opening, Receipt, Record};
+use craq_epochs::Switch;
+use craq_model::{Config, Event, Step};
+use craq_names::{Copied, NodeName, Pass, Refusal, Stamp};
+use craq_node::Core;
+use std::alloc::{AllocError, Global};
+use std::marker::Model;
+
+/// A node with a stamp for each of its steps and, where one is kept, a journal of them: replaying the
+/// journal from the opening gives the node that the core stands for.
+#[derive(Drop)]
+pub struct Cell<C: Core> {
+    opening: Opening,
+    core: C,
+    stamp: Stamp,
+    journal: Option<Vec<Record<Event>>>,
+    last: Option<Step>,
+}
+
+impl<C: Core> Model for Cell<C> {
+    ghost use Rattle.craq_model.specs.declared.ask.Event.{Event};
+    ghost use Rattle.craq_seat.specs.Cells.{Celled};
+    ghost use Rattle.craq_seat.specs.Kept.{IsKept, last_of, records_of};
+
+    ghost Value = { Celled C Event };
+
+    ghost view = { λ c. record { opening = c.opening; inside = c.core; stamp = c.stamp; journal = records_of c.journal; last = last_of c.journal c.last } };
+
+    ghost invariant = { λ c. IsKept C.represents (record { opening = c.opening; inside = c.core; stamp = c.stamp; journal = records_of c.journal; last = last_of c.journal c.last }) };
+}
+
+/// The membership in memory of its own, if there is one.
+fn copy_of(alloc: Global, config: Option<&Config>) -> Result<Option<Config>, AllocError>
+    ensures { IfOk result (λ copy. copy ≡ option_copied config.entry) }
+{
+    match config {
+        None => Ok(None),
+        Some(config) => Ok(Some(config.copied(alloc)?)),
+    }
+}
+
+/// A step of the core, once there is room for its record in the journal. The journal stays as it is.
+fn noted_step<C: Core>(
+    alloc: Global,
+    core: &mut C,
+    journal: &mut Vec<Record<Event>>,
+    event: &Event,
+) -> Result<Step, Refusal>
+    requires { CanArrive event.now }
+    ensures step { (p : Plain) → C.represents core.old p → AnswersAfter (C.represents core.new) p event.now result }
+    ensures spelled { IfOk result (λ step. AreSpelled step.outs) }
+    ensures same { journal.new.items ≡ journal.old.items }
+    ensures room { OnOk result (vec_len journal.new < vec_capacity journal.new) }
+{
+    journal.reserve(1)?;
+    let copy = event.copied(alloc)?;
+    core.step(alloc, copy)
+}
+
+impl<C: Core> Cell<C> {
+    /// A node before its first step, in a cell that keeps a journal or none and whose stamps exceed this one.
+    /// With a membership, which has epoch 1 and the node in it: a ready member with an empty history. Without
+    /// one: a node that joins later, and is not ready. It is refused for want of memory alone (`Memory`).
+    pub fn open(
+        alloc: Global,
+        name: NodeName,
+        config: Option<&Config>,
+        journal: bool,
+        stamp: Stamp,
+    ) -> Result<Self, Refusal>
+        requires { CanOpen name (option_copied config) }
+        ensures cell { IfOk result (λ c. c ≡ opened (record { name = name; config = option_copied config.entry; stamp = stamp }) journal c.inside) }
+        ensures core { IfOk result (λ c. C.represents c.inside (opening_of name (option_copied config.entry))) }
+        ensures err { IfErr result (λ e. e ≡ Refusal.Memory) }
+    {
+        let core = C::open(alloc, name, config)?;
+        let config = copy_of(alloc, config)?;
+        Ok(Cell {
+            opening: Opening {
+                name,
+                config,
+                stamp,
+            },
+            core,
+            stamp,
+            journal: if journal { Some(Vec::new(alloc)) } else { None },
+            last: None,
+        })
+    }
+
+    /// One step of the node, under the next stamp: 1 above the largest of the cell's stamp, the pass and, for
+    /// a delivery, the message's stamp (this project's profile). The step is the node's own, for each plain node
+    /// that the core stands for; it is what `last` then lends, and the journal has just it in addition. A
+    /// delivered message has to have a spelling.
+    ///
+    /// Refused, with nothing changed, for the first of these that applies: `Exhausted` where that largest stamp
+    /// is 2^64 - 1; `Memory` where a journal is kept and there is no room for the step in it; what the node's own
+    /// step is refused for (`Core::step`), its want of memory last. Without a journal a stop of a running node and a
+    /// message that is ignored take no memory.
+    pub fn take(&mut self, alloc: Global, event: Event, pass: Pass) -> Result<Receipt, Refusal>
+        requires { CanArrive event }
+        ensures step { (p : Plain) → C.represents self.old.inside p → TakesEvent C.represents self.new (with_inside self.old p) event pass result }
+        ensures receipt { IfOk result (λ receipt. receipt ≡ receipt_of self.new) }
+        ensures kept { IsKept C.represents self.new }
+        ensures free { (p : Plain) → C.represents self.old.inside p → IsFree p event → IsNone self.old.journal → IsOk (next_stamp self.old.stamp pass (event_stamp event)) → IsOk result }
+    {
+        let stamp = match next_stamp(self.stamp, pass, event_stamp(&event)) {
+            Err(refusal) => {
+                drop(event);
+                return Err(refusal);
+            }
+            Ok(stamp) => stamp,
+        };
+        let receipt = Receipt {
+            node: self.opening.name.node,
+            stamp,
+        };
+        match &mut self.journal {
+            Some(journal) => match noted_step(alloc, &mut self.core, journal, &event) {
+                Err(refusal) => {
+                    drop(event);
+                    Err(refusal)
+                }
+                Ok(step) => {
+                    journal.push_reserved(Record {
+                        stamp,
+                        event,
+                        pass,
+                        step,
+                    });
+                    self.stamp = stamp;
+                    Ok(receipt)
+                }
+            },
+            None => match self.core.step(alloc, event) {
+                Err(refusal) => Err(refusal),
+                Ok(step) => {
+                    self.last = Some(step);
+                    self.stamp = stamp;
+                    Ok(receipt)
+                }
+            },
+        }
+    }
+
+    /// The last step, if there was one. Under its receipt (`numbered`) all that it sends has a spelling. It takes
+    /// no memory.
+    pub fn last(&self) -> Option<&Step>
+        ensures value { option_copied result ≡ self.now.last }
+        ensures sends { IfSome self.now.last (λ step. CanBeSent (receipt_of self.now) step.outs) }
+    {
+        match &self.journal {
+            Some(journal) => match journal.last() {
+                Some(record) => Some(&record.step),
+                None => None,
+            },
+            None => self.last.as_ref(),
+        }
+    }
+
+    /// The journal, where one is kept. It takes no memory.
+    pub fn journal(&self) -> Option<&[Record<Event>]>
+        ensures value { option_copied result ≡ self.now.journal }
+        ensures kept { IsKept C.represents self.now }
+    {
+        match &self.journal {
+            Some(journal) => Some(journal.as_slice()),
+            None => None,
+        }
+    }
+
+    /// The stamp of the last step; the opening's where there is none. It takes no memory.
+    pub fn stamp(&self) -> Stamp
+        ensures { result ≡ self.now.stamp }
+    {
+        self.stamp
+    }
+
+    /// How the cell was opened. It takes no memory.
+    pub fn opening(&self) -> &Opening
+        ensures { result.now ≡ self.now.opening }
+    {
+        &self.opening
+    }
+
+    /// The node's switch, stopped exactly where the node does not run. It takes no memory.
+    pub fn switch(&self) -> &Switch
+        ensures { (p : Plain) → C.represents self.now.inside p → result.now ≡ record { name = p.name; running = p.running } }
+    {
+        self.core.switch()
+    }
+}

@@ -1,0 +1,60 @@
+ghost use Rattle.std.specs.Prelude.{◌≡◌, Ok};
+ghost use Rattle.craq_epochs.specs.Mastered.{IsMastered, joined, removed};
+ghost use Rattle.craq_seat.specs.Books.{Turns, book_step, tells};
+
+use crate::BookEvent;
+use craq_chain::{announce, plan_join, plan_removal};
+use craq_epochs::{Master, StopReceipt, is_among};
+use craq_model::Step;
+use craq_names::{NodeId, Refusal};
+use std::alloc::Global;
+
+/// A new node joins after the last member, and all of them are told. What is told is made first, so that a
+/// growth that is refused changes nothing.
+#[tactic(auto, unfolding(craq_epochs::specs::Mastered::joined))]
+fn join(alloc: Global, master: &mut Master, id: NodeId) -> Result<Step, Refusal>
+    ensures { Turns master.old master.new result (tells (joined master.old id)) }
+{
+    if id.get() == 0 || is_among(master.used(), id) {
+        return Err(Refusal::UsedId);
+    }
+    let step = plan_join(alloc, master, id)?;
+    master.join(id)?;
+    Ok(step)
+}
+
+/// A stopped member goes, and the others are told. What is told is made first, likewise.
+#[tactic(auto, unfolding(craq_epochs::specs::Mastered::removed))]
+fn remove(alloc: Global, master: &mut Master, stopped: StopReceipt) -> Result<Step, Refusal>
+    ensures { Turns master.old master.new result (tells (removed master.old stopped)) }
+{
+    let name = stopped.name();
+    let members = master.config().members.as_slice();
+    if name.chain != master.chain() || !is_among(members, name.node) {
+        return Err(Refusal::NotMember);
+    }
+    let step = plan_removal(alloc, master, name.node)?;
+    master.remove(stopped)?;
+    Ok(step)
+}
+
+/// What happens at a master.
+fn act(alloc: Global, master: &mut Master, event: BookEvent) -> Result<Step, Refusal>
+    ensures { Turns master.old master.new result (book_step master.old event) }
+{
+    match event {
+        BookEvent::Join(id) => join(alloc, master, id),
+        BookEvent::Remove { stopped, .. } => remove(alloc, master, stopped),
+        BookEvent::Tick => announce(alloc, master),
+    }
+}
+
+/// The same, and the master has a membership after it. Refused as `BookCell::take` says, with nothing changed.
+pub(crate) fn turn(alloc: Global, master: &mut Master, event: BookEvent) -> Result<Step, Refusal>
+    ensures step { Turns master.old master.new result (book_step master.old event) }
+    ensures mastered { IsMastered master.new }
+{
+    let turned = act(alloc, master, event);
+    master.config();
+    turned
+}

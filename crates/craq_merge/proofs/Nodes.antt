@@ -1,0 +1,82 @@
+-- The nodes of a chain by their ids, as its moves change them.
+use Rattle.std.proofs.Common.{◌≡◌, ◌≢◌, ◌<◌, ◌≤◌, ◌+◌, ◌++◌, ◌==◌, ◌⊎◌, ℕ, true, false, List, [], ◌∷◌, length, map, Some, None, Result, Ok, Err, refl, subst, arith, inl, inr}
+use Rattle.std.specs.Prelude.{⊤}
+use Rattle.std.proofs.lemmas.Bool.{cases_Bool, eqb-false, eqb-true}
+use Rattle.craq_names.specs.Limits.{greatest}
+use Rattle.craq_names.specs.declared.refusal.Refusal.{Refusal}
+use Rattle.craq_model.specs.declared.ask.Event.{Event}
+use Rattle.craq_model.specs.declared.ask.Event.TheVariants as events
+use Rattle.craq_model.specs.declared.message.LinkMessage.{LinkMessage}
+use Rattle.craq_model.specs.declared.step.Step.{Step}
+use Rattle.craq_model.specs.Plain.{Plain, id_of}
+use Rattle.craq_model.specs.Settle.{Turn}
+use Rattle.craq_model.specs.Node.{node_step}
+use Rattle.craq_runs.specs.declared.run.Move.{Move}
+use Rattle.craq_runs.specs.Chain.{Chain, chain_step, move_progress, node_at, set_node, numbers_left, sent_in}
+
+pub same_or_not : (a b : ℕ) → (a ≡ b) ⊎ (a ≢ b)
+same_or_not a b = elim (cases_Bool (a == b)) [ inl e ↦ inl (eqb-true a b e) | inr e ↦ inr (eqb-false a b e) ]
+
+-- the node of an id has that id
+pub own_id : (ps : List Plain) (id : ℕ) (p : Plain) → node_at ps id ≡ Some p → id_of p ≡ id
+unfolding node_at
+own_id [] id p h = cc
+own_id (q ∷ ps) id p h = grind (arith, own_id ps id p)
+
+-- a step keeps the ids
+pub set_ids : (ps : List Plain) (q : Plain) → map id_of (set_node ps q) ≡ map id_of ps
+unfolding set_node
+set_ids [] q = refl
+set_ids (p ∷ ps) q = grind (arith, set_ids ps q, eqb-true (id_of p) (id_of q))
+
+-- a new node is found, and others as before
+pub pushed_old : (ps : List Plain) (q : Plain) (id : ℕ) (p : Plain) → node_at ps id ≡ Some p → node_at (ps ++ q ∷ []) id ≡ Some p
+unfolding node_at
+pushed_old [] q id p h = cc
+pushed_old (r ∷ ps) q id p h = grind (arith, pushed_old ps q id p)
+
+pub pushed_new : (ps : List Plain) (q : Plain) → node_at ps (id_of q) ≡ None → node_at (ps ++ q ∷ []) (id_of q) ≡ Some q
+unfolding node_at
+pushed_new [] q h = grind arith
+pushed_new (r ∷ ps) q h = grind (arith, h, pushed_new ps q)
+
+pub pushed_other : (ps : List Plain) (q : Plain) (id : ℕ) → id_of q ≢ id → node_at (ps ++ q ∷ []) id ≡ node_at ps id
+unfolding node_at
+pushed_other [] q id n = grind (arith, n)
+pushed_other (r ∷ ps) q id n = grind (arith, n, pushed_other ps q id n)
+
+-- ---- steps that are taken
+
+-- only a running node takes one
+pub runs : (p q : Plain) (e : Event) (s : Step) → node_step p e ≡ Ok (q, s) → p.running ≡ true
+unfolding node_step
+runs p q e s h = grind (arith, h)
+
+-- a message is for the node that takes it
+pub is_receiver : (p q : Plain) (m : LinkMessage) (s : Step) → node_step p (events.Deliver m) ≡ Ok (q, s) → m.receiver ≡ id_of p
+unfolding node_step
+is_receiver p q m s h = grind (arith, h, eqb-true m.receiver (id_of p))
+
+-- the node of a stop runs no more
+abbrev IsHalted : Result Turn Refusal → Type 0
+IsHalted (Ok t) = t.0.running ≡ false
+IsHalted (Err e) = ⊤
+
+stop_halts : (p : Plain) → IsHalted (node_step p events.Stop)
+unfolding node_step
+stop_halts p = grind arith
+
+pub halts : (p q : Plain) (s : Step) → node_step p events.Stop ≡ Ok (q, s) → q.running ≡ false
+halts p q s h = subst IsHalted h (stop_halts p)
+
+-- the chain after a move that led to this one, with the move and its messages counted
+abbrev pub counted : Chain → Chain → Step → Chain
+counted c x step = record x { messages = c.messages ++ sent_in step.outs; moves = c.moves + 1 }
+
+fits : (c : Chain) (step : Step) → c.moves < greatest → length c.messages + length (sent_in step.outs) ≤ greatest → numbers_left c step ≡ true
+unfolding numbers_left
+fits c step h k = grind (arith, h, k)
+
+pub takes : (c x : Chain) (m : Move) (step : Step) → move_progress c m ≡ Ok (x, step) → c.moves < greatest → length c.messages + length (sent_in step.outs) ≤ greatest → chain_step c m ≡ Ok (counted c x step, step)
+unfolding chain_step
+takes c x m step h k l = rw (h, fits c step k l) refl

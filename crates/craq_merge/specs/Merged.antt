@@ -1,0 +1,28 @@
+-- Cells whose merged journals are a run.
+use Rattle.std.specs.Prelude.{◌≤◌, ℕ, List, flat_map, length}
+use Rattle.std.specs.List.{AllByRecursion}
+use Rattle.craq_names.specs.Limits.{greatest}
+use Rattle.craq_model.specs.declared.ask.Event.{Event}
+use Rattle.craq_model.specs.Plain.{Plain}
+use Rattle.craq_epochs.specs.Mastered.{Mastered}
+use Rattle.craq_runs.specs.Chain.{sent_in}
+use Rattle.craq_seat.specs.declared.journal.BookEvent.{BookEvent}
+use Rattle.craq_seat.specs.declared.journal.Record.{Record}
+use Rattle.craq_seat.specs.Audits.{AreKept, AreOfChain, HasSender}
+use Rattle.craq_seat.specs.Books.{IsBook}
+use Rattle.craq_seat.specs.Cells.{Celled}
+use Rattle.craq_seat.specs.Kept.{IsKept}
+use Rattle.craq_seat.specs.Merge.{Journals, Line}
+
+-- the cells of a chain that keep these journals, in which each message that arrived was sent
+pub record AreSeated {C : Type 0} (represents : C → Plain → Type 0) (book : Celled Mastered BookEvent) (cells : List (Celled C Event)) (j : Journals) : Type 0 where
+  pub master : IsBook book
+  pub nodes : AllByRecursion (λ (c : Celled C Event). IsKept represents c) cells
+  pub journals : AreKept book cells j
+  pub chain : AreOfChain book cells j
+  pub sent : AllByRecursion (λ (n : ℕ × List (Record Event)). AllByRecursion (HasSender j) n.1) j.nodes
+
+-- there are numbers for all these steps and for all that they sent
+pub record CanBeNumbered (lines : List Line) : Type 0 where
+  pub moves : length lines ≤ greatest
+  pub messages : length (flat_map (λ (l : Line). sent_in l.step.outs) lines) ≤ greatest

@@ -1,0 +1,109 @@
+//! The journals of a chain's cells are a run: all their steps, by stamp and, under one stamp, by node.
+//! Laws: functions without bodies, whose contracts are the theorems.
+//!
+//! Each contract is a law of journals, or of the cells that keep them (`AreSeated`): a chain's master and one node for
+//! each id that ever was a member, opened as it became one; each removal names the step in which its node stopped, and
+//! each message that arrived was sent.
+#![tactic(auto)]
+
+ghost use Rattle.std.specs.Prelude.{◌≡◌, ◌<◌, ◌≤◌, ℕ, ◌==◌, List, map, filter, Contains, IsPermutation};
+ghost use Rattle.std.specs.List.{AllByRecursion};
+ghost use Rattle.craq_model.specs.declared.ask.Event.{Event};
+ghost use Rattle.craq_epochs.specs.Mastered.{Mastered};
+ghost use Rattle.craq_runs.specs.Runs.{IsRunOf};
+ghost use Rattle.craq_runs.specs.Typed.{IsTypedRunOf};
+ghost use Rattle.craq_runs.specs.Seen.{seen};
+ghost use Rattle.craq_runs.specs.Valid.{IsExplained, OnlyGrows};
+ghost use Rattle.craq_runs.specs.declared.explanation.Explanation.{Explanation};
+ghost use Rattle.craq_runs.specs.declared.explanation.Place.{Place};
+ghost use Rattle.craq_runs.specs.declared.run.Run.{Run};
+ghost use Rattle.craq_seat.specs.declared.journal.BookEvent.{BookEvent};
+ghost use Rattle.craq_seat.specs.declared.journal.Record.{Record};
+ghost use Rattle.craq_seat.specs.Audits.{AreKept, AreOfChain, IsHeld, IsMergedRun};
+ghost use Rattle.craq_seat.specs.Books.{IsBook};
+ghost use Rattle.craq_seat.specs.Calls.{Called};
+ghost use Rattle.craq_seat.specs.Cells.{Celled};
+ghost use Rattle.craq_seat.specs.Journal.{AreStamped};
+ghost use Rattle.craq_seat.specs.Kept.{IsKept};
+ghost use Rattle.craq_seat.specs.Merge.{IsMerge, Journals, Line, all_lines, book_line, node_line, run_of};
+ghost use Rattle.craq_seat.specs.Stamps.{book_stamp, event_stamp};
+ghost use Rattle.craq_merge.specs.Merged.{AreSeated, CanBeNumbered};
+ghost use Rattle.craq_merge.specs.Sorted.{AreSorted};
+ghost use Rattle.craq_merge.specs.Within.{AreAsksOfType, IsWithin, answer_of_call};
+
+use craq_node::Core;
+
+/// A step's stamp is above the pass that was shown and above what its event bears: a message the stamp of its sending, a
+/// removal that of the stop.
+pub fn stamps_exceed_causes()
+    ensures nodes { (first last : ℕ) (rs : List (Record Event)) (r : Record Event) → AreStamped event_stamp first rs last → Contains rs r
+        → (r.pass < r.stamp) × (event_stamp r.event < r.stamp) }
+    ensures masters { (first last : ℕ) (rs : List (Record BookEvent)) (r : Record BookEvent) → AreStamped book_stamp first rs last → Contains rs r
+        → (r.pass < r.stamp) × (book_stamp r.event < r.stamp) }
+{}
+
+/// Journals have one merge at most.
+pub fn one_merge()
+    ensures { (j : Journals) (xs ys : List Line) → IsMerge j xs → IsMerge j ys → xs ≡ ys }
+{}
+
+/// All lines of these journals, sorted by stamp and then by node, are their merge: no two have one stamp and node.
+pub fn sorted_lines_are_the_merge<C: Core>()
+    ensures { (book : Celled Mastered BookEvent) (cells : List (Celled C Event)) (j : Journals) (lines : List Line)
+        → AreSeated C.represents book cells j → IsPermutation (all_lines j) lines → AreSorted lines → IsMerge j lines }
+{}
+
+/// The lines of a node in a merge are its journal, and those of node 0 are the master's.
+pub fn merge_keeps_journals<C: Core>()
+    ensures nodes { (book : Celled Mastered BookEvent) (cells : List (Celled C Event)) (j : Journals) (lines : List Line) (id : ℕ) (rs : List (Record Event))
+        → AreSeated C.represents book cells j → IsMerge j lines → Contains j.nodes (id, rs)
+        → filter (λ (l : Line). l.node == id) lines ≡ map (node_line id) rs }
+    ensures master { (book : Celled Mastered BookEvent) (cells : List (Celled C Event)) (j : Journals) (lines : List Line)
+        → AreSeated C.represents book cells j → IsMerge j lines
+        → filter (λ (l : Line). l.node == 0) lines ≡ map book_line j.book }
+{}
+
+/// The merge of a chain's journals is a run of that chain, if there are numbers for its moves and messages; and a run of
+/// values that the types allow, if the transactions that were asked are.
+pub fn merge_is_a_run<C: Core>()
+    ensures run { (book : Celled Mastered BookEvent) (cells : List (Celled C Event)) (j : Journals) (lines : List Line)
+        → AreSeated C.represents book cells j → IsMerge j lines → CanBeNumbered lines
+        → IsRunOf book.opening.name.chain (run_of j.members lines) }
+    ensures typed { (book : Celled Mastered BookEvent) (cells : List (Celled C Event)) (j : Journals) (lines : List Line)
+        → AreSeated C.represents book cells j → IsMerge j lines → CanBeNumbered lines → AreAsksOfType j
+        → IsTypedRunOf book.opening.name.chain (run_of j.members lines) }
+{}
+
+/// Each call whose ask and answer stand in its node's journal is an ask and its answer in that run, and the ask stands after
+/// each step that the call's pass covers.
+pub fn calls_are_in_the_run<C: Core>()
+    ensures { (book : Celled Mastered BookEvent) (cells : List (Celled C Event)) (j : Journals) (lines : List Line) (call : Called)
+        → AreSeated C.represents book cells j → IsMerge j lines → CanBeNumbered lines → IsHeld j call
+        → IsWithin lines (run_of j.members lines) call }
+{}
+
+/// What an audit may answer as the run of kept cells (`IsMergedRun`) is a run of their chain, and each call receipt that it was
+/// given stands in it.
+pub fn audited_runs_hold<C: Core>()
+    ensures { (book : Celled Mastered BookEvent) (cells : List (Celled C Event)) (j : Journals) (receipts : List Called) (run : Run)
+        → IsBook book → AllByRecursion (λ (c : Celled C Event). IsKept C.represents c) cells → AreKept book cells j → AreOfChain book cells j
+        → (m : IsMergedRun j receipts run) → CanBeNumbered m.merge.0
+        → IsRunOf book.opening.name.chain run × AllByRecursion (λ (c : Called). IsWithin m.merge.0 run c) receipts }
+{}
+
+/// A call that shows a pass which covers an earlier answer is asked after that answer.
+pub fn passes_order_calls()
+    ensures { (lines : List Line) (run : Run) (earlier later : Called) (first : IsWithin lines run earlier) (second : IsWithin lines run later)
+        → earlier.answered.stamp ≤ later.call.pass → first.answered < second.asked }
+{}
+
+/// In an explanation whose list only grows, the place of an answer is not below that of an earlier answer which the call's
+/// pass covers.
+pub fn later_answers_are_no_older()
+    ensures { (members : List ℕ) (lines : List Line) (e : Explanation) (earlier later : Called) (p q : Place)
+        (first : IsWithin lines (run_of members lines) earlier) (second : IsWithin lines (run_of members lines) later)
+        → OnlyGrows (seen (run_of members lines)) e
+        → IsExplained (seen (run_of members lines)) e (answer_of_call earlier first.answered) p
+        → IsExplained (seen (run_of members lines)) e (answer_of_call later second.answered) q
+        → earlier.answered.stamp ≤ later.call.pass → p.position ≤ q.position }
+{}

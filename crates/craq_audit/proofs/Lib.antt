@@ -1,0 +1,11 @@
+pub mod Lists
+pub mod Stamped
+pub mod Sendings
+pub mod Belongs
+pub mod Sorting
+pub mod Counted
+pub mod Tests
+pub mod Best
+pub mod Keeping
+pub mod Places
+pub mod Whole

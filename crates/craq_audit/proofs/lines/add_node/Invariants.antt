@@ -1,0 +1,6 @@
+use Rattle.std.proofs.Common.{◌≡◌, ◌++◌, map, take}
+use Rattle.craq_seat.specs.Merge.{node_line}
+use Rattle.craq_audit.proofs.lines.add_node.Given as goal
+
+abbrev pub invariant-loop-record : goal.invariant-loop-record
+invariant-loop-record l = l.lines.items ≡ l.initial.lines.items ++ map (node_line l.node) (take l.record-index l.records)

@@ -1,0 +1,45 @@
+//! Copies of steps.
+ghost use Rattle.std.specs.Prelude.{◌≡◌, IfOk};
+
+use craq_model::{Out, Step};
+use craq_names::{Copied, Items};
+use std::alloc::{AllocError, Global};
+
+/// What a step says, in memory of its own.
+fn copied_out(alloc: Global, out: &Out) -> Result<Out, AllocError>
+    ensures { IfOk result (λ copy. copy ≡ out.now) }
+{
+    match out {
+        Out::Send { to, message } => Ok(Out::Send {
+            to: *to,
+            message: message.copied(alloc)?,
+        }),
+        Out::Answer { ticket, answer } => Ok(Out::Answer {
+            ticket: *ticket,
+            answer: answer.copied(alloc)?,
+        }),
+    }
+}
+
+/// All that a step says, likewise.
+fn copied_outs(alloc: Global, outs: &[Out]) -> Result<Vec<Out>, AllocError>
+    ensures { IfOk result (λ copy. copy.items ≡ outs.now) }
+{
+    let mut copy = Vec::new(alloc);
+    for out in outs {
+        copy.push(copied_out(alloc, out)?)?;
+    }
+    Ok(copy)
+}
+
+/// The step in memory of its own.
+pub(crate) fn copied_step(alloc: Global, step: &Step) -> Result<Step, AllocError>
+    ensures { IfOk result (λ copy. copy ≡ step.now) }
+{
+    let outs = copied_outs(alloc, step.outs.as_slice())?;
+    Ok(Step {
+        ticket: step.ticket,
+        outs: Items::of(outs),
+        ignored: step.ignored,
+    })
+}

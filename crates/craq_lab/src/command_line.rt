@@ -77,13 +77,15 @@ Printed for each line:
 Refusals: 1 a key of more than 128 bytes, 2 a value of more than 4096, 3 more than 16 items
 in a list of a transaction, 4 no item, 5 an object twice in a list, 6 number 0, 7 another
 chain than 0, 8 two chains, 9 not the head (it follows), 10 a node that is not ready yet,
-11 a stopped node, 12 more than 1024 asks would wait, 17 not a member, 18 not stopped,
-19 an id that was used, 20 a chain of 8 members, 21 the only member, 22 no such message,
-23 no such node.
+11 a stopped node, 12 more than 1024 asks would wait, 13 a counter at its greatest number,
+17 not a member, 18 not stopped, 19 an id that was used, 20 a chain of 8 members, 21 the only
+member, 22 no such message, 23 no such node.
 
-Status: 0 once the script was played, whatever was refused in it; 2 if it was not: cannot
-read FILE, script line N (the first that is no line of a script), or a bad command line;
-3 where there was no memory.
+Status: 0 once the script was played, whatever was refused in it; 1 with `cannot print` where
+the output takes no text; 2 if nothing was played: `cannot read FILE` (`cannot read -` for
+standard input), `script line N` (the first that is no line of a script), or a bad command line;
+3 with `no memory` where memory was refused; 5 where a node under its lock did otherwise than the
+chain, which is not known to happen: then nothing is printed. These words go to standard error.
 
 Example:
   printf 'put 1 1 1 colour blue\\nread 1 eventual colour\\n' | craq_lab play --nodes 2";

@@ -8,13 +8,14 @@ mod numbers;
 use clap::Error;
 use command_line::{Asked, asked_by};
 use craq_names::{NodeId, Refusal};
-use craq_play::{PlainCore, play};
+use craq_play::{PlainCore, PlayFault, play};
 use craq_schedules::{draw, stops};
 use std::alloc::Global;
 use std::env::Env;
 use std::io::{ErrorKind, Read};
 use std::process::ExitCode;
 use std::rt::Files;
+use std::sync::Wait;
 use std::{env, fs, io};
 
 /// How many nodes a chain may have; the command line is read for no more.
@@ -28,6 +29,9 @@ const BAD_INPUT: u8 = 2;
 
 /// The status where a growth was refused.
 const NO_MEMORY: u8 = 3;
+
+/// The status where a locked cell did otherwise than the chain.
+const CELLS_DIFFER: u8 = 5;
 
 /// The bytes of the file, or of standard input.
 fn bytes_of<R>(rt: &R, file: Option<&str>) -> io::Result<Vec<u8>>
@@ -45,15 +49,19 @@ where
 }
 
 /// Tells why a script was not played, and gives the status.
-fn report_refusal<R>(rt: &R, refusal: &Refusal) -> io::Result<u8>
+fn report_fault<R>(rt: &R, fault: &PlayFault) -> io::Result<u8>
 where
     R: AllocGlobal + Eprint,
 {
-    match refusal {
-        Refusal::BadScript(line) => {
+    match fault {
+        PlayFault::Refused(Refusal::BadScript(line)) => {
             let line = *line;
             eprintln!(rt; "script line {line}")?;
             Ok(BAD_INPUT)
+        }
+        PlayFault::Differs => {
+            eprintln!(rt; "a cell and the chain differ")?;
+            Ok(CELLS_DIFFER)
         }
         _ => {
             eprintln!(rt; "no memory")?;
@@ -77,7 +85,7 @@ where
 }
 
 /// Prints what a script gave. Gives the status.
-fn report<R>(rt: &R, played: Result<String, Refusal>) -> io::Result<u8>
+fn report<R>(rt: &R, played: Result<String, PlayFault>) -> io::Result<u8>
 where
     R: AllocGlobal + Print + Eprint,
 {
@@ -86,7 +94,7 @@ where
             print!(rt; "{text}")?;
             Ok(0)
         }
-        Err(refusal) => report_refusal(rt, &refusal),
+        Err(fault) => report_fault(rt, &fault),
     }
 }
 
@@ -101,7 +109,7 @@ enum Way<'a> {
 /// Plays the script of a file and prints what it did. Gives the status.
 fn play_file<R>(rt: &R, nodes: u32, file: Option<&str>, way: Way<'_>) -> io::Result<u8>
 where
-    R: AllocGlobal + Files + Input + Print + Eprint,
+    R: AllocGlobal + Files + Input + Print + Eprint + Wait,
 {
     let bytes = match bytes_of(rt, file) {
         Ok(bytes) => bytes,
@@ -110,20 +118,22 @@ where
     let alloc = rt.alloc();
     let nodes = nodes.max(1).min(GREATEST_COUNT);
     let script = bytes.as_slice();
-    report(
-        rt,
-        match way {
-            Way::Play => play::<PlainCore>(alloc, nodes, script),
-            Way::Draw(choices) => draw::<PlainCore>(alloc, nodes, script, choices),
-            Way::Stops(node) => stops::<PlainCore>(alloc, nodes, script, node),
-        },
-    )
+    let played = match way {
+        Way::Play => play::<PlainCore, R>(rt, alloc, nodes, script),
+        Way::Draw(choices) => {
+            draw::<PlainCore>(alloc, nodes, script, choices).map_err(PlayFault::Refused)
+        }
+        Way::Stops(node) => {
+            stops::<PlainCore>(alloc, nodes, script, node).map_err(PlayFault::Refused)
+        }
+    };
+    report(rt, played)
 }
 
 /// Plays the schedule that the choices draw. Gives the status.
 fn draw_file<R>(rt: &R, nodes: u32, file: &str, choices: &str) -> io::Result<u8>
 where
-    R: AllocGlobal + Files + Input + Print + Eprint,
+    R: AllocGlobal + Files + Input + Print + Eprint + Wait,
 {
     match numbers::choices_of(rt.alloc(), choices)? {
         Some(choices) => play_file(rt, nodes, Some(file), Way::Draw(choices.as_slice())),
@@ -137,7 +147,7 @@ where
 /// Plays the script up to each of its moves, and stops the node there. Gives the status.
 fn stops_file<R>(rt: &R, nodes: u32, file: &str, node: &str) -> io::Result<u8>
 where
-    R: AllocGlobal + Files + Input + Print + Eprint,
+    R: AllocGlobal + Files + Input + Print + Eprint + Wait,
 {
     match numbers::number_of(node.as_bytes()) {
         Some(id) => play_file(rt, nodes, Some(file), Way::Stops(NodeId::new(id))),
@@ -165,7 +175,7 @@ where
 /// Does what the words of the command line ask for. Gives the status.
 fn answer<'a, R>(rt: &R, words: &'a [&'a str]) -> io::Result<u8>
 where
-    R: AllocGlobal + Files + Input + Print + Eprint,
+    R: AllocGlobal + Files + Input + Print + Eprint + Wait,
 {
     match asked_by(rt.alloc(), words) {
         Ok(Asked::Play { nodes, file }) => play_file(rt, nodes, file, Way::Play),
@@ -191,16 +201,31 @@ fn words_of<R: AllocGlobal + Env>(rt: &R) -> io::Result<Vec<String>> {
     Ok(words)
 }
 
-fn run<R>(rt: &R) -> io::Result<u8>
+/// Does what these words of a command line ask for. Gives the status.
+fn run_words<R>(rt: &R, words: &[String]) -> io::Result<u8>
 where
-    R: AllocGlobal + Env + Files + Input + Print + Eprint,
+    R: AllocGlobal + Env + Files + Input + Print + Eprint + Wait,
 {
-    let words = words_of(rt)?;
     let mut texts = Vec::new(rt.alloc());
-    for word in &words {
+    for word in words {
         texts.push(word.as_str())?;
     }
     answer(rt, texts.as_slice())
+}
+
+/// Does what the command line asks for, where its words are text. Gives the status.
+fn run<R>(rt: &R) -> io::Result<u8>
+where
+    R: AllocGlobal + Env + Files + Input + Print + Eprint + Wait,
+{
+    match words_of(rt) {
+        Ok(words) => run_words(rt, words.as_slice()),
+        Err(error) if error.kind() == ErrorKind::InvalidData => {
+            eprintln!(rt; "error: a word of the command line is not UTF-8")?;
+            Ok(BAD_INPUT)
+        }
+        Err(error) => Err(error),
+    }
 }
 
 /// Tells why nothing more is printed: there was no memory, or the output takes no text. Gives the

@@ -7,13 +7,13 @@ ghost use Rattle.std.specs.Prelude.{◌≤◌};
 mod reading;
 mod rows;
 
-use craq_names::{NodeId, Refusal};
-use craq_play::{PlainCore, play};
+use craq_names::NodeId;
+use craq_play::{PlainCore, PlayFault, play};
 use craq_schedules::{draw, stops};
 use reading::{BAD_LINES, BAD_SCRIPTS, count_forms, is_told, is_unplayed};
 use rows::{Group, ROWS, Way};
-use std::alloc::Global;
 use std::rt::Files;
+use std::sync::Wait;
 use std::{fs, io};
 
 /// How many nodes the chain of a group has, from 1 to 8.
@@ -24,18 +24,27 @@ fn count_of(group: &Group) -> u32
 }
 
 /// What a script prints, played as its group says.
-fn printed_of(alloc: Global, group: &Group, script: &[u8]) -> Result<String, Refusal> {
+fn printed_of<R: AllocGlobal + Wait>(
+    rt: &R,
+    group: &Group,
+    script: &[u8],
+) -> Result<String, PlayFault> {
+    let alloc = rt.alloc();
     let nodes = count_of(group);
     match group.way {
-        Way::Play => play::<PlainCore>(alloc, nodes, script),
-        Way::Draw(choices) => draw::<PlainCore>(alloc, nodes, script, choices),
-        Way::Stops(id) => stops::<PlainCore>(alloc, nodes, script, NodeId::new(id)),
+        Way::Play => play::<PlainCore, R>(rt, alloc, nodes, script),
+        Way::Draw(choices) => {
+            draw::<PlainCore>(alloc, nodes, script, choices).map_err(PlayFault::Refused)
+        }
+        Way::Stops(id) => {
+            stops::<PlainCore>(alloc, nodes, script, NodeId::new(id)).map_err(PlayFault::Refused)
+        }
     }
 }
 
 /// Whether the script prints what is expected.
-fn prints(alloc: Global, group: &Group, script: &[u8], expected: &[u8]) -> bool {
-    match printed_of(alloc, group, script) {
+fn prints<R: AllocGlobal + Wait>(rt: &R, group: &Group, script: &[u8], expected: &[u8]) -> bool {
+    match printed_of(rt, group, script) {
         Ok(printed) => printed.as_bytes() == expected,
         Err(_) => false,
     }
@@ -48,10 +57,13 @@ fn bytes_of<R: AllocGlobal + Files>(rt: &R, name: &str, ending: &str) -> io::Res
 }
 
 /// Plays the row of this name, and tells whether it agrees.
-fn tell_row<R: AllocGlobal + Files + Print>(rt: &R, group: &Group, name: &str) -> io::Result<()> {
+fn tell_row<R>(rt: &R, group: &Group, name: &str) -> io::Result<()>
+where
+    R: AllocGlobal + Files + Print + Wait,
+{
     let script = bytes_of(rt, name, "script")?;
     let expected = bytes_of(rt, name, "expected")?;
-    let word = if prints(rt.alloc(), group, script.as_slice(), expected.as_slice()) {
+    let word = if prints(rt, group, script.as_slice(), expected.as_slice()) {
         "agrees"
     } else {
         "differs"
@@ -60,7 +72,7 @@ fn tell_row<R: AllocGlobal + Files + Print>(rt: &R, group: &Group, name: &str) -
 }
 
 /// Plays each row.
-fn tell_rows<R: AllocGlobal + Files + Print>(rt: &R) -> io::Result<()> {
+fn tell_rows<R: AllocGlobal + Files + Print + Wait>(rt: &R) -> io::Result<()> {
     for group in &ROWS {
         for name in group.names {
             tell_row(rt, group, name)?;
@@ -89,9 +101,9 @@ fn tell_bad_lines<R: AllocGlobal + Print>(rt: &R) -> io::Result<()> {
 }
 
 /// Tells of each bad script whether it is not played, and why.
-fn tell_bad_scripts<R: AllocGlobal + Print>(rt: &R) -> io::Result<()> {
+fn tell_bad_scripts<R: AllocGlobal + Print + Wait>(rt: &R) -> io::Result<()> {
     for (text, line) in &BAD_SCRIPTS {
-        let word = if is_unplayed(rt.alloc(), text, *line) {
+        let word = if is_unplayed(rt, text, *line) {
             "told"
         } else {
             "missed"
@@ -101,7 +113,7 @@ fn tell_bad_scripts<R: AllocGlobal + Print>(rt: &R) -> io::Result<()> {
     Ok(())
 }
 
-fn run<R: AllocGlobal + Files + Print>(rt: &R) -> io::Result<()> {
+fn run<R: AllocGlobal + Files + Print + Wait>(rt: &R) -> io::Result<()> {
     tell_rows(rt)?;
     tell_forms(rt)?;
     tell_bad_lines(rt)?;

@@ -1,8 +1,9 @@
 //! Texts that are scripts, and texts that are not, read and played with ample memory.
 use craq_names::Refusal;
-use craq_play::{PlainCore, play};
+use craq_play::{PlainCore, PlayFault, play};
 use craq_script::Script;
 use std::alloc::{AllocError, Global};
+use std::sync::Wait;
 
 /// Each form of line, spaces in a row, comments and an empty line; the last line feed misses.
 const FORMS: &str = "# each form of line
@@ -84,10 +85,10 @@ pub fn is_told(alloc: Global, line: &str) -> Result<bool, AllocError> {
 }
 
 /// Whether the text is not played, and this line is told as its first outside the grammar.
-pub fn is_unplayed(alloc: Global, text: &str, line: u64) -> bool {
-    let played = play::<PlainCore>(alloc, 3, text.as_bytes());
+pub fn is_unplayed<R: AllocGlobal + Wait>(rt: &R, text: &str, line: u64) -> bool {
+    let played = play::<PlainCore, R>(rt, rt.alloc(), 3, text.as_bytes());
     match &played {
-        Err(Refusal::BadScript(told)) => *told == line,
+        Err(PlayFault::Refused(Refusal::BadScript(told))) => *told == line,
         _ => false,
     }
 }

@@ -1,15 +1,19 @@
-//! Facts of nodes, of the past that they keep, of chains with what explains their runs, and of worlds: each public call
-//! that may run out of memory is made with ample memory. Each fact is printed with whether it holds.
+//! Facts of nodes, of the past that they keep, of chains with what explains their runs, of worlds, and of locked cells:
+//! each public call that may run out of memory is made with ample memory. Each fact is printed with whether it holds.
 #![tactic(auto)]
 
+mod audits;
 mod chains;
 mod moves;
 mod nodes;
 mod pasts;
+mod seats;
 mod worlds;
 
 use craq_names::Refusal;
 use std::io;
+use std::sync::Wait;
+use std::thread::Threads;
 
 /// Tells whether a fact holds.
 fn tell<R: Print>(rt: &R, fact: &str, held: Result<bool, Refusal>) -> io::Result<()> {
@@ -79,9 +83,48 @@ fn tell_worlds<R: AllocGlobal + Print>(rt: &R) -> io::Result<()> {
     )
 }
 
+fn tell_seats<R: AllocGlobal + Print + Threads + Wait + Sync>(rt: &R) -> io::Result<()> {
+    for case in &seats::CASES {
+        tell(rt, case.fact, seats::is_told(rt, case))?;
+    }
+    tell(
+        rt,
+        "at the last stamp a stopped node has no next one",
+        seats::exhausts_stamps(rt.alloc()),
+    )?;
+    tell(
+        rt,
+        "two threads take steps on two cells",
+        seats::ticks_in_threads(rt),
+    )
+}
+
+fn tell_audits<R: AllocGlobal + Print + Wait>(rt: &R) -> io::Result<()> {
+    for case in &audits::CASES {
+        tell(rt, case.fact, audits::is_told(rt, case))?;
+    }
+    tell(
+        rt,
+        "a call receipt may come twice, and one of another chain is found",
+        audits::tests_receipts(rt),
+    )?;
+    tell(
+        rt,
+        "a removal names the step in which its node stopped",
+        audits::tests_removals(rt),
+    )?;
+    tell(
+        rt,
+        "a message that arrives is the one that was sent, with its stamp, index and body",
+        audits::tests_copies(rt),
+    )
+}
+
 fn main(rt: HostRuntime) -> io::Result<()> {
     tell_pasts(&rt)?;
     tell_nodes(&rt)?;
     tell_chains(&rt)?;
-    tell_worlds(&rt)
+    tell_worlds(&rt)?;
+    tell_seats(&rt)?;
+    tell_audits(&rt)
 }

@@ -1,10 +1,13 @@
-//! Plays a script on one chain: from the script's bytes to the printed lines, with explanations.
+//! Plays a script on one chain, and on locked cells beside it: from the script's bytes to the printed lines, with
+//! explanations.
 //! Code that runs in the program.
 #![tactic(auto)]
 
 mod asking;
 mod explanation;
+mod fault;
 mod moving;
+mod on_cells;
 mod plain_core;
 mod playing;
 mod printing;
@@ -12,7 +15,9 @@ mod printing;
 pub use asking::{read_of, update_of};
 pub use craq_script::Script;
 pub use explanation::explanation_text;
+pub use fault::PlayFault;
 pub use moving::move_of;
+pub use on_cells::play;
 pub use plain_core::PlainCore;
-pub use playing::{opened, play, play_line, play_move};
+pub use playing::{opened, play_line, play_move};
 pub use printing::{print_answer, print_refusal, print_reply, print_step};

@@ -1,4 +1,4 @@
-ghost use Rattle.std.specs.Prelude.{◌≡◌, ◌++◌, ◌∷◌, [], ◌≤◌, List, IfOk, OnOk, string_bytes};
+ghost use Rattle.std.specs.Prelude.{◌≡◌, ◌⊎◌, ◌++◌, ◌∷◌, [], ◌≤◌, List, IfOk, OnOk, OnErr, string_bytes};
 ghost use Rattle.craq_runs.specs.Explain.{explain};
 ghost use Rattle.craq_runs.specs.declared.run.Taken.{Taken};
 ghost use Rattle.craq_play.specs.Moves.{move_of};
@@ -11,9 +11,6 @@ ghost use Rattle.craq_play.specs.Played.{
   line_text,
   move_text,
   opening,
-  played,
-  played_text,
-  Plays,
 };
 
 use crate::explanation::explanation_text;
@@ -24,11 +21,11 @@ use craq_explain::explain_run_of;
 use craq_names::{ChainId, NodeId, Refusal};
 use craq_node::Core;
 use craq_runs::{Move, Run};
-use craq_script::{Line, Script};
+use craq_script::Line;
 use std::alloc::{AllocError, Global};
 
 /// The ids from 1 to the count.
-fn first_ids(alloc: Global, count: u32) -> Result<Vec<NodeId>, AllocError>
+pub(crate) fn first_ids(alloc: Global, count: u32) -> Result<Vec<NodeId>, AllocError>
     ensures { IfOk result (λ ids. ids.items ≡ first_ids count) }
 {
     let mut ids = Vec::new(alloc);
@@ -61,7 +58,8 @@ fn print_last(text: &mut String, node: NodeId, sent: u64, run: &Run) -> Result<(
     }
 }
 
-/// Takes a move and prints what it did: its step, or its refusal. It fails for want of memory alone.
+/// Takes a move and prints what it did: its step, or its refusal. It fails for want of memory alone: the chain is then as it was,
+/// or has taken the move, and nothing is known of the text.
 pub fn play_move<C: Core>(
     alloc: Global,
     chain: &mut ChainCore<C>,
@@ -69,6 +67,7 @@ pub fn play_move<C: Core>(
     chosen: Move,
 ) -> Result<(), AllocError>
     ensures chain { OnOk result (chain.new ≡ after_one chain.old chosen) }
+    ensures kept { OnErr result ((chain.new ≡ chain.old) ⊎ (chain.new ≡ after_one chain.old chosen)) }
     ensures text { OnOk result (string_bytes text.new ≡ string_bytes text.old ++ move_text chain.old chosen) }
 {
     let node = chain.mover(&chosen);
@@ -81,7 +80,7 @@ pub fn play_move<C: Core>(
 }
 
 /// Prints the explanation of what has happened so far, as a line of JSON. It fails for want of memory alone.
-fn print_explanation<C: Core>(
+pub(crate) fn print_explanation<C: Core>(
     alloc: Global,
     chain: &ChainCore<C>,
     text: &mut String,
@@ -94,7 +93,8 @@ fn print_explanation<C: Core>(
     text.push_str("\n")
 }
 
-/// Plays a line and prints what it did. It fails for want of memory alone.
+/// Plays a line and prints what it did. It fails for want of memory alone: the chain is then as it was, or has taken the line's
+/// move, and nothing is known of the text.
 pub fn play_line<C: Core>(
     alloc: Global,
     chain: &mut ChainCore<C>,
@@ -102,6 +102,7 @@ pub fn play_line<C: Core>(
     line: &Line,
 ) -> Result<(), AllocError>
     ensures chain { OnOk result (chain.new ≡ after_line chain.old (move_of line.now)) }
+    ensures kept { OnErr result ((chain.new ≡ chain.old) ⊎ (chain.new ≡ after_line chain.old (move_of line.now))) }
     ensures text { OnOk result (string_bytes text.new ≡ string_bytes text.old ++ line_text chain.old (move_of line.now)) }
 {
     match move_of(alloc, line) {
@@ -110,29 +111,4 @@ pub fn play_line<C: Core>(
         Err(Refusal::Memory) => Err(AllocError),
         Err(refusal) => print_refusal(text, &refusal),
     }
-}
-
-/// Plays the lines in order on a new chain of so many nodes. It fails for want of memory alone.
-fn play_lines<C: Core>(alloc: Global, nodes: u32, lines: &[Line]) -> Result<String, AllocError>
-    requires { (1 ≤ nodes) × (nodes ≤ 8) }
-    ensures { IfOk result (λ text. string_bytes text ≡ played_text nodes lines.now) }
-{
-    let mut chain: ChainCore<C> = opened(alloc, nodes)?;
-    let mut text = String::new(alloc);
-    for line in lines {
-        play_line(alloc, &mut chain, &mut text, line)?;
-    }
-    Ok(text)
-}
-
-/// Plays a script on one chain of the nodes from 1 to the count, 1 the head: what it prints, line
-/// for line. The whole script is read before anything is played.
-///
-/// `BadScript` with the first line that is outside the grammar; `Memory` where a growth was refused.
-pub fn play<C: Core>(alloc: Global, nodes: u32, script: &[u8]) -> Result<String, Refusal>
-    requires { (1 ≤ nodes) × (nodes ≤ 8) }
-    ensures { Plays (λ t. string_bytes t) result (played nodes script.now) }
-{
-    let script = Script::read(alloc, script)?;
-    Ok(play_lines::<C>(alloc, nodes, script.lines.as_slice())?)
 }

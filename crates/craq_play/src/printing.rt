@@ -45,7 +45,7 @@ fn print_objects(text: &mut String, objects: &[(Version, Value)]) -> Result<(), 
     Ok(())
 }
 
-/// Prints the reply to an update.
+/// Prints the reply to an update. It fails for want of memory alone, and nothing is known of the text then.
 #[tactic(auto, unfolding(crate::specs::Printed::reply_text))]
 pub fn print_reply(text: &mut String, reply: &Reply) -> Result<(), AllocError>
     ensures { OnOk result (string_bytes text.new ≡ string_bytes text.old ++ reply_text reply.now) }
@@ -78,7 +78,8 @@ pub fn print_reply(text: &mut String, reply: &Reply) -> Result<(), AllocError>
     }
 }
 
-/// Prints an answer: the reply to an update, or `read`, the version and the value.
+/// Prints an answer: the reply to an update, or `read`, the version and the value. It fails for want of memory alone, and nothing is
+/// known of the text then.
 #[tactic(auto, unfolding(crate::specs::Printed::answer_text))]
 pub fn print_answer(text: &mut String, answer: &Answer) -> Result<(), AllocError>
     ensures { OnOk result (string_bytes text.new ≡ string_bytes text.old ++ answer_text answer.now) }
@@ -206,7 +207,7 @@ const fn word_of(why: Why) -> &'static str
 /// Prints what a taken move did: a line for each out, in order, or `ignored` and why, or `ok`
 /// where there is neither. Messages are numbered from 1 in the order sent; `sent` were sent before.
 ///
-/// It fails for want of memory alone, which no 2^64 messages find either.
+/// It fails for want of memory alone, which no 2^64 messages find either. Nothing is known of the text then.
 #[tactic(auto, unfolding(crate::specs::Printed::step_text))]
 pub fn print_step(text: &mut String, node: NodeId, sent: u64, step: &Step) -> Result<(), AllocError>
     ensures { OnOk result (string_bytes text.new ≡ string_bytes text.old ++ step_text node sent step.now) }
@@ -225,7 +226,8 @@ pub fn print_step(text: &mut String, node: NodeId, sent: u64, step: &Step) -> Re
     print_outs(text, node, sent, outs)
 }
 
-/// Prints that a move was refused: `refused`, the number of the refusal, and after 9 the head.
+/// Prints that a move was refused: `refused`, the number of the refusal, and after 9 the head. It fails for want of memory alone, and
+/// nothing is known of the text then.
 #[tactic(auto, unfolding(crate::specs::Printed::refusal_text))]
 pub fn print_refusal(text: &mut String, refusal: &Refusal) -> Result<(), AllocError>
     ensures { OnOk result (string_bytes text.new ≡ string_bytes text.old ++ refusal_text refusal.now) }

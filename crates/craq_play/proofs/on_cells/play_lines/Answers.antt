@@ -1,7 +1,7 @@
 use Rattle.std.proofs.Common.{string_bytes}
 use Rattle.craq_play.specs.Played.{played_text}
 use Rattle.craq_play.proofs.Lines.{line_done}
-use Rattle.craq_play.proofs.playing.play_lines.Goals as goal
+use Rattle.craq_play.proofs.on_cells.play_lines.Goals as goal
 
 pub loop-line-preserved : goal.loop-line-preserved
 loop-line-preserved g c =

@@ -1,6 +1,6 @@
 use Rattle.std.proofs.Common.{◌≡◌, ◌++◌, string_bytes, drop}
 use Rattle.craq_play.specs.Played.{lines_text, played_text}
-use Rattle.craq_play.proofs.playing.play_lines.Given as goal
+use Rattle.craq_play.proofs.on_cells.play_lines.Given as goal
 
 -- what is printed goes on with the lines that are left
 abbrev pub invariant-loop-line : goal.invariant-loop-line

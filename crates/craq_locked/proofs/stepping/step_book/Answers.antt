@@ -1,0 +1,5 @@
+use Rattle.craq_locked.proofs.Joins.{names_node}
+use Rattle.craq_locked.proofs.stepping.step_book.Goals as goal
+
+pub returns-clause-named : goal.returns-clause-named
+returns-clause-named c = names_node _ _ c.args.event c.args.pass c.in_ok-receipt.ensures.step.0

@@ -1,0 +1,9 @@
+//! A chain of locked cells: each node's desk and the master's cell under a lock of its own, and the messages that they
+//! sent. Code that runs in the program.
+#![tactic(auto)]
+
+mod locked_chain;
+mod posted;
+mod stepping;
+
+pub use locked_chain::LockedChain;

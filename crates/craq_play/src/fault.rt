@@ -1,0 +1,34 @@
+ghost use Rattle.std.specs.Prelude.{◌≡◌};
+ghost use Rattle.craq_names.specs.declared.refusal.Refusal.TheVariants.{Memory};
+ghost use Rattle.craq_play.specs.declared.fault.PlayFault.TheVariants.{Refused};
+
+use craq_names::Refusal;
+use std::alloc::AllocError;
+use thiserror::Error;
+
+/// Why a script was not played to its end.
+#[derive(Clone, Copy, Debug, PartialEq, Eq, Error)]
+pub enum PlayFault {
+    /// The script is outside the grammar (`BadScript`), or a growth was refused (`Memory`).
+    #[error("{0}")]
+    Refused(Refusal),
+    /// A locked cell and the chain did not do the same with a move.
+    #[error("a cell and the chain differ")]
+    Differs,
+}
+
+impl From<Refusal> for PlayFault {
+    ghost from_gives = { λ r e. e ≡ Refused r };
+
+    fn from(refusal: Refusal) -> PlayFault {
+        PlayFault::Refused(refusal)
+    }
+}
+
+impl From<AllocError> for PlayFault {
+    ghost from_gives = { λ _ e. e ≡ Refused Memory };
+
+    fn from(_e: AllocError) -> PlayFault {
+        PlayFault::Refused(Refusal::Memory)
+    }
+}

@@ -1,8 +1,10 @@
 -- What a drawn schedule of a script prints.
-use Rattle.std.specs.Prelude.{◌≡◌, ℕ, ◌%◌, nat_lt, if◌then◌else◌, List, [], ◌∷◌, ◌++◌, map, length, Option, Some, None, Result, slice_get}
+use Rattle.std.specs.Prelude.{◌≡◌, ℕ, Bool, ◌%◌, nat_lt, if◌then◌else◌, List, [], ◌∷◌, ◌++◌, map, length, Option, Some, None, Result, slice_get}
 use Rattle.std.specs.List.{filter, range_with_len}
 use Rattle.craq_names.specs.declared.refusal.Refusal.{Refusal}
 use Rattle.craq_model.specs.Plain.{Plain, id_of}
+use Rattle.craq_runs.specs.declared.explanation.Explanation.{Explanation}
+use Rattle.craq_runs.specs.declared.run.Run.{Run}
 use Rattle.craq_runs.specs.Chain.{Chain}
 use Rattle.craq_chain.specs.Chained.{Chained, chain_of}
 use Rattle.craq_script.specs.declared.line.Line.{Line}
@@ -10,7 +12,7 @@ use Rattle.craq_script.specs.declared.line.Line.TheVariants as lines
 use Rattle.craq_script.specs.Texts.{script_of}
 use Rattle.craq_play.specs.Moves.{move_of}
 use Rattle.craq_play.specs.Played.{after_line, line_text, opening}
-use Rattle.craq_schedules.specs.Verdicts.{of_lines, verdict_text}
+use Rattle.craq_schedules.specs.Verdicts.{answer_on, of_lines, verdict_text}
 
 -- an id among rising ids
 abbrev pub with_id : ℕ → List ℕ → List ℕ
@@ -50,7 +52,7 @@ next_text w rest (Some next) = line_text w (move_of next.0) ++ rest (after_line 
 
 -- the one that was picked was played, which gives the chain after it, what is printed and the lines that are left
 abbrev pub IsPlayed : Chained → Chained → List ℕ → List ℕ → Option (Line × List Line) → Option (List Line) → Type 0
-IsPlayed old new before after None left = (left ≡ None) × (after ≡ before)
+IsPlayed old new before after None left = (left ≡ None) × (new ≡ old) × (after ≡ before)
 IsPlayed old new before after (Some next) left =
     (left ≡ Some next.1) × (new ≡ after_line old (move_of next.0)) × (after ≡ before ++ line_text old (move_of next.0))
 
@@ -59,10 +61,21 @@ abbrev pub choices_text : List ℕ → Chained → List Line → List ℕ
 choices_text [] w lines = []
 choices_text (choice ∷ choices) w lines = next_text w (choices_text choices) (next_of (chain_of w) lines choice)
 
--- what is printed of a schedule on a new chain of so many nodes
-abbrev pub drawn_text : ℕ → List ℕ → List Line → List ℕ
-drawn_text nodes choices lines = choices_text choices (opening nodes) lines ++ verdict_text
+-- the chain after the one that was picked, and then after the rest of the schedule
+abbrev pub after_next : Chained → (Chained → List Line → Chained) → Option (Line × List Line) → Chained
+after_next w rest None = w
+after_next w rest (Some next) = rest (after_line w (move_of next.0)) next.1
+
+-- the chain after the choices
+abbrev pub after_choices : List ℕ → Chained → List Line → Chained
+after_choices [] w lines = w
+after_choices (choice ∷ choices) w lines = after_next w (after_choices choices) (next_of (chain_of w) lines choice)
+
+-- what is printed of a schedule on a new chain of so many nodes: the choices, and then the verdict, as `holds` answers
+abbrev pub drawn_text : (Run → Explanation → Bool) → ℕ → List ℕ → List Line → List ℕ
+drawn_text holds nodes choices lines =
+    choices_text choices (opening nodes) lines ++ verdict_text (answer_on holds (after_choices choices (opening nodes) lines))
 
 -- the same of a script, or which line is outside the grammar
-abbrev pub drawn : ℕ → List ℕ → List ℕ → Result (List ℕ) Refusal
-drawn nodes choices script = of_lines (drawn_text nodes choices) (script_of script)
+abbrev pub drawn : (Run → Explanation → Bool) → ℕ → List ℕ → List ℕ → Result (List ℕ) Refusal
+drawn holds nodes choices script = of_lines (drawn_text holds nodes choices) (script_of script)

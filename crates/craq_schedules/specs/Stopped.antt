@@ -1,19 +1,21 @@
 -- What is printed where a node stops after each move of a script.
-use Rattle.std.specs.Prelude.{ℕ, zero, suc, ◌+◌, ◌==◌, nat_le, if◌then◌else◌, List, [], ◌∷◌, ◌++◌, length, codes, Result, Ok, Err}
+use Rattle.std.specs.Prelude.{ℕ, zero, suc, ◌+◌, ◌==◌, nat_le, Bool, if◌then◌else◌, List, [], ◌∷◌, ◌++◌, length, codes, Result, Ok, Err}
 use Rattle.std.specs.Fmt.{decimal}
 use Rattle.craq_names.specs.declared.refusal.Refusal.{Refusal}
+use Rattle.craq_runs.specs.declared.explanation.Explanation.{Explanation}
 use Rattle.craq_runs.specs.declared.run.Move.TheVariants as moves
+use Rattle.craq_runs.specs.declared.run.Run.{Run}
 use Rattle.craq_runs.specs.Explain.{explain}
 use Rattle.craq_chain.specs.Chained.{Chained, after_taking, chain_of}
 use Rattle.craq_script.specs.declared.line.Line.{Line}
 use Rattle.craq_script.specs.Texts.{script_of}
 use Rattle.craq_play.specs.Moves.{move_of}
 use Rattle.craq_play.specs.Played.{after_line, after_one, opening}
-use Rattle.craq_schedules.specs.Verdicts.{of_lines, verdict_text}
+use Rattle.craq_schedules.specs.Verdicts.{answer_on, of_lines, verdict_text}
 
 -- how many moves were taken
-abbrev pub taken : Chained → ℕ
-taken w = length w.run.moves
+abbrev pub count_taken : Chained → ℕ
+count_taken w = length w.run.moves
 
 -- the chain after lines
 abbrev pub after_lines : Chained → List Line → Chained
@@ -23,7 +25,7 @@ after_lines w (line ∷ lines) = after_lines (after_line w (move_of line)) lines
 -- the chain after lines, up to so many taken moves
 abbrev pub up_to : ℕ → Chained → List Line → Chained
 up_to cut w [] = w
-up_to cut w (line ∷ lines) = if taken w == cut then w else up_to cut (after_line w (move_of line)) lines
+up_to cut w (line ∷ lines) = if count_taken w == cut then w else up_to cut (after_line w (move_of line)) lines
 
 -- the messages after the first so many arrive, in the order sent, each once: until none is left, or so many arrived
 unfoldable pub delivered : ℕ → ℕ → Chained → Chained
@@ -41,34 +43,38 @@ abbrev pub after_removal : Chained → Result Chained Refusal → Chained
 after_removal w (Err refusal) = w
 after_removal w (Ok next) = delivered most_deliveries (length (chain_of w).messages) next
 
-abbrev pub removed : Chained → ℕ → Chained
-removed w node = after_removal w (after_taking w (moves.Remove node))
+abbrev pub after_removing : Chained → ℕ → Chained
+after_removing w node = after_removal w (after_taking w (moves.Remove node))
 
 -- the chain after a node stopped and was removed
 abbrev pub without_node : Chained → ℕ → Chained
-without_node w node = removed (after_one w (moves.Stop node)) node
+without_node w node = after_removing (after_one w (moves.Stop node)) node
 
 -- how many updates are committed
-abbrev pub committed : Chained → ℕ
-committed w = length (explain w.chain w.run).asks
+abbrev pub count_committed : Chained → ℕ
+count_committed w = length (explain w.chain w.run).asks
 
 -- the line of a cut
-abbrev pub cut_line : ℕ → ℕ → List ℕ
-cut_line cut count = codes "cut " ++ decimal cut ++ codes " committed " ++ decimal count ++ codes " " ++ verdict_text
+abbrev pub cut_line : ℕ → ℕ → Bool → List ℕ
+cut_line cut count valid = codes "cut " ++ decimal cut ++ codes " committed " ++ decimal count ++ codes " " ++ verdict_text valid
+
+-- the same of the chain at its end, with the verdict as `holds` answers
+abbrev pub end_line : (Run → Explanation → Bool) → ℕ → Chained → List ℕ
+end_line holds cut w = cut_line cut (count_committed w) (answer_on holds w)
 
 -- what is printed where the node stops after so many moves of the lines, on a new chain of so many nodes
-abbrev pub cut_text : ℕ → ℕ → List Line → ℕ → List ℕ
-cut_text nodes node lines cut = cut_line cut (committed (without_node (up_to cut (opening nodes) lines) node))
+abbrev pub cut_text : (Run → Explanation → Bool) → ℕ → ℕ → List Line → ℕ → List ℕ
+cut_text holds nodes node lines cut = end_line holds cut (without_node (up_to cut (opening nodes) lines) node)
 
 -- the same of the first so many cuts, from that before any move on
-abbrev pub cuts_text : ℕ → ℕ → List Line → ℕ → List ℕ
-cuts_text nodes node lines zero = []
-cuts_text nodes node lines (suc cut) = cuts_text nodes node lines cut ++ cut_text nodes node lines cut
+abbrev pub cuts_text : (Run → Explanation → Bool) → ℕ → ℕ → List Line → ℕ → List ℕ
+cuts_text holds nodes node lines zero = []
+cuts_text holds nodes node lines (suc cut) = cuts_text holds nodes node lines cut ++ cut_text holds nodes node lines cut
 
 -- what is printed of each cut, from that before any move to that after all that are taken
-abbrev pub stops_text : ℕ → ℕ → List Line → List ℕ
-stops_text nodes node lines = cuts_text nodes node lines (taken (after_lines (opening nodes) lines) + 1)
+abbrev pub stops_text : (Run → Explanation → Bool) → ℕ → ℕ → List Line → List ℕ
+stops_text holds nodes node lines = cuts_text holds nodes node lines (count_taken (after_lines (opening nodes) lines) + 1)
 
 -- the same of a script, or which line is outside the grammar
-abbrev pub stopped : ℕ → ℕ → List ℕ → Result (List ℕ) Refusal
-stopped nodes node script = of_lines (stops_text nodes node) (script_of script)
+abbrev pub stopped : (Run → Explanation → Bool) → ℕ → ℕ → List ℕ → Result (List ℕ) Refusal
+stopped holds nodes node script = of_lines (stops_text holds nodes node) (script_of script)

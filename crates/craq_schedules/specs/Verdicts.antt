@@ -1,12 +1,26 @@
 -- The verdict that is printed of an explanation; the text of a script, or which line is outside the grammar.
-use Rattle.std.specs.Prelude.{ℕ, List, codes, Result, Ok, Err}
+use Rattle.std.specs.Prelude.{◌≡◌, ◌↔◌, ℕ, Bool, true, if◌then◌else◌, List, ◌++◌, codes, Result, Ok, Err}
 use Rattle.craq_names.specs.declared.refusal.Refusal.{Refusal}
 use Rattle.craq_names.specs.declared.refusal.Refusal.TheVariants as refusals
+use Rattle.craq_runs.specs.declared.explanation.Explanation.{Explanation}
+use Rattle.craq_runs.specs.declared.run.Run.{Run}
+use Rattle.craq_runs.specs.Explain.{explain}
+use Rattle.craq_runs.specs.Seen.{seen}
+use Rattle.craq_runs.specs.Valid.{IsChecked}
+use Rattle.craq_chain.specs.Chained.{Chained}
 use Rattle.craq_script.specs.declared.line.Line.{Line}
 
--- the verdict on an explanation, which is valid after every run
-abbrev pub verdict_text : List ℕ
-verdict_text = codes "valid true\n"
+-- it answers as `check` does: true exactly where all that is tested of the explanation holds of the run
+abbrev pub AnswersAsCheck : (Run → Explanation → Bool) → Type 0
+AnswersAsCheck holds = (run : Run) (explanation : Explanation) → (holds run explanation ≡ true) ↔ IsChecked (seen run) explanation
+
+-- what it answers of the explanation of all that has happened in a chain
+abbrev pub answer_on : (Run → Explanation → Bool) → Chained → Bool
+answer_on holds w = holds w.run (explain w.chain w.run)
+
+-- the verdict, by this answer
+abbrev pub verdict_text : Bool → List ℕ
+verdict_text valid = codes "valid " ++ (if valid then codes "true" else codes "false") ++ codes "\n"
 
 -- the text of the lines of a script, or which line is outside the grammar
 abbrev pub of_lines : (List Line → List ℕ) → Result (List Line) ℕ → Result (List ℕ) Refusal

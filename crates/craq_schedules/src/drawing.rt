@@ -1,10 +1,13 @@
-ghost use Rattle.std.specs.Prelude.{◌≡◌, ◌≤◌, ◌++◌, List, insert, length, slice_get, option_copied, IfOk, OnOk, string_bytes};
+ghost use Rattle.std.specs.Prelude.{◌≡◌, ◌≤◌, ◌++◌, Bool, List, insert, length, slice_get, option_copied, IfOk, OnOk, string_bytes};
 ghost use Rattle.std.specs.List.{AllZip};
 ghost use Rattle.craq_model.specs.Plain.{Plain};
+ghost use Rattle.craq_runs.specs.declared.explanation.Explanation.{Explanation};
+ghost use Rattle.craq_runs.specs.declared.run.Run.{Run};
 ghost use Rattle.craq_play.specs.Moves.{move_of};
 ghost use Rattle.craq_play.specs.Played.{Plays, after_line, line_text};
 ghost use Rattle.craq_chain.specs.Chained.{chain_of};
-ghost use Rattle.craq_schedules.specs.Drawn.{IsPlayed, choices_text, drawn, drawn_text, events, next_of, running_ids, with_id};
+ghost use Rattle.craq_schedules.specs.Drawn.{IsPlayed, after_choices, choices_text, drawn, drawn_text, events, next_of, running_ids, with_id};
+ghost use Rattle.craq_schedules.specs.Verdicts.{AnswersAsCheck};
 
 use crate::verdict::{print_verdict, verdict_of};
 use craq_chain::ChainCore;
@@ -126,7 +129,8 @@ fn play_choices<C: Core>(
     lines: &[Line],
     choices: &[u32],
 ) -> Result<(), AllocError>
-    ensures { OnOk result (string_bytes text.new ≡ string_bytes text.old ++ choices_text choices.now chain.old lines.now) }
+    ensures chain { OnOk result (chain.new ≡ after_choices choices.now chain.old lines.now) }
+    ensures text { OnOk result (string_bytes text.new ≡ string_bytes text.old ++ choices_text choices.now chain.old lines.now) }
 {
     let mut left = lines;
     for choice in choices {
@@ -146,7 +150,7 @@ fn draw_lines<C: Core>(
     choices: &[u32],
 ) -> Result<String, AllocError>
     requires { (1 ≤ nodes) × (nodes ≤ 8) }
-    ensures { IfOk result (λ text. string_bytes text ≡ drawn_text nodes choices.now lines.now) }
+    ensures { IfOk result (λ text. (holds : Run → Explanation → Bool) → AnswersAsCheck holds → string_bytes text ≡ drawn_text holds nodes choices.now lines.now) }
 {
     let mut chain: ChainCore<C> = opened(alloc, nodes)?;
     let mut text = String::new(alloc);
@@ -159,7 +163,8 @@ fn draw_lines<C: Core>(
 /// each choice there is a list of what may come next: the next line of the script, if one is left (`explain` is one, and a refused line
 /// is used up); the arrival of each message that was sent, from the first to the last; a tick of each running node, by rising id. The
 /// element at the choice modulo the list's length, counted from 0, is played; an empty list ends the schedule. Last comes what `check`
-/// says of the explanation: `valid true`, whatever was drawn.
+/// says of the explanation: `valid true` or `valid false`. It is `valid true`, whatever was drawn, by the law `every_verdict_is_valid` of
+/// `craq_verdicts`.
 ///
 /// `BadScript` with the first line that is outside the grammar; `Memory` where a growth was refused. (This project's profile.)
 pub fn draw<C: Core>(
@@ -169,7 +174,7 @@ pub fn draw<C: Core>(
     choices: &[u32],
 ) -> Result<String, Refusal>
     requires { (1 ≤ nodes) × (nodes ≤ 8) }
-    ensures { Plays (λ t. string_bytes t) result (drawn nodes choices.now script.now) }
+    ensures { (holds : Run → Explanation → Bool) → AnswersAsCheck holds → Plays (λ t. string_bytes t) result (drawn holds nodes choices.now script.now) }
 {
     let script = Script::read(alloc, script)?;
     Ok(draw_lines::<C>(alloc, nodes, script.lines.as_slice(), choices)?)

@@ -1,7 +1,10 @@
-ghost use Rattle.std.specs.Prelude.{◌≡◌, ◌≤◌, ◌+◌, ◌++◌, true, length, IfOk, OnOk, string_bytes};
+ghost use Rattle.std.specs.Prelude.{◌≡◌, ◌≤◌, ◌+◌, ◌++◌, Bool, length, IfOk, OnOk, string_bytes};
+ghost use Rattle.craq_runs.specs.declared.explanation.Explanation.{Explanation};
+ghost use Rattle.craq_runs.specs.declared.run.Run.{Run};
 ghost use Rattle.craq_play.specs.Moves.{move_of};
 ghost use Rattle.craq_play.specs.Played.{Plays, after_line, after_one};
 ghost use Rattle.craq_schedules.specs.Stopped.{after_lines, cut_line, cut_text, delivered, stopped, stops_text, up_to, without_node};
+ghost use Rattle.craq_schedules.specs.Verdicts.{AnswersAsCheck};
 
 use crate::verdict::{Verdict, print_verdict, verdict_of};
 use craq_chain::ChainCore;
@@ -117,8 +120,7 @@ fn stop_and_remove<C: Core>(
 
 /// Prints the line of a cut. It fails for want of memory alone.
 fn print_line(text: &mut String, cut: usize, verdict: Verdict) -> Result<(), AllocError>
-    requires { verdict.is_valid ≡ true }
-    ensures { OnOk result (string_bytes text.new ≡ string_bytes text.old ++ cut_line cut verdict.committed) }
+    ensures { OnOk result (string_bytes text.new ≡ string_bytes text.old ++ cut_line cut verdict.committed verdict.is_valid) }
 {
     let committed = verdict.committed;
     write!(text, "cut {cut} committed {committed} ")?;
@@ -136,7 +138,7 @@ fn print_cut<C: Core>(
     node: NodeId,
 ) -> Result<(), AllocError>
     requires { (1 ≤ nodes) × (nodes ≤ 8) }
-    ensures { OnOk result (string_bytes text.new ≡ string_bytes text.old ++ cut_text nodes node lines.now cut) }
+    ensures { (holds : Run → Explanation → Bool) → AnswersAsCheck holds → OnOk result (string_bytes text.new ≡ string_bytes text.old ++ cut_text holds nodes node lines.now cut) }
 {
     let mut chain: ChainCore<C> = opened(alloc, nodes)?;
     take_up_to(alloc, &mut chain, lines, cut)?;
@@ -152,7 +154,7 @@ fn stop_lines<C: Core>(
     node: NodeId,
 ) -> Result<String, AllocError>
     requires { (1 ≤ nodes) × (nodes ≤ 8) }
-    ensures { IfOk result (λ text. string_bytes text ≡ stops_text nodes node lines.now) }
+    ensures { IfOk result (λ text. (holds : Run → Explanation → Bool) → AnswersAsCheck holds → string_bytes text ≡ stops_text holds nodes node lines.now) }
 {
     let mut whole: ChainCore<C> = opened(alloc, nodes)?;
     take_lines(alloc, &mut whole, lines)?;
@@ -166,8 +168,8 @@ fn stop_lines<C: Core>(
 /// For each number from 0 to that of the moves that a script takes: plays it up to so many taken moves, on a new chain of the nodes from
 /// 1 to the count; then the node stops and is removed, and each message that is sent from the removal on arrives once, by rising number, until
 /// none is left or 10,000 did. Where the removal is refused nothing is delivered; `explain` prints nothing. Prints a line for each
-/// number: `cut I committed L valid true`, with the number, how many updates are committed at the end, and what `check` says of the
-/// explanation, which is always valid.
+/// number: `cut I committed L valid true` or `cut I committed L valid false`, with the number, how many updates are committed at the end,
+/// and what `check` says of the explanation. It is `valid true` each time, by the law `every_verdict_is_valid` of `craq_verdicts`.
 ///
 /// `BadScript` with the first line that is outside the grammar; `Memory` where a growth was refused. (This project's profile.)
 pub fn stops<C: Core>(
@@ -177,7 +179,7 @@ pub fn stops<C: Core>(
     node: NodeId,
 ) -> Result<String, Refusal>
     requires { (1 ≤ nodes) × (nodes ≤ 8) }
-    ensures { Plays (λ t. string_bytes t) result (stopped nodes node script.now) }
+    ensures { (holds : Run → Explanation → Bool) → AnswersAsCheck holds → Plays (λ t. string_bytes t) result (stopped holds nodes node script.now) }
 {
     let script = Script::read(alloc, script)?;
     Ok(stop_lines::<C>(alloc, nodes, script.lines.as_slice(), node)?)

@@ -1,12 +1,13 @@
-ghost use Rattle.std.specs.Prelude.{◌≡◌, ◌++◌, true, length, IfOk, OnOk, string_bytes};
+ghost use Rattle.std.specs.Prelude.{◌≡◌, ◌++◌, Bool, length, IfOk, OnOk, string_bytes};
+ghost use Rattle.craq_runs.specs.declared.explanation.Explanation.{Explanation};
+ghost use Rattle.craq_runs.specs.declared.run.Run.{Run};
 ghost use Rattle.craq_runs.specs.Explain.{explain};
-ghost use Rattle.craq_schedules.specs.Verdicts.{verdict_text};
+ghost use Rattle.craq_schedules.specs.Verdicts.{AnswersAsCheck, answer_on, verdict_text};
 
 use craq_chain::ChainCore;
 use craq_check::check;
 use craq_explain::explain_run_of;
 use craq_node::Core;
-use craq_promise::every_run_is_explained;
 use std::alloc::{AllocError, Global};
 
 /// What can be said of a run: how many updates are committed, and whether its explanation passes `check`.
@@ -16,16 +17,14 @@ pub(crate) struct Verdict {
     pub(crate) is_valid: bool,
 }
 
-/// What can be said of what has happened in a chain: the explanation is valid, as that of every run is. It fails for
-/// want of memory alone.
+/// What can be said of what has happened in a chain. It fails for want of memory alone.
 pub(crate) fn verdict_of<C: Core>(
     alloc: Global,
     chain: &ChainCore<C>,
 ) -> Result<Verdict, AllocError>
     ensures committed { IfOk result (λ v. v.committed ≡ length (explain chain.now.chain chain.now.run).asks) }
-    ensures valid { IfOk result (λ v. v.is_valid ≡ true) }
+    ensures valid { IfOk result (λ v. (holds : Run → Explanation → Bool) → AnswersAsCheck holds → v.is_valid ≡ answer_on holds chain.now) }
 {
-    every_run_is_explained();
     let explanation = explain_run_of(alloc, chain.chain(), chain.run())?;
     Ok(Verdict {
         committed: explanation.asks.as_slice().len() as u64,
@@ -35,8 +34,7 @@ pub(crate) fn verdict_of<C: Core>(
 
 /// Prints what `check` says of the explanation. It fails for want of memory alone.
 pub(crate) fn print_verdict(text: &mut String, verdict: Verdict) -> Result<(), AllocError>
-    requires { verdict.is_valid ≡ true }
-    ensures { OnOk result (string_bytes text.new ≡ string_bytes text.old ++ verdict_text) }
+    ensures { OnOk result (string_bytes text.new ≡ string_bytes text.old ++ verdict_text verdict.is_valid) }
 {
     let valid = verdict.is_valid;
     writeln!(text, "valid {valid}")

@@ -1,9 +1,11 @@
-ghost use Rattle.std.specs.Prelude.{◌≡◌, ◌++◌, OnOk};
+ghost use Rattle.std.specs.Prelude.{◌≡◌, ◌++◌, OnOk, OnErr};
+ghost use Rattle.std.specs.Io.{StartsWith};
 ghost use Rattle.craq_codec.specs.NumberReading.{Gives};
 ghost use Rattle.craq_codec.specs.CommandReading.{command_at, command_body_at, transaction_at};
 ghost use Rattle.craq_codec.specs.PartSpelling.{object as object_bytes, value as value_bytes, IsObject, IsValue};
 ghost use Rattle.craq_codec.specs.CommandSpelling.{command as spelled_command, transaction, CommandFits, TransactionFits};
 
+use crate::undo::undo_if_err;
 use crate::{
     Part, Unread, read_short_list, read_u8, read_u64, write_short_list, write_u8, write_u64,
 };
@@ -86,21 +88,23 @@ pub fn read_command(alloc: Global, bytes: &[u8]) -> Result<(Command, &[u8]), Unr
     read_command_body(alloc, tag, rest)
 }
 
-/// Writes an object and a value at the end.
-fn write_put(out: &mut BytesMut, object: &ObjectId, value: &Value) -> Result<(), AllocError>
+/// Appends an object and a value. Where it fails, what was there before is still in front.
+fn append_put(out: &mut BytesMut, object: &ObjectId, value: &Value) -> Result<(), AllocError>
     ensures fits { OnOk result (IsObject object.now × IsValue value.now) }
     ensures spelled { OnOk result (out.new.items
         ≡ out.old.items ++ (object_bytes object.now ++ value_bytes value.now)) }
+    ensures appends { OnErr result (StartsWith out.new.items out.old.items) }
 {
     object.write(out)?;
     value.write(out)
 }
 
-/// Writes a transaction at the end.
+/// Appends a transaction. Where it fails, what was there before is still in front.
 #[tactic(auto, using(crate::proofs::Free::all_of_any))]
-fn write_transaction(out: &mut BytesMut, mini: &Mini) -> Result<(), AllocError>
+fn append_transaction(out: &mut BytesMut, mini: &Mini) -> Result<(), AllocError>
     ensures fits { OnOk result (TransactionFits mini.now) }
     ensures spelled { OnOk result (out.new.items ≡ out.old.items ++ transaction mini.now) }
+    ensures appends { OnErr result (StartsWith out.new.items out.old.items) }
 {
     mini.keeps_limits();
     write_short_list(out, mini.compares())?;
@@ -108,16 +112,17 @@ fn write_transaction(out: &mut BytesMut, mini: &Mini) -> Result<(), AllocError>
     write_short_list(out, mini.writes())
 }
 
-/// Writes a command at the end. It fails for want of memory alone.
+/// Appends a command. Where it fails, what was there before is still in front.
 #[tactic(auto, unfolding(crate::specs::CommandSpelling::command))]
-pub fn write_command(out: &mut BytesMut, command: &Command) -> Result<(), AllocError>
+fn append_command(out: &mut BytesMut, command: &Command) -> Result<(), AllocError>
     ensures fits { OnOk result (CommandFits command.now) }
     ensures spelled { OnOk result (out.new.items ≡ out.old.items ++ spelled_command command.now) }
+    ensures appends { OnErr result (StartsWith out.new.items out.old.items) }
 {
     match command {
         Command::Put { object, value } => {
             write_u8(out, 1)?;
-            write_put(out, object, value)
+            append_put(out, object, value)
         }
         Command::TestAndSet {
             object,
@@ -131,11 +136,11 @@ pub fn write_command(out: &mut BytesMut, command: &Command) -> Result<(), AllocE
         }
         Command::Append { object, value } => {
             write_u8(out, 3)?;
-            write_put(out, object, value)
+            append_put(out, object, value)
         }
         Command::Prepend { object, value } => {
             write_u8(out, 4)?;
-            write_put(out, object, value)
+            append_put(out, object, value)
         }
         Command::Increment { object, by } => {
             write_u8(out, 5)?;
@@ -149,7 +154,18 @@ pub fn write_command(out: &mut BytesMut, command: &Command) -> Result<(), AllocE
         }
         Command::Mini(mini) => {
             write_u8(out, 7)?;
-            write_transaction(out, mini)
+            append_transaction(out, mini)
         }
     }
+}
+
+/// Writes a command at the end. It fails for want of memory alone, and the bytes are then as before.
+pub fn write_command(out: &mut BytesMut, command: &Command) -> Result<(), AllocError>
+    ensures fits { OnOk result (CommandFits command.now) }
+    ensures spelled { OnOk result (out.new.items ≡ out.old.items ++ spelled_command command.now) }
+    ensures same { OnErr result (out.new.items ≡ out.old.items) }
+{
+    let len = out.len();
+    let written = append_command(out, command);
+    undo_if_err(out, len, written)
 }

@@ -32,7 +32,7 @@ impl Part for Write {
     }
 
     #[tactic(auto, unfolding(crate::specs::EntrySpelling::write))]
-    fn write(&self, out: &mut BytesMut) -> Result<(), AllocError> {
+    fn append(&self, out: &mut BytesMut) -> Result<(), AllocError> {
         self.key.write(out)?;
         self.version.write(out)?;
         self.value.write(out)
@@ -73,7 +73,7 @@ impl Part for Entry {
     }
 
     #[tactic(auto, unfolding(crate::specs::EntrySpelling::entry))]
-    fn write(&self, out: &mut BytesMut) -> Result<(), AllocError> {
+    fn append(&self, out: &mut BytesMut) -> Result<(), AllocError> {
         write_u64(out, self.position.get())?;
         self.origin_node.write(out)?;
         write_u64(out, self.origin_ticket.get())?;

@@ -9,6 +9,7 @@ mod number;
 mod part;
 mod reply;
 mod rules;
+mod undo;
 mod unread;
 
 pub use command::{read_command, write_command};

@@ -1,10 +1,11 @@
-ghost use Rattle.std.specs.Prelude.{◌≡◌, ◌<◌, ◌^◌, ◌++◌, length, OnOk};
+ghost use Rattle.std.specs.Prelude.{◌≡◌, ◌<◌, ◌^◌, ◌++◌, length, OnOk, OnErr};
 ghost use Rattle.std.specs.List.{flat_map, AllByRecursion};
 ghost use Rattle.std.specs.Int.{w8, w32};
 ghost use Rattle.craq_codec.specs.NumberReading.{Gives};
 ghost use Rattle.craq_codec.specs.PartReading.{many_at, counted_at};
 ghost use Rattle.craq_codec.specs.PartSpelling.{counted, AreCounted};
 
+use crate::undo::undo_if_err;
 use crate::{Part, Unread, read_u8, read_u32, write_u8, write_u32};
 use bytes::BytesMut;
 use craq_names::Items;
@@ -29,14 +30,18 @@ pub fn read_parts<T: Part>(
     Ok((parts, rest))
 }
 
-/// Writes the values at the end, one after the other. It fails for want of memory alone.
+/// Writes the values at the end, one after the other. It fails for want of memory alone, and the bytes
+/// are then as before.
 pub fn write_parts<T: Part>(out: &mut BytesMut, parts: &[T]) -> Result<(), AllocError>
     requires { AllByRecursion T.is_writable parts.now }
     ensures fits { OnOk result (AllByRecursion T.fits parts.now) }
     ensures spelled { OnOk result (out.new.items ≡ out.old.items ++ flat_map T.spelling parts.now) }
+    ensures same { OnErr result (out.new.items ≡ out.old.items) }
 {
+    let len = out.len();
     for part in parts {
-        part.write(out)?;
+        let written = part.write(out);
+        undo_if_err(out, len, written)?;
     }
     Ok(())
 }
@@ -61,25 +66,32 @@ pub fn read_long_list<T: Part>(alloc: Global, bytes: &[u8]) -> Result<(Items<T>,
     read_parts(alloc, count as usize, rest)
 }
 
-/// Writes at most 255 values at the end, after a byte of count. It fails for want of memory alone.
+/// Writes at most 255 values at the end, after a byte of count. It fails for want of memory alone, and
+/// the bytes are then as before.
 pub fn write_short_list<T: Part>(out: &mut BytesMut, parts: &[T]) -> Result<(), AllocError>
     requires few { length parts.now < 2 ^ 8 }
     requires writable { AllByRecursion T.is_writable parts.now }
     ensures fits { OnOk result (AreCounted w8 T.fits parts.now) }
     ensures spelled { OnOk result (out.new.items ≡ out.old.items ++ counted w8 T.spelling parts.now) }
+    ensures same { OnErr result (out.new.items ≡ out.old.items) }
 {
+    let len = out.len();
     write_u8(out, parts.len() as u8)?;
-    write_parts(out, parts)
+    let written = write_parts(out, parts);
+    undo_if_err(out, len, written)
 }
 
 /// Writes fewer than 2^32 values at the end, after a count of 4 bytes. It fails for want of memory
-/// alone.
+/// alone, and the bytes are then as before.
 pub fn write_long_list<T: Part>(out: &mut BytesMut, parts: &[T]) -> Result<(), AllocError>
     requires few { length parts.now < 2 ^ 32 }
     requires writable { AllByRecursion T.is_writable parts.now }
     ensures fits { OnOk result (AreCounted w32 T.fits parts.now) }
     ensures spelled { OnOk result (out.new.items ≡ out.old.items ++ counted w32 T.spelling parts.now) }
+    ensures same { OnErr result (out.new.items ≡ out.old.items) }
 {
+    let len = out.len();
     write_u32(out, parts.len() as u32)?;
-    write_parts(out, parts)
+    let written = write_parts(out, parts);
+    undo_if_err(out, len, written)
 }

@@ -1,10 +1,12 @@
-ghost use Rattle.std.specs.Prelude.{◌≡◌, ◌<◌, ◌≤◌, ◌^◌, ⊤, ℕ, List, Option, ◌++◌, OnOk};
+ghost use Rattle.std.specs.Prelude.{◌≡◌, ◌<◌, ◌≤◌, ◌^◌, ⊤, ℕ, List, Option, ◌++◌, OnOk, OnErr};
 ghost use Rattle.std.specs.Int.{w16, w32, w64};
+ghost use Rattle.std.specs.Io.{StartsWith};
 ghost use Rattle.craq_codec.specs.NumberReading.{Gives, number_at};
 ghost use Rattle.craq_codec.specs.PartReading.{key_at, value_at, object_at, request_at, pair_at};
 ghost use Rattle.craq_codec.specs.NumberSpelling.{number};
 ghost use Rattle.craq_codec.specs.PartSpelling.{key, value, object, pair, IsKey, IsValue, IsObject, IsPair};
 
+use crate::undo::undo_if_err;
 use crate::{
     Unread, read_bytes, read_u8, read_u16, read_u32, read_u64, write_u8, write_u16, write_u32,
     write_u64,
@@ -32,11 +34,25 @@ pub trait Part: Drop {
     fn read(alloc: Global, bytes: &[u8]) -> Result<(Self, &[u8]), Unread>
         ensures { Gives (λ x. (x.0, x.1.now)) result (part_at bytes.now) };
 
-    /// Writes the value at the end. It fails for want of memory alone.
-    fn write(&self, out: &mut BytesMut) -> Result<(), AllocError>
+    /// Appends the value's bytes. It fails for want of memory alone. What was there before is then still
+    /// in front, and nothing is known of what is behind it; `write` leaves nothing there.
+    fn append(&self, out: &mut BytesMut) -> Result<(), AllocError>
         requires { is_writable self.now }
         ensures fits { OnOk result (fits self.now) }
-        ensures spelled { OnOk result (out.new.items ≡ out.old.items ++ spelling self.now) };
+        ensures spelled { OnOk result (out.new.items ≡ out.old.items ++ spelling self.now) }
+        ensures appends { OnErr result (StartsWith out.new.items out.old.items) };
+
+    /// Writes the value at the end. It fails for want of memory alone, and the bytes are then as before.
+    final fn write(&self, out: &mut BytesMut) -> Result<(), AllocError>
+        requires { is_writable self.now }
+        ensures fits { OnOk result (fits self.now) }
+        ensures spelled { OnOk result (out.new.items ≡ out.old.items ++ spelling self.now) }
+        ensures same { OnErr result (out.new.items ≡ out.old.items) }
+    {
+        let len = out.len();
+        let written = self.append(out);
+        undo_if_err(out, len, written)
+    }
 }
 
 impl Part for NodeId {
@@ -53,7 +69,7 @@ impl Part for NodeId {
         Ok((NodeId::new(id), rest))
     }
 
-    fn write(&self, out: &mut BytesMut) -> Result<(), AllocError> {
+    fn append(&self, out: &mut BytesMut) -> Result<(), AllocError> {
         write_u32(out, self.get())
     }
 }
@@ -72,7 +88,7 @@ impl Part for Version {
         Ok((Version::new(version), rest))
     }
 
-    fn write(&self, out: &mut BytesMut) -> Result<(), AllocError> {
+    fn append(&self, out: &mut BytesMut) -> Result<(), AllocError> {
         write_u64(out, self.get())
     }
 }
@@ -91,7 +107,7 @@ impl Part for ClientId {
         Ok((ClientId::new(id), rest))
     }
 
-    fn write(&self, out: &mut BytesMut) -> Result<(), AllocError> {
+    fn append(&self, out: &mut BytesMut) -> Result<(), AllocError> {
         write_u64(out, self.get())
     }
 }
@@ -114,7 +130,7 @@ impl Part for RequestNo {
         }
     }
 
-    fn write(&self, out: &mut BytesMut) -> Result<(), AllocError> {
+    fn append(&self, out: &mut BytesMut) -> Result<(), AllocError> {
         write_u64(out, self.get())
     }
 }
@@ -144,7 +160,7 @@ impl Part for Key {
         }
     }
 
-    fn write(&self, out: &mut BytesMut) -> Result<(), AllocError> {
+    fn append(&self, out: &mut BytesMut) -> Result<(), AllocError> {
         let text = self.as_slice();
         write_u8(out, text.len() as u8)?;
         out.put_slice(text)
@@ -174,7 +190,7 @@ impl Part for Value {
         }
     }
 
-    fn write(&self, out: &mut BytesMut) -> Result<(), AllocError> {
+    fn append(&self, out: &mut BytesMut) -> Result<(), AllocError> {
         let text = self.as_slice();
         write_u16(out, text.len() as u16)?;
         out.put_slice(text)
@@ -198,7 +214,7 @@ impl Part for ObjectId {
         Ok((ObjectId { chain, key }, rest))
     }
 
-    fn write(&self, out: &mut BytesMut) -> Result<(), AllocError> {
+    fn append(&self, out: &mut BytesMut) -> Result<(), AllocError> {
         write_u16(out, self.chain.get())?;
         self.key.write(out)
     }
@@ -220,7 +236,7 @@ impl<A: Part, B: Part> Part for (A, B) {
         Ok(((first, second), rest))
     }
 
-    fn write(&self, out: &mut BytesMut) -> Result<(), AllocError> {
+    fn append(&self, out: &mut BytesMut) -> Result<(), AllocError> {
         self.0.write(out)?;
         self.1.write(out)
     }

@@ -63,7 +63,7 @@ impl Part for Reply {
     }
 
     #[tactic(auto, unfolding(crate::specs::EntrySpelling::reply))]
-    fn write(&self, out: &mut BytesMut) -> Result<(), AllocError> {
+    fn append(&self, out: &mut BytesMut) -> Result<(), AllocError> {
         match self {
             Reply::Written(version) => {
                 write_u8(out, 1)?;

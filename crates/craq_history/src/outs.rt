@@ -1,5 +1,5 @@
 //! What a node sends.
-ghost use Rattle.std.specs.Prelude.{◌≡◌, ◌++◌, ◌∷◌, [], OnOk, map};
+ghost use Rattle.std.specs.Prelude.{◌≡◌, ◌++◌, ◌∷◌, [], OnOk, OnErr, map, take};
 ghost use Rattle.craq_model.specs.declared.waiting.WaitingRead.{WaitingRead};
 ghost use Rattle.craq_model.specs.Members.{successor_in, predecessor_in};
 ghost use Rattle.craq_model.specs.Sends.{to_neighbour, entry_bodies};
@@ -45,7 +45,46 @@ pub fn message(sender: &Sender, to: NodeId, body: Body) -> Out
     }
 }
 
-/// Sends each of these entries.
+/// The same result. If it is an error, the outs behind the first `len` are taken off again.
+fn undo_if_err(
+    outs: &mut Vec<Out>,
+    len: usize,
+    added: Result<(), AllocError>,
+) -> Result<(), AllocError>
+    ensures value { result ≡ added }
+    ensures all { OnOk result (outs.new.items ≡ outs.old.items) }
+    ensures undone { OnErr result (outs.new.items ≡ take len outs.old.items) }
+{
+    if added.is_err() {
+        outs.truncate(len);
+    }
+    added
+}
+
+/// Sends one message. Where it fails, the outs are as before.
+fn send(outs: &mut Vec<Out>, sender: &Sender, to: NodeId, body: Body) -> Result<(), AllocError>
+    ensures sent { OnOk result (outs.new.items ≡ outs.old.items ++ sent_from sender.now.name sender.now.epoch to body ∷ []) }
+    ensures same { OnErr result (outs.new.items ≡ outs.old.items) }
+{
+    outs.push(message(sender, to, body))?;
+    Ok(())
+}
+
+/// Sends this entry. Where it fails, the outs are as before.
+fn send_entry(
+    outs: &mut Vec<Out>,
+    alloc: Global,
+    sender: &Sender,
+    to: NodeId,
+    entry: &Entry,
+) -> Result<(), AllocError>
+    ensures sent { OnOk result (outs.new.items ≡ outs.old.items ++ sent_from sender.now.name sender.now.epoch to (Body.Entry entry.now) ∷ []) }
+    ensures same { OnErr result (outs.new.items ≡ outs.old.items) }
+{
+    send(outs, sender, to, Body::Entry(entry.copied(alloc)?))
+}
+
+/// Sends each of these entries. It fails for want of memory alone, and the outs are then as before.
 #[tactic(auto, unfolding(craq_model::specs::Sends::entry_bodies))]
 pub fn send_entries(
     outs: &mut Vec<Out>,
@@ -54,15 +93,36 @@ pub fn send_entries(
     to: NodeId,
     entries: &[Entry],
 ) -> Result<(), AllocError>
-    ensures { OnOk result (outs.new.items ≡ outs.old.items ++ map (sent_from sender.now.name sender.now.epoch to) (entry_bodies entries.now)) }
+    ensures sent { OnOk result (outs.new.items ≡ outs.old.items ++ map (sent_from sender.now.name sender.now.epoch to) (entry_bodies entries.now)) }
+    ensures same { OnErr result (outs.new.items ≡ outs.old.items) }
 {
+    let len = outs.len();
     for entry in entries {
-        outs.push(message(sender, to, Body::Entry(entry.copied(alloc)?)))?;
+        let sent = send_entry(outs, alloc, sender, to, entry);
+        undo_if_err(outs, len, sent)?;
     }
     Ok(())
 }
 
-/// Asks the last member about each of these reads.
+/// Asks the last member about this read. Where it fails, the outs are as before.
+fn send_query(
+    outs: &mut Vec<Out>,
+    alloc: Global,
+    sender: &Sender,
+    to: NodeId,
+    read: &WaitingRead,
+) -> Result<(), AllocError>
+    ensures sent { OnOk result (outs.new.items ≡ outs.old.items ++ sent_from sender.now.name sender.now.epoch to (Body.Query read.now.ticket read.now.key) ∷ []) }
+    ensures same { OnErr result (outs.new.items ≡ outs.old.items) }
+{
+    let body = Body::Query {
+        ticket: read.ticket,
+        key: read.key.copied(alloc)?,
+    };
+    send(outs, sender, to, body)
+}
+
+/// Asks the last member about each of these reads. Where it fails, the outs are as before.
 fn send_queries(
     outs: &mut Vec<Out>,
     alloc: Global,
@@ -70,19 +130,19 @@ fn send_queries(
     to: NodeId,
     reads: &[WaitingRead],
 ) -> Result<(), AllocError>
-    ensures { OnOk result (outs.new.items ≡ outs.old.items ++ map (λ (r : WaitingRead). sent_from sender.now.name sender.now.epoch to (Body.Query r.ticket r.key)) reads.now) }
+    ensures sent { OnOk result (outs.new.items ≡ outs.old.items ++ map (λ (r : WaitingRead). sent_from sender.now.name sender.now.epoch to (Body.Query r.ticket r.key)) reads.now) }
+    ensures same { OnErr result (outs.new.items ≡ outs.old.items) }
 {
+    let len = outs.len();
     for read in reads {
-        let body = Body::Query {
-            ticket: read.ticket,
-            key: read.key.copied(alloc)?,
-        };
-        outs.push(message(sender, to, body))?;
+        let sent = send_query(outs, alloc, sender, to, read);
+        undo_if_err(outs, len, sent)?;
     }
     Ok(())
 }
 
-/// Sends the successor these entries in two parts, and how many the history has.
+/// Sends the successor these entries in two parts, and how many the history has. Where it fails, the
+/// outs are as before.
 #[tactic(auto, unfolding(craq_model::specs::Sends::entry_bodies))]
 fn catch_up(
     outs: &mut Vec<Out>,
@@ -93,37 +153,43 @@ fn catch_up(
     later: &[Entry],
     length: u64,
 ) -> Result<(), AllocError>
-    ensures { OnOk result (outs.new.items ≡ outs.old.items ++ to_neighbour (successor_in members.now sender.now.name.node) (caught_up sender.now.name sender.now.epoch (entries.now ++ later.now) length)) }
+    ensures sent { OnOk result (outs.new.items ≡ outs.old.items ++ to_neighbour (successor_in members.now sender.now.name.node) (caught_up sender.now.name sender.now.epoch (entries.now ++ later.now) length)) }
+    ensures same { OnErr result (outs.new.items ≡ outs.old.items) }
 {
     let own = sender.id();
     let Some(to) = successor_of(members, own) else {
         return Ok(());
     };
+    let len = outs.len();
     send_entries(outs, alloc, sender, to, entries)?;
-    send_entries(outs, alloc, sender, to, later)?;
-    outs.push(message(sender, to, Body::Floor(Seq::new(length))))?;
-    Ok(())
+    let sent = send_entries(outs, alloc, sender, to, later);
+    undo_if_err(outs, len, sent)?;
+    let sent = send(outs, sender, to, Body::Floor(Seq::new(length)));
+    undo_if_err(outs, len, sent)
 }
 
-/// Tells the predecessor, if there is one.
+/// Tells the predecessor, if there is one. It fails for want of memory alone, and the outs are then as
+/// before.
 pub fn tell_predecessor(
     outs: &mut Vec<Out>,
     sender: &Sender,
     members: &[NodeId],
     body: Body,
 ) -> Result<(), AllocError>
-    ensures { OnOk result (outs.new.items ≡ outs.old.items ++ to_neighbour (predecessor_in members.now sender.now.name.node) (λ to. sent_from sender.now.name sender.now.epoch to body ∷ [])) }
+    ensures sent { OnOk result (outs.new.items ≡ outs.old.items ++ to_neighbour (predecessor_in members.now sender.now.name.node) (λ to. sent_from sender.now.name sender.now.epoch to body ∷ [])) }
+    ensures same { OnErr result (outs.new.items ≡ outs.old.items) }
 {
     let own = sender.id();
-    if let Some(to) = predecessor_of(members, own) {
-        outs.push(message(sender, to, body))?;
+    match predecessor_of(members, own) {
+        Some(to) => send(outs, sender, to, body),
+        None => Ok(()),
     }
-    Ok(())
 }
 
 /// What a ready node repeats, added to the outs: to its successor the entries after the acknowledged
 /// position (in two parts) and the length of its history, to its predecessor the acknowledged
-/// position, and to the last member, where that is another, a question for each waiting read.
+/// position, and to the last member, where that is another, a question for each waiting read. It fails
+/// for want of memory alone, and the outs are then as before.
 pub fn add_ready_outs(
     outs: &mut Vec<Out>,
     alloc: Global,
@@ -135,25 +201,31 @@ pub fn add_ready_outs(
     acknowledged: u64,
     reads: &[WaitingRead],
 ) -> Result<(), AllocError>
-    ensures { OnOk result (outs.new.items ≡ outs.old.items ++ ready_outs sender.now.name sender.now.epoch members.now (entries.now ++ later.now) length acknowledged reads.now) }
+    ensures sent { OnOk result (outs.new.items ≡ outs.old.items ++ ready_outs sender.now.name sender.now.epoch members.now (entries.now ++ later.now) length acknowledged reads.now) }
+    ensures same { OnErr result (outs.new.items ≡ outs.old.items) }
 {
+    let len = outs.len();
     catch_up(outs, alloc, sender, members, entries, later, length)?;
-    tell_predecessor(outs, sender, members, Body::Ack(Seq::new(acknowledged)))?;
+    let told = tell_predecessor(outs, sender, members, Body::Ack(Seq::new(acknowledged)));
+    undo_if_err(outs, len, told)?;
     let last = last_member(members);
-    if last != sender.id() {
-        send_queries(outs, alloc, sender, last, reads)?;
+    if last == sender.id() {
+        return Ok(());
     }
-    Ok(())
+    let asked = send_queries(outs, alloc, sender, last, reads);
+    undo_if_err(outs, len, asked)
 }
 
-/// What an unready node repeats: it tells its predecessor how many entries it has.
+/// What an unready node repeats: it tells its predecessor how many entries it has. It fails for want of
+/// memory alone, and the outs are then as before.
 pub fn add_unready_outs(
     outs: &mut Vec<Out>,
     sender: &Sender,
     members: &[NodeId],
     length: u64,
 ) -> Result<(), AllocError>
-    ensures { OnOk result (outs.new.items ≡ outs.old.items ++ unready_outs sender.now.name sender.now.epoch members.now length) }
+    ensures sent { OnOk result (outs.new.items ≡ outs.old.items ++ unready_outs sender.now.name sender.now.epoch members.now length) }
+    ensures same { OnErr result (outs.new.items ≡ outs.old.items) }
 {
     tell_predecessor(outs, sender, members, Body::Blank(Seq::new(length)))
 }

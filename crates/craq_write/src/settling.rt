@@ -1,5 +1,5 @@
 //! Settling in a membership, and what a node repeats in it.
-ghost use Rattle.std.specs.Prelude.{◌≡◌, ◌&&◌, ◌==◌, ◌++◌, true, false, OnOk, IfOk, IsOk, IsSome};
+ghost use Rattle.std.specs.Prelude.{◌≡◌, ◌&&◌, ◌==◌, ◌++◌, true, false, OnOk, OnErr, IfOk, IsOk, IsSome};
 ghost use Rattle.craq_model.specs.Deliveries.{config_turn};
 ghost use Rattle.craq_model.specs.Members.{last_of};
 ghost use Rattle.craq_model.specs.Sends.{tick_sends};
@@ -17,7 +17,7 @@ use craq_model::{Config, Out, Step, Why};
 use craq_names::{Copied, Epoch, Items, NodeId, Seq};
 use std::alloc::{AllocError, Global};
 
-/// What a node repeats in this membership, added to the outs.
+/// What a node repeats in this membership, added to the outs. Where it fails, the outs are as before.
 #[tactic(auto, unfolding(craq_model::specs::Sends::tick_sends, craq_model::specs::Sends::ready_sends, craq_model::specs::Sends::unready_sends, craq_model::specs::Sends::catch_up, craq_model::specs::Plain::entries_after))]
 fn add_outs_in<H: History>(
     outs: &mut Vec<Out>,
@@ -26,7 +26,8 @@ fn add_outs_in<H: History>(
     epoch: Epoch,
     members: &[NodeId],
 ) -> Result<(), AllocError>
-    ensures { OnOk result (outs.new.items ≡ outs.old.items ++ tick_sends (in_membership (plain_of H.past node.now) epoch members.now)) }
+    ensures sent { OnOk result (outs.new.items ≡ outs.old.items ++ tick_sends (in_membership (plain_of H.past node.now) epoch members.now)) }
+    ensures same { OnErr result (outs.new.items ≡ outs.old.items) }
 {
     if epoch.get() == 0 {
         return Ok(());
@@ -53,14 +54,16 @@ fn add_outs_in<H: History>(
 }
 
 /// What a tick sends: an unready node tells its predecessor how many entries it has; a ready one repeats
-/// what it has to send. A node without a membership sends nothing.
+/// what it has to send. A node without a membership sends nothing. It fails for want of memory alone, and
+/// the outs are then as before.
 #[tactic(auto, unfolding(craq_model::specs::Sends::tick_sends, craq_model::specs::Sends::ready_sends, craq_model::specs::Sends::unready_sends, craq_model::specs::Sends::catch_up, craq_model::specs::Plain::entries_after))]
 pub fn add_tick_outs<H: History>(
     outs: &mut Vec<Out>,
     alloc: Global,
     node: &Node<H>,
 ) -> Result<(), AllocError>
-    ensures { OnOk result (outs.new.items ≡ outs.old.items ++ tick_sends (plain_of H.past node.now)) }
+    ensures sent { OnOk result (outs.new.items ≡ outs.old.items ++ tick_sends (plain_of H.past node.now)) }
+    ensures same { OnErr result (outs.new.items ≡ outs.old.items) }
 {
     add_outs_in(outs, alloc, node, node.epoch, node.members.as_slice())
 }

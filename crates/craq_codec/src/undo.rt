@@ -1,0 +1,20 @@
+ghost use Rattle.std.specs.Prelude.{◌≡◌, take, OnOk, OnErr};
+
+use bytes::BytesMut;
+use std::alloc::AllocError;
+
+/// The same result. If it is an error, the bytes behind the first `len` are taken off again.
+pub(crate) fn undo_if_err(
+    out: &mut BytesMut,
+    len: usize,
+    written: Result<(), AllocError>,
+) -> Result<(), AllocError>
+    ensures value { result ≡ written }
+    ensures all { OnOk result (out.new.items ≡ out.old.items) }
+    ensures undone { OnErr result (out.new.items ≡ take len out.old.items) }
+{
+    if written.is_err() {
+        out.truncate(len);
+    }
+    written
+}

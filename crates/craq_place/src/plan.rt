@@ -176,15 +176,23 @@ impl Plan {
         }
     }
 
+    /// The name and the nodes of the chain of this id, head first. `UnknownChain` exactly where the
+    /// plan has none.
+    pub fn chain(&self, id: ChainId) -> Result<(&str, &[NodeId]), Refusal>
+        ensures { MatchResult result (λ x. chain_at self.now id ≡ Ok (x.0.now, x.1.now)) (λ e. chain_at self.now id ≡ Err e) }
+    {
+        match self.chains.get_index(id.get() as usize) {
+            Some((name, nodes)) => Ok((name.as_str(), nodes.as_slice())),
+            None => Err(Refusal::UnknownChain),
+        }
+    }
+
     /// The name and the nodes of the object's chain, head first. `UnknownChain` exactly where the
     /// plan has none of its id.
     pub fn chain_of(&self, object: &ObjectId) -> Result<(&str, &[NodeId]), Refusal>
         ensures { MatchResult result (λ x. chain_at self.now object.now.chain ≡ Ok (x.0.now, x.1.now)) (λ e. chain_at self.now object.now.chain ≡ Err e) }
     {
-        match self.chains.get_index(object.chain.get() as usize) {
-            Some((name, nodes)) => Ok((name.as_str(), nodes.as_slice())),
-            None => Err(Refusal::UnknownChain),
-        }
+        self.chain(object.chain)
     }
 
     /// The chain of all objects of the transaction: that of the first one, in the order compares,

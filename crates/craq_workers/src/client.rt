@@ -1,0 +1,156 @@
+ghost use Rattle.std.specs.Prelude.{◌≡◌, max, IfOk, IsTrue, OnErr};
+ghost use Rattle.craq_workers.specs.Calls.{IsCallOf};
+
+use crate::chain::Chain;
+use crate::gate::Gate;
+use crate::node::Node;
+use crate::replies::Reply;
+use crate::shared::Shared;
+use crate::steps::Asked;
+use craq_model::{Answer, Ask};
+use craq_names::{Copied, NodeName, Pass, Refusal, Same};
+use craq_node::Core;
+use craq_seat::CallReceipt;
+use crossbeam_channel::SendError;
+use std::alloc::{AllocError, Global};
+use std::marker::Model;
+use std::sync::{Arc, Wait};
+
+/// A client of a store, with the largest stamp that it has seen: its pass, as which a contract sees it.
+#[derive(Drop)]
+pub struct Client<C: Core, G: Gate> {
+    alloc: Global,
+    shared: Arc<Shared<C, G>>,
+    pass: Pass,
+}
+
+impl<C: Core, G: Gate> Model for Client<C, G> {
+    ghost use Rattle.std.specs.Prelude.{ℕ};
+
+    ghost Value = { ℕ };
+
+    ghost view = { λ c. c.pass };
+}
+
+/// Whether the receipt is of this ask at this node, shown with this pass.
+fn is_of(receipt: &CallReceipt, node: &NodeName, ask: &Ask, pass: Pass) -> bool
+    ensures { IsTrue result → IsCallOf node.now ask.now pass receipt.now.answer receipt.now }
+{
+    receipt.asked().node == node.node
+        && receipt.answered().node == node.node
+        && receipt.pass() == pass
+        && pass.stamp() < receipt.asked().stamp
+        && receipt.asked().stamp <= receipt.answered().stamp
+        && receipt.ask().is_same(ask)
+}
+
+/// The answer in memory of its own.
+fn answer_of(alloc: Global, receipt: &CallReceipt) -> Result<Answer, AllocError>
+    ensures { IfOk result (λ answer. answer ≡ receipt.now.answer) }
+{
+    receipt.answer().copied(alloc)
+}
+
+impl<C: Core, G: Gate> Client<C, G> {
+    /// A client with this pass.
+    pub(crate) fn new(alloc: Global, shared: Arc<Shared<C, G>>, pass: Pass) -> Self
+        ensures { result ≡ pass }
+    {
+        Client {
+            alloc,
+            shared,
+            pass,
+        }
+    }
+
+    /// The client's pass. It takes no memory.
+    pub fn pass(&self) -> Pass
+        ensures { result ≡ self.now }
+    {
+        self.pass
+    }
+
+    /// Asks a node, shows the client's pass, and waits for the answer: the answer, and the receipt of the call, which
+    /// holds that ask, that answer and the pass that was shown. The ask's stamp is above that pass, the answer's not below
+    /// the ask's, and the client's pass is then raised to the answer's stamp.
+    ///
+    /// Refused, with the pass as it was: `UnknownChain`; `Closed` where the store is; `WrongNode` where the chain never had
+    /// the node; as `Desk::take` refuses the ask; `Stopped` where the node stops before the answer; `Closed` where the store
+    /// is closed before it, or what came is another call's; `Memory` where a growth was refused. After `Stopped`,
+    /// `Memory` or `Closed` an update may or may not have taken effect, and its number may be asked again.
+    pub fn call<R: Wait>(
+        &mut self,
+        rt: &R,
+        node: NodeName,
+        ask: Ask,
+    ) -> Result<(Answer, CallReceipt), Refusal>
+        ensures call { IfOk result (λ r. IsCallOf node ask self.old r.0 r.1) }
+        ensures pass { IfOk result (λ r. self.new ≡ max self.old r.1.answered.stamp) }
+        ensures same { OnErr result (self.new ≡ self.old) }
+    {
+        let called = self.wait_for(rt, &node, &ask);
+        drop(ask);
+        let (answer, receipt) = called?;
+        self.pass = self.pass.join(Pass::of(receipt.answered().stamp));
+        Ok((answer, receipt))
+    }
+
+    /// The answer to an ask, and the receipt of the call.
+    fn wait_for<R: Wait>(
+        &self,
+        rt: &R,
+        node: &NodeName,
+        ask: &Ask,
+    ) -> Result<(Answer, CallReceipt), Refusal>
+        ensures { IfOk result (λ r. IsCallOf node.now ask.now self.now r.0 r.1) }
+    {
+        let receipt = self.reply(rt, node, ask)?;
+        if !is_of(&receipt, node, ask, self.pass) {
+            return Err(Refusal::Closed);
+        }
+        let answer = answer_of(self.alloc, &receipt)?;
+        Ok((answer, receipt))
+    }
+
+    /// What is replied to an ask.
+    fn reply<R: Wait>(&self, rt: &R, node: &NodeName, ask: &Ask) -> Reply {
+        let chain = self.shared.chain(node.chain)?;
+        let found = chain.node(rt, node.node)?;
+        let (caller, reply) = crossbeam_channel::bounded(self.alloc, 1)?;
+        let asked = Asked {
+            ask: ask.copied(self.alloc)?,
+            pass: self.pass,
+            caller,
+        };
+        self.put(rt, chain, found, asked)?;
+        match reply.recv(rt) {
+            Ok(reply) => reply,
+            Err(_) => Err(Refusal::Closed),
+        }
+    }
+
+    /// An ask goes to its node's ask worker. Where the gate says so, or where the node was removed and has no worker, its
+    /// step is taken here. The node is let go before its caller waits, so that a store that is closed can let it go.
+    fn put<R: Wait>(
+        &self,
+        rt: &R,
+        chain: &Chain<C>,
+        node: Arc<Node<C>>,
+        asked: Asked,
+    ) -> Result<(), Refusal> {
+        let worker = if self.shared.gate.in_place() {
+            None
+        } else {
+            chain.asks(rt, node.name.node)?
+        };
+        let Some(asks) = worker else {
+            self.shared.serve(rt, self.alloc, &node, asked);
+            return Ok(());
+        };
+        match asks.send(rt, asked) {
+            Ok(()) => Ok(()),
+            Err(SendError::OutOfMemory(_)) => Err(Refusal::Memory),
+            Err(SendError::Disconnected(_)) => Err(Refusal::Closed),
+        }
+    }
+}

@@ -1,0 +1,55 @@
+use craq_names::NodeName;
+
+/// Which worker of a node works. A tick, and all that a chain's master does, counts among deliveries.
+#[derive(Clone, Copy, Debug, PartialEq, Eq)]
+pub enum Work {
+    /// The asks of clients.
+    Asks,
+    /// The messages that arrive.
+    Deliveries,
+}
+
+/// What is called round each piece of work of a store's workers. A gate that waits holds the worker up, and can do so
+/// only by a handle that it keeps. The counts are each worker's own, from 0, without gaps.
+pub trait Gate: Drop {
+    /// Before a piece of work, with no node's or master's lock held.
+    fn before(&self, node: NodeName, work: Work, count: u64);
+
+    /// After it, with no node's or master's lock held.
+    fn after(&self, node: NodeName, work: Work, count: u64);
+
+    /// Right before the step of the piece, with that node's (or that master's) lock held and no other.
+    fn within(&self, node: NodeName, work: Work, count: u64);
+
+    /// Whether a message goes over the link from one node, or the master, to another. Where it does not it is lost.
+    fn carries(&self, from: NodeName, to: NodeName) -> bool;
+
+    /// Whether a caller takes the step of its ask itself, in the place of the node's ask worker. Where it does not, every
+    /// ask goes through that worker.
+    fn in_place(&self) -> bool {
+        false
+    }
+}
+
+/// A gate that lets everything pass.
+#[derive(Drop)]
+pub struct OpenGate {
+    /// Whether callers take their steps themselves.
+    pub in_place: bool,
+}
+
+impl Gate for OpenGate {
+    fn before(&self, _node: NodeName, _work: Work, _count: u64) {}
+
+    fn after(&self, _node: NodeName, _work: Work, _count: u64) {}
+
+    fn within(&self, _node: NodeName, _work: Work, _count: u64) {}
+
+    fn carries(&self, _from: NodeName, _to: NodeName) -> bool {
+        true
+    }
+
+    fn in_place(&self) -> bool {
+        self.in_place
+    }
+}

@@ -1,0 +1,20 @@
+//! A store that runs: each chain's nodes and master in threads of their own, the links between them, and clients that
+//! call from any thread.
+//! Code that runs in tests alone.
+#![tactic(auto)]
+
+mod auditing;
+mod chain;
+mod client;
+mod gate;
+mod node;
+mod opening;
+mod replies;
+mod shared;
+mod steps;
+mod store;
+mod work;
+
+pub use client::Client;
+pub use gate::{Gate, OpenGate, Work};
+pub use store::{ChainStatus, Store};

@@ -1,0 +1,61 @@
+use craq_names::{Refusal, Ticket};
+use craq_seat::{CallReceipt, Caller};
+use crossbeam_channel::Sender;
+use std::alloc::{AllocFailed, Global};
+use std::sync::Wait;
+
+/// What a caller is told: the receipt of its answered call, or why it was refused.
+pub(crate) type Reply = Result<CallReceipt, Refusal>;
+
+/// A reply, and where the caller waits for it.
+#[derive(Drop)]
+struct Told {
+    caller: Sender<Reply>,
+    reply: Reply,
+}
+
+/// The replies of a step, until they are told.
+#[derive(Drop)]
+pub(crate) struct Replies {
+    waiting: Vec<Told>,
+}
+
+/// Tells a caller its reply. One who no longer waits is not told.
+fn tell<R: Wait>(rt: &R, told: Told) {
+    let Told { caller, reply } = told;
+    let _ = caller.send(rt, reply);
+}
+
+impl Replies {
+    /// No replies yet. It takes no memory.
+    pub(crate) fn new(alloc: Global) -> Self {
+        Replies {
+            waiting: Vec::new(alloc),
+        }
+    }
+
+    /// A reply more. Where there is no room for it the caller is told at once.
+    pub(crate) fn add<R: Wait>(&mut self, rt: &R, caller: Sender<Reply>, reply: Reply) {
+        if let Err(refused) = self.waiting.push(Told { caller, reply }) {
+            let AllocFailed { value } = refused;
+            tell(rt, value);
+        }
+    }
+
+    /// Tells all of them, in order.
+    pub(crate) fn tell<R: Wait>(self, rt: &R) {
+        for told in self.waiting {
+            tell(rt, told);
+        }
+    }
+}
+
+/// The caller that waits under this ticket, who then waits no more.
+pub(crate) fn take_caller(
+    callers: &mut Vec<Caller<Sender<Reply>>>,
+    ticket: Ticket,
+) -> Option<Sender<Reply>> {
+    let place = callers.iter().position(|caller| caller.ticket == ticket)?;
+    let Caller { ticket: _, at } = callers.swap_remove(place);
+    Some(at)
+}

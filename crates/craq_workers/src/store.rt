@@ -1,0 +1,290 @@
+ghost use Rattle.std.specs.Prelude.{◌≡◌, ◌≤◌, IfErr, IfOk, OnOk};
+ghost use Rattle.craq_place.specs.Plan.{IsPlan};
+
+use crate::chain::Chain;
+use crate::client::Client;
+use crate::gate::Gate;
+use crate::opening::{Opened, open_chains, open_node};
+use crate::replies::Replies;
+use crate::shared::Shared;
+use crate::steps::book_messages;
+use crate::work::{Worker, master_of, work};
+use craq_epochs::{MEMBER_LIMIT, is_among};
+use craq_model::{Config, Event};
+use craq_names::{ChainId, Copied, NodeId, NodeName, Pass, Refusal, Stamp};
+use craq_node::Core;
+use craq_place::Plan;
+use craq_seat::{BookCell, BookEvent, Receipt};
+use crossbeam_channel::{Receiver, Sender};
+use std::alloc::{AllocError, Global};
+use std::sync::{Arc, Wait};
+use std::thread::{JoinHandle, Threads};
+use std::{mem, thread};
+
+/// A chain's name and its present membership.
+#[derive(Debug, Drop)]
+pub struct ChainStatus {
+    pub name: String,
+    pub config: Config,
+}
+
+/// A store that runs: two threads for each node, one for its asks and one for what arrives there, and one for each
+/// chain's master. Whoever has it has to close it.
+pub struct Store<C: Core, G: Gate> {
+    pub(crate) alloc: Global,
+    pub(crate) journal: bool,
+    pub(crate) shared: Arc<Shared<C, G>>,
+    /// Ends once no worker is left.
+    ended: Receiver<()>,
+}
+
+/// A worker begins, in a thread of its own. It fails for want of memory alone, where no thread can be made too.
+fn hire<R, C, G>(
+    rt: R,
+    alloc: Global,
+    shared: &Arc<Shared<C, G>>,
+    worker: Worker<C>,
+    alive: Sender<()>,
+) -> Result<JoinHandle<()>, AllocError>
+where
+    R: Threads + Wait + Copy + Send + 'static,
+    C: Core + Send + 'static,
+    G: Gate + Send + Sync + 'static,
+{
+    let shared = Arc::try_clone(shared)?;
+    let hired = thread::spawn(&rt, move || work(&rt, alloc, shared, worker, alive))?;
+    Ok(hired)
+}
+
+/// The stamp after this one, or `Exhausted`.
+fn next(stamp: Stamp) -> Result<Stamp, Refusal> {
+    let stamp = stamp.get();
+    if stamp == u64::MAX {
+        return Err(Refusal::Exhausted);
+    }
+    Ok(Stamp::new(stamp + 1))
+}
+
+/// Whether the master would take this node in: `UsedId` where the id is 0 or ever was a member, `ChainFull` where there
+/// are 8 members, `Exhausted` in the last epoch.
+fn test_join(book: &BookCell, node: NodeId) -> Result<(), Refusal>
+    ensures { OnOk result (1 ≤ node) }
+{
+    if node.get() == 0 || is_among(book.used(), node) {
+        return Err(Refusal::UsedId);
+    }
+    if book.config().members.len() >= MEMBER_LIMIT {
+        return Err(Refusal::ChainFull);
+    }
+    if book.config().epoch.get() == u64::MAX {
+        return Err(Refusal::Exhausted);
+    }
+    Ok(())
+}
+
+impl<C: Core, G: Gate> Store<C, G> {
+    /// Whether the store keeps journals, so that it can be audited.
+    pub fn has_journals(&self) -> bool {
+        self.journal
+    }
+
+    /// A client with this pass. It fails for want of memory alone.
+    pub fn client(&self, pass: Pass) -> Result<Client<C, G>, AllocError>
+        ensures { IfOk result (λ c. c ≡ pass) }
+    {
+        Ok(Client::new(self.alloc, Arc::try_clone(&self.shared)?, pass))
+    }
+
+    /// Each chain's master, and each node that runs, is to send again what others may lack.
+    pub fn tick<R: Wait>(&self, rt: &R) {
+        for chain in self.shared.chains.as_slice() {
+            chain.tick(rt);
+        }
+    }
+
+    /// Each chain's name and membership, by id. It fails for want of memory alone.
+    pub fn status<R: Wait>(&self, rt: &R) -> Result<Vec<ChainStatus>, AllocError> {
+        let mut statuses = Vec::new(self.alloc);
+        for chain in self.shared.chains.as_slice() {
+            statuses.push(ChainStatus {
+                name: chain.name.clone()?,
+                config: chain.book.lock(rt).config().copied(self.alloc)?,
+            })?;
+        }
+        Ok(statuses)
+    }
+}
+
+impl<C: Core + Send + 'static, G: Gate + Send + Sync + 'static> Store<C, G> {
+    /// Starts the chains of a plan, with journals or without. It is refused for want of memory alone (`Memory`), or
+    /// where no thread can be made, and then leaves no thread.
+    pub fn start<R: Threads + Wait + Copy + Send + 'static>(
+        rt: R,
+        alloc: Global,
+        plan: &Plan,
+        gate: G,
+        journal: bool,
+    ) -> Result<Self, Refusal>
+        requires { IsPlan plan.now }
+        ensures { IfErr result (λ e. e ≡ Refusal.Memory) }
+    {
+        let (alive, ended) = crossbeam_channel::unbounded(alloc)?;
+        let mut workers = Vec::new(alloc);
+        let chains = open_chains(alloc, plan, journal, &alive, &mut workers)?;
+        let shared = Arc::new(alloc, Shared { gate, chains })?;
+        let store = Store {
+            alloc,
+            journal,
+            shared,
+            ended,
+        };
+        match store.hire_all(rt, workers, alive) {
+            Ok(()) => Ok(store),
+            Err(_) => {
+                store.close(&rt);
+                Err(Refusal::Memory)
+            }
+        }
+    }
+
+    /// All of these begin.
+    fn hire_all<R: Threads + Wait + Copy + Send + 'static>(
+        &self,
+        rt: R,
+        workers: Vec<Worker<C>>,
+        alive: Sender<()>,
+    ) -> Result<(), AllocError> {
+        for worker in workers {
+            let alive = alive.clone()?;
+            let hired = hire(rt, self.alloc, &self.shared, worker, alive)?;
+            drop(hired);
+        }
+        Ok(())
+    }
+
+    /// A node halts for good, in a step that is taken on this thread. The callers that wait at it are told `Stopped`. What
+    /// names the step is answered.
+    ///
+    /// Refused, with nothing changed: `UnknownChain`; `WrongNode` where the chain never had the node; as `Cell::take`
+    /// refuses a stop.
+    pub fn stop<R: Wait>(&self, rt: &R, chain: ChainId, node: NodeId) -> Result<Receipt, Refusal> {
+        let node = self.shared.chain(chain)?.node(rt, node)?;
+        let mut replies = Replies::new(self.alloc);
+        let mut seated = node.seat.lock(rt);
+        let (receipt, _) = seated.desk.take(self.alloc, Event::Stop, Pass::start())?;
+        let callers = mem::replace(&mut seated.callers, Vec::new(self.alloc));
+        drop(seated);
+        node.halt();
+        for caller in callers {
+            replies.add(rt, caller.at, Err(Refusal::Stopped));
+        }
+        replies.tell(rt);
+        Ok(receipt)
+    }
+
+    /// The master takes out a node that has stopped, and the node's two threads end. What names the step is answered. A
+    /// call at the node is refused as before.
+    ///
+    /// Refused, with nothing changed: `UnknownChain`; `NotMember` where the node is no member, `NotStopped` where it runs;
+    /// as `BookCell::take` refuses a removal.
+    pub fn remove<R: Wait>(
+        &self,
+        rt: &R,
+        chain: ChainId,
+        node: NodeId,
+    ) -> Result<Receipt, Refusal> {
+        let place = self.shared.chain(chain)?;
+        let mut book = place.book.lock(rt);
+        if !is_among(book.config().members.as_slice(), node) {
+            return Err(Refusal::NotMember);
+        }
+        let member = place.node(rt, node)?;
+        let Some((stopped, stop)) = member.stopped(rt) else {
+            return Err(Refusal::NotStopped);
+        };
+        let event = BookEvent::Remove { stopped, stop };
+        let receipt = book.take(self.alloc, event, Pass::start())?;
+        let messages = book_messages(self.alloc, &book);
+        drop(book);
+        place.retire(rt, node);
+        self.shared
+            .post(rt, self.alloc, &master_of(chain), messages.as_slice());
+        Ok(receipt)
+    }
+
+    /// A new node joins after the last member, with two threads of its own. What names the step is answered.
+    ///
+    /// Refused, with the membership as it was and no thread left of that node: `UnknownChain`; `UsedId` where the id is 0
+    /// or ever was a member, `ChainFull` where there are 8 members, `Exhausted` where the master's stamps or epochs are;
+    /// `Memory` where a growth was refused or no thread can be made.
+    pub fn join<R: Threads + Wait + Copy + Send + 'static>(
+        &self,
+        rt: R,
+        chain: ChainId,
+        node: NodeId,
+    ) -> Result<Receipt, Refusal> {
+        let place = self.shared.chain(chain)?;
+        let mut book = place.book.lock(&rt);
+        test_join(&book, node)?;
+        let name = NodeName { chain, node };
+        let stamp = next(book.stamp())?;
+        let opened = open_node(self.alloc, &name, None, self.journal, stamp)?;
+        let mut hired = Vec::with_capacity(self.alloc, 2)?;
+        match self.join_opened(rt, place, &mut book, opened, &mut hired) {
+            Ok(receipt) => {
+                let messages = book_messages(self.alloc, &book);
+                drop(book);
+                self.shared
+                    .post(&rt, self.alloc, &master_of(chain), messages.as_slice());
+                Ok(receipt)
+            }
+            Err(refusal) => {
+                for worker in hired {
+                    worker.join(&rt);
+                }
+                Err(refusal)
+            }
+        }
+    }
+
+    /// The workers of a node begin, and then it joins. Where that is refused its ways are gone, so its workers end.
+    fn join_opened<R: Threads + Wait + Copy + Send + 'static>(
+        &self,
+        rt: R,
+        place: &Chain<C>,
+        book: &mut BookCell,
+        opened: Opened<C>,
+        hired: &mut Vec<JoinHandle<()>>,
+    ) -> Result<Receipt, Refusal> {
+        let Opened { way, asks, links } = opened;
+        let id = way.node.name.node;
+        hired.reserve(2)?;
+        let worker = Worker::Asks(Arc::try_clone(&way.node)?, asks);
+        hired.push(hire(rt, self.alloc, &self.shared, worker, place.alive(&rt)?)?)?;
+        let worker = Worker::Links(Arc::try_clone(&way.node)?, links);
+        hired.push(hire(rt, self.alloc, &self.shared, worker, place.alive(&rt)?)?)?;
+        let mut ways = place.ways.write(&rt);
+        let Some(ways) = ways.as_mut() else {
+            return Err(Refusal::Closed);
+        };
+        ways.nodes.reserve(1)?;
+        let receipt = book.take(self.alloc, BookEvent::Join(id), Pass::start())?;
+        ways.nodes.push(way)?;
+        Ok(receipt)
+    }
+
+    /// Ends the workers. Callers that still wait are told `Closed`, and so is who calls afterwards.
+    pub fn close<R: Wait>(self, rt: &R) {
+        let Store {
+            alloc: _,
+            journal: _,
+            shared,
+            ended,
+        } = self;
+        for chain in shared.chains.as_slice() {
+            chain.close(rt);
+        }
+        let _ = ended.recv(rt);
+        drop(shared);
+    }
+}

@@ -4,3 +4,4 @@ pub mod Payloads
 pub mod Tests
 pub mod Typed
 pub mod Utf8
+pub mod BothVersions

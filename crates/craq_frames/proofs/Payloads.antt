@@ -27,7 +27,7 @@ use Rattle.craq_frames.specs.declared.ask.ClientMessage.{ClientMessage}
 use Rattle.craq_frames.specs.declared.ask.ClientMessage.TheVariants as asks
 use Rattle.craq_frames.specs.declared.answer.ClientReply.{ClientReply}
 use Rattle.craq_frames.specs.declared.answer.ClientReply.TheVariants as answers
-use Rattle.craq_frames.specs.Payload.{payload_version, mode_tag, mode_body, mode, ModeFits, update, UpdateFits, ask_kind, ask_body, AskFits, ask_spelling, SpellsAsk, refusal, RefusalFits, text, IsText, answer_kind, answer_body, AnswerFits, IsAnswer, answer_spelling, SpellsAnswer}
+use Rattle.craq_frames.specs.Payload.{payload_version, mode_tag, mode_body, mode, ModeFits, update, UpdateFits, ask_kind, ask_body, AskFits, ask, ask_spelling, SpellsAsk, refusal, RefusalFits, text, IsText, answer_kind, answer_body, AnswerFits, IsAnswer, answer, answer_spelling, SpellsAnswer}
 use Rattle.craq_frames.specs.Reading.{mode_body_at, mode_at, update_of, update_at, asked_update, asked_read, ask_body_at, bare_refusal, refusal_named, refusal_at, text_at, answered_update, answered_read, answer_body_at, whole, payload_at}
 use Rattle.craq_frames.specs.Tests.{is_answer}
 use Rattle.craq_frames.proofs.Tests.{decides_answer}
@@ -94,13 +94,13 @@ ask_small (asks.Update node pass u) = omega arith
 ask_small (asks.Read node pass m o) = omega arith
 ask_small asks.Status = omega arith
 
-ask_tagged : IsTagged ask_kind ask_body AskFits ask_body_at
+pub ask_tagged : IsTagged ask_kind ask_body AskFits ask_body_at
 ask_tagged = record { small = ask_small; takes = ask_takes; again = ask_again }
 
 -- ---- what clients get
 
 -- a test that let something pass
-passed : {A : Type 0} (b : Bool) (r : Option A) (y : A) → cond b r None ≡ Some y → (b ≡ true) × (r ≡ Some y)
+pub passed : {A : Type 0} (b : Bool) (r : Option A) (y : A) → cond b r None ≡ Some y → (b ≡ true) × (r ≡ Some y)
 passed true r y e = (refl, e)
 passed false r y e = absurd cc
 
@@ -240,7 +240,7 @@ answer_small (answers.Read pass version v) = omega arith
 answer_small (answers.Refused r) = omega arith
 answer_small (answers.Status t) = omega arith
 
-answer_tagged : IsTagged answer_kind answer_body AnswerFits answer_body_at
+pub answer_tagged : IsTagged answer_kind answer_body AnswerFits answer_body_at
 answer_tagged = record { small = answer_small; takes = answer_takes; again = answer_again }
 
 -- ---- payloads
@@ -280,11 +280,11 @@ module _ {X : Type 0} (kind_of : X → ℕ) (body : X → List ℕ) (fits : X �
 -- ---- what `decode` says
 
 ask_is_read : (bytes : List ℕ) (m : ClientMessage) → SpellsAsk m bytes → payload_at ask_body_at bytes ≡ Some m
-unfolding ask_spelling
+unfolding ask_spelling ask
 ask_is_read bytes m s = ap (payload_at ask_body_at) s.spelling ∙ payload_again ask_kind ask_body AskFits ask_body_at ask_tagged m s.fits
 
 pub ask_found : (bytes : List ℕ) (m : ClientMessage) → IsBytes bytes → payload_at ask_body_at bytes ≡ Some m → SpellsAsk m bytes
-unfolding ask_spelling
+unfolding ask_spelling ask
 ask_found bytes m h e = let t = payload_takes ask_kind ask_body AskFits ask_body_at ask_tagged bytes m h e in record { fits = t.0; spelling = t.1 }
 
 pub ask_only : (bytes : List ℕ) (m other : ClientMessage) → payload_at ask_body_at bytes ≡ Some m → SpellsAsk other bytes → other ≡ m
@@ -294,11 +294,11 @@ pub no_ask : (bytes : List ℕ) (m : ClientMessage) → payload_at ask_body_at b
 no_ask bytes m e s = let one = sym (ask_is_read bytes m s) ∙ e in cc
 
 answer_is_read : (bytes : List ℕ) (m : ClientReply) → SpellsAnswer m bytes → payload_at answer_body_at bytes ≡ Some m
-unfolding answer_spelling
+unfolding answer_spelling answer
 answer_is_read bytes m s = ap (payload_at answer_body_at) s.spelling ∙ payload_again answer_kind answer_body AnswerFits answer_body_at answer_tagged m s.fits
 
 pub answer_found : (bytes : List ℕ) (m : ClientReply) → IsBytes bytes → payload_at answer_body_at bytes ≡ Some m → is_answer m ≡ true → SpellsAnswer m bytes
-unfolding answer_spelling
+unfolding answer_spelling answer
 answer_found bytes m h e r =
     let t = payload_takes answer_kind answer_body AnswerFits answer_body_at answer_tagged bytes m h e in
     record { fits = t.0; rules = (decides_answer m).0 r; spelling = t.1 }

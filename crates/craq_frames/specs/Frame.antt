@@ -1,5 +1,5 @@
 -- The frames around payloads.
-use Rattle.std.specs.Prelude.{◌≡◌, ◌<◌, ◌^◌, ℕ, List, ◌++◌, length}
+use Rattle.std.specs.Prelude.{◌≡◌, ◌<◌, ◌≤◌, ◌^◌, ◌⊎◌, ℕ, List, ◌++◌, length}
 use Rattle.std.specs.Int.{w32}
 use Rattle.tokio_util.specs.Codec.LengthField.{Layout, default_layout, with_reachable_limit}
 use Rattle.craq_codec.specs.NumberSpelling.{number}
@@ -19,3 +19,7 @@ frame_layout = with_reachable_limit (record default_layout { max_frame_len = pay
 -- a length above the limit stands at the front
 abbrev pub BeginsTooLong : List ℕ → Type 0
 BeginsTooLong bytes = (n : ℕ) × (rest : List ℕ) × (payload_limit < n) × (n < 2 ^ 32) × (bytes ≡ number w32 n ++ rest)
+
+-- less than a frame: no whole length, or a length within the limit and fewer bytes than it says
+abbrev pub IsPartial : List ℕ → Type 0
+IsPartial bytes = (length bytes < 4) ⊎ ((n : ℕ) × (rest : List ℕ) × (n ≤ payload_limit) × (bytes ≡ number w32 n ++ rest) × (length rest < n))

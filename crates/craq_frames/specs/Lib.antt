@@ -3,3 +3,4 @@ pub mod Payload
 pub mod Reading
 pub mod Tests
 pub mod Typed
+pub mod Versions

@@ -18,7 +18,7 @@ use Rattle.craq_frames.specs.declared.ask.ClientMessage.TheVariants as asks
 use Rattle.craq_frames.specs.declared.answer.ClientReply.{ClientReply}
 use Rattle.craq_frames.specs.declared.answer.ClientReply.TheVariants as answers
 
--- the version of payloads
+-- the version of payloads of one message or one reply
 abbrev pub payload_version : ℕ
 payload_version = 1
 
@@ -66,10 +66,13 @@ AskFits (asks.Update node pass u) = (node < 2 ^ 32) × (pass < 2 ^ 64) × Update
 AskFits (asks.Read node pass m o) = (node < 2 ^ 32) × (pass < 2 ^ 64) × ModeFits m × IsObject o
 AskFits asks.Status = ⊤
 
-unfoldable pub ask_spelling : ClientMessage → List ℕ
-ask_spelling m = number w8 payload_version ++ (number w8 (ask_kind m) ++ ask_body m)
+unfoldable pub ask : ClientMessage → List ℕ
+ask m = number w8 (ask_kind m) ++ ask_body m
 
--- the bytes are the payload of the message
+unfoldable pub ask_spelling : ClientMessage → List ℕ
+ask_spelling m = number w8 payload_version ++ ask m
+
+-- the bytes are the payload of the message, of version 1
 pub record SpellsAsk (m : ClientMessage) (bytes : List ℕ) : Type 0 where
   pub fits : AskFits m
   pub spelling : bytes ≡ ask_spelling m
@@ -125,10 +128,13 @@ IsAnswer (answers.Read pass version v) = version ≡ 0 → v ≡ []
 IsAnswer (answers.Refused r) = NamesNode r
 IsAnswer (answers.Status t) = length t < 2 ^ 32
 
-unfoldable pub answer_spelling : ClientReply → List ℕ
-answer_spelling m = number w8 payload_version ++ (number w8 (answer_kind m) ++ answer_body m)
+unfoldable pub answer : ClientReply → List ℕ
+answer m = number w8 (answer_kind m) ++ answer_body m
 
--- the bytes are the payload of the reply
+unfoldable pub answer_spelling : ClientReply → List ℕ
+answer_spelling m = number w8 payload_version ++ answer m
+
+-- the bytes are the payload of the reply, of version 1
 pub record SpellsAnswer (m : ClientReply) (bytes : List ℕ) : Type 0 where
   pub fits : AnswerFits m
   pub rules : IsAnswer m

@@ -1,5 +1,5 @@
 -- Reading payloads from left to right.
-use Rattle.std.specs.Prelude.{ℕ, nat_le, List, length, Option, Some, None, ◌==◌, if◌then◌else◌}
+use Rattle.std.specs.Prelude.{ℕ, nat_le, nat_lt, Bool, true, ◌&&◌, List, length, Option, Some, None, ◌==◌, if◌then◌else◌}
 use Rattle.std.specs.Int.{w8, w32, w64}
 use Rattle.std.specs.Str.{is_utf8}
 use Rattle.craq_names.specs.Limits.{greatest_count}
@@ -12,14 +12,21 @@ use Rattle.craq_commands.specs.declared.read_mode.ReadMode.{ReadMode}
 use Rattle.craq_commands.specs.declared.read_mode.ReadMode.TheVariants.{Strong, Eventual, Bounded}
 use Rattle.craq_commands.specs.declared.reply.Reply.{Reply}
 use Rattle.craq_codec.specs.NumberReading.{◌>>=◌, number_at, bytes_at}
-use Rattle.craq_codec.specs.PartReading.{value_at, object_at, request_at, pair_at, mapped}
+use Rattle.craq_codec.specs.PartReading.{value_at, object_at, request_at, pair_at, many_at, mapped}
 use Rattle.craq_codec.specs.EntryReading.{reply_at}
 use Rattle.craq_codec.specs.CommandReading.{command_at}
+use Rattle.craq_frames.specs.Frame.{payload_limit}
 use Rattle.craq_frames.specs.Payload.{payload_version}
+use Rattle.craq_frames.specs.Versions.{many_limit, many_asks, many_answers}
 use Rattle.craq_frames.specs.declared.ask.ClientMessage.{ClientMessage}
 use Rattle.craq_frames.specs.declared.ask.ClientMessage.TheVariants as asks
 use Rattle.craq_frames.specs.declared.answer.ClientReply.{ClientReply}
 use Rattle.craq_frames.specs.declared.answer.ClientReply.TheVariants as answers
+use Rattle.craq_frames.specs.declared.versions.PayloadVersion.TheVariants.{First, Second}
+use Rattle.craq_frames.specs.declared.versions.Payload.{Payload}
+use Rattle.craq_frames.specs.declared.versions.Payload.TheVariants as payloads
+use Rattle.craq_frames.specs.declared.versions.Answered.{Answered}
+use Rattle.craq_frames.specs.declared.versions.Answered.TheVariants as replies
 
 unfoldable pub mode_body_at : ℕ → List ℕ → Option (ReadMode × List ℕ)
 mode_body_at tag bytes =
@@ -51,6 +58,12 @@ ask_body_at kind bytes =
     else if kind == 2 then mapped asked_read (pair_at (number_at w32) (pair_at (number_at w64) (pair_at mode_at object_at)) bytes)
     else if kind == 3 then Some (asks.Status, bytes)
     else None
+
+-- a kind, and what goes with it
+unfoldable pub ask_at : List ℕ → Option (ClientMessage × List ℕ)
+ask_at bytes = do
+  kind ← number_at w8 bytes
+  ask_body_at kind.0 kind.1
 
 -- the refusals that tell nothing beside their number
 unfoldable pub bare_refusal : ℕ → Option Refusal
@@ -116,12 +129,55 @@ answer_body_at kind bytes =
     else if kind == 4 then mapped answers.Status (text_at bytes)
     else None
 
+unfoldable pub answer_at : List ℕ → Option (ClientReply × List ℕ)
+answer_at bytes = do
+  kind ← number_at w8 bytes
+  answer_body_at kind.0 kind.1
+
 -- what was read, where no byte is left
 abbrev pub whole : {A : Type 0} → Option (A × List ℕ) → Option A
 whole read = read >>= λ x. if length x.1 == 0 then Some x.0 else None
 
--- the version, the kind, what goes with it, and no byte after it
+-- version 1, the kind, what goes with it, and no byte after it
 unfoldable pub payload_at : {A : Type 0} → (ℕ → List ℕ → Option (A × List ℕ)) → List ℕ → Option A
 payload_at body bytes = do
   x ← pair_at (number_at w8) (number_at w8) bytes
   if x.0.0 == payload_version then whole (body x.0.1 x.1) else None
+
+-- ---- payloads of versions 1 and 2
+
+-- from 1 to 8 of them, after their count
+unfoldable pub few_at : {A : Type 0} → (List ℕ → Option (A × List ℕ)) → List ℕ → Option (List A × List ℕ)
+few_at part bytes = do
+  count ← number_at w8 bytes
+  if nat_lt count.0 1 then None else if nat_lt many_limit count.0 then None else many_at part count.0 count.1
+
+-- what goes with a version and a kind
+unfoldable pub payload_body_at : ℕ → ℕ → List ℕ → Option (Payload × List ℕ)
+payload_body_at version kind bytes =
+    if version == 1 then mapped (payloads.One First) (ask_body_at kind bytes)
+    else if version == 2 then (if kind == many_asks then mapped payloads.Many (few_at ask_at bytes) else mapped (payloads.One Second) (ask_body_at kind bytes))
+    else None
+
+unfoldable pub answered_body_at : ℕ → ℕ → List ℕ → Option (Answered × List ℕ)
+answered_body_at version kind bytes =
+    if version == 1 then mapped (replies.One First) (answer_body_at kind bytes)
+    else if version == 2 then (if kind == many_answers then mapped replies.Many (few_at answer_at bytes) else mapped (replies.One Second) (answer_body_at kind bytes))
+    else None
+
+-- a version, a kind, what goes with them, and no byte after it
+unfoldable pub versioned_at : {A : Type 0} → (ℕ → ℕ → List ℕ → Option (A × List ℕ)) → List ℕ → Option A
+versioned_at body bytes = do
+  x ← pair_at (number_at w8) (number_at w8) bytes
+  whole (body x.0.0 x.0.1 x.1)
+
+-- ---- frames
+
+-- whether no whole length was read, or one within the limit and fewer bytes than it says
+abbrev pub lacks_bytes : Option (ℕ × List ℕ) → Bool
+lacks_bytes None = true
+lacks_bytes (Some x) = nat_le x.0 payload_limit && nat_lt (length x.1) x.0
+
+-- whether there is less than a frame at the front
+unfoldable pub is_partial : List ℕ → Bool
+is_partial bytes = lacks_bytes (number_at w32 bytes)

@@ -1,13 +1,14 @@
-ghost use Rattle.std.specs.Prelude.{◌≡◌, ◌<◌, ◌^◌, ◌++◌, length, OnOk};
+ghost use Rattle.std.specs.Prelude.{◌≡◌, ◌<◌, ◌^◌, ◌++◌, length, OnOk, OnErr};
+ghost use Rattle.std.specs.Io.{StartsWith};
 ghost use Rattle.craq_names.specs.Refused.{detail_of};
 ghost use Rattle.craq_codec.specs.NumberReading.{Gives};
 ghost use Rattle.craq_codec.specs.PartReading.{mapped};
 ghost use Rattle.craq_frames.specs.declared.answer.ClientReply.TheVariants as answers;
-ghost use Rattle.craq_frames.specs.Payload.{refusal as spelled_refusal, text as spelled_text, answer_spelling, AnswerFits, RefusalFits, IsAnswer, IsText};
-ghost use Rattle.craq_frames.specs.Reading.{bare_refusal, refusal_named, refusal_at, text_at, answer_body_at};
+ghost use Rattle.craq_frames.specs.Payload.{refusal as spelled_refusal, text as spelled_text, answer as spelled_answer, AnswerFits, RefusalFits, IsAnswer, IsText};
+ghost use Rattle.craq_frames.specs.Reading.{bare_refusal, refusal_named, refusal_at, text_at, answer_at, answer_body_at};
 ghost use Rattle.craq_frames.specs.Tests.{names_node, is_answer};
 
-use crate::{PAYLOAD_VERSION, Text};
+use crate::Text;
 use bytes::{BufMut, BytesMut};
 use craq_codec::{
     Part, Unread, is_spelled_reply, read_u8, read_u32, read_u64, write_u8, write_u32, write_u64,
@@ -171,57 +172,70 @@ fn told(refusal: &Refusal) -> u64
     }
 }
 
-/// Writes a refusal at the end.
-fn write_refusal(out: &mut BytesMut, refusal: &Refusal) -> Result<(), AllocError>
+/// Appends a refusal. Where it fails, what was there before is still in front.
+fn append_refusal(out: &mut BytesMut, refusal: &Refusal) -> Result<(), AllocError>
     ensures fits { OnOk result (RefusalFits refusal.now) }
     ensures spelled { OnOk result (out.new.items ≡ out.old.items ++ spelled_refusal refusal.now) }
+    ensures appends { OnErr result (StartsWith out.new.items out.old.items) }
 {
     write_u8(out, refusal.number())?;
     write_u64(out, told(refusal))
 }
 
-/// Writes a text at the end.
-fn write_text(out: &mut BytesMut, text: &Text) -> Result<(), AllocError>
+/// Appends a text. Where it fails, what was there before is still in front.
+fn append_text(out: &mut BytesMut, text: &Text) -> Result<(), AllocError>
     requires { length text.now < 2 ^ 32 }
     ensures fits { OnOk result (IsText text.now) }
     ensures spelled { OnOk result (out.new.items ≡ out.old.items ++ spelled_text text.now) }
+    ensures appends { OnErr result (StartsWith out.new.items out.old.items) }
 {
     let bytes = text.as_str().as_bytes();
     write_u32(out, bytes.len() as u32)?;
     out.put_slice(bytes)
 }
 
-/// Writes a reply to a client at the end, after its version.
-#[tactic(auto, unfolding(crate::specs::Payload::answer_spelling))]
-pub(crate) fn write_answer(out: &mut BytesMut, answer: &ClientReply) -> Result<(), AllocError>
-    requires { IsAnswer answer.now }
-    ensures fits { OnOk result (AnswerFits answer.now) }
-    ensures spelled { OnOk result (out.new.items ≡ out.old.items ++ answer_spelling answer.now) }
-{
-    write_u8(out, PAYLOAD_VERSION)?;
-    match answer {
-        ClientReply::Update { pass, reply } => {
-            write_u8(out, 1)?;
-            write_u64(out, pass.stamp().get())?;
-            reply.write(out)
-        }
-        ClientReply::Read {
-            pass,
-            version,
-            value,
-        } => {
-            write_u8(out, 2)?;
-            write_u64(out, pass.stamp().get())?;
-            write_u64(out, version.get())?;
-            value.write(out)
-        }
-        ClientReply::Refused(refusal) => {
-            write_u8(out, 3)?;
-            write_refusal(out, refusal)
-        }
-        ClientReply::Status(text) => {
-            write_u8(out, 4)?;
-            write_text(out, text)
+impl Part for ClientReply {
+    ghost spelling = { spelled_answer };
+
+    ghost fits = { AnswerFits };
+
+    ghost is_writable = { IsAnswer };
+
+    ghost part_at = { answer_at };
+
+    /// The rules of replies are not tested.
+    #[tactic(auto, unfolding(crate::specs::Reading::answer_at))]
+    fn read(alloc: Global, bytes: &[u8]) -> Result<(Self, &[u8]), Unread> {
+        let (kind, rest) = read_u8(bytes)?;
+        read_answer_body(alloc, kind, rest)
+    }
+
+    #[tactic(auto, unfolding(crate::specs::Payload::answer))]
+    fn append(&self, out: &mut BytesMut) -> Result<(), AllocError> {
+        match self {
+            ClientReply::Update { pass, reply } => {
+                write_u8(out, 1)?;
+                write_u64(out, pass.stamp().get())?;
+                reply.write(out)
+            }
+            ClientReply::Read {
+                pass,
+                version,
+                value,
+            } => {
+                write_u8(out, 2)?;
+                write_u64(out, pass.stamp().get())?;
+                write_u64(out, version.get())?;
+                value.write(out)
+            }
+            ClientReply::Refused(refusal) => {
+                write_u8(out, 3)?;
+                append_refusal(out, refusal)
+            }
+            ClientReply::Status(text) => {
+                write_u8(out, 4)?;
+                append_text(out, text)
+            }
         }
     }
 }

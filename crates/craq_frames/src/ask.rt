@@ -1,9 +1,9 @@
-ghost use Rattle.std.specs.Prelude.{◌≡◌, ◌++◌, OnOk};
+ghost use Rattle.std.specs.Prelude.{◌≡◌, ⊤, ◌++◌, OnOk, OnErr};
+ghost use Rattle.std.specs.Io.{StartsWith};
 ghost use Rattle.craq_codec.specs.NumberReading.{Gives};
-ghost use Rattle.craq_frames.specs.Payload.{mode as spelled_mode, update as spelled_update, ask_spelling, AskFits, ModeFits, UpdateFits};
-ghost use Rattle.craq_frames.specs.Reading.{mode_at, mode_body_at, update_at, ask_body_at};
+ghost use Rattle.craq_frames.specs.Payload.{mode as spelled_mode, update as spelled_update, ask as spelled_ask, AskFits, ModeFits, UpdateFits};
+ghost use Rattle.craq_frames.specs.Reading.{mode_at, mode_body_at, update_at, ask_at, ask_body_at};
 
-use crate::PAYLOAD_VERSION;
 use bytes::BytesMut;
 use craq_codec::{
     Part, Unread, read_command, read_u8, read_u32, read_u64, write_command, write_u8, write_u32,
@@ -117,11 +117,12 @@ pub(crate) fn read_ask_body(
     }
 }
 
-/// Writes a mode at the end.
+/// Appends a mode. Where it fails, what was there before is still in front.
 #[tactic(auto, unfolding(crate::specs::Payload::mode))]
-fn write_mode(out: &mut BytesMut, mode: &ReadMode) -> Result<(), AllocError>
+fn append_mode(out: &mut BytesMut, mode: &ReadMode) -> Result<(), AllocError>
     ensures fits { OnOk result (ModeFits mode.now) }
     ensures spelled { OnOk result (out.new.items ≡ out.old.items ++ spelled_mode mode.now) }
+    ensures appends { OnErr result (StartsWith out.new.items out.old.items) }
 {
     match mode {
         ReadMode::Strong => write_u8(out, 1),
@@ -133,43 +134,55 @@ fn write_mode(out: &mut BytesMut, mode: &ReadMode) -> Result<(), AllocError>
     }
 }
 
-/// Writes an update at the end.
+/// Appends an update. Where it fails, what was there before is still in front.
 #[tactic(auto, unfolding(crate::specs::Payload::update))]
-fn write_update(out: &mut BytesMut, update: &Update) -> Result<(), AllocError>
+fn append_update(out: &mut BytesMut, update: &Update) -> Result<(), AllocError>
     ensures fits { OnOk result (UpdateFits update.now) }
     ensures spelled { OnOk result (out.new.items ≡ out.old.items ++ spelled_update update.now) }
+    ensures appends { OnErr result (StartsWith out.new.items out.old.items) }
 {
     write_u64(out, update.client.get())?;
     write_u64(out, update.number.get())?;
     write_command(out, &update.command)
 }
 
-/// Writes a message of a client at the end, after its version.
-#[tactic(auto, unfolding(crate::specs::Payload::ask_spelling))]
-pub(crate) fn write_ask(out: &mut BytesMut, ask: &ClientMessage) -> Result<(), AllocError>
-    ensures fits { OnOk result (AskFits ask.now) }
-    ensures spelled { OnOk result (out.new.items ≡ out.old.items ++ ask_spelling ask.now) }
-{
-    write_u8(out, PAYLOAD_VERSION)?;
-    match ask {
-        ClientMessage::Update { node, pass, update } => {
-            write_u8(out, 1)?;
-            write_u32(out, node.get())?;
-            write_u64(out, pass.stamp().get())?;
-            write_update(out, update)
+impl Part for ClientMessage {
+    ghost spelling = { spelled_ask };
+
+    ghost fits = { AskFits };
+
+    ghost is_writable = { λ _. ⊤ };
+
+    ghost part_at = { ask_at };
+
+    #[tactic(auto, unfolding(crate::specs::Reading::ask_at))]
+    fn read(alloc: Global, bytes: &[u8]) -> Result<(Self, &[u8]), Unread> {
+        let (kind, rest) = read_u8(bytes)?;
+        read_ask_body(alloc, kind, rest)
+    }
+
+    #[tactic(auto, unfolding(crate::specs::Payload::ask))]
+    fn append(&self, out: &mut BytesMut) -> Result<(), AllocError> {
+        match self {
+            ClientMessage::Update { node, pass, update } => {
+                write_u8(out, 1)?;
+                write_u32(out, node.get())?;
+                write_u64(out, pass.stamp().get())?;
+                append_update(out, update)
+            }
+            ClientMessage::Read {
+                node,
+                pass,
+                mode,
+                object,
+            } => {
+                write_u8(out, 2)?;
+                write_u32(out, node.get())?;
+                write_u64(out, pass.stamp().get())?;
+                append_mode(out, mode)?;
+                object.write(out)
+            }
+            ClientMessage::Status => write_u8(out, 3),
         }
-        ClientMessage::Read {
-            node,
-            pass,
-            mode,
-            object,
-        } => {
-            write_u8(out, 2)?;
-            write_u32(out, node.get())?;
-            write_u64(out, pass.stamp().get())?;
-            write_mode(out, mode)?;
-            object.write(out)
-        }
-        ClientMessage::Status => write_u8(out, 3),
     }
 }

@@ -1,10 +1,15 @@
-ghost use Rattle.std.specs.Prelude.{◌≡◌, ◌≢◌, ◌<◌, ◌≤◌, ◌^◌, ◌⊎◌, ◌↔◌, ℕ, List, ◌++◌, length, All, Err, IfErr, OnOk, OnErr};
+ghost use Rattle.std.specs.Prelude.{◌≡◌, ◌≢◌, ◌<◌, ◌≤◌, ◌^◌, ◌⊎◌, ◌↔◌, ℕ, List, ◌++◌, length, All, Ok, Err, None, IsTrue, IfSome, IfOk, IfErr, OnOk, OnErr};
+ghost use Rattle.std.specs.IoError.{error_kind};
+ghost use Rattle.std.specs.declared.io.ErrorKind.TheVariants.{OutOfMemory};
 ghost use Rattle.tokio_util.specs.Codec.LengthDelimited.{codec_layout, cut_frame, frame as cut_off, overflows, too_big, IsAtHead};
-ghost use Rattle.craq_frames.specs.Frame.{frame, frame_layout, payload_limit, BeginsTooLong};
+ghost use Rattle.craq_frames.specs.Frame.{frame, frame_layout, payload_limit, BeginsTooLong, IsPartial};
+ghost use Rattle.craq_frames.specs.Reading.{is_partial};
 
 use bytes::{Bytes, BytesMut};
+use craq_codec::read_u32;
 use craq_names::Refusal;
-use tokio_util::codec::{Encoder, LengthDelimitedCodec};
+use std::io;
+use tokio_util::codec::{Decoder, Encoder, LengthDelimitedCodec};
 
 /// The most bytes of a payload.
 pub const MAX_PAYLOAD: usize = 1_048_576;
@@ -35,6 +40,52 @@ pub fn write_frame(out: &mut BytesMut, payload: Bytes) -> Result<(), Refusal>
     match codec.encode(payload, out) {
         Ok(()) => Ok(()),
         Err(_) => Err(Refusal::Memory),
+    }
+}
+
+/// Whether there is less than a frame at the front.
+#[tactic(auto, unfolding(crate::specs::Reading::is_partial))]
+fn is_partial_frame(bytes: &[u8]) -> bool
+    ensures value { result ≡ is_partial bytes.now }
+    ensures bytes { All (λ b. b < 2 ^ 8) bytes.now }
+{
+    match read_u32(bytes) {
+        Ok((len, rest)) => len as usize <= MAX_PAYLOAD && rest.len() < len as usize,
+        Err(_) => true,
+    }
+}
+
+/// Whether memory ran out.
+fn is_out_of_memory(e: &io::Error) -> bool
+    ensures { IsTrue result ↔ (error_kind e.now ≡ OutOfMemory) }
+{
+    e.kind() == io::ErrorKind::OutOfMemory
+}
+
+/// Cuts off the frame at the front and gives its payload. `Ok(None)` exactly where there is less than a frame, and
+/// nothing is changed then; `FrameTooLong` exactly where a length above 1,048,576 stands at the front, and the bytes
+/// stay; `Memory` where a growth was refused, and then the length may be cut off, or not.
+pub fn cut_off_frame(buffer: &mut BytesMut) -> Result<Option<BytesMut>, Refusal>
+    ensures whole { IfOk result (λ found. IfSome found (λ payload. (length payload.items ≤ payload_limit)
+        × (buffer.old.items ≡ frame payload.items ++ buffer.new.items))) }
+    ensures part { result ≡ Ok None → IsPartial buffer.old.items × (buffer.new.items ≡ buffer.old.items) }
+    ensures long { result ≡ Err Refusal.FrameTooLong → BeginsTooLong buffer.old.items × (buffer.new.items ≡ buffer.old.items) }
+    ensures err { IfErr result (λ e. (e ≡ Refusal.FrameTooLong) ⊎ (e ≡ Refusal.Memory)) }
+{
+    if is_partial_frame(buffer.as_slice()) {
+        return Ok(None);
+    }
+    let mut codec = frame_codec();
+    match codec.decode(buffer) {
+        Ok(Some(payload)) => Ok(Some(payload)),
+        Ok(None) => Ok(None),
+        Err(e) => {
+            if is_out_of_memory(&e) {
+                Err(Refusal::Memory)
+            } else {
+                Err(Refusal::FrameTooLong)
+            }
+        }
     }
 }
 

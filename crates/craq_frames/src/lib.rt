@@ -1,19 +1,23 @@
 //! What clients and servers of a store say to one another, as bytes in frames.
-//! Code that runs in tests alone.
 #![tactic(auto)]
 
 mod answer;
 mod ask;
+mod first;
 mod frame;
 mod laws;
-mod payload;
 mod text;
+mod versions;
 
 pub use answer::ClientReply;
 pub use ask::ClientMessage;
-pub use frame::{MAX_PAYLOAD, cuts_frames, frame_codec, write_frame};
+pub use frame::{MAX_PAYLOAD, cut_off_frame, cuts_frames, frame_codec, write_frame};
 pub use laws::{asks_with_spellings, replies_with_spellings};
 pub use text::Text;
+pub use versions::{Answered, MOST_MESSAGES, Payload, PayloadVersion};
 
-/// The version of payloads.
+/// The version of payloads of one message or one reply.
 const PAYLOAD_VERSION: u8 = 1;
+
+/// The bytes that most payloads need at most.
+const USUAL_SIZE: usize = 128;

@@ -3,16 +3,13 @@ ghost use Rattle.craq_codec.specs.NumberReading.{Gives};
 ghost use Rattle.craq_frames.specs.Payload.{IsAnswer, SpellsAsk, SpellsAnswer};
 ghost use Rattle.craq_frames.specs.Reading.{ask_body_at, answer_body_at, payload_at};
 
-use crate::answer::{read_answer_body, test_answer, write_answer};
-use crate::ask::{read_ask_body, write_ask};
-use crate::{ClientMessage, ClientReply, PAYLOAD_VERSION};
+use crate::answer::{read_answer_body, test_answer};
+use crate::ask::read_ask_body;
+use crate::{ClientMessage, ClientReply, PAYLOAD_VERSION, USUAL_SIZE};
 use bytes::{Bytes, BytesMut};
-use craq_codec::{Unread, read_u8};
+use craq_codec::{Part, Unread, read_u8, write_u8};
 use craq_names::Refusal;
 use std::alloc::{AllocError, Global};
-
-/// The bytes that most payloads need at most.
-const USUAL_SIZE: usize = 128;
 
 /// The message that the bytes spell, all of the bytes.
 #[tactic(auto, unfolding(crate::specs::Reading::payload_at, craq_codec::specs::PartReading::pair_at))]
@@ -56,16 +53,18 @@ impl ClientMessage {
         true
     }
 
-    /// The payload of the message. It fails for want of memory alone.
+    /// The payload of the message, of version 1. It fails for want of memory alone.
+    #[tactic(auto, unfolding(crate::specs::Payload::ask_spelling))]
     pub fn encode(&self, alloc: Global) -> Result<Bytes, AllocError>
         ensures { IfOk result (λ bytes. SpellsAsk self.now bytes) }
     {
         let mut out = BytesMut::with_capacity(alloc, USUAL_SIZE)?;
-        write_ask(&mut out, self)?;
+        write_u8(&mut out, PAYLOAD_VERSION)?;
+        self.write(&mut out)?;
         Ok(out.freeze()?)
     }
 
-    /// The message that the payload spells, all of its bytes. `BadFrame` exactly where it spells
+    /// The message that the payload of version 1 spells, all of its bytes. `BadFrame` exactly where it spells
     /// none; `Memory` where a growth was refused. Room is asked for only for what was read.
     pub fn decode(alloc: Global, bytes: &[u8]) -> Result<Self, Refusal>
         // What is read is spelled so.
@@ -94,17 +93,19 @@ impl ClientReply {
         test_answer(self)
     }
 
-    /// The payload of a reply that can be spelled. It fails for want of memory alone.
+    /// The payload of a reply that can be spelled, of version 1. It fails for want of memory alone.
+    #[tactic(auto, unfolding(crate::specs::Payload::answer_spelling))]
     pub fn encode(&self, alloc: Global) -> Result<Bytes, AllocError>
         requires { IsAnswer self.now }
         ensures { IfOk result (λ bytes. SpellsAnswer self.now bytes) }
     {
         let mut out = BytesMut::with_capacity(alloc, USUAL_SIZE)?;
-        write_answer(&mut out, self)?;
+        write_u8(&mut out, PAYLOAD_VERSION)?;
+        self.write(&mut out)?;
         Ok(out.freeze()?)
     }
 
-    /// The reply that the payload spells, all of its bytes. `BadFrame` exactly where it spells
+    /// The reply that the payload of version 1 spells, all of its bytes. `BadFrame` exactly where it spells
     /// none; `Memory` where a growth was refused. Room is asked for only for what was read.
     pub fn decode(alloc: Global, bytes: &[u8]) -> Result<Self, Refusal>
         // What is read is spelled so.

@@ -1,0 +1,285 @@
+ghost use Rattle.std.specs.Prelude.{◌≡◌, ◌≤◌, ◌⊎◌, ◌++◌, length, Err, IfOk, IfErr, OnOk};
+ghost use Rattle.std.specs.List.{AllByRecursion, list_all};
+ghost use Rattle.craq_codec.specs.NumberReading.{Gives};
+ghost use Rattle.craq_codec.specs.PartSpelling.{counted};
+ghost use Rattle.std.specs.Int.{w8};
+ghost use Rattle.craq_frames.specs.Versions.{version_number, many_limit, AreFew, payload_spelling, PayloadFits, SpellsPayload, IsPayload, answered_spelling, AnsweredFits, IsAnswered, SpellsAnswered};
+ghost use Rattle.craq_frames.specs.Reading.{few_at, payload_body_at, answered_body_at, versioned_at};
+ghost use Rattle.craq_frames.specs.Tests.{is_answer, is_answered};
+
+use crate::answer::{read_answer_body, test_answer};
+use crate::ask::read_ask_body;
+use crate::{ClientMessage, ClientReply, USUAL_SIZE};
+use bytes::{Bytes, BytesMut};
+use craq_codec::{Part, Unread, read_parts, read_u8, write_short_list, write_u8};
+use craq_names::{Items, Refusal};
+use std::alloc::{AllocError, Global};
+
+/// The most messages of a payload.
+pub const MOST_MESSAGES: usize = 8;
+
+/// The kind of a payload of several messages.
+const MANY_ASKS: u8 = 4;
+
+/// The kind of a payload of several replies.
+const MANY_ANSWERS: u8 = 5;
+
+/// The version of a payload.
+#[derive(Clone, Copy, Debug, PartialEq, Eq)]
+pub enum PayloadVersion {
+    /// Version 1: one message, or one reply.
+    First,
+    /// Version 2: as the first, and also several messages in one payload, or their replies.
+    Second,
+}
+
+impl PayloadVersion {
+    /// The byte that a payload of this version begins with.
+    fn number(self) -> u8
+        ensures { result ≡ version_number self }
+    {
+        match self {
+            PayloadVersion::First => 1,
+            PayloadVersion::Second => 2,
+        }
+    }
+}
+
+/// What a payload of a client says.
+#[derive(Debug, Drop)]
+pub enum Payload {
+    /// One message, in a payload of this version.
+    One(PayloadVersion, ClientMessage),
+    /// From 1 to 8 messages, in a payload of version 2.
+    Many(Items<ClientMessage>),
+}
+
+/// What a payload of a server says.
+#[derive(Debug, Drop)]
+pub enum Answered {
+    /// One reply, in a payload of this version.
+    One(PayloadVersion, ClientReply),
+    /// From 1 to 8 replies, in a payload of version 2: those of the messages of one payload, in their order.
+    Many(Items<ClientReply>),
+}
+
+/// A byte of count, from 1 to 8, at the front and so many values, and the bytes after them. `BadFrame`
+/// exactly where the bytes do not begin so.
+#[tactic(auto, unfolding(crate::specs::Reading::few_at))]
+fn read_few<T: Part>(alloc: Global, bytes: &[u8]) -> Result<(Items<T>, &[u8]), Unread>
+    ensures { Gives (λ x. (x.0, x.1.now)) result (few_at T.part_at bytes.now) }
+{
+    let (count, rest) = read_u8(bytes)?;
+    let count = count as usize;
+    if count < 1 {
+        return Err(Unread::BadFrame);
+    }
+    if MOST_MESSAGES < count {
+        return Err(Unread::BadFrame);
+    }
+    read_parts(alloc, count, rest)
+}
+
+/// What goes with a version and a kind of a payload of a client, and the bytes after it.
+#[tactic(auto, unfolding(crate::specs::Reading::payload_body_at))]
+fn read_payload_body(
+    alloc: Global,
+    version: u8,
+    kind: u8,
+    bytes: &[u8],
+) -> Result<(Payload, &[u8]), Unread>
+    ensures { Gives (λ x. (x.0, x.1.now)) result (payload_body_at version kind bytes.now) }
+{
+    if version == 1 {
+        let (message, rest) = read_ask_body(alloc, kind, bytes)?;
+        Ok((Payload::One(PayloadVersion::First, message), rest))
+    } else if version == 2 {
+        if kind == MANY_ASKS {
+            let (messages, rest) = read_few(alloc, bytes)?;
+            Ok((Payload::Many(messages), rest))
+        } else {
+            let (message, rest) = read_ask_body(alloc, kind, bytes)?;
+            Ok((Payload::One(PayloadVersion::Second, message), rest))
+        }
+    } else {
+        Err(Unread::BadFrame)
+    }
+}
+
+/// What goes with a version and a kind of a payload of a server, and the bytes after it.
+#[tactic(auto, unfolding(crate::specs::Reading::answered_body_at))]
+fn read_answered_body(
+    alloc: Global,
+    version: u8,
+    kind: u8,
+    bytes: &[u8],
+) -> Result<(Answered, &[u8]), Unread>
+    ensures { Gives (λ x. (x.0, x.1.now)) result (answered_body_at version kind bytes.now) }
+{
+    if version == 1 {
+        let (reply, rest) = read_answer_body(alloc, kind, bytes)?;
+        Ok((Answered::One(PayloadVersion::First, reply), rest))
+    } else if version == 2 {
+        if kind == MANY_ANSWERS {
+            let (replies, rest) = read_few(alloc, bytes)?;
+            Ok((Answered::Many(replies), rest))
+        } else {
+            let (reply, rest) = read_answer_body(alloc, kind, bytes)?;
+            Ok((Answered::One(PayloadVersion::Second, reply), rest))
+        }
+    } else {
+        Err(Unread::BadFrame)
+    }
+}
+
+/// What the bytes of a payload of a client spell, all of the bytes.
+#[tactic(auto, unfolding(crate::specs::Reading::versioned_at, craq_codec::specs::PartReading::pair_at))]
+fn read_payload(alloc: Global, bytes: &[u8]) -> Result<Payload, Unread>
+    ensures { Gives (λ p. p) result (versioned_at payload_body_at bytes.now) }
+{
+    let (version, rest) = read_u8(bytes)?;
+    let (kind, rest) = read_u8(rest)?;
+    let (payload, rest) = read_payload_body(alloc, version, kind, rest)?;
+    if !rest.is_empty() {
+        return Err(Unread::BadFrame);
+    }
+    Ok(payload)
+}
+
+/// What the bytes of a payload of a server spell, all of the bytes. The rules of replies are not tested yet.
+#[tactic(auto, unfolding(crate::specs::Reading::versioned_at, craq_codec::specs::PartReading::pair_at))]
+fn read_answered(alloc: Global, bytes: &[u8]) -> Result<Answered, Unread>
+    ensures { Gives (λ p. p) result (versioned_at answered_body_at bytes.now) }
+{
+    let (version, rest) = read_u8(bytes)?;
+    let (kind, rest) = read_u8(rest)?;
+    let (answered, rest) = read_answered_body(alloc, version, kind, rest)?;
+    if !rest.is_empty() {
+        return Err(Unread::BadFrame);
+    }
+    Ok(answered)
+}
+
+/// Writes what a client sends at the end.
+#[tactic(auto, unfolding(crate::specs::Versions::payload_spelling), using(craq_codec::proofs::Free::all_of_any))]
+fn write_payload(out: &mut BytesMut, payload: &Payload) -> Result<(), AllocError>
+    requires { IsPayload payload.now }
+    ensures fits { OnOk result (PayloadFits payload.now) }
+    ensures spelled { OnOk result (out.new.items ≡ out.old.items ++ payload_spelling payload.now) }
+{
+    match payload {
+        Payload::One(version, message) => {
+            write_u8(out, version.number())?;
+            message.write(out)
+        }
+        Payload::Many(messages) => {
+            write_u8(out, 2)?;
+            write_u8(out, MANY_ASKS)?;
+            write_short_list(out, messages.as_slice())
+        }
+    }
+}
+
+/// Writes what a client gets at the end.
+#[tactic(auto, unfolding(crate::specs::Versions::answered_spelling))]
+fn write_answered(out: &mut BytesMut, answered: &Answered) -> Result<(), AllocError>
+    requires { IsAnswered answered.now }
+    ensures fits { OnOk result (AnsweredFits answered.now) }
+    ensures spelled { OnOk result (out.new.items ≡ out.old.items ++ answered_spelling answered.now) }
+{
+    match answered {
+        Answered::One(version, reply) => {
+            write_u8(out, version.number())?;
+            reply.write(out)
+        }
+        Answered::Many(replies) => {
+            write_u8(out, 2)?;
+            write_u8(out, MANY_ANSWERS)?;
+            write_short_list(out, replies.as_slice())
+        }
+    }
+}
+
+/// Whether each of the replies keeps the rules of replies.
+fn test_answers(replies: &[ClientReply]) -> bool
+    ensures { result ≡ list_all is_answer replies.now }
+{
+    replies.iter().all(|reply| test_answer(reply))
+}
+
+/// The rules of the replies of a payload.
+fn test_answered(answered: &Answered) -> bool
+    ensures { result ≡ is_answered answered.now }
+{
+    match answered {
+        Answered::One(_, reply) => test_answer(reply),
+        Answered::Many(replies) => test_answers(replies.as_slice()),
+    }
+}
+
+impl Payload {
+    /// The bytes of the payload. Several messages have to be from 1 to 8. It fails for want of memory alone.
+    pub fn encode(&self, alloc: Global) -> Result<Bytes, AllocError>
+        requires { IsPayload self.now }
+        ensures { IfOk result (λ bytes. SpellsPayload self.now bytes) }
+    {
+        let mut out = BytesMut::with_capacity(alloc, USUAL_SIZE)?;
+        write_payload(&mut out, self)?;
+        Ok(out.freeze()?)
+    }
+
+    /// What the bytes spell as a payload of version 1 or 2, all of the bytes. `BadFrame` exactly where they spell
+    /// none; `Memory` where a growth was refused. Room is asked for only for what was read.
+    pub fn decode(alloc: Global, bytes: &[u8]) -> Result<Self, Refusal>
+        // What is read is spelled so.
+        ensures found { IfOk result (λ p. SpellsPayload p bytes.now) }
+        // No other payload is spelled so.
+        ensures only { IfOk result (λ p. (other : Payload) → SpellsPayload other bytes.now → other ≡ p) }
+        // Where nothing is read, no payload is spelled so, or memory ran out.
+        ensures bad { result ≡ Err Refusal.BadFrame → (p : Payload) → SpellsPayload p bytes.now → ⊥ }
+        ensures err { IfErr result (λ e. (e ≡ Refusal.BadFrame) ⊎ (e ≡ Refusal.Memory)) }
+    {
+        match read_payload(alloc, bytes) {
+            Ok(payload) => Ok(payload),
+            Err(Unread::BadFrame) => Err(Refusal::BadFrame),
+            Err(Unread::Memory) => Err(Refusal::Memory),
+        }
+    }
+}
+
+impl Answered {
+    /// The bytes of the payload. Each reply has to be one that can be spelled, and several have to be from 1 to 8.
+    /// It fails for want of memory alone.
+    pub fn encode(&self, alloc: Global) -> Result<Bytes, AllocError>
+        requires { IsAnswered self.now }
+        ensures { IfOk result (λ bytes. SpellsAnswered self.now bytes) }
+    {
+        let mut out = BytesMut::with_capacity(alloc, USUAL_SIZE)?;
+        write_answered(&mut out, self)?;
+        Ok(out.freeze()?)
+    }
+
+    /// What the bytes spell as a payload of version 1 or 2, all of the bytes. `BadFrame` exactly where they spell
+    /// none; `Memory` where a growth was refused. Room is asked for only for what was read.
+    pub fn decode(alloc: Global, bytes: &[u8]) -> Result<Self, Refusal>
+        // What is read is spelled so.
+        ensures found { IfOk result (λ p. SpellsAnswered p bytes.now) }
+        // No other payload is spelled so.
+        ensures only { IfOk result (λ p. (other : Answered) → SpellsAnswered other bytes.now → other ≡ p) }
+        // Where nothing is read, no payload is spelled so, or memory ran out.
+        ensures bad { result ≡ Err Refusal.BadFrame → (p : Answered) → SpellsAnswered p bytes.now → ⊥ }
+        ensures err { IfErr result (λ e. (e ≡ Refusal.BadFrame) ⊎ (e ≡ Refusal.Memory)) }
+    {
+        match read_answered(alloc, bytes) {
+            Ok(answered) => {
+                if test_answered(&answered) {
+                    Ok(answered)
+                } else {
+                    Err(Refusal::BadFrame)
+                }
+            }
+            Err(Unread::BadFrame) => Err(Refusal::BadFrame),
+            Err(Unread::Memory) => Err(Refusal::Memory),
+        }
+    }
+}

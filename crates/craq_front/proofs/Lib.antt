@@ -1,0 +1,6 @@
+pub mod Asks
+pub mod Exchanges
+pub mod Known
+pub mod Lengths
+pub mod Sessions
+pub mod Turning

@@ -1,0 +1,14 @@
+use Rattle.std.proofs.Common.{List, ℕ, [], ◌≡◌}
+use Rattle.std.specs.Io.KnownBytes.{Appends, Consumes}
+use Rattle.craq_front.specs.Serving.{Served}
+use Rattle.craq_front.proofs.serving.serve.Given as goal
+
+abbrev pub invariant-loop : goal.invariant-loop
+invariant-loop g l =
+    (read : List ℕ) × (written : List ℕ)
+    × Consumes (g.R.Source.remaining l.fn.reader) (g.R.Source.remaining l.reader) read
+    × Appends (g.W.Sink.contents l.fn.writer) (g.W.Sink.contents l.writer) written
+    × (g.R.Counted.count l.reader ≡ g.R.Counted.count l.fn.reader)
+    × (g.W.Counted.count l.writer ≡ g.W.Counted.count l.fn.writer)
+    × (l.buffers.output.items ≡ [])
+    × Served g.D.Door.turn l.fn.door read l.buffers.input.items written l.frames l.door

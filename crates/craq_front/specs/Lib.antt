@@ -1,0 +1,3 @@
+pub mod Door
+pub mod Exchange
+pub mod Serving

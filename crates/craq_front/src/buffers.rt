@@ -1,0 +1,116 @@
+ghost use Rattle.std.specs.Prelude.{◌≡◌, ◌+◌, ◌-◌, ◌^◌, ◌<◌, ◌≤◌, ◌⊎◌, ◌↔◌, ℕ, List, [], ◌++◌, length, take, Ok, Err, IsTrue, IfOk, IfErr, OnOk, OnErr};
+ghost use Rattle.std.specs.Io.KnownBytes.{Appends, Consumes, IsAtEnd, Keeps};
+
+use crate::{Failed, Sink, Source};
+use bytes::BytesMut;
+use craq_names::Refusal;
+use std::alloc::Global;
+
+/// The most bytes that are read at once.
+const MOST_AT_ONCE: usize = 8_192;
+
+/// So many bytes of replies are written before more of them are made.
+const MOST_DUE: usize = 65_536;
+
+/// The two ends of a connection's bytes.
+#[derive(Drop)]
+pub(crate) struct Buffers {
+    /// What was read, and not yet cut off as a frame.
+    pub(crate) input: BytesMut,
+    /// What is due, and not yet written.
+    pub(crate) output: BytesMut,
+}
+
+/// Writes all of the bytes.
+fn write_all<W: Sink>(writer: &mut W, bytes: &[u8]) -> Result<(), Refusal>
+    requires { W.count writer.old < 2 ^ 64 - 1 }
+    ensures ok { OnOk result (Appends (W.contents writer.old) (W.contents writer.new) bytes.now
+        × (W.count writer.new ≡ W.count writer.old)) }
+    ensures failed { OnErr result ((n : ℕ) × Appends (W.contents writer.old) (W.contents writer.new) (take n bytes.now)
+        × (W.count writer.new ≡ W.count writer.old + 1)) }
+    ensures err { IfErr result (λ e. e ≡ Refusal.Io) }
+{
+    let mut at = 0;
+    while at < bytes.len() {
+        match writer.write(&bytes[at..]) {
+            Ok(n) => at += n,
+            Err(Failed) => return Err(Refusal::Io),
+        }
+    }
+    Ok(())
+}
+
+impl Buffers {
+    /// Nothing was read, and nothing is due. It takes no memory.
+    pub(crate) fn new(alloc: Global) -> Self
+        ensures input { result.input.items ≡ [] }
+        ensures output { result.output.items ≡ [] }
+    {
+        Buffers {
+            input: BytesMut::new(alloc),
+            output: BytesMut::new(alloc),
+        }
+    }
+
+    /// Whether no more replies are to be made before what is due is written.
+    pub(crate) fn is_full(&self) -> bool
+        ensures { IsTrue result ↔ (MOST_DUE ≤ length self.now.output.items) }
+    {
+        self.output.len() >= MOST_DUE
+    }
+
+    /// Reads once, and tells how many bytes came: none exactly at the end of the input. Nothing may be due: no reply
+    /// waits for a read. `Memory` where a growth was refused, and then nothing was read; `Io` where the read failed.
+    pub(crate) fn fill<R: Source>(&mut self, reader: &mut R) -> Result<usize, Refusal>
+        requires due { self.old.output.items ≡ [] }
+        requires count { R.count reader.old < 2 ^ 64 - 1 }
+        ensures ok { IfOk result (λ n. (more : List ℕ) × (length more ≡ n)
+            × (self.new.input.items ≡ self.old.input.items ++ more)
+            × Consumes (R.remaining reader.old) (R.remaining reader.new) more
+            × (R.count reader.new ≡ R.count reader.old)) }
+        ensures end { result ≡ Ok 0 → IsAtEnd (R.remaining reader.new) }
+        ensures failed { OnErr result (Keeps (R.remaining reader.old) (R.remaining reader.new)
+            × (self.new.input.items ≡ self.old.input.items)) }
+        ensures io { result ≡ Err Refusal.Io → R.count reader.new ≡ R.count reader.old + 1 }
+        ensures memory { result ≡ Err Refusal.Memory → R.count reader.new ≡ R.count reader.old }
+        ensures err { IfErr result (λ e. (e ≡ Refusal.Io) ⊎ (e ≡ Refusal.Memory)) }
+        ensures output { self.new.output.items ≡ [] }
+    {
+        self.input.reserve(MOST_AT_ONCE)?;
+        let mut chunk = [0u8; MOST_AT_ONCE];
+        match reader.read(&mut chunk) {
+            Ok(n) => {
+                self.input.extend_reserved(&chunk[..n]);
+                Ok(n)
+            }
+            Err(Failed) => Err(Refusal::Io),
+        }
+    }
+
+    /// Writes what is due. `Io` where a write failed, and then a beginning of it is written.
+    pub(crate) fn flush<W: Sink>(&mut self, writer: &mut W) -> Result<(), Refusal>
+        requires { W.count writer.old < 2 ^ 64 - 1 }
+        ensures ok { OnOk result (Appends (W.contents writer.old) (W.contents writer.new) self.old.output.items
+            × (W.count writer.new ≡ W.count writer.old) × (self.new.output.items ≡ [])) }
+        ensures failed { OnErr result ((n : ℕ) × Appends (W.contents writer.old) (W.contents writer.new) (take n self.old.output.items)
+            × (W.count writer.new ≡ W.count writer.old + 1)) }
+        ensures err { IfErr result (λ e. e ≡ Refusal.Io) }
+        ensures input { self.new.input.items ≡ self.old.input.items }
+    {
+        write_all(writer, self.output.as_slice())?;
+        self.output.clear();
+        Ok(())
+    }
+
+    /// What serving answers at the end of the input, after so many frames: `Closed` where less than a frame is left.
+    pub(crate) fn ended(&self, frames: u64) -> Result<u64, Refusal>
+        ensures ok { IfOk result (λ n. (n ≡ frames) × (self.now.input.items ≡ [])) }
+        ensures err { IfErr result (λ e. (e ≡ Refusal.Closed) × (0 < length self.now.input.items)) }
+    {
+        if self.input.is_empty() {
+            Ok(frames)
+        } else {
+            Err(Refusal::Closed)
+        }
+    }
+}

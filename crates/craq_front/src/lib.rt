@@ -1,0 +1,16 @@
+//! How clients reach a store over a stream of bytes: frames of messages in, frames of replies out.
+#![tactic(auto)]
+
+mod buffers;
+mod door;
+mod exchanging;
+mod laws;
+mod replying;
+mod serving;
+mod stream;
+
+pub use door::{Door, MOST_OF_A_REPLY, is_allowed};
+pub use exchanging::exchange;
+pub use laws::allowed_replies_are_short;
+pub use serving::serve;
+pub use stream::{Counted, Failed, Sink, Source, Stream};

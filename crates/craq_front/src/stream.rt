@@ -1,0 +1,114 @@
+ghost use Rattle.std.specs.Prelude.{◌≡◌, ℕ, ◌+◌, ◌-◌, ◌^◌, ◌<◌, ◌≤◌, List, Option, length, take, Ok, IfOk, OnErr};
+ghost use Rattle.std.specs.Io.KnownBytes.{Appends, Consumes, IsAtEnd, Keeps};
+
+use std::io::{Read, Write};
+
+/// A call of a stream that failed. The stream has counted it.
+#[derive(Clone, Copy, Debug, PartialEq, Eq)]
+pub struct Failed;
+
+/// A stream that counts those of its calls that failed.
+pub trait Counted {
+    /// How many of its calls failed.
+    ghost count: { Self → ℕ };
+
+    /// How many of its calls failed so far.
+    fn faults(&self) -> u64
+        ensures { result ≡ count self.now };
+}
+
+/// A stream that bytes are read from.
+pub trait Source: Counted {
+    /// The bytes that reads will give from here on, where they are known.
+    ghost remaining: { Self → Option (List ℕ) };
+
+    /// Reads once into the front of the buffer, and tells how many bytes came: none at the end of the input, or where
+    /// the buffer has no room. A call that fails gives no byte and raises the count of failed calls by 1; no other call
+    /// changes that count. The count has to be below 2^64 - 1.
+    fn read(&mut self, buffer: &mut [u8]) -> Result<usize, Failed>
+        requires { Self.count self.old < 2 ^ 64 - 1 }
+        ensures gave { IfOk result (λ n. (n ≤ length buffer.new)
+            × Consumes (remaining self.old) (remaining self.new) (take n buffer.new)
+            × (Self.count self.new ≡ Self.count self.old)) }
+        ensures end { result ≡ Ok 0 → 0 < length buffer.new → IsAtEnd (remaining self.new) }
+        ensures failed { OnErr result (Keeps (remaining self.old) (remaining self.new)
+            × (Self.count self.new ≡ Self.count self.old + 1)) };
+}
+
+/// A stream that bytes are written to.
+pub trait Sink: Counted {
+    /// The bytes that it took, where they are known.
+    ghost contents: { Self → Option (List ℕ) };
+
+    /// Writes the front of the bytes, and tells how many were taken: at least 1 where there is any. A call that fails
+    /// takes no byte and raises the count of failed calls by 1; no other call changes that count. The count has to be
+    /// below 2^64 - 1.
+    fn write(&mut self, bytes: &[u8]) -> Result<usize, Failed>
+        requires { Self.count self.old < 2 ^ 64 - 1 }
+        ensures took { IfOk result (λ n. (n ≤ length bytes.now) × (0 < length bytes.now → 0 < n)
+            × Appends (contents self.old) (contents self.new) (take n bytes.now)
+            × (Self.count self.new ≡ Self.count self.old)) }
+        ensures failed { OnErr result (Keeps (contents self.old) (contents self.new)
+            × (Self.count self.new ≡ Self.count self.old + 1)) };
+}
+
+/// A source of any std reader, and a sink of any std writer. A write that took no byte of some counts as failed.
+#[derive(Drop)]
+pub struct Stream<S> {
+    stream: S,
+    faults: u64,
+}
+
+impl<S> Stream<S> {
+    /// A stream over a reader or writer. No call has failed yet.
+    pub fn new(stream: S) -> Self
+        ensures stream { result.stream ≡ stream }
+        ensures faults { result.faults ≡ 0 }
+    {
+        Stream { stream, faults: 0 }
+    }
+
+    /// The reader or writer.
+    pub fn into_inner(self) -> S
+        ensures { result ≡ self.stream }
+    {
+        let Stream { stream, .. } = self;
+        stream
+    }
+}
+
+impl<S> Counted for Stream<S> {
+    ghost count = { λ s. s.faults };
+
+    fn faults(&self) -> u64 {
+        self.faults
+    }
+}
+
+impl<S: Read> Source for Stream<S> {
+    ghost remaining = { λ s. S.remaining s.stream };
+
+    fn read(&mut self, buffer: &mut [u8]) -> Result<usize, Failed> {
+        match self.stream.read(buffer) {
+            Ok(n) => Ok(n),
+            Err(_) => {
+                self.faults += 1;
+                Err(Failed)
+            }
+        }
+    }
+}
+
+impl<S: Write> Sink for Stream<S> {
+    ghost contents = { λ s. S.contents s.stream };
+
+    fn write(&mut self, bytes: &[u8]) -> Result<usize, Failed> {
+        match self.stream.write(bytes) {
+            Ok(n) if n > 0 || bytes.is_empty() => Ok(n),
+            _ => {
+                self.faults += 1;
+                Err(Failed)
+            }
+        }
+    }
+}

@@ -1,0 +1,105 @@
+use crate::door::Answers;
+use crate::fakes::{Pieces, Room};
+use crate::frames::{
+    FIRST_MANY, MANY, NINE_MESSAGES, NO_MESSAGE, PUT, SECOND_PUT, TOO_LONG, WRITTEN,
+};
+use craq_front::{Counted, Stream, serve};
+use craq_names::Refusal;
+use std::alloc::Global;
+use std::io;
+
+/// A connection that is served.
+#[derive(Clone, Copy)]
+pub(crate) struct Row<'a> {
+    /// What the client sends.
+    pub(crate) sent: &'a [u8],
+    /// So many bytes of it come at once.
+    pub(crate) size: usize,
+    /// The read of this number fails; 0 where none does.
+    pub(crate) fails_at: u64,
+    /// The client takes so many bytes.
+    pub(crate) room: usize,
+}
+
+/// What serving a connection did.
+#[derive(Debug, Drop)]
+pub(crate) struct Served {
+    pub(crate) answer: Result<u64, Refusal>,
+    pub(crate) written: Vec<u8>,
+    pub(crate) writes: u64,
+    pub(crate) asked: u64,
+    pub(crate) faults: u64,
+}
+
+/// Serves the connection.
+pub(crate) fn serve_row(alloc: Global, row: &Row<'_>) -> Served {
+    let mut reader = Stream::new(Pieces {
+        rest: row.sent,
+        size: row.size,
+        reads: 0,
+        fails_at: row.fails_at,
+    });
+    let mut writer = Stream::new(Room {
+        held: Vec::new(alloc),
+        room: row.room,
+        writes: 0,
+    });
+    let mut door = Answers { alloc, asked: 0 };
+    let answer = serve(alloc, &mut reader, &mut writer, &mut door);
+    let faults = reader.faults().saturating_add(writer.faults());
+    let room = writer.into_inner();
+    Served {
+        answer,
+        written: room.held,
+        writes: room.writes,
+        asked: door.asked,
+        faults,
+    }
+}
+
+/// Prints what serving a client that sends this did, where it comes at once and all replies are taken.
+fn print_row<R>(rt: &R, name: &str, sent: &[u8]) -> io::Result<()>
+where
+    R: AllocGlobal + Print,
+{
+    let row = Row {
+        sent,
+        size: 8192,
+        fails_at: 0,
+        room: 1_000_000,
+    };
+    let served = serve_row(rt.alloc(), &row);
+    println!(rt; "{name}: {served:?}")
+}
+
+/// Prints the same of two frames, one after the other.
+fn print_both<R>(rt: &R, name: &str, first: &[u8], second: &[u8]) -> io::Result<()>
+where
+    R: AllocGlobal + Print,
+{
+    let mut sent = Vec::new(rt.alloc());
+    sent.extend_from_slice(first)?;
+    sent.extend_from_slice(second)?;
+    print_row(rt, name, sent.as_slice())
+}
+
+/// Rows of whole connections.
+pub(crate) fn run<R: AllocGlobal + Print>(rt: &R) -> io::Result<()> {
+    print_row(rt, "nothing", &[])?;
+    print_row(rt, "a put", &PUT)?;
+    print_row(rt, "a put cut short", &PUT[..41])?;
+    print_both(rt, "an empty frame and a put", &[0, 0, 0, 0], &PUT)?;
+    print_row(rt, "a length above the limit", &TOO_LONG)?;
+    print_both(rt, "a put and a length above the limit", &PUT, &TOO_LONG)?;
+    print_both(rt, "two puts", &PUT, &PUT)?;
+    print_row(rt, "a put of version 2", &SECOND_PUT)?;
+    print_row(rt, "a put and a read in one payload", &MANY)?;
+    print_both(
+        rt,
+        "several messages in version 1, and a put",
+        &FIRST_MANY,
+        &PUT,
+    )?;
+    print_both(rt, "no message and nine", &NO_MESSAGE, &NINE_MESSAGES)?;
+    print_row(rt, "a reply in the place of a message", &WRITTEN)
+}

@@ -1,0 +1,11 @@
+//! A store's server: the door by which a client of a connection reaches the store, the connections of a listener, and
+//! the text of a store's status.
+//! Code that runs in the programs.
+#![tactic(auto)]
+
+mod accepting;
+mod door;
+mod status;
+
+pub use accepting::accept;
+pub use status::status_text;

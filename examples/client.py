@@ -1,0 +1,352 @@
+#!/usr/bin/env python3
+"""A client of a store that runs, with Python's standard library alone, written from docs/BYTES.md.
+
+    with Client("127.0.0.1:7000") as store:
+        store.put("k", b"a")                # Written(version=1)
+        store.read("k")                     # Read(version=1, value=b'a')
+        store.read("k", node=3)             # the same: every node of the chain answers
+        store.mini(compares=[("k", 1)], reads=["k"], writes=[("k", b"b"), ("l", b"c")])
+        store.many([store.asks_put("k", b"d"), store.asks_read("k")])
+
+    examples/client.py 127.0.0.1:7000       runs these and prints what comes back
+
+What the store refuses is raised as Refused. A Client is for one thread.
+"""
+import json
+import random
+import secrets
+import socket
+import sys
+from dataclasses import make_dataclass
+
+FRAME_LIMIT = 1_048_576
+UPDATE, READ, STATUS, MANY = 1, 2, 3, 4
+UPDATE_REPLY, READ_REPLY, REFUSED_REPLY, STATUS_REPLY, MANY_REPLY = 1, 2, 3, 4, 5
+STRONG, EVENTUAL = b"\x01", b"\x02"
+
+
+def reply(name, *fields):
+    """A reply that the store gives: a class with these fields, whose values are equal where their fields are."""
+    return make_dataclass(name, fields, frozen=True)
+
+
+Read = reply("Read", "version", "value")
+Written = reply("Written", "version")
+Mismatch = reply("Mismatch", "version")
+TooLong = reply("TooLong")
+NotANumber = reply("NotANumber")
+Overflow = reply("Overflow")
+Underflow = reply("Underflow")
+Done = reply("Done", "reads")
+CompareFailed = reply("CompareFailed", "index")
+Stale = reply("Stale", "last")
+
+
+class Refused(Exception):
+    """Nothing was done; or, after 11, 14 and 27, perhaps an update was: ask it again with its number."""
+
+    NAMES = {
+        7: "UnknownChain", 8: "TwoChains", 9: "NotHead", 10: "NotReady", 11: "Stopped", 12: "PendingFull",
+        13: "Exhausted", 14: "Memory", 15: "BadFrame", 16: "FrameTooLong", 23: "WrongNode", 27: "Closed",
+    }
+
+    def __init__(self, number, detail):
+        super().__init__(f"{number} {self.NAMES.get(number, 'of another call')}" + (f" {detail}" if detail else ""))
+        self.number, self.detail = number, detail
+
+
+class BadReply(Exception):
+    """What came is no reply, or none to what was asked."""
+
+
+# Bytes of parts. Numbers are big-endian.
+
+def number(size, it):
+    return it.to_bytes(size, "big")
+
+
+def key_bytes(key):
+    key = key.encode() if isinstance(key, str) else key
+    return number(1, len(key)) + key
+
+
+def value_bytes(value):
+    return number(2, len(value)) + value
+
+
+def object_bytes(chain, key):
+    return number(2, chain) + key_bytes(key)
+
+
+class Unread:
+    """The bytes of a payload that have not been read yet."""
+
+    def __init__(self, payload):
+        self.left = payload
+
+    def bytes(self, size):
+        if size > len(self.left):
+            raise BadReply("it ends too early")
+        front, self.left = self.left[:size], self.left[size:]
+        return front
+
+    def number(self, size):
+        return int.from_bytes(self.bytes(size), "big")
+
+    def value(self):
+        return self.bytes(self.number(2))
+
+    def end(self):
+        if self.left:
+            raise BadReply("it goes on after its end")
+
+
+# What is asked: a command, and a request as its kind and its body.
+
+def put(chain, key, value):
+    return b"\x01" + object_bytes(chain, key) + value_bytes(value)
+
+
+def test_and_set(chain, key, expected, value):
+    return b"\x02" + object_bytes(chain, key) + number(8, expected) + value_bytes(value)
+
+
+def append(chain, key, value):
+    return b"\x03" + object_bytes(chain, key) + value_bytes(value)
+
+
+def prepend(chain, key, value):
+    return b"\x04" + object_bytes(chain, key) + value_bytes(value)
+
+
+def increment(chain, key, by):
+    return b"\x05" + object_bytes(chain, key) + number(8, by)
+
+
+def decrement(chain, key, by):
+    return b"\x06" + object_bytes(chain, key) + number(8, by)
+
+
+def mini(chain, compares=(), reads=(), writes=()):
+    command = b"\x07" + number(1, len(compares))
+    command += b"".join(object_bytes(chain, key) + number(8, version) for key, version in compares)
+    command += number(1, len(reads)) + b"".join(object_bytes(chain, key) for key in reads)
+    return command + number(1, len(writes)) + b"".join(object_bytes(chain, key) + value_bytes(it) for key, it in writes)
+
+
+def bounded(above):
+    """The mode of a read that may be at most so many versions above the one known to be committed."""
+    return b"\x03" + number(4, above)
+
+
+def update_request(node, shown, client, request, command):
+    return UPDATE, number(4, node) + number(8, shown) + number(8, client) + number(8, request) + command
+
+
+def read_request(node, shown, mode, chain, key):
+    return READ, number(4, node) + number(8, shown) + mode + object_bytes(chain, key)
+
+
+def one(version, request):
+    kind, body = request
+    return number(1, version) + number(1, kind) + body
+
+
+def many(requests):
+    return bytes([2, MANY, len(requests)]) + b"".join(number(1, kind) + body for kind, body in requests)
+
+
+# What comes back. Of each reply: its pass, if it has one, and what it tells.
+
+BARE = {3: TooLong(), 4: NotANumber(), 5: Overflow(), 6: Underflow()}
+
+
+def take_update_reply(unread):
+    tag = unread.number(1)
+    if tag in BARE:
+        return BARE[tag]
+    if tag == 1:
+        return Written(unread.number(8))
+    if tag == 2:
+        return Mismatch(unread.number(8))
+    if tag == 7:
+        return Done([Read(unread.number(8), unread.value()) for _ in range(unread.number(1))])
+    if tag == 8:
+        return CompareFailed(unread.number(1))
+    if tag == 9:
+        return Stale(unread.number(8))
+    raise BadReply(f"an update reply with tag {tag}")
+
+
+def take_reply(unread, kind):
+    if kind == UPDATE_REPLY:
+        return unread.number(8), take_update_reply(unread)
+    if kind == READ_REPLY:
+        return unread.number(8), Read(unread.number(8), unread.value())
+    if kind == REFUSED_REPLY:
+        return None, Refused(unread.number(1), unread.number(8))
+    if kind == STATUS_REPLY:
+        return None, unread.bytes(unread.number(4)).decode()
+    raise BadReply(f"a reply of kind {kind}")
+
+
+def replies_of(payload):
+    """The replies in a payload: one, or those to a Many."""
+    unread = Unread(payload)
+    version, kind = unread.number(1), unread.number(1)
+    if (version, kind) == (2, MANY_REPLY):
+        replies = [take_reply(unread, unread.number(1)) for _ in range(unread.number(1))]
+    elif version in (1, 2):
+        replies = [take_reply(unread, kind)]
+    else:
+        raise BadReply(f"version {version}")
+    unread.end()
+    return replies
+
+
+class Connection:
+    """Payloads over TCP, each in a frame."""
+
+    def __init__(self, address, patience=10):
+        host, _, port = address.rpartition(":")
+        self.socket = socket.create_connection((host, int(port)), patience)
+        self.socket.setsockopt(socket.IPPROTO_TCP, socket.TCP_NODELAY, 1)
+
+    def send(self, *payloads):
+        self.socket.sendall(b"".join(number(4, len(it)) + it for it in payloads))
+
+    def receive(self):
+        size = int.from_bytes(self.bytes(4), "big")
+        if size > FRAME_LIMIT:
+            raise BadReply("a frame above the limit")
+        return self.bytes(size)
+
+    def bytes(self, size):
+        got = b""
+        while len(got) < size:
+            more = self.socket.recv(size - len(got))
+            if not more:
+                raise ConnectionError("the server closed the connection")
+            got += more
+        return got
+
+    def close(self):
+        self.socket.close()
+
+
+class Client:
+    """A client with an id of its own, its request numbers, and its pass: the largest that it was given.
+
+    Updates go to the head of their chain and reads to any member, unless the call names a node.
+    """
+
+    def __init__(self, address, version=1, client=None, shown=0):
+        self.connection = Connection(address)
+        self.version, self.shown = version, shown
+        self.id = secrets.randbits(64) if client is None else client
+        self.numbers = {}
+        try:
+            self.chains = self.status()
+        except BaseException:
+            self.close()
+            raise
+
+    def __enter__(self):
+        return self
+
+    def __exit__(self, *_):
+        self.close()
+
+    def close(self):
+        self.connection.close()
+
+    # One request and its reply.
+
+    def put(self, key, value, chain=0, **where):
+        return self.update(chain, put(chain, key, value), **where)
+
+    def tas(self, key, expected, value, chain=0, **where):
+        return self.update(chain, test_and_set(chain, key, expected, value), **where)
+
+    def append(self, key, value, chain=0, **where):
+        return self.update(chain, append(chain, key, value), **where)
+
+    def prepend(self, key, value, chain=0, **where):
+        return self.update(chain, prepend(chain, key, value), **where)
+
+    def inc(self, key, by=1, chain=0, **where):
+        return self.update(chain, increment(chain, key, by), **where)
+
+    def dec(self, key, by=1, chain=0, **where):
+        return self.update(chain, decrement(chain, key, by), **where)
+
+    def mini(self, compares=(), reads=(), writes=(), chain=0, **where):
+        return self.update(chain, mini(chain, compares, reads, writes), **where)
+
+    def read(self, key, mode=STRONG, chain=0, node=None):
+        return self.ask(self.asks_read(key, mode, chain, node))
+
+    def status(self):
+        """The chains by id, each with its name, its epoch and its members, head first."""
+        return json.loads(self.ask((STATUS, b"")))["chains"]
+
+    def update(self, chain, command, node=None, request=None):
+        """Asks an update. To ask again after a lost connection, give the number that it had."""
+        return self.ask(self.asks_update(chain, command, node, request))
+
+    # Requests for `many`, which asks up to eight in one frame and gives their replies in order.
+
+    def asks_put(self, key, value, chain=0):
+        return self.asks_update(chain, put(chain, key, value))
+
+    def asks_read(self, key, mode=STRONG, chain=0, node=None):
+        node = random.choice(self.chains[chain]["members"]) if node is None else node
+        return read_request(node, self.shown, mode, chain, key)
+
+    def asks_update(self, chain, command, node=None, request=None):
+        node = self.chains[chain]["members"][0] if node is None else node
+        if request is None:
+            request = self.numbers[chain] = self.numbers.get(chain, 0) + 1
+        return update_request(node, self.shown, self.id, request, command)
+
+    def many(self, requests):
+        """The replies in order; a refused one is a Refused among them."""
+        replies = self.exchange(many(requests))
+        if len(replies) == 1 and len(requests) > 1 and isinstance(replies[0], Refused):
+            raise replies[0]
+        if len(replies) != len(requests):
+            raise BadReply("another count of replies")
+        return replies
+
+    def ask(self, request):
+        [told] = self.exchange(one(self.version, request))
+        if isinstance(told, Refused):
+            raise told
+        return told
+
+    def exchange(self, payload):
+        self.connection.send(payload)
+        replies = replies_of(self.connection.receive())
+        self.shown = max([self.shown] + [shown for shown, _ in replies if shown is not None])
+        return [told for _, told in replies]
+
+
+def main():
+    if len(sys.argv) != 2:
+        print(__doc__, file=sys.stderr)
+        return 2
+    with Client(sys.argv[1], version=2) as store:
+        members = store.chains[0]["members"]
+        print("status:", store.chains)
+        print("put:", store.put("k", b"a"))
+        for node in members:
+            print(f"read at node {node}:", store.read("k", node=node))
+        print("inc:", store.inc("n", 7))
+        print("mini:", store.mini(reads=["k", "n"], writes=[("k", b"b")]))
+        print("many:", store.many([store.asks_put("k", b"c"), store.asks_read("k")]))
+        print("pass:", store.shown)
+    return 0
+
+
+if __name__ == "__main__":
+    sys.exit(main())

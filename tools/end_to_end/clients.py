@@ -1,0 +1,197 @@
+"""The client of examples/client.py: versions 1 and 2, eight clients at once, requests that do not wait for replies."""
+import os
+import re
+import sys
+import threading
+
+import running
+
+sys.path.insert(0, os.path.join(os.path.dirname(os.path.realpath(__file__)), "..", "..", "examples"))
+import client as example  # noqa: E402
+from client import Client, CompareFailed, Done, Mismatch, NotANumber, Overflow, Read, Refused, Stale, TooLong, Underflow, Written  # noqa: E402
+
+AT_ONCE, ROUNDS = 8, 25
+WORKED = [
+    ("put", example.one(1, example.update_request(1, 0, 1, 1, example.put(0, "k", b"a")))),
+    ("read", example.one(1, example.read_request(3, 9, example.STRONG, 0, "k"))),
+    ("read in version 2", example.one(2, example.read_request(3, 9, example.STRONG, 0, "k"))),
+    ("status", example.one(1, (example.STATUS, b""))),
+    ("many", example.many([
+        example.update_request(1, 0, 1, 1, example.put(0, "k", b"a")), example.read_request(3, 0, example.STRONG, 0, "k")])),
+    ("tas", example.test_and_set(0, "k", 2, b"b")),
+    ("append", example.append(1, "list", b"cd")),
+    ("prepend", example.prepend(1, "list", b"")),
+    ("inc", example.increment(0, "n", 7)),
+    ("dec", example.decrement(0, "n", 258)),
+    ("mini", example.mini(0, [("a", 1)], ["a", "z"], [("a", b"2")])),
+    ("bounded", example.bounded(9)),
+]
+
+
+def page(checks):
+    """The client writes the bytes that docs/BYTES.md has."""
+    file = os.path.join(os.path.dirname(os.path.realpath(__file__)), "..", "..", "docs", "BYTES.md")
+    with open(file, encoding="utf-8") as it:
+        worked = {cell.replace(" ", "") for cell in re.findall(r"`([0-9a-f ]+)`", it.read())}
+    for what, payload in WORKED:
+        framed = len(payload).to_bytes(4, "big") + payload
+        checks.that({payload.hex(), framed.hex()} & worked, f"docs/BYTES.md has the bytes of {what}: {payload.hex()}")
+
+
+class Counted:
+    """A client whose answered asks the server counts, by chain."""
+
+    def __init__(self, server, version, chain=0):
+        server.counts()
+        self.server, self.client, self.chain = server, Client(server.address, version), chain
+        self.asks = 0
+
+    def ask(self, name, *words, **more):
+        """What the call gives, or the refusal as (number, detail)."""
+        try:
+            told = getattr(self.client, name)(*words, chain=self.chain, **more)
+        except Refused as refused:
+            return refused.number, refused.detail
+        self.asks += 1
+        return told
+
+    def many(self, requests):
+        told = self.client.many(requests)
+        self.asks += sum(not isinstance(it, Refused) for it in told)
+        return told
+
+    def close(self):
+        self.client.close()
+        self.server.answers(self.chain, self.asks)
+
+
+# What a fresh client is told of an object that nobody else writes, {} standing for its name.
+CALLS = [
+    ("read", ["{}"], {}, Read(0, b"")),
+    ("put", ["{}", b"a\0\xff"], {}, Written(1)),
+    ("put", ["{}", b"z"], {"request": 1}, Written(1)),
+    ("read", ["{}", example.EVENTUAL], {"node": "head"}, Read(1, b"a\0\xff")),
+    ("read", ["{}", example.bounded(9)], {"node": "head"}, Read(1, b"a\0\xff")),
+    ("tas", ["{}", 0, b"b"], {}, Mismatch(1)),
+    ("tas", ["{}", 1, b"b"], {}, Written(2)),
+    ("append", ["{}", b"c"], {}, Written(3)),
+    ("prepend", ["{}", b"a"], {}, Written(4)),
+    ("append", ["{}", b"v" * 4096], {}, TooLong()),
+    ("read", ["{}"], {"node": "tail"}, Read(4, b"abc")),
+    ("inc", ["{}"], {}, NotANumber()),
+    ("inc", ["{}.n", 258], {}, Written(1)),
+    ("dec", ["{}.n", 259], {}, Underflow()),
+    ("inc", ["{}.n", 2 ** 64 - 1], {}, Overflow()),
+    ("dec", ["{}.n", 2], {}, Written(2)),
+    ("mini", [[("{}", 4)], ["{}", "{}.n", "{}.z"], [("{}", b"d"), ("{}.m", b"")]], {},
+     Done([Read(4, b"abc"), Read(2, b"\0\0\0\0\0\0\1\0"), Read(0, b"")])),
+    ("mini", [[("{}.m", 1), ("{}", 4)], [], [("{}", b"e")]], {}, CompareFailed(1)),
+    ("read", ["{}"], {}, Read(5, b"d")),
+    ("put", ["{}", b"z"], {"request": 1}, Stale(13)),
+    ("read", ["{}"], {"node": 99}, (23, 0)),
+    ("put", ["{}", b"e"], {"node": "tail"}, (9, "head")),
+]
+
+
+def named(it, name):
+    """The words of a call with the object's name in them."""
+    if isinstance(it, (list, tuple)):
+        return type(it)(named(one, name) for one in it)
+    return it.format(name) if isinstance(it, str) else it
+
+
+def calls(checks, server, version, chain):
+    made = Counted(server, version, chain)
+    members = made.client.chains[chain]["members"]
+    where = {"head": members[0], "tail": members[-1]}
+    for call, words, more, wanted in CALLS:
+        more = {key: where.get(it, it) for key, it in more.items()}
+        if isinstance(wanted, tuple):
+            wanted = wanted[0], where.get(wanted[1], wanted[1])
+        shown = made.client.shown
+        found = made.ask(call, *named(words, f"calls{version}"), **more)
+        checks.same(f"{call} in version {version} on chain {chain}", found, wanted)
+        checks.that(isinstance(found, tuple) or made.client.shown > shown, f"the pass rises in version {version}")
+    made.close()
+
+
+def batches(checks, server):
+    """Eight requests in one frame: their replies in order, a refused one among them."""
+    made = Counted(server, 2)
+    client = made.client
+    asks = [client.asks_put("batch", b"%d" % at) for at in range(3)] + [client.asks_read("batch", node=1)]
+    told = made.many(asks + [client.asks_read("batch", node=99), client.asks_read("batch", chain=9, node=1), (example.STATUS, b"")])
+    checks.same("a batch", told[:4], [Written(1), Written(2), Written(3), Read(3, b"2")])
+    checks.same("refused ones in it", [(it.number, it.detail) for it in told[4:6]], [(23, 0), (7, 0)])
+    checks.same("the status in it", told[6:], [running.STATUS])
+    made.asks -= 1
+    told = made.many([client.asks_put("batch", b"x" * 4096)] + [client.asks_read("batch", node=1) for _ in range(7)])
+    checks.same("a batch of great values", told, [Written(4)] + [Read(4, b"x" * 4096)] * 7)
+    checks.same("a batch of one", made.many([client.asks_read("batch", node=3)]), [Read(4, b"x" * 4096)])
+    made.close()
+
+
+def pipeline(checks, server, count=500):
+    """Requests that do not wait for replies are answered in their order."""
+    made = Counted(server, 1, chain=1)
+    client = made.client
+    asks = [client.asks_update(1, example.increment(1, "pipeline", 1)) for _ in range(count)]
+    client.connection.send(*[example.one(1 + at % 2, it) for at, it in enumerate(asks)])
+    told = [example.replies_of(client.connection.receive())[0][1] for _ in asks]
+    checks.same("replies in the order of requests", told, [Written(1 + at) for at in range(count)])
+    made.asks += count
+    checks.same("what they did", made.ask("read", "pipeline"), Read(count, count.to_bytes(8, "big")))
+    made.close()
+
+
+def one_of_many(server, at, seen, faults):
+    """A client among others: it counts up by increments and by test-and-sets, and reads at all nodes."""
+    made = None
+    try:
+        made = Counted(server, 1 + at % 2)
+        client = made.client
+        members = client.chains[0]["members"]
+        for turn in range(ROUNDS):
+            if client.version == 2:
+                wrote, found = made.many([client.asks_update(0, example.increment(0, "shared", 1)), client.asks_read("shared", node=members[0])])
+            else:
+                wrote, found = made.ask("inc", "shared"), made.ask("read", "shared", node=members[turn % len(members)])
+            seen.append(wrote.version)
+            if found.version < wrote.version or found.value != found.version.to_bytes(8, "big"):
+                faults.append(f"{found} after {wrote}")
+            version = made.ask("read", "swapped").version
+            while isinstance(told := made.ask("tas", "swapped", version, b"%d" % at), Mismatch):
+                version = told.version
+    except Exception as failure:
+        faults.append(repr(failure))
+    finally:
+        if made:
+            made.close()
+
+
+def at_once(checks, server):
+    seen, faults = [], []
+    threads = [threading.Thread(target=one_of_many, args=(server, at, seen, faults), daemon=True) for at in range(AT_ONCE)]
+    for it in threads:
+        it.start()
+    for it in threads:
+        it.join(running.PATIENCE)
+    checks.same("eight clients at once: faults", faults, [])
+    count = AT_ONCE * ROUNDS
+    checks.same("eight clients at once: versions", sorted(seen), list(range(1, count + 1)))
+    made = Counted(server, 1)
+    for node in made.client.chains[0]["members"]:
+        checks.same(f"their sum at node {node}", made.ask("read", "shared", node=node), Read(count, count.to_bytes(8, "big")))
+        checks.same(f"their swaps at node {node}", made.ask("read", "swapped", node=node).version, count)
+    made.close()
+
+
+def tour(checks, server):
+    """The example runs as a program."""
+    server.counts()
+    status, out, err = running.ended([sys.executable, example.__file__, server.address])
+    lines = out.splitlines()
+    checks.same("examples/client.py", (status, len(lines), err), (0, 9, ""))
+    checks.that(lines[-1:] and lines[-1].startswith("pass: "), f"examples/client.py ends with its pass: {lines[-1:]}")
+    # a put, three reads, an increment, a transaction, and two in one frame
+    server.answers(0, 8)

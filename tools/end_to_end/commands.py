@@ -1,0 +1,210 @@
+"""craq: every command, every refusal that it can meet, every fault.
+
+A row is the node, the words of the command, and what has to be printed: an answer, or 'refused ..'. Texts are written
+from docs/SCRIPTS.md and docs/SERVER.md, never from what a program printed.
+"""
+import re
+import socket
+import threading
+
+import running
+
+KEY, LONG_KEY = "k" * 128, "k" * 129
+VALUE, LONG_VALUE = "v" * 4096, "v" * 4097
+MOST = [f"w:k{i}:1" for i in range(16)]
+MAX = "18446744073709551615"
+
+# On a fresh store, in this order.
+ROWS = [
+    (1, "read strong k", "read 0 0x"),
+    (1, "put 1 1 k a", "written 1"),
+    (1, "read strong k", "read 1 0x61"),
+    (2, "read strong k", "read 1 0x61"),
+    (3, "read strong k", "read 1 0x61"),
+    (2, "read eventual k", "read 1 0x61"),
+    (2, "read bounded:0 k", "read 1 0x61"),
+    (3, "read bounded:4294967295 k", "read 1 0x61"),
+    (1, "put 1 1 k z", "written 1"),
+    (1, "put 1 2 k b", "written 2"),
+    (1, "put 1 2 k z", "written 2"),
+    (1, "tas 1 3 k 2 c", "written 3"),
+    (1, "tas 1 4 k 2 d", "mismatch 3"),
+    (1, "append 1 5 k d", "written 4"),
+    (3, "read strong k", "read 4 0x6364"),
+    (1, "prepend 1 6 k 0x6162", "written 5"),
+    (3, "read strong k", "read 5 0x61626364"),
+    (1, f"append 1 7 k {'v' * 4093}", "toolong"),
+    (1, "inc 1 8 k 1", "notanumber"),
+    (1, f"inc 1 9 n {MAX}", "written 1"),
+    (1, "inc 1 10 n 1", "overflow"),
+    (1, f"dec 1 11 n {MAX}", "written 2"),
+    (1, "dec 1 12 n 1", "underflow"),
+    (2, "read strong n", "read 2 0x0000000000000000"),
+    (1, "mini 1 13 c:k:5 r:k r:none w:k:x w:l:0x", "done 5:0x61626364 0:0x"),
+    (3, "read strong k", "read 6 0x78"),
+    (3, "read strong l", "read 1 0x"),
+    (1, "mini 1 14 c:l:1 c:k:5 w:k:y", "comparefailed 1"),
+    (1, "mini 1 15 r:k", "done 6:0x78"),
+    (4, "put 1 1 1/k b", "written 1"),
+    (5, "read strong 1/k", "read 1 0x62"),
+    (4, "mini 1 2 w:1/k:c w:1/l:d", "done"),
+    # each limit is allowed
+    (1, f"put 1 16 {KEY} {VALUE}", "written 1"),
+    (1, "mini 1 17 " + " ".join(MOST), "done"),
+    (2, f"read strong {KEY}", "read 1 0x" + "76" * 4096),
+    (1, f"put {MAX} {MAX} k e", "written 7"),
+    # all words after the command are its own
+    (1, "put 1 18 -k --pass", "written 1"),
+    (3, "read strong -k", "read 1 0x2d2d70617373"),
+    # a number far below the client's last one
+    (1, "put 1 1 k z", "stale 18"),
+    # refused before a connection is made: the lowest number of the whole line
+    (1, f"put 1 19 {LONG_KEY} a", "refused 1"),
+    (1, f"read strong {LONG_KEY}", "refused 1"),
+    (1, f"put 1 19 k {LONG_VALUE}", "refused 2"),
+    (1, "mini 1 19 " + " ".join(MOST) + " w:k16:1", "refused 3"),
+    (1, "mini 1 19", "refused 4"),
+    (1, "mini 1 19 w:k:a w:k:b", "refused 5"),
+    (1, "put 1 0 k a", "refused 6"),
+    (1, f"put 1 0 {LONG_KEY} {LONG_VALUE}", "refused 1"),
+    (1, "mini 1 0", "refused 4"),
+    # refused by the store, in the order of docs/BYTES.md
+    (1, "read strong 2/k", "refused 7"),
+    (1, "put 1 19 65535/k a", "refused 7"),
+    (1, "mini 1 19 r:k r:1/k", "refused 8"),
+    (2, "put 1 19 k a", "refused 9 1"),
+    (5, "put 1 19 1/k a", "refused 9 4"),
+    (9, "read strong k", "refused 23"),
+    (0, "read strong k", "refused 23"),
+    (4, "read strong k", "refused 23"),
+    (9, "read strong 2/k", "refused 7"),
+    (9, "mini 1 19 r:k r:1/k", "refused 23"),
+    (2, "mini 1 19 r:k r:1/k", "refused 8"),
+    # and nothing of that changed anything
+    (1, "put 1 19 k f", "written 8"),
+]
+
+# Words that fit no line of a script.
+NO_COMMAND = [
+    "put 1 1 k", "put 1 0 k", "put 1 1 k a b", "put 01 1 k a", "put 1 -1 k a", "put 1 1 65536/k a", "put 1 1 k. a", "put 1 1 k 0x6", "put 1 1 k 0xAB",
+    f"put 1 {MAX}0 k a", "tas 1 1 k a", "inc 1 1 k", "inc 1 1 k x", "mini 1", "mini 1 1 k", "mini 1 1 x:k", "mini 1 1 w:k:", "read k",
+    "read weak k", "read bounded:x k", "read bounded:4294967296 k", "deliver 1", "tick 1", "stop 1", "remove 1", "join 6", "explain", "status now",
+]
+
+# Command lines that are none, without the address.
+NO_LINE = [
+    [], ["--node", "1"], ["read", "strong", "k"], ["--node", "01", "read", "strong", "k"], ["--node", "x", "read", "strong", "k"],
+    ["--node", "4294967296", "read", "strong", "k"], ["--node", "1", "--pass", "-1", "read", "strong", "k"],
+    ["--node", "1", "--pass", MAX + "0", "read", "strong", "k"], ["--node", "1", "--unknown", "read", "strong", "k"],
+]
+
+# What a server that is none sends back, after which the connection is of no use.
+NO_REPLY = {
+    "nothing": "",
+    "a length alone": "00000013",
+    "a reply cut short": "00000013 0101 0000000000000009 01 00000000000000",
+    "a length above the limit": "00100001",
+    "an empty payload": "00000000",
+    "a request": "00000002 0103",
+    "a reply and a byte more": "00000014 0101 0000000000000009 01 0000000000000001 00",
+    "version 0 with a value": "00000015 0102 0000000000000009 0000000000000000 000161",
+}
+
+
+def chain_of(words):
+    return 1 if re.search(r"(^|[ :])1/", words) else 0
+
+
+def asked(craq, address, node, words, shown=None):
+    line = [craq, "--connect", address, "--node", str(node), *(["--pass", str(shown)] if shown is not None else []), *words.split(" ")]
+    return running.ended(line)
+
+
+def check_row(checks, server, craq, row, shown):
+    """One command; gives the pass to show from now on."""
+    node, words, wanted = row
+    status, out, err = asked(craq, server.address, node, words, shown)
+    what = f"craq --node {node} {words[:60]}"
+    if wanted.startswith("refused"):
+        checks.same(what, (status, out, err), (3, wanted + "\n", ""))
+        if wanted.split()[1] not in list("123456"):
+            server.counts()
+        return shown
+    server.counts()
+    server.answers(chain_of(words))
+    found = re.fullmatch(r"(.*)\npass ([1-9][0-9]*)\n", out)
+    checks.same(what, (status, found and found[1], err), (0, wanted, ""))
+    if not found:
+        return shown
+    checks.that(int(found[2]) > shown, f"{what}: the pass rises above {shown}: {found[2]}")
+    return max(shown, int(found[2]))
+
+
+def rows(checks, server, craq):
+    shown = 0
+    for row in ROWS:
+        shown = check_row(checks, server, craq, row, shown)
+    # a pass of another client, far above what the node has seen, is covered by its answer
+    check_row(checks, server, craq, (3, "read strong k", "read 8 0x66"), shown + 1_000_000)
+    for node in 1, 2:
+        found = asked(craq, server.address, node, "put 1 20 k g", MAX)
+        server.counts()
+        checks.same(f"a pass at its end at node {node}", found, (3, "refused 13\n", ""))
+    for shown, told in (None, 0), (7, 7):
+        found = asked(craq, server.address, 1, "status", shown)
+        server.counts()
+        checks.same(f"craq status with pass {shown}", found, (0, f"{running.STATUS}\npass {told}\n", ""))
+    found = running.unheard([craq, "--connect", server.address, "--node", "1", "status"])
+    server.counts()
+    checks.same("craq that cannot print", found, (1, "cannot print\n"))
+
+
+def no_commands(checks, craq, nowhere):
+    """Faults of the command line come before any connection: nothing listens at `nowhere`."""
+    for words in NO_COMMAND:
+        checks.same(f"craq {words}", asked(craq, nowhere, 1, words), (2, "", "script line 1\n"))
+    for words in ["a b", "é", ""]:
+        found = running.ended([craq, "--connect", nowhere, "--node", "1", "put", "1", "1", "k", words])
+        checks.same(f"craq with the word {words!r}", found, (2, "", "script line 1\n"))
+    for words in NO_LINE:
+        status, out, err = running.ended([craq, *(["--connect", nowhere] if words else []), *words])
+        checks.same(f"craq {' '.join(words)}", (status, out, err != ""), (2, "", True))
+    status, out, err = running.ended([craq, "--node", "1", "read", "strong", "k"])
+    checks.same("craq without --connect", (status, out, err != ""), (2, "", True))
+
+
+def no_server(checks, craq, nowhere):
+    fault = (4, "", "connection\n")
+    checks.same("craq where nothing listens", asked(craq, nowhere, 1, "read strong k"), fault)
+    for words, refusal in (f"put 1 0 {LONG_KEY} a", 1), ("put 1 0 k a", 6):
+        found = asked(craq, nowhere, 1, words)
+        checks.same(f"craq {words[:9]} where nothing listens", found, (3, f"refused {refusal}\n", ""))
+    for what, reply in NO_REPLY.items():
+        found = asked_of(craq, bytes.fromhex(reply))
+        checks.same(f"craq to whom {what} is sent", found, fault)
+    found = asked_of(craq, bytes.fromhex("0000000b 0103 0e 0000000000000000"))
+    checks.same("craq to whom a server without memory replies", found, (3, "refused 14\n", ""))
+
+
+def asked_of(craq, reply):
+    """What craq does with this in place of a reply."""
+    with socket.create_server(("127.0.0.1", 0)) as listener:
+        def give():
+            made, _ = listener.accept()
+            with made:
+                made.settimeout(running.PATIENCE)
+                made.recv(4096)
+                made.sendall(reply)
+
+        giving = threading.Thread(target=give, daemon=True)
+        giving.start()
+        found = asked(craq, f"127.0.0.1:{listener.getsockname()[1]}", 1, "put 1 1 k a")
+        giving.join(running.PATIENCE)
+        return found
+
+
+def helps(checks, craq, craqd):
+    for program, words in (craq, "put tas append prepend inc dec mini read status --connect --node --pass"), (craqd, "--journal --connections PLAN ADDRESS"):
+        status, out, err = running.ended([program, "--help"])
+        missing = [it for it in words.split() if it not in out]
+        checks.same(f"{program.rpartition('/')[2]} --help", (status, missing, err), (0, [], ""))

@@ -1,0 +1,160 @@
+"""Starts the two programs, and counts what passed."""
+import re
+import resource
+import socket
+import subprocess
+import sys
+import tempfile
+import time
+import traceback
+
+PATIENCE = 20
+PLAN = """\
+[[chain]]
+name = "a"
+nodes = [1, 2, 3]
+
+[[chain]]
+name = "b"
+nodes = [4, 5]
+"""
+STATUS = '{"chains":[{"epoch":1,"members":[1,2,3],"name":"a"},{"epoch":1,"members":[4,5],"name":"b"}]}'
+
+
+class Checks:
+    """How many checks passed and failed. A failed one is told on standard error."""
+
+    def __init__(self):
+        self.passed = self.failed = 0
+
+    def that(self, holds, what):
+        if holds:
+            self.passed += 1
+        else:
+            self.failed += 1
+            print(f"end to end: FAILED: {what}", file=sys.stderr)
+
+    def same(self, what, found, wanted):
+        self.that(found == wanted, f"{what}: found {shortened(found)}, wanted {shortened(wanted)}")
+
+    def part(self, what, run, *given):
+        """Runs a part of the checks. What stops it is a check that failed, and the next part is run as ever."""
+        try:
+            return run(self, *given)
+        except Exception as failure:
+            at = traceback.extract_tb(failure.__traceback__)[-1]
+            self.that(False, f"{what} stopped: {failure!r} at {at.filename.rpartition('/')[2]}:{at.lineno}")
+            return None
+
+
+def shortened(it):
+    text = repr(it)
+    return text if len(text) <= 300 else text[:300] + ".."
+
+
+def text_file(text):
+    """A file with this text or these bytes, which is gone once it is closed."""
+    file = tempfile.NamedTemporaryFile(prefix="end-to-end-")
+    file.write(text if isinstance(text, bytes) else text.encode())
+    file.flush()
+    return file
+
+
+def free_port():
+    """A port at which nothing listens."""
+    with socket.create_server(("127.0.0.1", 0)) as it:
+        return it.getsockname()[1]
+
+
+def limited(what, to):
+    """Limits what a program may have that is being started; None does not."""
+    return to and (lambda: resource.setrlimit(what, (to, to)))
+
+
+def ended(words, space=None):
+    """Runs a program to its end: its status, standard output and standard error."""
+    ran = subprocess.run(words, stdin=subprocess.DEVNULL, capture_output=True, timeout=PATIENCE,
+                         preexec_fn=limited(resource.RLIMIT_AS, space))
+    return ran.returncode, ran.stdout.decode(), ran.stderr.decode()
+
+
+def unheard(words):
+    """Runs a program whose standard output takes nothing: its status and standard error."""
+    with open("/dev/full", "wb") as full:
+        ran = subprocess.run(words, stdin=subprocess.DEVNULL, stdout=full, stderr=subprocess.PIPE, timeout=PATIENCE)
+    return ran.returncode, ran.stderr.decode()
+
+
+class Server:
+    """A craqd that runs on a free port of the loopback, and what it has to tell in the end.
+
+    It ends after `connections` of them, so each one that is made has to be counted, by `connect` or by `counts`.
+    """
+
+    def __init__(self, craqd, plan, connections, journal=True, files=None):
+        self.left = connections
+        self.file = text_file(plan)
+        words = [craqd, *(["--journal"] if journal else []), "--connections", str(connections), self.file.name, "127.0.0.1:0"]
+        self.process = subprocess.Popen(words, stdin=subprocess.DEVNULL, stdout=subprocess.PIPE, stderr=subprocess.PIPE,
+                                        preexec_fn=limited(resource.RLIMIT_NOFILE, files))
+        self.first = self.process.stdout.readline().decode()
+        found = re.fullmatch(r"listening ([1-9][0-9]*)\n", self.first)
+        self.port = int(found[1]) if found else 0
+        self.answered = {}
+
+    @property
+    def address(self):
+        return f"127.0.0.1:{self.port}"
+
+    def counts(self, connections=1):
+        self.left -= connections
+
+    def answers(self, chain, asks=1):
+        """Counts asks of a chain that were answered, of which the audit has a receipt each."""
+        self.answered[chain] = self.answered.get(chain, 0) + asks
+
+    def connect(self):
+        self.counts()
+        made = socket.create_connection(("127.0.0.1", self.port), PATIENCE)
+        made.setsockopt(socket.IPPROTO_TCP, socket.TCP_NODELAY, 1)
+        return made
+
+    def seconds(self):
+        """The processor time that it took so far."""
+        with open(f"/proc/{self.process.pid}/stat", encoding="ascii", errors="replace") as it:
+            times = it.read().rpartition(")")[2].split()[11:13]
+        return sum(map(int, times)) / 100
+
+    def memory(self):
+        """The MiB of memory that it has."""
+        with open(f"/proc/{self.process.pid}/status", encoding="ascii", errors="replace") as it:
+            return int(re.search(r"VmRSS:\s+(\d+)", it.read())[1]) / 1024
+
+    def runs(self):
+        return self.process.poll() is None
+
+    def finish(self, checks, what, wanted):
+        """Makes the connections that are left, and looks at what it then tells."""
+        try:
+            while self.left > 1:
+                with self.connect() as made:
+                    made.shutdown(socket.SHUT_WR)
+                    made.recv(1)
+            time.sleep(0.1)
+            checks.that(self.runs(), f"{what}: runs until its last connection")
+            self.connect().close()
+        except OSError as failure:
+            checks.that(False, f"{what}: {self.left} connections before its last: {failure}")
+        try:
+            out, err = self.process.communicate(timeout=PATIENCE)
+            found = (self.process.returncode, self.first + out.decode(), err.decode())
+        except subprocess.TimeoutExpired:
+            found = "no end"
+        checks.same(what, found, (0, f"listening {self.port}\n" + wanted, ""))
+        self.kill()
+
+    def kill(self):
+        if self.runs():
+            self.process.kill()
+            self.process.wait()
+        self.file.close()

@@ -1,5 +1,5 @@
 //! The parts of messages as bytes: numbers, keys, values, replies, entries, lists of them, and commands.
-//! Code that runs in tests alone.
+//! Code that runs in the programs.
 #![tactic(auto)]
 
 mod command;

@@ -1,4 +1,5 @@
 //! What clients and servers of a store say to one another, as bytes in frames.
+//! Code that runs in the programs.
 #![tactic(auto)]
 
 mod answer;

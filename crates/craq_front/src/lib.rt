@@ -1,4 +1,5 @@
 //! How clients reach a store over a stream of bytes: frames of messages in, frames of replies out.
+//! Code that runs in the programs.
 #![tactic(auto)]
 
 mod buffers;

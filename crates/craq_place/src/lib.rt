@@ -1,5 +1,5 @@
 //! The plan of a store, read from TOML: the chain of each object, and the nodes of each chain.
-//! Code that runs in tests alone.
+//! Code that runs in the programs.
 #![tactic(auto)]
 
 mod plan;

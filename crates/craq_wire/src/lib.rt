@@ -1,5 +1,5 @@
 //! The messages between the nodes of a chain as bytes: `encode` and `decode`.
-//! Code that runs in tests alone.
+//! Code that runs in the programs.
 #![tactic(auto)]
 
 mod alike;

@@ -1,6 +1,6 @@
 //! A store that runs: each chain's nodes and master in threads of their own, the links between them, and clients that
 //! call from any thread.
-//! Code that runs in tests alone.
+//! Code that runs in the programs.
 #![tactic(auto)]
 
 mod auditing;

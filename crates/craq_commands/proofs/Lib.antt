@@ -1,2 +1,4 @@
 pub mod Doubles
 pub mod Lists
+pub mod Windows
+pub mod Keeping

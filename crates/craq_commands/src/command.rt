@@ -157,7 +157,8 @@ impl Same for Command {
     }
 }
 
-/// A client's command and its number. In one chain a client numbers its updates from 1, rising.
+/// A client's command and its request number, from 1. In one chain a client gives each of its updates a
+/// number of its own.
 #[derive(Debug, Drop)]
 pub struct Update {
     pub client: ClientId,

@@ -8,11 +8,15 @@ mod evaluation;
 mod objects;
 mod read_mode;
 mod reply;
+mod state;
 mod transaction;
+mod window;
 
 pub use command::{Command, Update};
 pub use entry::{Entry, Write};
 pub use evaluation::{Look, Writes, evaluate};
 pub use read_mode::ReadMode;
 pub use reply::Reply;
+pub use state::State;
 pub use transaction::Mini;
+pub use window::{Kept, Said, WINDOW_LIMIT, Window, keep_in, look_in};

@@ -20,7 +20,7 @@ pub enum Reply {
     Done(Items<(Version, Value)>),
     /// Nothing was written: the compare of this place, counted from 0, was the first to fail.
     CompareFailed(u8),
-    /// The number is lower than the client's last one, which is this.
+    /// The number is below all eight that are kept of the client, of which this is the largest.
     Stale(RequestNo),
 }
 

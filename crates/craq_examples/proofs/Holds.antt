@@ -3,16 +3,18 @@ use Rattle.std.proofs.Common.{◌≡◌, ℕ, zero, suc, ◌+◌, List, [], ◌�
 use Rattle.std.specs.Prelude.{slice_index}
 use Rattle.std.specs.List.{IsDistinct}
 use Rattle.craq_commands.specs.Evaluation.{tested, joined, number_of, increased, decreased, first_difference, transacted, all_of_chain, some_used_up}
-use Rattle.craq_commands.specs.Kept.{is_new, keep, said_of}
+use Rattle.craq_commands.specs.Kept.{is_stale, is_new, keep, said_of}
 use Rattle.craq_commands.specs.Objects.{object_of, set_object}
-use Rattle.craq_commands.specs.SingleCopy.{kept_with, apply, after_entry}
-use Rattle.craq_model.specs.Asks.{is_full, reply_turn, update_turn, waiting_read_turn, read_turn, ask_turn}
-use Rattle.craq_model.specs.Deliveries.{config_turn, is_applicable, forwarding_turn, entry_turn, due_updates, later_updates, acknowledgement_turn, ack_turn, query_turn, read_with, reads_without, told_version_turn, version_turn, fill_bodies, blank_turn, copy_turn, floor_turn}
+use Rattle.craq_commands.specs.SingleCopy.{window_of, kept_with, apply, after_entry}
+use Rattle.craq_model.specs.Past.{values_in, values_after, newest_within, last_position}
+use Rattle.craq_model.specs.Parts.{parts_of, is_in_order, joined_state}
+use Rattle.craq_model.specs.Plain.{entries_after, newest, clean}
 use Rattle.craq_model.specs.Members.{is_member, last_of, successor_in, predecessor_in, without}
+use Rattle.craq_model.specs.Sends.{runs_of, entry_bodies, copy_bodies, catch_up, ready_sends, unready_sends, tick_sends}
+use Rattle.craq_model.specs.Settle.{insert_given, by_ticket, all_given, settling_turn, without_reached, readiness_turn}
+use Rattle.craq_model.specs.Asks.{is_full, reply_turn, update_turn, waiting_read_turn, read_turn, ask_turn}
+use Rattle.craq_model.specs.Deliveries.{config_turn, is_applicable, forwarding_turn, entries_above, entries_turn, due_updates, later_updates, acknowledgement_turn, ack_turn, query_turn, read_with, reads_without, told_version_turn, version_turn, fill_bodies, blank_turn, copy_turn, part_turn, floor_turn}
 use Rattle.craq_model.specs.Node.{outs_fit, node_step}
-use Rattle.craq_model.specs.Plain.{entries_after, newest, clean, values_in, values_after, newest_within, last_position}
-use Rattle.craq_model.specs.Sends.{entry_bodies, copy_bodies, catch_up, ready_sends, unready_sends, tick_sends}
-use Rattle.craq_model.specs.Settle.{insert_given, by_ticket, all_given, settling_turn, readiness_turn}
 use Rattle.craq_runs.specs.Chain.{node_at, set_node, sent_in, removal_progress, join_progress, numbers_left, chain_step}
 use Rattle.craq_runs.specs.Explain.{wrote, written_at, due_place, places_of, account_with, ask_number}
 use Rattle.craq_runs.specs.Seen.{asks_from, receivers_in, answers_in, answers_from, ask_with, update_at, strong_answers}
@@ -34,7 +36,7 @@ abbrev run : Run
 run = run_of (1 ∷ 2 ∷ 3 ∷ []) clean_and_dirty_reads_moves
 
 pub is_run : IsRunOf 0 run
-unfolding IsDistinct tested joined number_of increased decreased first_difference transacted all_of_chain some_used_up is_new keep said_of object_of set_object kept_with apply after_entry is_full reply_turn update_turn waiting_read_turn read_turn ask_turn config_turn is_applicable forwarding_turn entry_turn due_updates later_updates acknowledgement_turn ack_turn query_turn read_with reads_without told_version_turn version_turn fill_bodies blank_turn copy_turn floor_turn is_member last_of successor_in predecessor_in without outs_fit node_step entries_after newest clean values_in values_after newest_within last_position entry_bodies copy_bodies catch_up ready_sends unready_sends tick_sends insert_given by_ticket all_given settling_turn readiness_turn node_at set_node sent_in removal_progress join_progress numbers_left chain_step wrote written_at due_place places_of account_with ask_number asks_from receivers_in answers_in answers_from ask_with update_at strong_answers look_of committed_object answered_object
+unfolding IsDistinct tested joined number_of increased decreased first_difference transacted all_of_chain some_used_up is_stale is_new keep said_of object_of set_object window_of kept_with apply after_entry values_in values_after newest_within last_position parts_of is_in_order joined_state entries_after newest clean is_member last_of successor_in predecessor_in without runs_of entry_bodies copy_bodies catch_up ready_sends unready_sends tick_sends insert_given by_ticket all_given settling_turn without_reached readiness_turn is_full reply_turn update_turn waiting_read_turn read_turn ask_turn config_turn is_applicable forwarding_turn entries_above entries_turn due_updates later_updates acknowledgement_turn ack_turn query_turn read_with reads_without told_version_turn version_turn fill_bodies blank_turn copy_turn part_turn floor_turn outs_fit node_step node_at set_node sent_in removal_progress join_progress numbers_left chain_step wrote written_at due_place places_of account_with ask_number asks_from receivers_in answers_in answers_from ask_with update_at strong_answers look_of committed_object answered_object
 is_run =
     record {
       members = record { some = lit≤ tt; few = lit≤ tt; ids = ((lit≤ tt, lit≤ tt), ((lit≤ tt, lit≤ tt), ((lit≤ tt, lit≤ tt), tt))); distinct = ((refl, (refl, tt)), ((refl, tt), (tt, tt))) };
@@ -51,11 +53,11 @@ zeros (suc (suc (suc (suc (suc zero))))) = refl
 zeros (suc (suc (suc (suc (suc (suc n)))))) = refl
 
 has_form : HasForm (seen run) clean_and_dirty_reads_explained
-unfolding tested joined number_of increased decreased first_difference transacted all_of_chain some_used_up is_new keep said_of object_of set_object kept_with apply after_entry is_full reply_turn update_turn waiting_read_turn read_turn ask_turn config_turn is_applicable forwarding_turn entry_turn due_updates later_updates acknowledgement_turn ack_turn query_turn read_with reads_without told_version_turn version_turn fill_bodies blank_turn copy_turn floor_turn is_member last_of successor_in predecessor_in without outs_fit node_step entries_after newest clean values_in values_after newest_within last_position entry_bodies copy_bodies catch_up ready_sends unready_sends tick_sends insert_given by_ticket all_given settling_turn readiness_turn node_at set_node sent_in removal_progress join_progress numbers_left chain_step wrote written_at due_place places_of account_with ask_number asks_from receivers_in answers_in answers_from ask_with update_at strong_answers look_of committed_object answered_object
+unfolding tested joined number_of increased decreased first_difference transacted all_of_chain some_used_up is_stale is_new keep said_of object_of set_object window_of kept_with apply after_entry values_in values_after newest_within last_position parts_of is_in_order joined_state entries_after newest clean is_member last_of successor_in predecessor_in without runs_of entry_bodies copy_bodies catch_up ready_sends unready_sends tick_sends insert_given by_ticket all_given settling_turn without_reached readiness_turn is_full reply_turn update_turn waiting_read_turn read_turn ask_turn config_turn is_applicable forwarding_turn entries_above entries_turn due_updates later_updates acknowledgement_turn ack_turn query_turn read_with reads_without told_version_turn version_turn fill_bodies blank_turn copy_turn part_turn floor_turn outs_fit node_step node_at set_node sent_in removal_progress join_progress numbers_left chain_step wrote written_at due_place places_of account_with ask_number asks_from receivers_in answers_in answers_from ask_with update_at strong_answers look_of committed_object answered_object
 has_form = record { asks = tt; lens = refl; places = refl }
 
 only_grows : OnlyGrows (seen run) clean_and_dirty_reads_explained
-unfolding IsDistinct tested joined number_of increased decreased first_difference transacted all_of_chain some_used_up is_new keep said_of object_of set_object kept_with apply after_entry is_full reply_turn update_turn waiting_read_turn read_turn ask_turn config_turn is_applicable forwarding_turn entry_turn due_updates later_updates acknowledgement_turn ack_turn query_turn read_with reads_without told_version_turn version_turn fill_bodies blank_turn copy_turn floor_turn is_member last_of successor_in predecessor_in without outs_fit node_step entries_after newest clean values_in values_after newest_within last_position entry_bodies copy_bodies catch_up ready_sends unready_sends tick_sends insert_given by_ticket all_given settling_turn readiness_turn node_at set_node sent_in removal_progress join_progress numbers_left chain_step wrote written_at due_place places_of account_with ask_number asks_from receivers_in answers_in answers_from ask_with update_at strong_answers look_of committed_object answered_object
+unfolding IsDistinct tested joined number_of increased decreased first_difference transacted all_of_chain some_used_up is_stale is_new keep said_of object_of set_object window_of kept_with apply after_entry values_in values_after newest_within last_position parts_of is_in_order joined_state entries_after newest clean is_member last_of successor_in predecessor_in without runs_of entry_bodies copy_bodies catch_up ready_sends unready_sends tick_sends insert_given by_ticket all_given settling_turn without_reached readiness_turn is_full reply_turn update_turn waiting_read_turn read_turn ask_turn config_turn is_applicable forwarding_turn entries_above entries_turn due_updates later_updates acknowledgement_turn ack_turn query_turn read_with reads_without told_version_turn version_turn fill_bodies blank_turn copy_turn part_turn floor_turn outs_fit node_step node_at set_node sent_in removal_progress join_progress numbers_left chain_step wrote written_at due_place places_of account_with ask_number asks_from receivers_in answers_in answers_from ask_with update_at strong_answers look_of committed_object answered_object
 only_grows =
     record {
       grows = λ move h. omega (arith, zeros move, zeros (move + 1));
@@ -65,7 +67,7 @@ only_grows =
     }
 
 strong_hold : StrongHold (seen run) clean_and_dirty_reads_explained
-unfolding IsDistinct tested joined number_of increased decreased first_difference transacted all_of_chain some_used_up is_new keep said_of object_of set_object kept_with apply after_entry is_full reply_turn update_turn waiting_read_turn read_turn ask_turn config_turn is_applicable forwarding_turn entry_turn due_updates later_updates acknowledgement_turn ack_turn query_turn read_with reads_without told_version_turn version_turn fill_bodies blank_turn copy_turn floor_turn is_member last_of successor_in predecessor_in without outs_fit node_step entries_after newest clean values_in values_after newest_within last_position entry_bodies copy_bodies catch_up ready_sends unready_sends tick_sends insert_given by_ticket all_given settling_turn readiness_turn node_at set_node sent_in removal_progress join_progress numbers_left chain_step wrote written_at due_place places_of account_with ask_number asks_from receivers_in answers_in answers_from ask_with update_at strong_answers look_of committed_object answered_object
+unfolding IsDistinct tested joined number_of increased decreased first_difference transacted all_of_chain some_used_up is_stale is_new keep said_of object_of set_object window_of kept_with apply after_entry values_in values_after newest_within last_position parts_of is_in_order joined_state entries_after newest clean is_member last_of successor_in predecessor_in without runs_of entry_bodies copy_bodies catch_up ready_sends unready_sends tick_sends insert_given by_ticket all_given settling_turn without_reached readiness_turn is_full reply_turn update_turn waiting_read_turn read_turn ask_turn config_turn is_applicable forwarding_turn entries_above entries_turn due_updates later_updates acknowledgement_turn ack_turn query_turn read_with reads_without told_version_turn version_turn fill_bodies blank_turn copy_turn part_turn floor_turn outs_fit node_step node_at set_node sent_in removal_progress join_progress numbers_left chain_step wrote written_at due_place places_of account_with ask_number asks_from receivers_in answers_in answers_from ask_with update_at strong_answers look_of committed_object answered_object
 strong_hold =
     record {
       explained = (record { ask = _; is_ask = refl; asked_first = lit≤ tt; not_before = lit≤ tt; not_beyond = lit≤ tt; is_said = refl }, tt);
@@ -92,7 +94,7 @@ put = record { client = 1; number = 1; command = Put key (97 ∷ []) }
 
 -- the read gave the version that the put would write, which was asked before
 eventual_holds : IsEventual (seen run) clean_and_dirty_reads_explained [] first_answer first_look
-unfolding IsDistinct first_answer first_look key put tested joined number_of increased decreased first_difference transacted all_of_chain some_used_up is_new keep said_of object_of set_object kept_with apply after_entry is_full reply_turn update_turn waiting_read_turn read_turn ask_turn config_turn is_applicable forwarding_turn entry_turn due_updates later_updates acknowledgement_turn ack_turn query_turn read_with reads_without told_version_turn version_turn fill_bodies blank_turn copy_turn floor_turn is_member last_of successor_in predecessor_in without outs_fit node_step entries_after newest clean values_in values_after newest_within last_position entry_bodies copy_bodies catch_up ready_sends unready_sends tick_sends insert_given by_ticket all_given settling_turn readiness_turn node_at set_node sent_in removal_progress join_progress numbers_left chain_step wrote written_at due_place places_of account_with ask_number asks_from receivers_in answers_in answers_from ask_with update_at strong_answers look_of committed_object answered_object
+unfolding IsDistinct first_answer first_look key put tested joined number_of increased decreased first_difference transacted all_of_chain some_used_up is_stale is_new keep said_of object_of set_object window_of kept_with apply after_entry values_in values_after newest_within last_position parts_of is_in_order joined_state entries_after newest clean is_member last_of successor_in predecessor_in without runs_of entry_bodies copy_bodies catch_up ready_sends unready_sends tick_sends insert_given by_ticket all_given settling_turn without_reached readiness_turn is_full reply_turn update_turn waiting_read_turn read_turn ask_turn config_turn is_applicable forwarding_turn entries_above entries_turn due_updates later_updates acknowledgement_turn ack_turn query_turn read_with reads_without told_version_turn version_turn fill_bodies blank_turn copy_turn part_turn floor_turn outs_fit node_step node_at set_node sent_in removal_progress join_progress numbers_left chain_step wrote written_at due_place places_of account_with ask_number asks_from receivers_in answers_in answers_from ask_with update_at strong_answers look_of committed_object answered_object
 eventual_holds =
     record {
       line = put ∷ [];
@@ -114,21 +116,21 @@ known d None = d
 known d (Some l) = l
 
 at_first : (a : Answered) (l : Look) → a ≡ first_answer → look_of (seen run) a ≡ Some l → LookHolds (seen run) clean_and_dirty_reads_explained [] a l.mode l
-unfolding first_answer first_look key known tested joined number_of increased decreased first_difference transacted all_of_chain some_used_up is_new keep said_of object_of set_object kept_with apply after_entry is_full reply_turn update_turn waiting_read_turn read_turn ask_turn config_turn is_applicable forwarding_turn entry_turn due_updates later_updates acknowledgement_turn ack_turn query_turn read_with reads_without told_version_turn version_turn fill_bodies blank_turn copy_turn floor_turn is_member last_of successor_in predecessor_in without outs_fit node_step entries_after newest clean values_in values_after newest_within last_position entry_bodies copy_bodies catch_up ready_sends unready_sends tick_sends insert_given by_ticket all_given settling_turn readiness_turn node_at set_node sent_in removal_progress join_progress numbers_left chain_step wrote written_at due_place places_of account_with ask_number asks_from receivers_in answers_in answers_from ask_with update_at strong_answers look_of committed_object answered_object
+unfolding first_answer first_look key known tested joined number_of increased decreased first_difference transacted all_of_chain some_used_up is_stale is_new keep said_of object_of set_object window_of kept_with apply after_entry values_in values_after newest_within last_position parts_of is_in_order joined_state entries_after newest clean is_member last_of successor_in predecessor_in without runs_of entry_bodies copy_bodies catch_up ready_sends unready_sends tick_sends insert_given by_ticket all_given settling_turn without_reached readiness_turn is_full reply_turn update_turn waiting_read_turn read_turn ask_turn config_turn is_applicable forwarding_turn entries_above entries_turn due_updates later_updates acknowledgement_turn ack_turn query_turn read_with reads_without told_version_turn version_turn fill_bodies blank_turn copy_turn part_turn floor_turn outs_fit node_step node_at set_node sent_in removal_progress join_progress numbers_left chain_step wrote written_at due_place places_of account_with ask_number asks_from receivers_in answers_in answers_from ask_with update_at strong_answers look_of committed_object answered_object
 at_first a l is h =
     let P : Answered → Type 0 = λ b. look_of (seen run) b ≡ Some l → LookHolds (seen run) clean_and_dirty_reads_explained [] b l.mode l in
     let Q : Look → Type 0 = λ m. LookHolds (seen run) clean_and_dirty_reads_explained [] first_answer m.mode m in
     subst P (sym is) (λ g. subst Q (ap (known first_look) g) eventual_holds) h
 
 at_second : (x a : Answered) (l : Look) → a ≡ second_answer → look_of (seen run) a ≡ Some l → LookHolds (seen run) clean_and_dirty_reads_explained (x ∷ []) a l.mode l
-unfolding second_answer second_look key known tested joined number_of increased decreased first_difference transacted all_of_chain some_used_up is_new keep said_of object_of set_object kept_with apply after_entry is_full reply_turn update_turn waiting_read_turn read_turn ask_turn config_turn is_applicable forwarding_turn entry_turn due_updates later_updates acknowledgement_turn ack_turn query_turn read_with reads_without told_version_turn version_turn fill_bodies blank_turn copy_turn floor_turn is_member last_of successor_in predecessor_in without outs_fit node_step entries_after newest clean values_in values_after newest_within last_position entry_bodies copy_bodies catch_up ready_sends unready_sends tick_sends insert_given by_ticket all_given settling_turn readiness_turn node_at set_node sent_in removal_progress join_progress numbers_left chain_step wrote written_at due_place places_of account_with ask_number asks_from receivers_in answers_in answers_from ask_with update_at strong_answers look_of committed_object answered_object
+unfolding second_answer second_look key known tested joined number_of increased decreased first_difference transacted all_of_chain some_used_up is_stale is_new keep said_of object_of set_object window_of kept_with apply after_entry values_in values_after newest_within last_position parts_of is_in_order joined_state entries_after newest clean is_member last_of successor_in predecessor_in without runs_of entry_bodies copy_bodies catch_up ready_sends unready_sends tick_sends insert_given by_ticket all_given settling_turn without_reached readiness_turn is_full reply_turn update_turn waiting_read_turn read_turn ask_turn config_turn is_applicable forwarding_turn entries_above entries_turn due_updates later_updates acknowledgement_turn ack_turn query_turn read_with reads_without told_version_turn version_turn fill_bodies blank_turn copy_turn part_turn floor_turn outs_fit node_step node_at set_node sent_in removal_progress join_progress numbers_left chain_step wrote written_at due_place places_of account_with ask_number asks_from receivers_in answers_in answers_from ask_with update_at strong_answers look_of committed_object answered_object
 at_second x a l is h =
     let P : Answered → Type 0 = λ b. look_of (seen run) b ≡ Some l → LookHolds (seen run) clean_and_dirty_reads_explained (x ∷ []) b l.mode l in
     let Q : Look → Type 0 = λ m. LookHolds (seen run) clean_and_dirty_reads_explained (x ∷ []) second_answer m.mode m in
     subst P (sym is) (λ g. subst Q (ap (known second_look) g) tt) h
 
 two_answers : (seen run).answers ≡ first_answer ∷ second_answer ∷ []
-unfolding first_answer second_answer tested joined number_of increased decreased first_difference transacted all_of_chain some_used_up is_new keep said_of object_of set_object kept_with apply after_entry is_full reply_turn update_turn waiting_read_turn read_turn ask_turn config_turn is_applicable forwarding_turn entry_turn due_updates later_updates acknowledgement_turn ack_turn query_turn read_with reads_without told_version_turn version_turn fill_bodies blank_turn copy_turn floor_turn is_member last_of successor_in predecessor_in without outs_fit node_step entries_after newest clean values_in values_after newest_within last_position entry_bodies copy_bodies catch_up ready_sends unready_sends tick_sends insert_given by_ticket all_given settling_turn readiness_turn node_at set_node sent_in removal_progress join_progress numbers_left chain_step wrote written_at due_place places_of account_with ask_number asks_from receivers_in answers_in answers_from ask_with update_at strong_answers look_of committed_object answered_object
+unfolding first_answer second_answer tested joined number_of increased decreased first_difference transacted all_of_chain some_used_up is_stale is_new keep said_of object_of set_object window_of kept_with apply after_entry values_in values_after newest_within last_position parts_of is_in_order joined_state entries_after newest clean is_member last_of successor_in predecessor_in without runs_of entry_bodies copy_bodies catch_up ready_sends unready_sends tick_sends insert_given by_ticket all_given settling_turn without_reached readiness_turn is_full reply_turn update_turn waiting_read_turn read_turn ask_turn config_turn is_applicable forwarding_turn entries_above entries_turn due_updates later_updates acknowledgement_turn ack_turn query_turn read_with reads_without told_version_turn version_turn fill_bodies blank_turn copy_turn part_turn floor_turn outs_fit node_step node_at set_node sent_in removal_progress join_progress numbers_left chain_step wrote written_at due_place places_of account_with ask_number asks_from receivers_in answers_in answers_from ask_with update_at strong_answers look_of committed_object answered_object
 two_answers = refl
 
 by_place : (earlier later : List Answered) (a : Answered) (l : Look) → earlier ++ a ∷ later ≡ first_answer ∷ second_answer ∷ [] → look_of (seen run) a ≡ Some l → LookHolds (seen run) clean_and_dirty_reads_explained earlier a l.mode l

@@ -4,6 +4,7 @@ use Rattle.craq_names.specs.declared.refusal.Refusal.{Refusal}
 use Rattle.craq_model.specs.declared.message.Body.{Body}
 use Rattle.craq_model.specs.declared.message.Body.TheVariants as bodies
 use Rattle.craq_model.specs.declared.message.LinkMessage.{LinkMessage}
+use Rattle.craq_model.specs.Deliveries.{first_position, final_position}
 use Rattle.craq_model.specs.declared.ask.Answer.{Answer}
 use Rattle.craq_model.specs.declared.step.Out.{Out}
 use Rattle.craq_model.specs.declared.step.Out.TheVariants as outs
@@ -24,6 +25,8 @@ pub data Text : Type 0 where
   VersionIs : (ticket : ℕ) (version : ℕ) → Text
   Blank : (count : ℕ) → Text
   Copy : (position : ℕ) → Text
+  Part : (position : ℕ) (number : ℕ) (count : ℕ) → Text
+  Batch : (first : ℕ) (last : ℕ) → Text
   Floor : (count : ℕ) → Text
 
 -- what is printed of a move
@@ -41,7 +44,9 @@ text_of epoch (bodies.Ack position) = Ack position
 text_of epoch (bodies.Query ticket key) = Query ticket
 text_of epoch (bodies.VersionIs ticket version) = VersionIs ticket version
 text_of epoch (bodies.Blank count) = Blank count
-text_of epoch (bodies.Copy position objects kept) = Copy position
+text_of epoch (bodies.Copy position state) = Copy position
+text_of epoch (bodies.Part part) = Part part.position part.number part.count
+text_of epoch (bodies.Batch es) = Batch (first_position es) (final_position es)
 text_of epoch (bodies.Floor count) = Floor count
 
 -- the outs of a node, after so many messages

@@ -1,5 +1,10 @@
 -- Scripts, what is printed of them, and their explanations.
-use Rattle.std.specs.Prelude.{ℕ, List, [], ◌∷◌, replicate}
+use Rattle.std.specs.Prelude.{ℕ, ◌+◌, ◌/◌, ◌%◌, List, [], ◌∷◌, ◌++◌, map, replicate}
+use Rattle.std.specs.List.{range_with_len}
+use Rattle.craq_model.specs.Past.{installed_in}
+use Rattle.craq_model.specs.Plain.{Plain, opening_member, opening_joined}
+use Rattle.craq_runs.specs.Chain.{Chain, opening_chain}
+use Rattle.craq_runs.specs.declared.explanation.Place.{Place}
 use Rattle.craq_names.specs.declared.name.ObjectId.{ObjectId}
 use Rattle.craq_names.specs.declared.refusal.Refusal.TheVariants as refusals
 use Rattle.craq_commands.specs.declared.command.Command.{Command}
@@ -12,7 +17,7 @@ use Rattle.craq_model.specs.declared.step.Why.TheVariants.{OtherEpoch, OutOfOrde
 use Rattle.craq_runs.specs.declared.run.Move.{Move}
 use Rattle.craq_runs.specs.declared.run.Move.TheVariants.{Ask, Deliver, Tick, Stop, Remove, Join}
 use Rattle.craq_runs.specs.declared.explanation.Explanation.{Explanation}
-use Rattle.craq_examples.specs.Printed.{Line, Config, Entry, Ack, Query, VersionIs, Blank, Copy, Floor, Sent, Answered, Ignored, Nothing, Refused}
+use Rattle.craq_examples.specs.Printed.{Line, Config, Entry, Ack, Query, VersionIs, Blank, Copy, Part, Batch, Floor, Sent, Answered, Ignored, Nothing, Refused}
 
 abbrev pub object : ℕ → List ℕ → ObjectId
 object chain key = record { chain = chain; key = key }
@@ -407,7 +412,7 @@ bounded_reads_lines =
     ∷ Answered 1 2 (answers.Update (Written 2))
     ∷ Answered 1 3 (answers.Update (Written 3))
     ∷ Answered 1 4 (answers.Update (Written 4))
-    ∷ Answered 1 8 (answers.Update (Stale 4)) ∷ []
+    ∷ Answered 1 8 (answers.Update (Written 1)) ∷ []
 
 abbrev pub refusals_moves : List Move
 refusals_moves =
@@ -559,3 +564,123 @@ whole_join_lines =
 
 abbrev pub whole_join_explained : Explanation
 whole_join_explained = record { asks = (1 ∷ 11 ∷ []); lens = (1 ∷ 1 ∷ 1 ∷ 1 ∷ 1 ∷ 1 ∷ 1 ∷ 1 ∷ 1 ∷ 1 ∷ 1 ∷ 2 ∷ 2 ∷ []); places = ((record { node = 1; ticket = 1; position = 1 }) ∷ (record { node = 2; ticket = 1; position = 1 }) ∷ (record { node = 1; ticket = 2; position = 2 }) ∷ []) }
+
+-- puts of a on k by a client, with these numbers
+abbrev pub puts : ℕ → List ℕ → List Move
+puts client numbers = map (λ number. update 1 client number (Put (object 0 (107 ∷ [])) (97 ∷ []))) numbers
+
+abbrev pub eight_kept_moves : List Move
+eight_kept_moves = puts 1 (1 ∷ 2 ∷ 3 ∷ 4 ∷ 5 ∷ 6 ∷ 7 ∷ 8 ∷ 9 ∷ 2 ∷ 1 ∷ []) ++ puts 2 (5 ∷ 3 ∷ 5 ∷ [])
+
+abbrev pub eight_kept_lines : List Line
+eight_kept_lines =
+    Answered 1 1 (answers.Update (Written 1))
+    ∷ Answered 1 2 (answers.Update (Written 2))
+    ∷ Answered 1 3 (answers.Update (Written 3))
+    ∷ Answered 1 4 (answers.Update (Written 4))
+    ∷ Answered 1 5 (answers.Update (Written 5))
+    ∷ Answered 1 6 (answers.Update (Written 6))
+    ∷ Answered 1 7 (answers.Update (Written 7))
+    ∷ Answered 1 8 (answers.Update (Written 8))
+    ∷ Answered 1 9 (answers.Update (Written 9))
+    ∷ Answered 1 10 (answers.Update (Written 2))
+    ∷ Answered 1 11 (answers.Update (Stale 9))
+    ∷ Answered 1 12 (answers.Update (Written 10))
+    ∷ Answered 1 13 (answers.Update (Written 11))
+    ∷ Answered 1 14 (answers.Update (Written 10)) ∷ []
+
+-- the places of answers at node 1, whose tickets go up from this one
+abbrev pub places_from : ℕ → List ℕ → List Place
+places_from ticket [] = []
+places_from ticket (p ∷ ps) = record { node = 1; ticket = ticket; position = p } ∷ places_from (ticket + 1) ps
+
+abbrev pub eight_kept_explained : Explanation
+eight_kept_explained =
+    record {
+      asks = 1 ∷ 2 ∷ 3 ∷ 4 ∷ 5 ∷ 6 ∷ 7 ∷ 8 ∷ 9 ∷ 12 ∷ 13 ∷ [];
+      lens = 1 ∷ 2 ∷ 3 ∷ 4 ∷ 5 ∷ 6 ∷ 7 ∷ 8 ∷ 9 ∷ 9 ∷ 9 ∷ 10 ∷ 11 ∷ 11 ∷ [];
+      places = places_from 1 (1 ∷ 2 ∷ 3 ∷ 4 ∷ 5 ∷ 6 ∷ 7 ∷ 8 ∷ 9 ∷ 9 ∷ 9 ∷ 10 ∷ 11 ∷ 11 ∷ []);
+    }
+
+abbrev pub batch_moves : List Move
+batch_moves =
+    (update 1 1 1 (Put (object 0 (107 ∷ [])) (97 ∷ [])))
+    ∷ (update 1 1 2 (Put (object 0 (107 ∷ [])) (98 ∷ [])))
+    ∷ (update 1 1 3 (Put (object 0 (107 ∷ [])) (99 ∷ [])))
+    ∷ (Tick 1)
+    ∷ (Deliver 1)
+    ∷ (Deliver 4)
+    ∷ (Deliver 7)
+    ∷ (Deliver 6) ∷ []
+
+abbrev pub batch_lines : List Line
+batch_lines =
+    Sent 1 1 2 (Entry 1)
+    ∷ Sent 2 1 2 (Entry 2)
+    ∷ Sent 3 1 2 (Entry 3)
+    ∷ Sent 4 1 2 (Batch 1 3)
+    ∷ Sent 5 1 2 (Floor 3)
+    ∷ Sent 6 2 1 (Ack 1)
+    ∷ Sent 7 2 1 (Ack 3)
+    ∷ Answered 1 1 (answers.Update (Written 1))
+    ∷ Answered 1 2 (answers.Update (Written 2))
+    ∷ Answered 1 3 (answers.Update (Written 3))
+    ∷ Ignored AlreadyHave ∷ []
+
+abbrev pub batch_explained : Explanation
+batch_explained =
+    record {
+      asks = 1 ∷ 2 ∷ 3 ∷ [];
+      lens = 0 ∷ 0 ∷ 0 ∷ 0 ∷ 1 ∷ 3 ∷ 3 ∷ 3 ∷ [];
+      places = places_from 1 (1 ∷ 2 ∷ 3 ∷ []);
+    }
+
+-- the key k01 of object 1, and so on
+abbrev pub numbered_key : ℕ → List ℕ
+numbered_key n = 107 ∷ (48 + n / 10) ∷ (48 + n % 10) ∷ []
+
+-- node 1, which has written 65 objects by 65 puts of client 1
+abbrev pub node_of_many : Plain
+node_of_many =
+    record (opening_member (record { chain = 0; node = 1 }) (1 ∷ [])) {
+      past = installed_in 65 (record {
+        objects = map (λ n. (numbered_key n, (1, 97 ∷ []))) (range_with_len 1 65);
+        kept = (1, map (λ n. (n, Written 1)) (range_with_len 58 8)) ∷ [];
+      });
+    }
+
+-- its chain after node 2 joined, when no node knows it yet
+abbrev pub chain_of_many : Chain
+chain_of_many =
+    record (opening_chain 0 (1 ∷ [])) {
+      epoch = 2;
+      members = 1 ∷ 2 ∷ [];
+      nodes = node_of_many ∷ opening_joined (record { chain = 0; node = 2 }) ∷ [];
+    }
+
+abbrev pub parts_moves : List Move
+parts_moves =
+    (Tick 0)
+    ∷ (Deliver 2)
+    ∷ (Deliver 1)
+    ∷ (Deliver 3)
+    ∷ (Deliver 6)
+    ∷ (Deliver 6)
+    ∷ (Deliver 7)
+    ∷ (Deliver 5)
+    ∷ (Ask 2 (asks.Read Strong (object 0 (numbered_key 65)))) ∷ []
+
+abbrev pub parts_lines : List Line
+parts_lines =
+    Sent 1 0 1 (Config 2)
+    ∷ Sent 2 0 2 (Config 2)
+    ∷ Sent 3 2 1 (Blank 0)
+    ∷ Sent 4 1 2 (Floor 65)
+    ∷ Sent 5 1 2 (Part 65 1 2)
+    ∷ Sent 6 1 2 (Part 65 2 2)
+    ∷ Sent 7 1 2 (Floor 65)
+    ∷ Nothing
+    ∷ Ignored AlreadyHave
+    ∷ Nothing
+    ∷ Sent 8 2 1 (Ack 65)
+    ∷ Answered 2 1 (answers.Read 1 (97 ∷ [])) ∷ []

@@ -56,9 +56,9 @@ clean_and_dirty_reads_steps =
     ∷ step None (Send 1 (message 3 1 1 (bodies.VersionIs 2 0)))
     ∷ step None (Answer 2 (answers.Read 0 [])) ∷ []
 
--- the state that a joined node is sent: c as third version of k, and the reply to client 1's third put
+-- the state that a joined node is sent: c as third version of k, and the replies to client 1's puts
 abbrev pub third_copy : LinkMessage
-third_copy = message 3 4 2 (bodies.Copy 3 ((107 ∷ [], (3, 99 ∷ [])) ∷ []) ((1, (3, Written 3)) ∷ []))
+third_copy = message 3 4 2 (bodies.Copy 3 (record { objects = (107 ∷ [], (3, 99 ∷ [])) ∷ []; kept = (1, (1, Written 1) ∷ (2, Written 2) ∷ (3, Written 3) ∷ []) ∷ [] }))
 
 -- node 1 of two, where so many reads wait
 abbrev pub busy : ℕ → Plain

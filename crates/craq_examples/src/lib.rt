@@ -1,6 +1,6 @@
 //! Worked scripts, computed by the definitions alone.
 //! Laws: functions without bodies, whose contracts are the theorems.
-#![tactic(auto)]
+#![tactic(auto, unfolding(craq_commands::specs::Evaluation::tested, craq_commands::specs::Evaluation::joined, craq_commands::specs::Evaluation::number_of, craq_commands::specs::Evaluation::increased, craq_commands::specs::Evaluation::decreased, craq_commands::specs::Evaluation::first_difference, craq_commands::specs::Evaluation::transacted, craq_commands::specs::Evaluation::all_of_chain, craq_commands::specs::Evaluation::some_used_up, craq_commands::specs::Kept::is_stale, craq_commands::specs::Kept::is_new, craq_commands::specs::Kept::keep, craq_commands::specs::Kept::said_of, craq_commands::specs::Objects::object_of, craq_commands::specs::Objects::set_object, craq_commands::specs::SingleCopy::window_of, craq_commands::specs::SingleCopy::kept_with, craq_commands::specs::SingleCopy::apply, craq_commands::specs::SingleCopy::after_entry, craq_model::specs::Past::values_in, craq_model::specs::Past::values_after, craq_model::specs::Past::newest_within, craq_model::specs::Past::last_position, craq_model::specs::Parts::parts_of, craq_model::specs::Parts::is_in_order, craq_model::specs::Parts::joined_state, craq_model::specs::Plain::entries_after, craq_model::specs::Plain::newest, craq_model::specs::Plain::clean, craq_model::specs::Members::is_member, craq_model::specs::Members::last_of, craq_model::specs::Members::successor_in, craq_model::specs::Members::predecessor_in, craq_model::specs::Members::without, craq_model::specs::Sends::runs_of, craq_model::specs::Sends::entry_bodies, craq_model::specs::Sends::copy_bodies, craq_model::specs::Sends::catch_up, craq_model::specs::Sends::ready_sends, craq_model::specs::Sends::unready_sends, craq_model::specs::Sends::tick_sends, craq_model::specs::Settle::insert_given, craq_model::specs::Settle::by_ticket, craq_model::specs::Settle::all_given, craq_model::specs::Settle::settling_turn, craq_model::specs::Settle::without_reached, craq_model::specs::Settle::readiness_turn, craq_model::specs::Asks::is_full, craq_model::specs::Asks::reply_turn, craq_model::specs::Asks::update_turn, craq_model::specs::Asks::waiting_read_turn, craq_model::specs::Asks::read_turn, craq_model::specs::Asks::ask_turn, craq_model::specs::Deliveries::config_turn, craq_model::specs::Deliveries::is_applicable, craq_model::specs::Deliveries::forwarding_turn, craq_model::specs::Deliveries::entries_above, craq_model::specs::Deliveries::entries_turn, craq_model::specs::Deliveries::due_updates, craq_model::specs::Deliveries::later_updates, craq_model::specs::Deliveries::acknowledgement_turn, craq_model::specs::Deliveries::ack_turn, craq_model::specs::Deliveries::query_turn, craq_model::specs::Deliveries::read_with, craq_model::specs::Deliveries::reads_without, craq_model::specs::Deliveries::told_version_turn, craq_model::specs::Deliveries::version_turn, craq_model::specs::Deliveries::fill_bodies, craq_model::specs::Deliveries::blank_turn, craq_model::specs::Deliveries::copy_turn, craq_model::specs::Deliveries::part_turn, craq_model::specs::Deliveries::floor_turn, craq_model::specs::Node::outs_fit, craq_model::specs::Node::node_step, craq_runs::specs::Chain::node_at, craq_runs::specs::Chain::set_node, craq_runs::specs::Chain::sent_in, craq_runs::specs::Chain::removal_progress, craq_runs::specs::Chain::join_progress, craq_runs::specs::Chain::numbers_left, craq_runs::specs::Chain::chain_step, craq_runs::specs::Explain::wrote, craq_runs::specs::Explain::written_at, craq_runs::specs::Explain::due_place, craq_runs::specs::Explain::places_of, craq_runs::specs::Explain::account_with, craq_runs::specs::Explain::ask_number, craq_runs::specs::Seen::asks_from, craq_runs::specs::Seen::receivers_in, craq_runs::specs::Seen::answers_in, craq_runs::specs::Seen::answers_from, craq_runs::specs::Seen::ask_with, craq_runs::specs::Seen::update_at, craq_runs::specs::Seen::strong_answers, craq_runs::specs::Valid::look_of, craq_runs::specs::Valid::committed_object, craq_runs::specs::Valid::answered_object))]
 
 ghost use Rattle.std.specs.Prelude.{◌≡◌, ◌-◌, ◌^◌, [], ◌∷◌, Some, None, Err, IsOk};
 ghost use Rattle.craq_names.specs.declared.refusal.Refusal.{Refusal};
@@ -14,8 +14,8 @@ ghost use Rattle.craq_runs.specs.Runs.{IsRunOf};
 ghost use Rattle.craq_runs.specs.Seen.{seen};
 ghost use Rattle.craq_runs.specs.Valid.{IsValid, StrongHold, HasForm, IsBounded, look_of};
 ghost use Rattle.craq_examples.specs.Bounded.{run, explanation, earlier, answered, look};
-ghost use Rattle.craq_examples.specs.Printed.{play, run_of};
-ghost use Rattle.craq_examples.specs.Rows.{first_read_moves, first_read_lines, first_read_explained, clean_and_dirty_reads_moves, clean_and_dirty_reads_lines, clean_and_dirty_reads_explained, one_put_moves, one_put_lines, one_put_explained, query_overtaken_moves, query_overtaken_lines, query_overtaken_explained, out_of_order_moves, out_of_order_lines, head_lost_early_moves, head_lost_early_lines, head_lost_early_explained, head_lost_with_retry_moves, head_lost_with_retry_lines, head_lost_with_retry_explained, tail_lost_moves, tail_lost_lines, tail_lost_explained, join_moves, join_lines, old_epoch_moves, old_epoch_lines, one_node_moves, one_node_lines, one_node_explained, numbers_moves, numbers_lines, transactions_moves, transactions_lines, bounded_reads_moves, bounded_reads_lines, refusals_moves, refusals_lines, last_node_moves, last_node_lines, full_chain_moves, full_chain_lines, long_append_moves, long_append_lines, prepend_moves, prepend_lines, retry_moves, retry_lines, retry_explained, ticks_moves, ticks_lines, ticks_explained, whole_join_moves, whole_join_lines, whole_join_explained};
+ghost use Rattle.craq_examples.specs.Printed.{play, printed, run_of};
+ghost use Rattle.craq_examples.specs.Rows.{first_read_moves, first_read_lines, first_read_explained, clean_and_dirty_reads_moves, clean_and_dirty_reads_lines, clean_and_dirty_reads_explained, one_put_moves, one_put_lines, one_put_explained, query_overtaken_moves, query_overtaken_lines, query_overtaken_explained, out_of_order_moves, out_of_order_lines, head_lost_early_moves, head_lost_early_lines, head_lost_early_explained, head_lost_with_retry_moves, head_lost_with_retry_lines, head_lost_with_retry_explained, tail_lost_moves, tail_lost_lines, tail_lost_explained, join_moves, join_lines, old_epoch_moves, old_epoch_lines, one_node_moves, one_node_lines, one_node_explained, numbers_moves, numbers_lines, transactions_moves, transactions_lines, bounded_reads_moves, bounded_reads_lines, refusals_moves, refusals_lines, last_node_moves, last_node_lines, full_chain_moves, full_chain_lines, long_append_moves, long_append_lines, prepend_moves, prepend_lines, retry_moves, retry_lines, retry_explained, ticks_moves, ticks_lines, ticks_explained, whole_join_moves, whole_join_lines, whole_join_explained, eight_kept_moves, eight_kept_lines, eight_kept_explained, batch_moves, batch_lines, batch_explained, chain_of_many, parts_moves, parts_lines};
 
 pub fn first_read()
     ensures printed { play (1 ∷ 2 ∷ 3 ∷ []) first_read_moves ≡ first_read_lines }
@@ -114,6 +114,23 @@ pub fn ticks()
 pub fn whole_join()
     ensures printed { play (1 ∷ []) whole_join_moves ≡ whole_join_lines }
     ensures explained { explain 0 (run_of (1 ∷ []) whole_join_moves) ≡ whole_join_explained }
+{}
+
+/// Of nine replies the eight of the largest numbers are kept.
+pub fn eight_kept()
+    ensures printed { play (1 ∷ []) eight_kept_moves ≡ eight_kept_lines }
+    ensures explained { explain 0 (run_of (1 ∷ []) eight_kept_moves) ≡ eight_kept_explained }
+{}
+
+/// A tick sends three entries as one batch, which is acknowledged once.
+pub fn batch()
+    ensures printed { play (1 ∷ 2 ∷ []) batch_moves ≡ batch_lines }
+    ensures explained { explain 0 (run_of (1 ∷ 2 ∷ []) batch_moves) ≡ batch_explained }
+{}
+
+/// A state of 66 items comes in two parts, the second one first and twice.
+pub fn parts()
+    ensures { printed chain_of_many parts_moves ≡ parts_lines }
 {}
 
 /// This run can happen, and its explanation holds of it.

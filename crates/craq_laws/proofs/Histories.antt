@@ -1,5 +1,5 @@
 -- How the single copy goes on: versions rise, and the reply to a client stays until it asks again.
-use Rattle.std.proofs.Common.{◌≡◌, ◌≢◌, ◌<◌, ◌≤◌, ◌⊎◌, ℕ, ◌+◌, Bool, true, false, cond, List, [], ◌∷◌, ◌++◌, Option, Some, unwrap_or, refl, sym, ap, ◌∙◌, inl, inr, arith, subst}
+use Rattle.std.proofs.Common.{◌≡◌, ◌≢◌, ◌<◌, ◌≤◌, ◌⊎◌, ℕ, ◌+◌, Bool, true, false, cond, List, [], ◌∷◌, ◌++◌, Option, Some, unwrap_or, is_some, ⊎_elim, refl, sym, ap, ◌∙◌, inl, inr, arith, subst}
 use Rattle.std.specs.Ordering.{nat_cmp, eq_by_cmp}
 use Rattle.std.specs.Cmp.{eq_by_cmp_equiv, nat_cmp_total}
 use Rattle.std.specs.Cmp.Lexicographic.{bytes_decides}
@@ -8,10 +8,14 @@ use Rattle.std.specs.FinMap.Entries.{find, find-put}
 use Rattle.craq_names.specs.Maps.{same_bytes, at_number, put_number}
 use Rattle.craq_commands.specs.Objects.{Objects, object_of, version_of, set_object, written, all_written}
 use Rattle.craq_commands.specs.Evaluation.{eval}
-use Rattle.craq_commands.specs.Kept.{Kept, is_new, keep, said_of}
-use Rattle.craq_commands.specs.SingleCopy.{State, kept_of, is_new_to, said, kept_with, apply, after, after_from, opening_state}
+use Rattle.craq_commands.specs.declared.reply.Reply.{Reply}
+use Rattle.craq_commands.specs.Kept.{Window, is_new, keep, said_of}
+use Rattle.craq_commands.specs.declared.state.State.{State}
+use Rattle.craq_commands.specs.SingleCopy.{window_of, is_new_to, said, kept_with, apply, after, after_from, opening_state}
 use Rattle.craq_commands.specs.declared.command.Update.{Update}
+use Rattle.std.proofs.lemmas.Bool.{cases_eq}
 use Rattle.craq_laws.proofs.Copies.{after_from-append}
+use Rattle.craq_commands.proofs.Keeping.{IsRising, found_is_old, kept_found, rising_keep, old_stays}
 use Rattle.craq_laws.proofs.Writes.{found_here, written_elsewhere, told_apart}
 
 -- the object has a higher version, or is the same
@@ -74,15 +78,31 @@ versions_tell us vs key same =
     ] in
     by (no_older us vs key)
 
+-- what is kept for a client, once it is put there, and for another client
+pub kept_here : (s : State) (client : ℕ) (w : Window) → window_of (record s { kept = put_number s.kept client w }) client ≡ w
+unfolding window_of
+kept_here s client w =
+    ap (λ (o : Option Window). unwrap_or o []) (find-put nat_cmp nat_cmp_total client client w s.kept ∙ ap (λ b. cond b (Some w) (find nat_cmp client s.kept)) ((eq_by_cmp_equiv nat_cmp_total).refl client))
+
+pub put_elsewhere : (s : State) (client other : ℕ) (w : Window) → client ≢ other → window_of (record s { kept = put_number s.kept other w }) client ≡ window_of s client
+unfolding window_of
+put_elsewhere s client other w n =
+    let apart : eq_by_cmp nat_cmp client other ≡ false = told_apart (nat_cmp client other) (λ e. n (nat_cmp-IsAntisymmetric client other e)) in
+    ap (λ (o : Option Window). unwrap_or o []) (find-put nat_cmp nat_cmp_total client other w s.kept ∙ ap (λ b. cond b (Some w) (find nat_cmp client s.kept)) apart)
+
+-- the window of a client depends on what is kept alone
+same_window : (s t : State) (client : ℕ) → s.kept ≡ t.kept → window_of s client ≡ window_of t client
+unfolding window_of
+same_window s t client e = ap (λ (k : List (ℕ × Window)). unwrap_or (at_number k client) []) e
+
 -- what is kept for another client stays
-pub kept_elsewhere : (s : State) (u : Update) (client : ℕ) → client ≢ u.client → kept_of (apply s u) client ≡ kept_of s client
+pub kept_elsewhere : (s : State) (u : Update) (client : ℕ) → client ≢ u.client → window_of (apply s u) client ≡ window_of s client
 unfolding apply kept_with
 kept_elsewhere s u client n =
-    let x : Kept = keep (kept_of s u.client) u.number (eval s.objects u.command).1 in
-    let new : State = record { objects = all_written s.objects (eval s.objects u.command).0; kept = put_number s.kept u.client x } in
-    let other : eq_by_cmp nat_cmp client u.client ≡ false = told_apart (nat_cmp client u.client) (λ e. n (nat_cmp-IsAntisymmetric client u.client e)) in
-    let put : at_number (put_number s.kept u.client x) client ≡ at_number s.kept client = find-put nat_cmp nat_cmp_total client u.client x s.kept ∙ ap (λ b. cond b (Some x) (find nat_cmp client s.kept)) other in
-    let by : (b : Bool) → kept_of (cond b new s) client ≡ kept_of s client = elim [ true ↦ put | false ↦ refl ] in
+    let w : Window = keep (window_of s u.client) u.number (eval s.objects u.command).1 in
+    let new : State = record { objects = all_written s.objects (eval s.objects u.command).0; kept = put_number s.kept u.client w } in
+    let put : window_of new client ≡ window_of s client = same_window new (record s { kept = put_number s.kept u.client w }) client refl ∙ put_elsewhere s client u.client w n in
+    let by : (b : Bool) → window_of (cond b new s) client ≡ window_of s client = elim [ true ↦ put | false ↦ refl ] in
     by (is_new_to s u.client u.number)
 
 pub said_elsewhere : (s : State) (u : Update) (client number : ℕ) → client ≢ u.client → said (apply s u) client number ≡ said s client number
@@ -93,21 +113,69 @@ pub apply-old : (s : State) (u : Update) → is_new_to s u.client u.number ≡ f
 unfolding apply
 apply-old s u h = rw h refl
 
-pub kept_here : (s : State) (client : ℕ) (x : Kept) → at_number (put_number s.kept client x) client ≡ Some x
-kept_here s client x =
-    find-put nat_cmp nat_cmp_total client client x s.kept ∙ ap (λ b. cond b (Some x) (find nat_cmp client s.kept)) ((eq_by_cmp_equiv nat_cmp_total).refl client)
-
--- what was kept with its number is no longer new
-kept_is_old : (kept : Option Kept) (number : ℕ) (x : Kept) → x.0 ≡ number → is_new (Some x) number ≡ false
-unfolding is_new
-kept_is_old kept number x h = grind (arith, h)
+-- what is kept for a client after a new update of its own
+pub kept_applied : (s : State) (u : Update) → is_new_to s u.client u.number ≡ true → window_of (apply s u) u.client ≡ keep (window_of s u.client) u.number (eval s.objects u.command).1
+unfolding apply kept_with
+kept_applied s u new =
+    let w : Window = keep (window_of s u.client) u.number (eval s.objects u.command).1 in
+    let next : State = record { objects = all_written s.objects (eval s.objects u.command).0; kept = put_number s.kept u.client w } in
+    rw new (same_window next (record s { kept = put_number s.kept u.client w }) u.client refl ∙ kept_here s u.client w)
 
 -- an applied number is no longer new
 pub applied_is_old : (s : State) (u : Update) → is_new_to (apply s u) u.client u.number ≡ false
-unfolding apply kept_with keep
 applied_is_old s u =
-    let reply = (eval s.objects u.command).1 in
-    let new : State = record { objects = all_written s.objects (eval s.objects u.command).0; kept = put_number s.kept u.client (u.number, reply) } in
-    let put : is_new_to new u.client u.number ≡ false = ap (λ k. is_new k u.number) (kept_here s u.client (u.number, reply)) ∙ kept_is_old (kept_of s u.client) u.number (u.number, reply) refl in
-    let by : (b : Bool) → is_new_to s u.client u.number ≡ b → is_new_to (cond b new s) u.client u.number ≡ false = elim [ true ↦ λ e. put | false ↦ λ e. e ] in
+    let reply : Reply = (eval s.objects u.command).1 in
+    let by : (b : Bool) → is_new_to s u.client u.number ≡ b → is_new_to (apply s u) u.client u.number ≡ false = elim [
+      | true ↦ λ e. ap (λ k. is_new k u.number) (kept_applied s u e)
+          ∙ found_is_old (keep (window_of s u.client) u.number reply) u.number (ap is_some (kept_found (window_of s u.client) u.number reply e))
+      | false ↦ λ e. ap (λ (t : State). is_new_to t u.client u.number) (apply-old s u e) ∙ e
+    ] in
     by (is_new_to s u.client u.number) refl
+
+-- ---- windows that rise
+
+-- each client's window is by rising number
+abbrev pub HasRisingWindows : State → Type 0
+HasRisingWindows s = (client : ℕ) → IsRising (window_of s client)
+
+pub opening_rises : HasRisingWindows opening_state
+unfolding window_of
+opening_rises client = tt
+
+pub apply_rises : (s : State) (u : Update) → HasRisingWindows s → HasRisingWindows (apply s u)
+apply_rises s u h client =
+    let reply : Reply = (eval s.objects u.command).1 in
+    let own : is_new_to s u.client u.number ≡ true → IsRising (window_of (apply s u) u.client) = λ e. subst IsRising (sym (kept_applied s u e)) (rising_keep (window_of s u.client) u.number reply (h u.client)) in
+    let by : (b : Bool) → is_new_to s u.client u.number ≡ b → IsRising (window_of (apply s u) client) = elim [
+      | true ↦ λ e. ⊎_elim (λ same. subst (λ (c : ℕ). IsRising (window_of (apply s u) c)) (sym same) (own e)) (λ n. subst IsRising (sym (kept_elsewhere s u client n)) (h client)) (cases_eq client u.client)
+      | false ↦ λ e. subst (λ (t : State). IsRising (window_of t client)) (sym (apply-old s u e)) (h client)
+    ] in
+    by (is_new_to s u.client u.number) refl
+
+pub after_rises : (s : State) (us : List Update) → HasRisingWindows s → HasRisingWindows (after_from s us)
+after_rises s [] h = h
+after_rises s (u ∷ us) h = after_rises (apply s u) us (apply_rises s u h)
+
+-- a number that is not new stays so, whatever update comes
+pub old_after_one : (s : State) (u : Update) (client number : ℕ) → HasRisingWindows s → is_new_to s client number ≡ false → is_new_to (apply s u) client number ≡ false
+old_after_one s u client number h old =
+    let reply : Reply = (eval s.objects u.command).1 in
+    let own : is_new_to s u.client u.number ≡ true → is_new_to s u.client number ≡ false → is_new_to (apply s u) u.client number ≡ false =
+    λ e o. ap (λ k. is_new k number) (kept_applied s u e) ∙ old_stays (window_of s u.client) u.number number reply (h u.client) e o in
+    let by : (b : Bool) → is_new_to s u.client u.number ≡ b → is_new_to (apply s u) client number ≡ false = elim [
+      | true ↦ λ e. ⊎_elim
+          (λ same. subst (λ (c : ℕ). is_new_to (apply s u) c number ≡ false) (sym same) (own e (subst (λ (c : ℕ). is_new_to s c number ≡ false) same old)))
+          (λ n. ap (λ k. is_new k number) (kept_elsewhere s u client n) ∙ old)
+          (cases_eq client u.client)
+      | false ↦ λ e. ap (λ (t : State). is_new_to t client number) (apply-old s u e) ∙ old
+    ] in
+    by (is_new_to s u.client u.number) refl
+
+pub old_after_more : (s : State) (us : List Update) (client number : ℕ) → HasRisingWindows s → is_new_to s client number ≡ false → is_new_to (after_from s us) client number ≡ false
+old_after_more s [] client number h old = old
+old_after_more s (u ∷ us) client number h old = old_after_more (apply s u) us client number (apply_rises s u h) (old_after_one s u client number h old)
+
+-- what was asked once is never new again
+pub never_new_again : (us vs : List Update) (client number : ℕ) → is_new_to (after us) client number ≡ false → is_new_to (after (us ++ vs)) client number ≡ false
+never_new_again us vs client number old =
+    ap (λ (t : State). is_new_to t client number) (after_from-append opening_state us vs) ∙ old_after_more (after us) vs client number (after_rises opening_state us opening_rises) old

@@ -3,3 +3,4 @@ pub mod Histories
 pub mod Names
 pub mod Nodes
 pub mod Writes
+pub mod Parts

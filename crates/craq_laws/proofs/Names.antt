@@ -8,7 +8,8 @@ use Rattle.craq_commands.specs.declared.entry.Entry.{Entry}
 use Rattle.craq_commands.specs.declared.reply.Reply.{Reply}
 use Rattle.craq_commands.specs.declared.read_mode.ReadMode.{ReadMode}
 use Rattle.craq_commands.specs.declared.read_mode.ReadMode.TheVariants.{Strong, Eventual, Bounded}
-use Rattle.craq_commands.specs.SingleCopy.{State, said}
+use Rattle.craq_commands.specs.declared.state.State.{State}
+use Rattle.craq_commands.specs.SingleCopy.{said}
 use Rattle.craq_model.specs.declared.message.Body.{Body}
 use Rattle.craq_model.specs.declared.message.Body.TheVariants as bodies
 use Rattle.craq_model.specs.declared.message.LinkMessage.{LinkMessage}
@@ -20,11 +21,14 @@ use Rattle.craq_model.specs.declared.step.Out.{Out}
 use Rattle.craq_model.specs.declared.step.Step.{Step}
 use Rattle.craq_commands.specs.Evaluation.{eval}
 use Rattle.craq_model.specs.declared.waiting.WaitingRead.{WaitingRead}
-use Rattle.craq_model.specs.Plain.{Plain, newest, successor, position_of}
+use Rattle.craq_model.specs.Plain.{Plain, newest, successor, position_of, length_of, with_entries}
 use Rattle.craq_model.specs.Sends.{to_neighbour, send_all, entry_bodies}
-use Rattle.craq_model.specs.Settle.{Turn, settling_turn, readiness_turn}
+use Rattle.craq_model.specs.Parts.{gathering_for, with_part, joined_state}
+use Rattle.craq_model.specs.declared.gathering.Gathering.{Gathering}
+use Rattle.craq_model.specs.declared.message.StatePart.{StatePart}
+use Rattle.craq_model.specs.Settle.{Turn, settling_turn, without_reached, readiness_turn}
 use Rattle.craq_model.specs.Asks.{with_entry, entry_of, committed_if_last, reply_turn, update_turn, waiting_read_turn, read_turn, accepted_ask_turn, ask_turn}
-use Rattle.craq_model.specs.Deliveries.{config_turn, forwarding_turn, taken_entry_turn, entry_turn, acknowledgement_turn, ack_turn, query_turn, told_version_turn, version_turn, blank_turn, copy_turn, with_copy, floor_turn, body_turn, read_with}
+use Rattle.craq_model.specs.Deliveries.{config_turn, forwarding_turn, taken_entries_turn, appending_turn, entries_above, entries_turn, gathered_turn, gathering_turn, part_turn, acknowledgement_turn, ack_turn, query_turn, told_version_turn, version_turn, blank_turn, copy_turn, with_copy, floor_turn, body_turn, read_with}
 use Rattle.craq_model.specs.Node.{event_turn, within_counts, node_step}
 
 abbrev pub Named : NodeName → Turn → Type 0
@@ -39,23 +43,26 @@ unfolding settling_turn
 settling_turn-name p = grind (arith)
 
 readiness_turn-name : (p : Plain) → Named p.name (readiness_turn p)
-unfolding readiness_turn
-readiness_turn-name p = grind (arith, settling_turn-name (record p { ready = true }))
+unfolding readiness_turn without_reached
+readiness_turn-name p = grind (arith, settling_turn-name (record p { ready = true; gathering = None }))
 
 config_turn-name : (p : Plain) (e : ℕ) (ms : List ℕ) → Named p.name (config_turn p e ms)
 unfolding config_turn
-config_turn-name p e ms = grind (arith, settling_turn-name (record p { epoch = e; members = ms; floor = None }))
+config_turn-name p e ms = grind (arith, settling_turn-name (record p { epoch = e; members = ms; floor = None; gathering = None }))
 
-forwarding_turn-name : (p : Plain) (e : Entry) → Named p.name (forwarding_turn p e)
+forwarding_turn-name : (p : Plain) (es : List Entry) → Named p.name (forwarding_turn p es)
 unfolding forwarding_turn
-forwarding_turn-name p e = grind (arith)
+forwarding_turn-name p es = grind (arith)
 
-taken_entry_turn-name : (p : Plain) (e : Entry) → Named p.name (taken_entry_turn p e)
-taken_entry_turn-name p e = grind (arith, forwarding_turn-name p e, readiness_turn-name p)
+taken_entries_turn-name : (p : Plain) (es : List Entry) → Named p.name (taken_entries_turn p es)
+taken_entries_turn-name p es = grind (arith, forwarding_turn-name p es, readiness_turn-name p)
 
-entry_turn-name : (p : Plain) (sender : ℕ) (e : Entry) → Named p.name (entry_turn p sender e)
-unfolding entry_turn
-entry_turn-name p sender e = grind (arith, taken_entry_turn-name (with_entry p e) e)
+appending_turn-name : (p : Plain) (es : List Entry) → Named p.name (appending_turn p es)
+appending_turn-name p es = grind (arith, taken_entries_turn-name (with_entries p es) es)
+
+entries_turn-name : (p : Plain) (sender : ℕ) (es : List Entry) → Named p.name (entries_turn p sender es)
+unfolding entries_turn
+entries_turn-name p sender es = grind (arith, appending_turn-name p (entries_above (length_of p) es))
 
 ack_turn-name : (p : Plain) (sender position : ℕ) → Named p.name (ack_turn p sender position)
 unfolding ack_turn acknowledgement_turn
@@ -82,18 +89,30 @@ copy_turn-name : (p : Plain) (sender position : ℕ) (state : State) → Named p
 unfolding copy_turn
 copy_turn-name p sender position state = grind (arith, readiness_turn-name (with_copy p position state))
 
+gathered_turn-name : (p : Plain) (g : Gathering) → Named p.name (gathered_turn p g)
+gathered_turn-name p g = grind (arith, readiness_turn-name (with_copy p g.position (joined_state g.parts)))
+
+gathering_turn-name : (p : Plain) (g : Gathering) (part : StatePart) → Named p.name (gathering_turn p g part)
+gathering_turn-name p g part = grind (arith, gathered_turn-name p (with_part g part))
+
+part_turn-name : (p : Plain) (sender : ℕ) (part : StatePart) → Named p.name (part_turn p sender part)
+unfolding part_turn
+part_turn-name p sender part = grind (arith, gathering_turn-name p (gathering_for part p.gathering) part)
+
 floor_turn-name : (p : Plain) (sender count : ℕ) → Named p.name (floor_turn p sender count)
 unfolding floor_turn
 floor_turn-name p sender count = grind (arith, readiness_turn-name (record p { floor = Some count }))
 
 body_turn-name : (p : Plain) (m : LinkMessage) (b : Body) → Named p.name (body_turn p m b)
 body_turn-name p m (bodies.Config members) = config_turn-name p m.epoch members
-body_turn-name p m (bodies.Entry e) = grind (arith, entry_turn-name p m.sender e)
+body_turn-name p m (bodies.Entry e) = grind (arith, entries_turn-name p m.sender (e ∷ []))
+body_turn-name p m (bodies.Batch es) = grind (arith, entries_turn-name p m.sender es)
+body_turn-name p m (bodies.Part part) = grind (arith, part_turn-name p m.sender part)
 body_turn-name p m (bodies.Ack position) = grind (arith, ack_turn-name p m.sender position)
 body_turn-name p m (bodies.Query ticket key) = grind (arith, query_turn-name p m.sender ticket key)
 body_turn-name p m (bodies.VersionIs ticket version) = grind (arith, version_turn-name p m.sender ticket version)
 body_turn-name p m (bodies.Blank count) = grind (arith, blank_turn-name p m.sender count)
-body_turn-name p m (bodies.Copy position objects kept) = grind (arith, copy_turn-name p m.sender position (record { objects = objects; kept = kept }))
+body_turn-name p m (bodies.Copy position state) = grind (arith, copy_turn-name p m.sender position state)
 body_turn-name p m (bodies.Floor count) = grind (arith, floor_turn-name p m.sender count)
 
 commits-name : (p : Plain) → (committed_if_last p).name ≡ p.name

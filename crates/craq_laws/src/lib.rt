@@ -18,19 +18,24 @@ ghost use Rattle.craq_names.specs.Limits.{greatest};
 ghost use Rattle.craq_model.specs.declared.ask.Ask.{Ask};
 ghost use Rattle.craq_model.specs.declared.message.LinkMessage.{LinkMessage};
 ghost use Rattle.craq_names.specs.declared.refusal.Refusal.{Refusal};
-ghost use Rattle.craq_commands.specs.Kept.{Kept, is_new, said_of};
-ghost use Rattle.craq_commands.specs.SingleCopy.{State, apply, said, is_new_to, after, after_from, after_entry, with_writes};
+ghost use Rattle.craq_commands.specs.Kept.{Window, is_new, said_of};
+ghost use Rattle.craq_commands.specs.declared.state.State.{State};
+ghost use Rattle.craq_commands.specs.SingleCopy.{apply, said, is_new_to, after, after_from, after_entry, with_writes};
 ghost use Rattle.craq_commands.specs.declared.command.Update.{Update};
 ghost use Rattle.craq_commands.specs.declared.entry.Entry.{Entry};
 ghost use Rattle.craq_model.specs.Asks.{with_entry};
 ghost use Rattle.craq_model.specs.declared.ask.Event.{Event};
 ghost use Rattle.craq_model.specs.declared.step.Step.{Step};
 ghost use Rattle.craq_model.specs.Node.{node_step, is_for};
+ghost use Rattle.std.specs.List.{flat_map};
+ghost use Rattle.craq_model.specs.declared.message.StatePart.{StatePart};
+ghost use Rattle.craq_model.specs.Parts.{joined_state, parts_of};
+ghost use Rattle.craq_model.specs.Sends.{runs_of};
 ghost use Rattle.craq_model.specs.Plain.{Plain, newest, id_of, is_first};
 
 /// A number is new exactly where it has no reply.
 pub fn new_numbers()
-    ensures { (kept : Option Kept) (number : ℕ) → (is_new kept number ≡ true) ↔ (said_of kept number ≡ None) }
+    ensures { (w : Window) (number : ℕ) → (is_new w number ≡ true) ↔ (said_of w number ≡ None) }
 {}
 
 /// Updates one after another.
@@ -41,6 +46,16 @@ pub fn after_more()
 /// The newest state with one more entry.
 pub fn newest_with_entry()
     ensures { (p : Plain) (e : Entry) → newest (with_entry p e) ≡ after_entry (newest p) e }
+{}
+
+/// The parts in which a state is sent, joined in their order, are the state.
+pub fn parts_are_the_state()
+    ensures { (position : ℕ) (s : State) → joined_state (map (λ (p : StatePart). (p.number, p.state)) (parts_of position s)) ≡ s }
+{}
+
+/// The runs in which entries are sent, one after another, are the entries.
+pub fn runs_are_the_entries()
+    ensures { (es : List Entry) → flat_map (λ (run : List Entry). run) (runs_of es) ≡ es }
 {}
 
 /// A step keeps a node's name.
@@ -96,6 +111,11 @@ pub fn versions_tell_values()
 pub fn said_until_asked_again()
     ensures others { (s : State) (u : Update) (client number : ℕ) → client ≢ u.client → said (apply s u) client number ≡ said s client number }
     ensures old { (s : State) (u : Update) → is_new_to s u.client u.number ≡ false → apply s u ≡ s }
+{}
+
+/// A number that is not new never becomes new again.
+pub fn never_new_again()
+    ensures { (us vs : List Update) (client number : ℕ) → is_new_to (after us) client number ≡ false → is_new_to (after (us ++ vs)) client number ≡ false }
 {}
 
 /// A number that was applied is no longer new.

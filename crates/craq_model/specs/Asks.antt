@@ -21,7 +21,7 @@ use Rattle.craq_model.specs.declared.ask.Answer.TheVariants as answers
 use Rattle.craq_model.specs.declared.step.Out.{Out}
 use Rattle.craq_model.specs.declared.step.Out.TheVariants as outs
 use Rattle.craq_model.specs.Members.{first_of, last_of}
-use Rattle.craq_model.specs.Plain.{Plain, id_of, successor, is_first, is_last, length_of, newest, newest_object, clean_object, object_within, position_of}
+use Rattle.craq_model.specs.Plain.{Plain, id_of, successor, is_first, is_last, length_of, newest, newest_object, clean_object, object_within, position_of, with_entries, acknowledging}
 use Rattle.craq_model.specs.Sends.{send, send_all, to_neighbour, entry_bodies}
 use Rattle.craq_model.specs.Settle.{Turn, read_answer}
 
@@ -56,16 +56,16 @@ entry_of p u outcome =
 
 -- the node with one more entry
 abbrev pub with_entry : Plain → Entry → Plain
-with_entry p e = record p { entries = p.entries ++ e ∷ [] }
+with_entry p e = with_entries p (e ∷ [])
 
 -- a node that is last in its membership commits its whole history
 abbrev pub committed_if_last : Plain → Plain
-committed_if_last p = if is_last p then record p { acknowledged = length_of p } else p
+committed_if_last p = if is_last p then acknowledging p (length_of p) else p
 
 -- the reply is known, and due once the history up to a position is committed
 unfoldable pub reply_turn : Plain → ℕ → Reply → List Out → Result Turn Refusal
 reply_turn p position reply sends =
-    if nat_le position p.acknowledged then Ok (answered_turn p (answers.Update reply) sends)
+    if nat_le position p.past.acknowledged then Ok (answered_turn p (answers.Update reply) sends)
     else if is_full p then Err refusals.PendingFull
     else Ok (accepted_turn (record p { waiting_updates = p.waiting_updates ++ (record { ticket = p.last_ticket + 1; position = position; reply = reply }) ∷ [] }) sends)
 

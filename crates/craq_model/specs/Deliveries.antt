@@ -1,10 +1,13 @@
 -- What a node does with a message.
-use Rattle.std.specs.Prelude.{ℕ, ◌+◌, ◌==◌, nat_le, nat_lt, max, Bool, not, ◌&&◌, ◌||◌, if◌then◌else◌, List, [], ◌∷◌, ◌++◌, map, filter, find, Option, Some, None}
+use Rattle.std.specs.Prelude.{ℕ, ◌+◌, ◌==◌, nat_le, nat_lt, max, Bool, true, not, ◌&&◌, ◌||◌, if◌then◌else◌, List, [], ◌∷◌, ◌++◌, map, filter, find, is_some, Option, Some, None}
 use Rattle.std.specs.List.{list_all}
 use Rattle.craq_commands.specs.declared.entry.Entry.{Entry}
 use Rattle.craq_commands.specs.declared.entry.Write.{Write}
 use Rattle.craq_commands.specs.Objects.{version_of}
-use Rattle.craq_commands.specs.SingleCopy.{State, is_new_to}
+use Rattle.craq_commands.specs.declared.state.State.{State}
+use Rattle.craq_commands.specs.SingleCopy.{is_new_to, after_entry}
+use Rattle.craq_names.specs.Maps.{at_number}
+use Rattle.craq_model.specs.declared.message.StatePart.{StatePart}
 use Rattle.craq_model.specs.declared.message.Body.{Body}
 use Rattle.craq_model.specs.declared.message.Body.TheVariants as bodies
 use Rattle.craq_model.specs.declared.message.LinkMessage.{LinkMessage}
@@ -13,40 +16,65 @@ use Rattle.craq_model.specs.declared.step.Why.TheVariants.{OtherEpoch, NotNeighb
 use Rattle.craq_model.specs.Members.{is_member, is_id, last_of}
 use Rattle.craq_model.specs.declared.waiting.WaitingUpdate.{WaitingUpdate}
 use Rattle.craq_model.specs.declared.waiting.WaitingRead.{WaitingRead}
-use Rattle.craq_model.specs.Plain.{Plain, id_of, successor, predecessor, is_tail, length_of, newest, clean, newest_object, clean_object, object_within}
+use Rattle.craq_model.specs.Past.{installed_in}
+use Rattle.craq_model.specs.declared.gathering.Gathering.{Gathering}
+use Rattle.craq_model.specs.Parts.{gathered_position, gathering_for, is_in_order, with_part, is_whole, joined_state}
+use Rattle.craq_model.specs.Plain.{Plain, id_of, successor, predecessor, is_tail, length_of, newest, clean, newest_object, clean_object, object_within, with_entries, acknowledging}
 use Rattle.craq_model.specs.Sends.{send, send_all, to_neighbour, entry_bodies, copy_bodies, catch_up}
 use Rattle.craq_model.specs.Settle.{Turn, turn_with, turn_ignoring, read_answer, update_given, answer_outs, settling_turn, readiness_turn}
-use Rattle.craq_model.specs.Asks.{with_entry}
 
 -- a membership of a later epoch
 unfoldable pub config_turn : Plain → ℕ → List ℕ → Turn
 config_turn p epoch members =
     if nat_le epoch p.epoch then turn_ignoring p OtherEpoch
     else if not (is_member members (id_of p)) then turn_ignoring p NotNeighbour
-    else settling_turn (record p { epoch = epoch; members = members; floor = None })
+    else settling_turn (record p { epoch = epoch; members = members; floor = None; gathering = None })
 
 -- each write is of the next version, and the number is new
 unfoldable pub is_applicable : State → Entry → Bool
 is_applicable s e = list_all (λ (w : Write). w.version == version_of s.objects w.key + 1) e.writes && is_new_to s e.client e.number
 
--- a ready tail commits an entry that it took, and another node passes it on
-unfoldable pub forwarding_turn : Plain → Entry → Turn
-forwarding_turn p e =
+-- each entry is applicable after those before it
+abbrev pub are_applicable : State → List Entry → Bool
+are_applicable s [] = true
+are_applicable s (e ∷ es) = is_applicable s e && are_applicable (after_entry s e) es
+
+-- a ready tail commits the entries that it took, and another node passes them on
+unfoldable pub forwarding_turn : Plain → List Entry → Turn
+forwarding_turn p es =
     if is_tail p
-    then turn_with (record p { acknowledged = length_of p }) (to_neighbour (predecessor p) (λ to. send p to (bodies.Ack (length_of p)) ∷ []))
-    else turn_with p (to_neighbour (successor p) (λ to. send_all p to (entry_bodies (e ∷ []))))
+    then turn_with (acknowledging p (length_of p)) (to_neighbour (predecessor p) (λ to. send p to (bodies.Ack (length_of p)) ∷ []))
+    else turn_with p (to_neighbour (successor p) (λ to. send_all p to (entry_bodies es)))
 
--- a node that has taken an entry
-abbrev pub taken_entry_turn : Plain → Entry → Turn
-taken_entry_turn p e = if p.ready then forwarding_turn p e else readiness_turn p
+-- a node that has taken entries
+abbrev pub taken_entries_turn : Plain → List Entry → Turn
+taken_entries_turn p es = if p.ready then forwarding_turn p es else readiness_turn p
 
-unfoldable pub entry_turn : Plain → ℕ → Entry → Turn
-entry_turn p sender e =
+-- entries that follow the node's, all of them or none
+abbrev pub appending_turn : Plain → List Entry → Turn
+appending_turn p es = if are_applicable (newest p) es then taken_entries_turn (with_entries p es) es else turn_ignoring p TooFar
+
+-- the positions of the first and the last of some entries, 0 where there is none
+abbrev pub first_position : List Entry → ℕ
+first_position [] = 0
+first_position (e ∷ es) = e.position
+
+abbrev pub final_position : List Entry → ℕ
+final_position [] = 0
+final_position (e ∷ []) = e.position
+final_position (e ∷ f ∷ es) = final_position (f ∷ es)
+
+-- the entries above a position
+unfoldable pub entries_above : ℕ → List Entry → List Entry
+entries_above position es = filter (λ (e : Entry). nat_lt position e.position) es
+
+-- entries in a row: those that the node has already are left out
+unfoldable pub entries_turn : Plain → ℕ → List Entry → Turn
+entries_turn p sender es =
     if not (is_id (predecessor p) sender) then turn_ignoring p NotNeighbour
-    else if nat_le e.position (length_of p) then turn_ignoring p AlreadyHave
-    else if nat_lt (length_of p + 1) e.position then turn_ignoring p OutOfOrder
-    else if not (is_applicable (newest p) e) then turn_ignoring p TooFar
-    else taken_entry_turn (with_entry p e) e
+    else if nat_le (final_position es) (length_of p) then turn_ignoring p AlreadyHave
+    else if nat_lt (length_of p + 1) (first_position es) then turn_ignoring p OutOfOrder
+    else appending_turn p (entries_above (length_of p) es)
 
 -- the updates that wait for no more than a position, and the others
 unfoldable pub due_updates : ℕ → List WaitingUpdate → List WaitingUpdate
@@ -58,14 +86,14 @@ later_updates position us = filter (λ (u : WaitingUpdate). nat_lt position u.po
 -- the entries up to a position are committed
 unfoldable pub acknowledgement_turn : Plain → ℕ → Turn
 acknowledgement_turn p position =
-    turn_with (record p { acknowledged = position; waiting_updates = later_updates position p.waiting_updates })
+    turn_with (record (acknowledging p position) { waiting_updates = later_updates position p.waiting_updates })
     (answer_outs (map update_given (due_updates position p.waiting_updates)) ++ to_neighbour (predecessor p) (λ to. send p to (bodies.Ack position) ∷ []))
 
 unfoldable pub ack_turn : Plain → ℕ → ℕ → Turn
 ack_turn p sender position =
     if not (is_id (successor p) sender) then turn_ignoring p NotNeighbour
     else if not p.ready then turn_ignoring p NotReadyHere
-    else if nat_le position p.acknowledged then turn_ignoring p AlreadyHave
+    else if nat_le position p.past.acknowledged then turn_ignoring p AlreadyHave
     else if nat_lt (length_of p) position then turn_ignoring p TooFar
     else acknowledgement_turn p position
 
@@ -102,8 +130,8 @@ version_turn p sender ticket version =
 -- what an unready successor with so many entries lacks
 unfoldable pub fill_bodies : Plain → ℕ → List Body
 fill_bodies p count =
-    (if nat_lt count p.acknowledged then copy_bodies p.acknowledged (clean p) else [])
-    ++ catch_up p (max count p.acknowledged)
+    (if nat_lt count p.past.acknowledged then copy_bodies p.past.acknowledged (clean p) else [])
+    ++ catch_up p (max count p.past.acknowledged)
 
 unfoldable pub blank_turn : Plain → ℕ → ℕ → Turn
 blank_turn p sender count =
@@ -113,13 +141,36 @@ blank_turn p sender count =
 
 -- the node with a state in place of its entries
 abbrev pub with_copy : Plain → ℕ → State → Plain
-with_copy p position state = record p { base = position; base_state = state; entries = []; acknowledged = position }
+with_copy p position state = record p { past = installed_in position state }
 
 unfoldable pub copy_turn : Plain → ℕ → ℕ → State → Turn
 copy_turn p sender position state =
     if not (is_id (predecessor p) sender) then turn_ignoring p NotNeighbour
     else if p.ready || nat_le position (length_of p) then turn_ignoring p AlreadyHave
     else readiness_turn (with_copy p position state)
+
+-- a state of which no part is missing is taken; else the node goes on gathering
+abbrev pub gathered_turn : Plain → Gathering → Turn
+gathered_turn p g =
+    if is_whole g then readiness_turn (with_copy p g.position (joined_state g.parts)) else turn_with (record p { gathering = Some g }) []
+
+-- a part of the state that a node gathers
+abbrev pub gathering_turn : Plain → Gathering → StatePart → Turn
+gathering_turn p g part =
+    if not (part.count == g.count) then turn_ignoring p TooFar
+    else if is_some (at_number g.parts part.number) then turn_ignoring p AlreadyHave
+    else if not (is_in_order g part) then turn_ignoring p TooFar
+    else gathered_turn p (with_part g part)
+
+-- the node's own history, or the state that it gathers, goes further than the part
+abbrev pub is_outdated : Plain → StatePart → Bool
+is_outdated p part = nat_le part.position (length_of p) || nat_lt part.position (gathered_position p.gathering)
+
+unfoldable pub part_turn : Plain → ℕ → StatePart → Turn
+part_turn p sender part =
+    if not (is_id (predecessor p) sender) then turn_ignoring p NotNeighbour
+    else if p.ready || is_outdated p part then turn_ignoring p AlreadyHave
+    else gathering_turn p (gathering_for part p.gathering) part
 
 unfoldable pub floor_turn : Plain → ℕ → ℕ → Turn
 floor_turn p sender count =
@@ -134,12 +185,14 @@ turn_in_epoch p m turn = if m.epoch == p.epoch then turn else turn_ignoring p Ot
 -- what a message does, by its kind
 abbrev pub body_turn : Plain → LinkMessage → Body → Turn
 body_turn p m (bodies.Config members) = config_turn p m.epoch members
-body_turn p m (bodies.Entry e) = turn_in_epoch p m (entry_turn p m.sender e)
+body_turn p m (bodies.Entry e) = turn_in_epoch p m (entries_turn p m.sender (e ∷ []))
+body_turn p m (bodies.Batch es) = turn_in_epoch p m (entries_turn p m.sender es)
 body_turn p m (bodies.Ack position) = turn_in_epoch p m (ack_turn p m.sender position)
 body_turn p m (bodies.Query ticket key) = turn_in_epoch p m (query_turn p m.sender ticket key)
 body_turn p m (bodies.VersionIs ticket version) = turn_in_epoch p m (version_turn p m.sender ticket version)
 body_turn p m (bodies.Blank count) = turn_in_epoch p m (blank_turn p m.sender count)
-body_turn p m (bodies.Copy position objects kept) = turn_in_epoch p m (copy_turn p m.sender position (record { objects = objects; kept = kept }))
+body_turn p m (bodies.Copy position state) = turn_in_epoch p m (copy_turn p m.sender position state)
+body_turn p m (bodies.Part part) = turn_in_epoch p m (part_turn p m.sender part)
 body_turn p m (bodies.Floor count) = turn_in_epoch p m (floor_turn p m.sender count)
 
 -- a message that arrives

@@ -1,5 +1,7 @@
 pub mod Members
 pub mod Spelled
+pub mod Past
+pub mod Parts
 pub mod Plain
 pub mod Sends
 pub mod Settle

@@ -5,7 +5,7 @@ use Rattle.craq_names.specs.Limits.{greatest_count}
 use Rattle.craq_names.specs.declared.refusal.Refusal.{Refusal}
 use Rattle.craq_names.specs.declared.refusal.Refusal.TheVariants as refusals
 use Rattle.craq_model.specs.declared.message.Body.{Body}
-use Rattle.craq_model.specs.declared.message.Body.TheVariants.{Copy}
+use Rattle.craq_model.specs.declared.message.Body.TheVariants.{Copy, Part}
 use Rattle.craq_model.specs.declared.message.LinkMessage.{LinkMessage}
 use Rattle.craq_model.specs.declared.ask.Event.{Event}
 use Rattle.craq_model.specs.declared.ask.Event.TheVariants.{Ask, Deliver, Tick, Stop}
@@ -30,7 +30,8 @@ event_turn p Stop = Ok (turn_with (record p { running = false }) [])
 
 -- a state is sent with counts that a message can hold
 abbrev pub counts_fit : Body → Bool
-counts_fit (Copy position objects kept) = nat_le (length objects) greatest_count && nat_le (length kept) greatest_count
+counts_fit (Copy position state) = nat_le (length state.objects) greatest_count && nat_le (length state.kept) greatest_count
+counts_fit (Part part) = nat_le part.count greatest_count
 counts_fit body = true
 
 abbrev pub out_fits : Out → Bool

@@ -1,13 +1,17 @@
 -- What a node sends.
-use Rattle.std.specs.Prelude.{ℕ, ◌==◌, if◌then◌else◌, List, [], ◌∷◌, ◌++◌, map, Option, Some, None}
+use Rattle.std.specs.Prelude.{ℕ, ◌*◌, ◌==◌, nat_le, if◌then◌else◌, List, [], ◌∷◌, ◌++◌, map, length, take, drop, Option, Some, None}
+use Rattle.std.specs.List.{range_with_len}
+use Rattle.std.specs.Slice.Iter.{chunk_count}
+use Rattle.craq_names.specs.Limits.{batch_limit, part_limit}
 use Rattle.craq_model.specs.declared.message.Body.{Body}
 use Rattle.craq_model.specs.declared.message.Body.TheVariants as bodies
 use Rattle.craq_commands.specs.declared.entry.Entry.{Entry}
-use Rattle.craq_commands.specs.SingleCopy.{State}
+use Rattle.craq_commands.specs.declared.state.State.{State}
 use Rattle.craq_model.specs.declared.step.Out.{Out}
 use Rattle.craq_model.specs.declared.step.Out.TheVariants.{Send}
 use Rattle.craq_model.specs.Members.{last_of}
 use Rattle.craq_model.specs.declared.waiting.WaitingRead.{WaitingRead}
+use Rattle.craq_model.specs.Parts.{item_count, parts_of}
 use Rattle.craq_model.specs.Plain.{Plain, id_of, successor, predecessor, is_last, length_of, entries_after}
 
 -- a message to a node, in the node's epoch. Its stamp and index are set elsewhere
@@ -23,13 +27,26 @@ abbrev pub to_neighbour : Option ℕ → (ℕ → List Out) → List Out
 to_neighbour None sends = []
 to_neighbour (Some to) sends = sends to
 
+-- entries cut from the front into runs of 16; the last run may be shorter
+unfoldable pub runs_of : List Entry → List (List Entry)
+runs_of entries = map (λ i. take batch_limit (drop (batch_limit * i) entries)) (range_with_len 0 (chunk_count (length entries) batch_limit))
+
+-- a run of one is sent as an entry, a longer one as a batch
+abbrev pub run_body : List Entry → Body
+run_body (e ∷ []) = bodies.Entry e
+run_body [] = bodies.Batch []
+run_body (e ∷ f ∷ es) = bodies.Batch (e ∷ f ∷ es)
+
 -- how entries in a row are sent
 unfoldable pub entry_bodies : List Entry → List Body
-entry_bodies entries = map bodies.Entry entries
+entry_bodies entries = map run_body (runs_of entries)
 
--- how the state after a position is sent
+-- how the state after a position is sent: as one copy where it has up to 64 items, else in parts
 unfoldable pub copy_bodies : ℕ → State → List Body
-copy_bodies position state = bodies.Copy position state.objects state.kept ∷ []
+copy_bodies position state =
+    if nat_le (item_count state) part_limit
+    then bodies.Copy position state ∷ []
+    else map bodies.Part (parts_of position state)
 
 -- the entries after a position, then how many there are
 unfoldable pub catch_up : Plain → ℕ → List Body
@@ -42,8 +59,8 @@ queries p = map (λ (r : WaitingRead). send p (last_of p.members) (bodies.Query 
 -- what a ready node repeats
 unfoldable pub ready_sends : Plain → List Out
 ready_sends p =
-    to_neighbour (successor p) (λ to. send_all p to (catch_up p p.acknowledged))
-    ++ to_neighbour (predecessor p) (λ to. send p to (bodies.Ack p.acknowledged) ∷ [])
+    to_neighbour (successor p) (λ to. send_all p to (catch_up p p.past.acknowledged))
+    ++ to_neighbour (predecessor p) (λ to. send p to (bodies.Ack p.past.acknowledged) ∷ [])
     ++ (if is_last p then [] else queries p)
 
 -- what an unready node repeats

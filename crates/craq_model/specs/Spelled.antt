@@ -1,19 +1,22 @@
 -- Which messages can be spelled as bytes, beyond the ranges that their types have.
-use Rattle.std.specs.Prelude.{◌≡◌, ◌<◌, ◌≤◌, ⊤, ℕ, T, List, [], map, length}
+use Rattle.std.specs.Prelude.{◌≡◌, ◌<◌, ◌≤◌, ⊤, ℕ, ◌+◌, T, List, [], ◌∷◌, map, length}
 use Rattle.std.specs.List.{AllByRecursion, IsDistinct}
 use Rattle.std.specs.Ordering.{nat_cmp}
 use Rattle.std.specs.FinMap.Entries.{is_sorted}
-use Rattle.craq_names.specs.Limits.{item_limit, greatest_count}
+use Rattle.craq_names.specs.Limits.{item_limit, greatest_count, window_limit, part_limit, batch_limit}
 use Rattle.craq_names.specs.Maps.{same_bytes, key_cmp}
 use Rattle.craq_commands.specs.declared.entry.Entry.{Entry}
 use Rattle.craq_commands.specs.declared.entry.Write.{Write}
 use Rattle.craq_commands.specs.declared.reply.Reply.{Reply}
 use Rattle.craq_commands.specs.declared.reply.Reply.TheVariants.{Written, Mismatch, TooLong, NotANumber, Overflow, Underflow, Done, CompareFailed, Stale}
-use Rattle.craq_commands.specs.Kept.{Kept}
+use Rattle.craq_commands.specs.Kept.{Kept, Window}
+use Rattle.craq_commands.specs.declared.state.State.{State}
 use Rattle.craq_model.specs.declared.message.Body.{Body}
 use Rattle.craq_model.specs.declared.message.Body.TheVariants as bodies
 use Rattle.craq_model.specs.declared.message.LinkMessage.{LinkMessage}
+use Rattle.craq_model.specs.declared.message.StatePart.{StatePart}
 use Rattle.craq_model.specs.Members.{IsMembership}
+use Rattle.craq_model.specs.Parts.{item_count}
 
 -- an object's version and value: an absent one has no bytes
 abbrev pub IsObjectRead : ℕ × List ℕ → Type 0
@@ -54,14 +57,45 @@ pub record IsSpelledEntry (e : Entry) : Type 0 where
   pub versions : AllByRecursion (λ (w : Write). 1 ≤ w.version) e.writes
   pub once : IsDistinct same_bytes (map (λ (w : Write). w.key) e.writes)
 
+-- what is kept for a client can be spelled: 1 to 8 replies, and the numbers rise
+pub record IsSpelledWindow (w : Window) : Type 0 where
+  pub some : 1 ≤ length w
+  pub few : length w ≤ window_limit
+  pub replies : AllByRecursion (λ (k : Kept). IsReply k.1 × IsNotStale k.1) w
+  pub numbers_rise : T (is_sorted nat_cmp w)
+
 -- a state that can be spelled: keys and clients rise
-pub record IsSpelledState (objects : List (List ℕ × (ℕ × List ℕ))) (kept : List (ℕ × Kept)) : Type 0 where
-  pub few_objects : length objects ≤ greatest_count
-  pub few_kept : length kept ≤ greatest_count
-  pub versions : AllByRecursion (λ (o : List ℕ × (ℕ × List ℕ)). 1 ≤ o.1.0) objects
-  pub replies : AllByRecursion (λ (k : ℕ × Kept). IsReply k.1.1 × IsNotStale k.1.1) kept
-  pub keys_rise : T (is_sorted key_cmp objects)
-  pub clients_rise : T (is_sorted nat_cmp kept)
+pub record IsSpelledState (s : State) : Type 0 where
+  pub few_objects : length s.objects ≤ greatest_count
+  pub few_kept : length s.kept ≤ greatest_count
+  pub versions : AllByRecursion (λ (o : List ℕ × (ℕ × List ℕ)). 1 ≤ o.1.0) s.objects
+  pub windows : AllByRecursion (λ (k : ℕ × Window). IsSpelledWindow k.1) s.kept
+  pub keys_rise : T (is_sorted key_cmp s.objects)
+  pub clients_rise : T (is_sorted nat_cmp s.kept)
+
+-- a part that can be spelled: 64 items, or 1 to 64 in the last of its state's parts
+pub record IsSpelledPart (part : StatePart) : Type 0 where
+  pub position : 1 ≤ part.position
+  pub from : 1 ≤ part.number
+  pub to : part.number ≤ part.count
+  pub several : 2 ≤ part.count
+  pub some : 1 ≤ item_count part.state
+  pub few : item_count part.state ≤ part_limit
+  pub whole : part.number < part.count → item_count part.state ≡ part_limit
+  pub state : IsSpelledState part.state
+
+-- each position is the next after the one before
+abbrev pub IsConsecutive : List Entry → Type 0
+IsConsecutive [] = ⊤
+IsConsecutive (e ∷ []) = ⊤
+IsConsecutive (e ∷ f ∷ es) = (f.position ≡ e.position + 1) × IsConsecutive (f ∷ es)
+
+-- a batch that can be spelled: 2 to 16 entries in a row
+pub record IsSpelledBatch (es : List Entry) : Type 0 where
+  pub several : 2 ≤ length es
+  pub few : length es ≤ batch_limit
+  pub entries : AllByRecursion IsSpelledEntry es
+  pub consecutive : IsConsecutive es
 
 -- what a message says can be spelled
 abbrev pub IsSpelledBody : Body → Type 0
@@ -71,7 +105,9 @@ IsSpelledBody (bodies.Ack position) = ⊤
 IsSpelledBody (bodies.Query ticket key) = 1 ≤ ticket
 IsSpelledBody (bodies.VersionIs ticket version) = 1 ≤ ticket
 IsSpelledBody (bodies.Blank count) = ⊤
-IsSpelledBody (bodies.Copy position objects kept) = (1 ≤ position) × IsSpelledState objects kept
+IsSpelledBody (bodies.Copy position state) = (1 ≤ position) × IsSpelledState state
+IsSpelledBody (bodies.Part part) = IsSpelledPart part
+IsSpelledBody (bodies.Batch es) = IsSpelledBatch es
 IsSpelledBody (bodies.Floor count) = ⊤
 
 -- memberships are from the master, which is node 0, and all else from nodes
@@ -82,7 +118,9 @@ IsFromItsSender sender (bodies.Ack position) = 1 ≤ sender
 IsFromItsSender sender (bodies.Query ticket key) = 1 ≤ sender
 IsFromItsSender sender (bodies.VersionIs ticket version) = 1 ≤ sender
 IsFromItsSender sender (bodies.Blank count) = 1 ≤ sender
-IsFromItsSender sender (bodies.Copy position objects kept) = 1 ≤ sender
+IsFromItsSender sender (bodies.Copy position state) = 1 ≤ sender
+IsFromItsSender sender (bodies.Part part) = 1 ≤ sender
+IsFromItsSender sender (bodies.Batch es) = 1 ≤ sender
 IsFromItsSender sender (bodies.Floor count) = 1 ≤ sender
 
 -- the message can be spelled

@@ -4,12 +4,14 @@
 
 mod ask;
 mod config;
+mod gathering;
 mod message;
 mod step;
 mod waiting;
 
 pub use ask::{Answer, Ask, Event};
 pub use config::Config;
-pub use message::{Body, LinkMessage};
+pub use gathering::Gathering;
+pub use message::{Body, LinkMessage, StatePart};
 pub use step::{Out, Step, Why};
 pub use waiting::{WaitingRead, WaitingUpdate};

@@ -1,39 +1,62 @@
-use craq_commands::{Entry, Reply};
-use craq_names::{
-    ChainId, ClientId, Copied, Epoch, Items, Key, NodeId, RequestNo, Same, Seq, Stamp, Ticket,
-    Value, Version,
-};
+use craq_commands::{Entry, State};
+use craq_names::{ChainId, Copied, Epoch, Items, Key, NodeId, Same, Seq, Stamp, Ticket, Version};
 use std::alloc::{AllocError, Global};
+
+/// One part of a state that has more items than one message takes. Its items are its objects by rising
+/// key, then its kept replies by rising client.
+#[derive(Debug, Drop)]
+pub struct StatePart {
+    /// The position after which the state is.
+    pub position: Seq,
+    /// The part's number, from 1.
+    pub number: u32,
+    /// How many parts the state has, at least 2.
+    pub count: u32,
+    /// The objects and kept replies of this part.
+    pub state: State,
+}
+
+impl Copied for StatePart {
+    fn copied(&self, alloc: Global) -> Result<Self, AllocError> {
+        Ok(StatePart {
+            position: self.position,
+            number: self.number,
+            count: self.count,
+            state: self.state.copied(alloc)?,
+        })
+    }
+}
+
+impl Same for StatePart {
+    fn is_same(&self, other: &Self) -> bool {
+        self.position == other.position
+            && self.number == other.number
+            && self.count == other.count
+            && self.state.is_same(&other.state)
+    }
+}
 
 /// What a message says.
 #[derive(Debug, Drop)]
 pub enum Body {
     /// The membership of the message's epoch, head first. The master sends it.
-    Config {
-        members: Items<NodeId>,
-    },
+    Config { members: Items<NodeId> },
     /// An entry of the sender's history.
     Entry(Entry),
+    /// Entries of the sender's history in a row: 2 to 16.
+    Batch(Items<Entry>),
     /// All entries up to the position are committed.
     Ack(Seq),
     /// Which version of the object is committed?
-    Query {
-        ticket: Ticket,
-        key: Key,
-    },
+    Query { ticket: Ticket, key: Key },
     /// The committed version of the object that was asked about under this ticket.
-    VersionIs {
-        ticket: Ticket,
-        version: Version,
-    },
+    VersionIs { ticket: Ticket, version: Version },
     /// The sender is not ready, and has this many entries.
     Blank(Seq),
-    /// The state after a position: the objects by rising key, the kept replies by rising client.
-    Copy {
-        position: Seq,
-        objects: Items<(Key, (Version, Value))>,
-        kept: Items<(ClientId, (RequestNo, Reply))>,
-    },
+    /// The state after a position.
+    Copy { position: Seq, state: State },
+    /// A part of the state after a position.
+    Part(StatePart),
     /// The sender is ready, and has this many entries.
     Floor(Seq),
 }
@@ -45,6 +68,7 @@ impl Copied for Body {
                 members: members.copied(alloc)?,
             },
             Body::Entry(entry) => Body::Entry(entry.copied(alloc)?),
+            Body::Batch(entries) => Body::Batch(entries.copied(alloc)?),
             Body::Ack(position) => Body::Ack(*position),
             Body::Query { ticket, key } => Body::Query {
                 ticket: *ticket,
@@ -55,15 +79,11 @@ impl Copied for Body {
                 version: *version,
             },
             Body::Blank(count) => Body::Blank(*count),
-            Body::Copy {
-                position,
-                objects,
-                kept,
-            } => Body::Copy {
+            Body::Copy { position, state } => Body::Copy {
                 position: *position,
-                objects: objects.copied(alloc)?,
-                kept: kept.copied(alloc)?,
+                state: state.copied(alloc)?,
             },
+            Body::Part(part) => Body::Part(part.copied(alloc)?),
             Body::Floor(count) => Body::Floor(*count),
         })
     }
@@ -92,21 +112,14 @@ impl Same for Body {
                 },
             ) => ticket == their_ticket && version == their_version,
             (
-                Body::Copy {
-                    position,
-                    objects,
-                    kept,
-                },
+                Body::Copy { position, state },
                 Body::Copy {
                     position: their_position,
-                    objects: their_objects,
-                    kept: their_kept,
+                    state: theirs,
                 },
-            ) => {
-                position == their_position
-                    && objects.is_same(their_objects)
-                    && kept.is_same(their_kept)
-            }
+            ) => position == their_position && state.is_same(theirs),
+            (Body::Part(mine), Body::Part(theirs)) => mine.is_same(theirs),
+            (Body::Batch(mine), Body::Batch(theirs)) => mine.is_same(theirs),
             _ => false,
         }
     }

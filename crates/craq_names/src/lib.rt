@@ -5,6 +5,7 @@
 mod copied;
 mod key;
 mod list;
+mod map;
 mod name;
 mod number;
 mod refusal;
@@ -13,6 +14,7 @@ mod same;
 pub use copied::{Copied, copies_of};
 pub use key::{Key, Value};
 pub use list::Items;
+pub use map::put_at;
 pub use name::{NodeName, ObjectId};
 pub use number::{ChainId, ClientId, Epoch, NodeId, Pass, RequestNo, Seq, Stamp, Ticket, Version};
 pub use refusal::Refusal;

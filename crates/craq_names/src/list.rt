@@ -1,5 +1,7 @@
 ghost use Rattle.std.specs.Prelude.{◌≡◌, ◌↔◌, [], ◌∷◌, ◌++◌, List, length, IsTrue, IfOk, OnOk, OnErr};
+ghost use Rattle.std.specs.FinMap.Entries.{put};
 
+use crate::put_at;
 use std::alloc::{AllocError, Global};
 use std::marker::Model;
 
@@ -69,5 +71,16 @@ impl<T> Items<T> {
     {
         self.items.push(item)?;
         Ok(())
+    }
+}
+
+impl<K: Ord + Drop, V: Drop> Items<(K, V)> {
+    /// Puts a value at its key into items by rising key, in place of the one that is there. Where memory
+    /// is refused the items stay.
+    pub fn put(&mut self, key: K, value: V) -> Result<(), AllocError>
+        ensures ok { OnOk result (self.new ≡ put K.cmp key value self.old) }
+        ensures err { OnErr result (self.new ≡ self.old) }
+    {
+        put_at(&mut self.items, key, value)
     }
 }

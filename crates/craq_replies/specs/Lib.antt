@@ -1,2 +1,2 @@
+pub mod Held
 pub mod Replies
-pub mod Shown

@@ -1,33 +1,46 @@
--- Kept replies by client, with room for those of further clients.
-use Rattle.std.specs.Prelude.{ℕ, ◌==◌, Bool, true, false, List, Option, Some, None}
-use Rattle.std.specs.List.{list_any}
+-- Kept replies by client, with room for more.
+use Rattle.std.specs.Prelude.{◌≡◌, ℕ, ◌≤◌, ◌==◌, false, List, [], ◌∷◌, map, Option, Some, None, unwrap_or}
+use Rattle.std.specs.Borrow.{Bor}
 use Rattle.craq_names.specs.Maps.{at_number}
-use Rattle.craq_commands.specs.declared.reply.Reply.{Reply}
-use Rattle.craq_commands.specs.declared.reply.Reply.TheVariants as replies
-use Rattle.craq_commands.specs.Kept.{Kept}
-use Rattle.craq_replies.specs.declared.look.Look.{Look}
-use Rattle.craq_replies.specs.declared.look.Look.TheVariants.{New, Kept as KeptReply, Stale}
+use Rattle.craq_names.specs.Places.{filled}
+use Rattle.craq_commands.specs.Kept.{Window}
+use Rattle.craq_replies.specs.Held.{Held}
 
 pub record Replies : Type 0 where
-  pub kept : List (ℕ × Kept)  -- by rising client
-  pub clients : List ℕ  -- those whose next reply takes no memory
+  pub kept : List (ℕ × Window)  -- by rising client, of those with replies
+  pub rooms : List (ℕ × ℕ)  -- by rising client, how many more replies take no memory
 
 -- what is kept for a client
-abbrev pub kept_of : Replies → ℕ → Option Kept
-kept_of t client = at_number t.kept client
+abbrev pub window_of : Replies → ℕ → Window
+window_of t client = unwrap_or (at_number t.kept client) []
 
--- the client's next reply takes no memory
-abbrev pub has_room : Replies → ℕ → Bool
-has_room t client = list_any (λ c. client == c) t.clients
+-- how many more replies to a client take no memory
+abbrev pub room_at : Replies → ℕ → ℕ
+room_at t client = unwrap_or (at_number t.rooms client) 0
 
--- what is said to the client that asks
-abbrev pub said_by : Look → Option Reply
-said_by New = None
-said_by (KeptReply reply) = Some reply.now
-said_by (Stale last) = Some (replies.Stale last)
+-- no client has less room than it had
+abbrev pub KeepsRoom : Replies → Replies → Type 0
+KeepsRoom s t = (q : ℕ) → room_at s q ≤ room_at t q
 
--- the number is a new one
-abbrev pub is_new_by : Look → Bool
-is_new_by New = true
-is_new_by (KeptReply reply) = false
-is_new_by (Stale last) = false
+-- no other client has less room than it had
+abbrev pub KeepsOthersRoom : Replies → Replies → ℕ → Type 0
+KeepsOthersRoom s t client = (q : ℕ) → (client == q) ≡ false → room_at s q ≤ room_at t q
+
+abbrev pub unless_empty : Window → Option Window
+unless_empty [] = None
+unless_empty (k ∷ ks) = Some (k ∷ ks)
+
+-- what is kept in a place, if there is something
+abbrev pub shown : Held → Option Window
+shown h = unless_empty h.replies
+
+abbrev pub Entries : Type 0
+Entries = List (ℕ × Held)
+
+-- a table with these places; one without replies only has room
+abbrev pub table_of : Entries → Replies
+table_of es = record { kept = filled shown es; rooms = map (λ (e : ℕ × Held). (e.0, e.1.room)) es }
+
+-- a client, and what is lent of its place
+abbrev pub shown_pair : ℕ × Bor Window → ℕ × Window
+shown_pair p = (p.0, p.1.now)

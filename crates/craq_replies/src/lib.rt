@@ -1,11 +1,11 @@
-//! The kept replies of a node, as a map from client to number and reply.
+//! The kept replies of a node, as a map from client to a window of numbers with their replies.
 //! Code that runs in tests alone.
 #![tactic(auto)]
 
+mod held;
 mod items;
-mod look;
+mod places;
 mod table;
 
 pub use items::KeptReplies;
-pub use look::Look;
 pub use table::ReplyTable;

@@ -1,7 +1,7 @@
 use crate::say;
-use craq_commands::Reply;
+use craq_commands::{Reply, Said};
 use craq_names::{ClientId, Copied, Refusal, RequestNo, Version};
-use craq_replies::{Look, ReplyTable};
+use craq_replies::ReplyTable;
 use std::alloc::Global;
 use std::io;
 
@@ -16,7 +16,7 @@ enum Ask {
     Reserve(u64),
 }
 
-fn look(table: &ReplyTable, client: u64, number: u64) -> Result<Look<'_>, Refusal> {
+fn look(table: &ReplyTable, client: u64, number: u64) -> Result<Said<'_>, Refusal> {
     Ok(table.look(ClientId::new(client), RequestNo::new(number)?))
 }
 
@@ -70,7 +70,8 @@ fn ask_all<R: AllocGlobal + Print>(rt: &R, asks: &[Ask]) -> io::Result<()> {
     Ok(())
 }
 
-/// Tables of replies: the last reply of each client is kept, by rising client.
+/// Tables of replies: those to the newest numbers of each client are kept, by rising client and rising
+/// number.
 pub(crate) fn run<R: AllocGlobal + Print>(rt: &R) -> io::Result<()> {
     ask_all(
         rt,
@@ -81,9 +82,9 @@ pub(crate) fn run<R: AllocGlobal + Print>(rt: &R) -> io::Result<()> {
             Ask::Look(5, 3),
             Ask::Look(5, 4),
             Ask::Look(6, 3),
-            Ask::Keep(5, 4, Reply::Overflow),
+            Ask::Keep(5, 2, Reply::Overflow),
             Ask::Look(5, 3),
-            Ask::Look(5, 4),
+            Ask::Look(5, 2),
         ],
     )?;
     ask_all(
@@ -102,6 +103,35 @@ pub(crate) fn run<R: AllocGlobal + Print>(rt: &R) -> io::Result<()> {
             Ask::Look(1, 1),
             Ask::Keep(1, 1, Reply::Underflow),
             Ask::Look(1, 1),
+        ],
+    )?;
+    fill_window(rt)
+}
+
+/// Nine replies to one client: eight are kept, and a number below them all is stale.
+fn fill_window<R: AllocGlobal + Print>(rt: &R) -> io::Result<()> {
+    ask_all(
+        rt,
+        &[
+            Ask::Keep(4, 2, Reply::TooLong),
+            Ask::Keep(4, 4, Reply::TooLong),
+            Ask::Keep(4, 6, Reply::TooLong),
+            Ask::Keep(4, 8, Reply::TooLong),
+            Ask::Keep(4, 10, Reply::TooLong),
+            Ask::Keep(4, 12, Reply::TooLong),
+            Ask::Keep(4, 14, Reply::TooLong),
+            Ask::Look(4, 1),
+            Ask::Keep(4, 18, Reply::TooLong),
+            Ask::Look(4, 1),
+            Ask::Look(4, 2),
+            Ask::Look(4, 3),
+            Ask::Reserve(4),
+            Ask::Keep(4, 16, Reply::Overflow),
+            Ask::Look(4, 2),
+            Ask::Look(4, 3),
+            Ask::Look(4, 5),
+            Ask::Look(4, 16),
+            Ask::Look(4, 20),
         ],
     )
 }

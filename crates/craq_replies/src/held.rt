@@ -1,0 +1,66 @@
+ghost use Rattle.std.specs.Prelude.{◌≡◌, ◌<◌, ◌≤◌, ◌↔◌, [], IsOk, OnOk, OnErr, IsTrue};
+ghost use Rattle.craq_commands.specs.Kept.{keep};
+
+use craq_commands::{Kept, Reply, keep_in};
+use craq_names::RequestNo;
+use std::alloc::{AllocError, Global};
+use std::marker::Model;
+
+/// What is kept for one client.
+#[derive(Drop)]
+pub struct HeldReplies {
+    replies: Vec<Kept>,
+}
+
+impl Model for HeldReplies {
+    ghost use Rattle.std.specs.Prelude.{◌-◌, vec_len, vec_capacity};
+    ghost use Rattle.craq_replies.specs.Held.{Held};
+
+    ghost Value = { Held };
+
+    ghost view = { λ h. record { replies = h.replies.items; room = vec_capacity h.replies - vec_len h.replies } };
+}
+
+impl HeldReplies {
+    /// Nothing. It takes no memory.
+    pub fn new(alloc: Global) -> Self
+        ensures { result.replies ≡ [] }
+    {
+        HeldReplies {
+            replies: Vec::new(alloc),
+        }
+    }
+
+    /// Whether nothing is kept.
+    pub fn is_empty(&self) -> bool
+        ensures { IsTrue result ↔ (self.now.replies ≡ []) }
+    {
+        self.replies.is_empty()
+    }
+
+    /// The replies with their numbers, by rising number.
+    pub fn as_slice(&self) -> &[Kept]
+        ensures { result.now ≡ self.now.replies }
+    {
+        self.replies.as_slice()
+    }
+
+    /// Makes room for one more reply.
+    pub fn reserve(&mut self) -> Result<(), AllocError>
+        ensures replies { self.new.replies ≡ self.old.replies }
+        ensures room { self.old.room ≤ self.new.room }
+        ensures ok { OnOk result (0 < self.new.room) }
+        ensures succeeds { 0 < self.old.room → IsOk result }
+    {
+        self.replies.reserve(1)
+    }
+
+    /// Keeps the reply to a new number.
+    pub fn keep(&mut self, number: RequestNo, reply: Reply) -> Result<(), AllocError>
+        ensures ok { OnOk result (self.new.replies ≡ keep self.old.replies number reply) }
+        ensures err { OnErr result (self.new.replies ≡ self.old.replies) }
+        ensures succeeds { 0 < self.old.room → IsOk result }
+    {
+        keep_in(&mut self.replies, number, reply)
+    }
+}

@@ -1,5 +1,5 @@
 -- What a step changes of a node, part by part.
-use Rattle.std.specs.Prelude.{ℕ, ◌+◌, Bool, true, false, ◌||◌, if◌then◌else◌, List, [], ◌∷◌, ◌++◌, Option, None, Some}
+use Rattle.std.specs.Prelude.{⊤, ℕ, ◌+◌, Bool, true, false, ◌||◌, if◌then◌else◌, List, [], ◌∷◌, ◌++◌, Option, None, Some}
 use Rattle.craq_model.specs.declared.config.Config.{Config}
 use Rattle.craq_model.specs.declared.waiting.WaitingUpdate.{WaitingUpdate}
 use Rattle.craq_model.specs.declared.waiting.WaitingRead.{WaitingRead}
@@ -10,20 +10,29 @@ use Rattle.craq_history.specs.declared.change.HistoryChange.{HistoryChange}
 use Rattle.craq_history.specs.declared.change.HistoryChange.TheVariants as histories
 use Rattle.craq_history.specs.declared.change.WaitingChange.{WaitingChange}
 use Rattle.craq_history.specs.declared.change.WaitingChange.TheVariants as waits
-use Rattle.craq_history.specs.Past.{Past, with_entry_in, acknowledged_in, installed_in}
-
--- a node of which the past is told as one part
-abbrev pub past_of : Plain → Past
-past_of p = record { base = p.base; base_state = p.base_state; entries = p.entries; acknowledged = p.acknowledged }
-
-abbrev pub with_past : Plain → Past → Plain
-with_past p h = record p { base = h.base; base_state = h.base_state; entries = h.entries; acknowledged = h.acknowledged }
+use Rattle.craq_model.specs.declared.gathering.Gathering.{Gathering}
+use Rattle.craq_model.specs.Past.{Past, with_entries_in, acknowledged_in, installed_in}
+use Rattle.craq_model.specs.Parts.{gathering_for, with_part}
+use Rattle.craq_history.specs.declared.change.GatheringChange.{GatheringChange}
+use Rattle.craq_history.specs.declared.change.GatheringChange.TheVariants as gatherings
 
 -- the past after a change of the history
 abbrev pub past_by : HistoryChange → Past → Past
 past_by histories.Stays h = h
-past_by (histories.Grows entry) h = with_entry_in h entry
-past_by (histories.IsCopied position objects kept) h = installed_in h position (record { objects = objects; kept = kept })
+past_by (histories.Grows entries) h = with_entries_in h entries
+past_by (histories.IsCopied position state) h = installed_in position state
+
+-- the gathering after a change of it
+abbrev pub gathering_by : GatheringChange → Option Gathering → Option Gathering
+gathering_by gatherings.Stays g = g
+gathering_by (gatherings.Gains part) g = Some (with_part (gathering_for part g) part)
+gathering_by gatherings.Dropped g = None
+
+-- a part is gained
+abbrev pub IsGain : GatheringChange → Type 0
+IsGain gatherings.Stays = ⊥
+IsGain (gatherings.Gains part) = ⊤
+IsGain gatherings.Dropped = ⊥
 
 -- the past with its new acknowledged position, if there is one
 abbrev pub commits_by : Option ℕ → Past → Past
@@ -66,17 +75,14 @@ reads_by waits.AllAnswered rs = []
 -- the node after a change
 abbrev pub changed : Plain → Change → Plain
 changed p c =
-    let h = commits_by c.acknowledged (past_by c.history (past_of p)) in
     record {
       name = p.name;
       epoch = epoch_by c.membership p.epoch;
       members = members_by c.membership p.members;
       ready = p.ready || c.becomes_ready;
-      base = h.base;
-      base_state = h.base_state;
-      entries = h.entries;
-      acknowledged = h.acknowledged;
+      past = commits_by c.acknowledged (past_by c.history p.past);
       floor = floor_by c.membership c.floor p.floor;
+      gathering = gathering_by c.gathering p.gathering;
       last_ticket = ticket_by c.accepted p.last_ticket;
       waiting_updates = updates_by c.waiting p.waiting_updates;
       waiting_reads = reads_by c.waiting p.waiting_reads;
@@ -86,7 +92,7 @@ changed p c =
 -- a change of nothing, and that of an accepted ask
 abbrev pub no_change : Change
 no_change =
-    record { accepted = false; membership = None; history = histories.Stays; acknowledged = None; floor = None; becomes_ready = false; waiting = waits.Same }
+    record { accepted = false; membership = None; history = histories.Stays; gathering = gatherings.Stays; acknowledged = None; floor = None; becomes_ready = false; waiting = waits.Same }
 
 abbrev pub accepted_change : WaitingChange → Change
 accepted_change waiting = record no_change { accepted = true; waiting = waiting }

@@ -2,7 +2,7 @@
 use Rattle.std.specs.Prelude.{true}
 use Rattle.craq_model.specs.Plain.{Plain}
 use Rattle.craq_history.specs.declared.node.Node.{Node}
-use Rattle.craq_history.specs.Past.{Past}
+use Rattle.craq_model.specs.Past.{Past}
 
 -- a running node, with the past that its history stands for
 abbrev pub plain_of : {H : Type 0} → (H → Past) → Node H → Plain
@@ -12,11 +12,9 @@ plain_of past n =
       epoch = n.epoch;
       members = n.members;
       ready = n.ready;
-      base = (past n.history).base;
-      base_state = (past n.history).base_state;
-      entries = (past n.history).entries;
-      acknowledged = (past n.history).acknowledged;
+      past = past n.history;
       floor = n.floor;
+      gathering = n.gathering;
       last_ticket = n.last_ticket;
       waiting_updates = n.waiting_updates.items;
       waiting_reads = n.waiting_reads.items;

@@ -1,5 +1,5 @@
 -- A change and a step that are worked out before they are made.
-use Rattle.std.specs.Prelude.{◌≡◌, ◌<◌, ⊤, ℕ, true, [], IsSome, Result, Ok, Err}
+use Rattle.std.specs.Prelude.{◌≡◌, ◌<◌, ◌≤◌, ⊤, ℕ, ◌+◌, length, true, [], IsSome, Result, Ok, Err}
 use Rattle.craq_names.specs.Limits.{greatest}
 use Rattle.craq_names.specs.Order.{Refuses}
 use Rattle.craq_names.specs.declared.refusal.Refusal.{Refusal}
@@ -9,18 +9,27 @@ use Rattle.craq_model.specs.Settle.{Turn}
 use Rattle.craq_history.specs.declared.change.Change.{Change}
 use Rattle.craq_history.specs.declared.change.HistoryChange.{HistoryChange}
 use Rattle.craq_history.specs.declared.change.HistoryChange.TheVariants as histories
+use Rattle.craq_history.specs.declared.change.GatheringChange.{GatheringChange}
+use Rattle.craq_history.specs.declared.change.GatheringChange.TheVariants as gatherings
 use Rattle.craq_history.specs.Change.{changed, no_change}
 
--- a history of this length has a next position, if it is to grow
+-- a history of this length has positions for what it is to grow by
 abbrev pub CanGrow : ℕ → HistoryChange → Type 0
 CanGrow count histories.Stays = ⊤
-CanGrow count (histories.Grows entry) = count < greatest
-CanGrow count (histories.IsCopied position objects kept) = ⊤
+CanGrow count (histories.Grows entries) = count + length entries ≤ greatest
+CanGrow count (histories.IsCopied position state) = ⊤
 
--- there is a next ticket and a next position where the change takes one
+-- a part is gained only where the history stays
+abbrev pub IsApart : GatheringChange → HistoryChange → Type 0
+IsApart gatherings.Stays history = ⊤
+IsApart (gatherings.Gains part) history = history ≡ histories.Stays
+IsApart gatherings.Dropped history = ⊤
+
+-- there is a next ticket, and there are positions, where the change takes them
 pub record CanMake (p : Plain) (c : Change) : Type 0 where
   pub ticket : c.accepted ≡ true → p.last_ticket < greatest
   pub position : CanGrow (length_of p) c.history
+  pub apart : IsApart c.gathering c.history
 
 -- a change that can be made, and a step, which are those of a turn; a message that is ignored changes
 -- nothing and sends nothing

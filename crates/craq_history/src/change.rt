@@ -1,22 +1,29 @@
 ghost use Rattle.std.specs.Prelude.{◌≡◌};
 
-use craq_commands::{Entry, Reply};
-use craq_model::{Config, WaitingRead, WaitingUpdate};
-use craq_names::{ClientId, Items, Key, RequestNo, Seq, Ticket, Value, Version};
+use craq_commands::{Entry, State};
+use craq_model::{Config, StatePart, WaitingRead, WaitingUpdate};
+use craq_names::{Items, Seq, Ticket};
 
 /// What a step does to a node's history.
 #[derive(Debug, Drop)]
 pub enum HistoryChange {
     /// It stays.
     Stays,
-    /// One more entry.
-    Grows(Entry),
+    /// More entries.
+    Grows(Items<Entry>),
     /// The state after a position takes its place.
-    IsCopied {
-        position: Seq,
-        objects: Items<(Key, (Version, Value))>,
-        kept: Items<(ClientId, (RequestNo, Reply))>,
-    },
+    IsCopied { position: Seq, state: State },
+}
+
+/// What a step does to the parts of a state that a node gathers.
+#[derive(Debug, Drop)]
+pub enum GatheringChange {
+    /// They stay.
+    Stays,
+    /// One more part, in a new gathering where it is of a later position.
+    Gains(StatePart),
+    /// They are dropped.
+    Dropped,
 }
 
 /// What a step does to the asks that wait.
@@ -45,6 +52,8 @@ pub struct Change {
     pub membership: Option<Config>,
     /// What happens to the history.
     pub history: HistoryChange,
+    /// What happens to the parts that are gathered. One is gained only where the history stays.
+    pub gathering: GatheringChange,
     /// How many entries are known to be committed from now on.
     pub acknowledged: Option<Seq>,
     /// The floor that was told.
@@ -66,6 +75,7 @@ impl Change {
             accepted: false,
             membership: None,
             history: HistoryChange::Stays,
+            gathering: GatheringChange::Stays,
             acknowledged: None,
             floor: None,
             becomes_ready: false,

@@ -1,32 +1,13 @@
 ghost use Rattle.std.specs.Prelude.{◌≡◌, ◌≤◌, ◌+◌, ◌-◌, ◌<◌, ◌^◌, length, IfOk, OnOk, OnErr};
 ghost use Rattle.craq_commands.specs.Objects.{object_of};
 ghost use Rattle.craq_commands.specs.SingleCopy.{said};
-ghost use Rattle.craq_model.specs.Deliveries.{is_applicable};
-ghost use Rattle.craq_history.specs.Said.{told};
-ghost use Rattle.craq_model.specs.Plain.{last_position};
-ghost use Rattle.craq_history.specs.Past.{Past, no_past, length_in, newest_in, clean_in, entries_in, object_within_in, with_entry_in, acknowledged_in, installed_in};
+ghost use Rattle.craq_commands.specs.Told.{told};
+ghost use Rattle.craq_model.specs.Deliveries.{are_applicable};
+ghost use Rattle.craq_model.specs.Past.{Past, no_past, length_in, newest_in, clean_in, entries_in, object_within_in, last_position, with_entries_in, acknowledged_in, installed_in};
 
-use craq_commands::{Entry, Reply};
-use craq_names::{ClientId, Items, Key, RequestNo, Seq, Value, Version};
+use craq_commands::{Entry, Said, State};
+use craq_names::{ClientId, Items, Key, RequestNo, Seq, Version};
 use std::alloc::{AllocError, Global};
-
-/// A state as a copy sends it: the objects by rising key, and the kept replies by rising client.
-#[derive(Debug, Drop)]
-pub struct Snapshot {
-    pub objects: Items<(Key, (Version, Value))>,
-    pub kept: Items<(ClientId, (RequestNo, Reply))>,
-}
-
-/// The reply to a client's number.
-#[derive(Debug)]
-pub enum Said<'a> {
-    /// Nothing: the number is new.
-    Nothing,
-    /// The reply that is kept for the number.
-    Kept(&'a Reply),
-    /// The number is stale; this is the client's last.
-    Stale(RequestNo),
-}
 
 /// How a node keeps the past.
 pub trait History: Drop {
@@ -65,10 +46,10 @@ pub trait History: Drop {
     fn said(&self, client: ClientId, number: RequestNo) -> Said<'_>
         ensures { told result ≡ said (newest_in (past self.now)) client number };
 
-    /// Whether the entry fits the newest state: each write is of its object's next version, and the
-    /// number is new.
-    fn is_next(&self, entry: &Entry) -> bool
-        ensures { result ≡ is_applicable (newest_in (past self.now)) entry.now };
+    /// Whether each of the entries fits the state that those before it leave: each write is of its object's
+    /// next version, and the number is new. It takes no memory.
+    fn are_next(&self, entries: &[Entry]) -> bool
+        ensures { result ≡ are_applicable (newest_in (past self.now)) entries.now };
 
     /// The newest position of a client's entries; the base where none is known.
     fn position_of(&self, client: ClientId) -> u64
@@ -79,10 +60,10 @@ pub trait History: Drop {
         requires from { (past self.now).acknowledged ≤ position }
         ensures { result.now ≡ entries_in (past self.now) position };
 
-    /// One more entry. Where memory is refused the past stays.
-    fn append(&mut self, entry: Entry) -> Result<(), AllocError>
-        requires { length_in (past self.old) < 2 ^ 64 - 1 }
-        ensures ok { OnOk result (past self.new ≡ with_entry_in (past self.old) entry) }
+    /// More entries, all of them. Where memory is refused the past stays.
+    fn append(&mut self, entries: Items<Entry>) -> Result<(), AllocError>
+        requires { length_in (past self.old) + length entries < 2 ^ 64 }
+        ensures ok { OnOk result (past self.new ≡ with_entries_in (past self.old) entries) }
         ensures err { OnErr result (past self.new ≡ past self.old) };
 
     /// The entries up to the position are committed. It takes no memory.
@@ -90,10 +71,10 @@ pub trait History: Drop {
         ensures { past self.new ≡ acknowledged_in (past self.old) position };
 
     /// The state after the committed entries.
-    fn snapshot(&self, alloc: Global) -> Result<Snapshot, AllocError>
-        ensures { IfOk result (λ s. record { objects = s.objects; kept = s.kept } ≡ clean_in (past self.now)) };
+    fn snapshot(&self, alloc: Global) -> Result<State, AllocError>
+        ensures { IfOk result (λ s. s ≡ clean_in (past self.now)) };
 
     /// A state takes the place of the history. It takes no memory.
-    fn install(&mut self, position: Seq, state: Snapshot)
-        ensures { past self.new ≡ installed_in (past self.old) position (record { objects = state.objects; kept = state.kept }) };
+    fn install(&mut self, position: Seq, state: State)
+        ensures { past self.new ≡ installed_in position state };
 }

@@ -10,6 +10,6 @@ mod node;
 pub mod outs;
 pub mod steps;
 
-pub use change::{Change, HistoryChange, WaitingChange};
-pub use history::{History, Said, Snapshot};
+pub use change::{Change, GatheringChange, HistoryChange, WaitingChange};
+pub use history::History;
 pub use node::Node;

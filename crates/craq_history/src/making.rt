@@ -1,16 +1,17 @@
 //! Makes a change of a node.
 ghost use Rattle.std.specs.Prelude.{◌≡◌, ◌<◌, ◌-◌, ◌^◌, ◌++◌, ◌∷◌, [], true, IsOk, OnOk, OnErr, vec_len, vec_capacity};
 ghost use Rattle.craq_model.specs.Deliveries.{later_updates, reads_without};
-ghost use Rattle.craq_history.specs.Change.{changed, no_change, past_by, commits_by, updates_by, reads_by, epoch_by, members_by, floor_by, ticket_by};
+ghost use Rattle.craq_history.specs.Change.{changed, no_change, past_by, gathering_by, IsGain, commits_by, updates_by, reads_by, epoch_by, members_by, floor_by, ticket_by};
 ghost use Rattle.craq_history.specs.Nodes.{plain_of};
-ghost use Rattle.craq_history.specs.Past.{length_in};
-ghost use Rattle.craq_history.specs.Plans.{CanGrow, CanMake};
+ghost use Rattle.craq_model.specs.Past.{length_in};
+ghost use Rattle.craq_model.specs.Parts.{gathering_for, with_part};
+ghost use Rattle.craq_history.specs.Plans.{CanGrow, CanMake, IsApart};
 ghost use Rattle.craq_history.specs.Room.{HasRoomFor};
 
-use crate::{Change, History, HistoryChange, Node, Snapshot, WaitingChange};
-use craq_model::{Config, WaitingRead, WaitingUpdate};
+use crate::{Change, GatheringChange, History, HistoryChange, Node, WaitingChange};
+use craq_model::{Config, Gathering, StatePart, WaitingRead, WaitingUpdate};
 use craq_names::{Epoch, Items, NodeId, Seq, Ticket};
-use std::alloc::AllocError;
+use std::alloc::{AllocError, Global};
 
 /// Adds an item where there is room, which takes no memory.
 fn push_within<T: Drop>(items: &mut Vec<T>, item: T)
@@ -84,13 +85,53 @@ fn change_history<H: History>(history: &mut H, change: HistoryChange) -> Result<
 {
     match change {
         HistoryChange::Stays => Ok(()),
-        HistoryChange::Grows(entry) => history.append(entry),
-        HistoryChange::IsCopied {
-            position,
-            objects,
-            kept,
-        } => {
-            history.install(position, Snapshot { objects, kept });
+        HistoryChange::Grows(entries) => history.append(entries),
+        HistoryChange::IsCopied { position, state } => {
+            history.install(position, state);
+            Ok(())
+        }
+    }
+}
+
+/// Adds a part to what is gathered: to a new gathering where there is none, or one of a lower position.
+fn gather(
+    alloc: Global,
+    gathering: &mut Option<Gathering>,
+    part: StatePart,
+) -> Result<(), AllocError>
+    ensures ok { OnOk result (gathering.new ≡ Some (with_part (gathering_for part gathering.old) part)) }
+    ensures err { OnErr result (gathering.new ≡ gathering.old) }
+{
+    if let Some(held) = gathering {
+        if held.position >= part.position {
+            return held.parts.put(part.number, part.state);
+        }
+    }
+    let mut parts = Items::new(alloc);
+    parts.put(part.number, part.state)?;
+    *gathering = Some(Gathering {
+        position: part.position,
+        count: part.count,
+        parts,
+    });
+    Ok(())
+}
+
+/// Changes what is gathered.
+fn change_gathering(
+    alloc: Global,
+    gathering: &mut Option<Gathering>,
+    change: GatheringChange,
+) -> Result<(), AllocError>
+    ensures ok { OnOk result (gathering.new ≡ gathering_by change gathering.old) }
+    ensures err { OnErr result (gathering.new ≡ gathering.old) }
+    ensures gain { OnErr result (IsGain change) }
+{
+    match change {
+        GatheringChange::Stays => Ok(()),
+        GatheringChange::Gains(part) => gather(alloc, gathering, part),
+        GatheringChange::Dropped => {
+            *gathering = None;
             Ok(())
         }
     }
@@ -146,7 +187,8 @@ fn ticket_after(accepted: bool, last: Ticket) -> Ticket
 impl<H: History> Node<H> {
     /// Makes the change. Where memory is refused the node stands for the plain node that it stood
     /// for before. A change of nothing takes no memory.
-    pub fn apply(&mut self, change: Change) -> Result<(), AllocError>
+    #[tactic(auto, using(crate::proofs::Apart::past_stays))]
+    pub fn apply(&mut self, alloc: Global, change: Change) -> Result<(), AllocError>
         requires { CanMake (plain_of H.past self.old) change }
         ensures ok { OnOk result (plain_of H.past self.new ≡ changed (plain_of H.past self.old) change) }
         ensures err { OnErr result (plain_of H.past self.new ≡ plain_of H.past self.old) }
@@ -158,6 +200,7 @@ impl<H: History> Node<H> {
             &change.waiting,
         )?;
         change_history(&mut self.history, change.history)?;
+        change_gathering(alloc, &mut self.gathering, change.gathering)?;
         commit(&mut self.history, change.acknowledged);
         take_membership(
             &mut self.epoch,

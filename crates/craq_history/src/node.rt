@@ -2,7 +2,7 @@ ghost use Rattle.std.specs.Prelude.{◌≡◌, ◌+◌, nat_le, length};
 ghost use Rattle.craq_names.specs.Limits.{waiting_limit};
 
 use crate::outs::Sender;
-use craq_model::{WaitingRead, WaitingUpdate};
+use craq_model::{Gathering, WaitingRead, WaitingUpdate};
 use craq_names::{Epoch, Items, NodeId, NodeName, Seq, Ticket};
 
 /// The most asks that wait at a node.
@@ -20,6 +20,8 @@ pub struct Node<H> {
     pub history: H,
     /// How many entries it must hold to become ready, once it was told.
     pub floor: Option<Seq>,
+    /// The parts that it holds of a state, where it is not ready.
+    pub gathering: Option<Gathering>,
     pub last_ticket: Ticket,
     /// Updates that are not answered yet, by rising ticket.
     pub waiting_updates: Vec<WaitingUpdate>,

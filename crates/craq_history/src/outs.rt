@@ -1,5 +1,6 @@
 //! What a node sends.
-ghost use Rattle.std.specs.Prelude.{◌≡◌, ◌++◌, ◌∷◌, [], OnOk, OnErr, map, take};
+ghost use Rattle.std.specs.Prelude.{◌≡◌, ◌<◌, ◌≤◌, ◌++◌, ◌∷◌, [], List, OnOk, OnErr, IfOk, map, take, length, option_to_list};
+ghost use Rattle.craq_commands.specs.declared.entry.Entry.{Entry};
 ghost use Rattle.craq_model.specs.declared.waiting.WaitingRead.{WaitingRead};
 ghost use Rattle.craq_model.specs.Members.{successor_in, predecessor_in};
 ghost use Rattle.craq_model.specs.Sends.{to_neighbour, entry_bodies};
@@ -8,8 +9,12 @@ ghost use Rattle.craq_history.specs.Standing.{sent_from, caught_up, ready_outs, 
 use crate::members::{last_member, predecessor_of, successor_of};
 use craq_commands::Entry;
 use craq_model::{Body, LinkMessage, Out, WaitingRead};
-use craq_names::{Copied, Epoch, NodeId, NodeName, Seq, Stamp};
+use craq_names::{Copied, Epoch, Items, NodeId, NodeName, Seq, Stamp};
 use std::alloc::{AllocError, Global};
+use std::mem;
+
+/// How many entries a run has at most.
+const RUN_LENGTH: usize = 16;
 
 /// Who sends, and in which epoch.
 #[derive(Clone, Copy, Debug, PartialEq, Eq)]
@@ -70,38 +75,109 @@ fn send(outs: &mut Vec<Out>, sender: &Sender, to: NodeId, body: Body) -> Result<
     Ok(())
 }
 
-/// Sends this entry. Where it fails, the outs are as before.
-fn send_entry(
-    outs: &mut Vec<Out>,
-    alloc: Global,
-    sender: &Sender,
-    to: NodeId,
-    entry: &Entry,
-) -> Result<(), AllocError>
-    ensures sent { OnOk result (outs.new.items ≡ outs.old.items ++ sent_from sender.now.name sender.now.epoch to (Body.Entry entry.now) ∷ []) }
-    ensures same { OnErr result (outs.new.items ≡ outs.old.items) }
+/// A run of entries as one message; a run of none makes none.
+fn message_of(mut run: Vec<Entry>) -> Option<Body>
+    requires { length run.items ≤ 16 }
+    ensures { option_to_list result ≡ entry_bodies run.items }
 {
-    send(outs, sender, to, Body::Entry(entry.copied(alloc)?))
+    if run.as_slice().len() > 1 {
+        return Some(Body::Batch(Items::of(run)));
+    }
+    match run.pop() {
+        Some(entry) => Some(Body::Entry(entry)),
+        None => None,
+    }
 }
 
-/// Sends each of these entries. It fails for want of memory alone, and the outs are then as before.
-#[tactic(auto, unfolding(craq_model::specs::Sends::entry_bodies))]
+/// Adds an entry to a run. A run that is full joins the messages.
+fn add_to_run(
+    bodies: &mut Vec<Body>,
+    alloc: Global,
+    run: &mut Vec<Entry>,
+    entry: Entry,
+) -> Result<(), AllocError>
+    requires { length run.old.items < 16 }
+    ensures room { OnOk result (length run.new.items < 16) }
+    ensures made { OnOk result ((rest : List Entry)
+        → bodies.new.items ++ entry_bodies (run.new.items ++ rest) ≡ bodies.old.items ++ entry_bodies (run.old.items ++ entry ∷ rest)) }
+{
+    run.push(entry)?;
+    if run.as_slice().len() < RUN_LENGTH {
+        return Ok(());
+    }
+    let full = mem::replace(run, Vec::new(alloc));
+    bodies.push(Body::Batch(Items::of(full)))?;
+    Ok(())
+}
+
+/// Adds entries to a run. Each run that is full joins the messages.
+fn add_to_runs(
+    bodies: &mut Vec<Body>,
+    alloc: Global,
+    run: &mut Vec<Entry>,
+    entries: &[Entry],
+) -> Result<(), AllocError>
+    requires { length run.old.items < 16 }
+    ensures room { OnOk result (length run.new.items < 16) }
+    ensures made { OnOk result ((rest : List Entry)
+        → bodies.new.items ++ entry_bodies (run.new.items ++ rest) ≡ bodies.old.items ++ entry_bodies (run.old.items ++ (entries.now ++ rest))) }
+{
+    for entry in entries {
+        add_to_run(bodies, alloc, run, entry.copied(alloc)?)?;
+    }
+    Ok(())
+}
+
+/// The messages that bring entries in a row, which come in two parts.
+fn messages_of(alloc: Global, entries: &[Entry], later: &[Entry]) -> Result<Vec<Body>, AllocError>
+    ensures { IfOk result λ bodies. bodies.items ≡ entry_bodies (entries.now ++ later.now) }
+{
+    let mut bodies = Vec::new(alloc);
+    let mut run = Vec::new(alloc);
+    add_to_runs(&mut bodies, alloc, &mut run, entries)?;
+    add_to_runs(&mut bodies, alloc, &mut run, later)?;
+    match message_of(run) {
+        Some(body) => {
+            bodies.push(body)?;
+            Ok(bodies)
+        }
+        None => Ok(bodies),
+    }
+}
+
+/// Sends each of these messages. Where it fails, the outs are as before.
+fn send_all(
+    outs: &mut Vec<Out>,
+    sender: &Sender,
+    to: NodeId,
+    bodies: Vec<Body>,
+) -> Result<(), AllocError>
+    ensures sent { OnOk result (outs.new.items ≡ outs.old.items ++ map (sent_from sender.now.name sender.now.epoch to) bodies.items) }
+    ensures same { OnErr result (outs.new.items ≡ outs.old.items) }
+{
+    let len = outs.len();
+    for body in bodies {
+        let sent = send(outs, sender, to, body);
+        undo_if_err(outs, len, sent)?;
+    }
+    Ok(())
+}
+
+/// Sends entries in a row, which come in two parts: in runs of 16, a run of one as an entry and a longer one
+/// as a batch (this project's profile). It fails for want of memory alone, and the outs are then as before.
 pub fn send_entries(
     outs: &mut Vec<Out>,
     alloc: Global,
     sender: &Sender,
     to: NodeId,
     entries: &[Entry],
+    later: &[Entry],
 ) -> Result<(), AllocError>
-    ensures sent { OnOk result (outs.new.items ≡ outs.old.items ++ map (sent_from sender.now.name sender.now.epoch to) (entry_bodies entries.now)) }
+    ensures sent { OnOk result (outs.new.items ≡ outs.old.items ++ map (sent_from sender.now.name sender.now.epoch to) (entry_bodies (entries.now ++ later.now))) }
     ensures same { OnErr result (outs.new.items ≡ outs.old.items) }
 {
-    let len = outs.len();
-    for entry in entries {
-        let sent = send_entry(outs, alloc, sender, to, entry);
-        undo_if_err(outs, len, sent)?;
-    }
-    Ok(())
+    let bodies = messages_of(alloc, entries, later)?;
+    send_all(outs, sender, to, bodies)
 }
 
 /// Asks the last member about this read. Where it fails, the outs are as before.
@@ -143,7 +219,6 @@ fn send_queries(
 
 /// Sends the successor these entries in two parts, and how many the history has. Where it fails, the
 /// outs are as before.
-#[tactic(auto, unfolding(craq_model::specs::Sends::entry_bodies))]
 fn catch_up(
     outs: &mut Vec<Out>,
     alloc: Global,
@@ -161,9 +236,7 @@ fn catch_up(
         return Ok(());
     };
     let len = outs.len();
-    send_entries(outs, alloc, sender, to, entries)?;
-    let sent = send_entries(outs, alloc, sender, to, later);
-    undo_if_err(outs, len, sent)?;
+    send_entries(outs, alloc, sender, to, entries, later)?;
     let sent = send(outs, sender, to, Body::Floor(Seq::new(length)));
     undo_if_err(outs, len, sent)
 }

@@ -1,13 +1,18 @@
 -- A running node that is stopped.
-use Rattle.std.proofs.Common.{◌≡◌, true, false, List, [], Some, None, Ok, refl, sym}
+use Rattle.std.proofs.Common.{◌≡◌, true, false, List, [], Some, None, Ok, Err, inl, inr, refl, sym, ap}
 use Rattle.std.specs.Prelude.{Bool, is_some, if◌then◌else◌}
 use Rattle.craq_names.specs.declared.name.NodeName.{NodeName}
 use Rattle.craq_model.specs.declared.ask.Event.{Event}
-use Rattle.craq_model.specs.declared.ask.Event.TheVariants.{Stop}
+use Rattle.craq_model.specs.declared.ask.Event.TheVariants.{Deliver, Stop}
 use Rattle.craq_model.specs.declared.step.Out.{Out}
 use Rattle.craq_model.specs.declared.step.Step.{Step}
 use Rattle.craq_model.specs.Plain.{Plain}
-use Rattle.craq_model.specs.Node.{node_step, outs_fit}
+use Rattle.craq_names.specs.declared.refusal.Refusal.{Refusal}
+use Rattle.craq_model.specs.declared.message.LinkMessage.{LinkMessage}
+use Rattle.craq_model.specs.Deliveries.{delivery_turn}
+use Rattle.craq_model.specs.Node.{event_turn, is_for, node_step, outs_fit}
+use Rattle.craq_node.specs.Represented.{Gives}
+use Rattle.craq_write.specs.Sent.{LacksOrOutgrows}
 
 -- a switch without a receipt is on
 pub is_on : (on : Bool) (name : NodeName) → is_some (if on then None else Some name) ≡ false → on ≡ true
@@ -21,3 +26,8 @@ stops p e step r h s = rw (h, s, r) refl
 pub nothing_fits : (os : List Out) → os ≡ [] → outs_fit os ≡ true
 unfolding outs_fit
 nothing_fits os e = rw e refl
+
+-- a delivery that is refused: memory ran out, or what would be sent cannot be counted
+pub delivery_refused : (p q : Plain) (m : LinkMessage) (e : Refusal) → is_for p m ≡ true → LacksOrOutgrows (delivery_turn p m) e → q ≡ p → Gives p q (Err e) (event_turn p (Deliver m))
+delivery_refused p q m e here (inl lacks) same = rw here (inl (lacks, refl), same)
+delivery_refused p q m e here (inr grown) same = rw (here, grown.1) (inr (ap Err (sym grown.0)), same)

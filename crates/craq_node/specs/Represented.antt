@@ -15,7 +15,7 @@ use Rattle.craq_model.specs.Plain.{Plain, opening_joined, opening_member}
 use Rattle.craq_model.specs.Settle.{Turn}
 use Rattle.craq_model.specs.Spelled.{IsSpelled}
 use Rattle.craq_history.specs.declared.node.Node.{Node}
-use Rattle.craq_history.specs.Past.{Past}
+use Rattle.craq_model.specs.Past.{Past}
 use Rattle.craq_history.specs.Nodes.{plain_of}
 
 -- the plain node of a node that runs or has stopped

@@ -11,9 +11,10 @@ fn has_fitting_counts(body: &Body) -> bool
     ensures { result ≡ counts_fit body.now }
 {
     match body {
-        Body::Copy { objects, kept, .. } => {
-            objects.len() <= GREATEST_COUNT && kept.len() <= GREATEST_COUNT
+        Body::Copy { state, .. } => {
+            state.objects.len() <= GREATEST_COUNT && state.kept.len() <= GREATEST_COUNT
         }
+        Body::Part(part) => part.count as usize <= GREATEST_COUNT,
         _ => true,
     }
 }

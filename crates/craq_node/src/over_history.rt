@@ -2,6 +2,7 @@ ghost use Rattle.std.specs.Prelude.{◌≡◌, ◌≢◌, true, [], IfOk, IsOk, 
 ghost use Rattle.craq_model.specs.Deliveries.{delivery_turn};
 ghost use Rattle.craq_model.specs.Plain.{Plain, opening_member};
 ghost use Rattle.craq_model.specs.Node.{event_turn, is_for};
+ghost use Rattle.craq_model.specs.Spelled.{IsSpelled};
 ghost use Rattle.craq_node_invariant.specs.Sound.{AreSpelled, IsSound, IsSpelledAsk, IsSpelledEvent};
 ghost use Rattle.craq_node_invariant.proofs.Props.{IsSound-prop};
 ghost use Rattle.craq_history.specs.Change.{changed, no_change};
@@ -44,7 +45,12 @@ fn keep_limits(event: &Event)
 
 /// Makes a change that was planned, unless the sends do not fit messages.
 #[tactic(auto, using(crate::proofs::Stops::nothing_fits))]
-fn made<H: History>(node: &mut Node<H>, change: Change, step: Step) -> Result<Step, Refusal>
+fn made<H: History>(
+    alloc: Global,
+    node: &mut Node<H>,
+    change: Change,
+    step: Step,
+) -> Result<Step, Refusal>
     requires { CanMake (plain_of H.past node.old) change }
     ensures gives { Gives (plain_of H.past node.old) (plain_of H.past node.new) result (Ok (changed (plain_of H.past node.old) change, step)) }
     ensures name { (plain_of H.past node.new).name ≡ (plain_of H.past node.old).name }
@@ -53,17 +59,19 @@ fn made<H: History>(node: &mut Node<H>, change: Change, step: Step) -> Result<St
     if !are_fitting(step.outs.as_slice()) {
         return Err(Refusal::Exhausted);
     }
-    node.apply(change)?;
+    node.apply(alloc, change)?;
     Ok(step)
 }
 
 /// A message at a running node: refused where it is for another (`WrongNode`).
+#[tactic(auto, using(crate::proofs::Stops::delivery_refused))]
 fn hear<H: History>(
     alloc: Global,
     node: &mut Node<H>,
     message: &LinkMessage,
 ) -> Result<Step, Refusal>
-    requires { IsSound (plain_of H.past node.old) }
+    requires sound { IsSound (plain_of H.past node.old) }
+    requires spelled { IsSpelled message.now }
     ensures gives { Gives (plain_of H.past node.old) (plain_of H.past node.new) result (event_turn (plain_of H.past node.old) (Event.Deliver message.now)) }
     ensures name { (plain_of H.past node.new).name ≡ (plain_of H.past node.old).name }
     ensures free { is_for (plain_of H.past node.old) message.now ≡ true → IsSome (delivery_turn (plain_of H.past node.old) message.now).1.ignored → IsOk result }
@@ -72,13 +80,14 @@ fn hear<H: History>(
         return Err(Refusal::WrongNode);
     }
     let (change, step) = plan_delivery(alloc, node, message)?;
-    made(node, change, step)
+    made(alloc, node, change, step)
 }
 
 /// An event but a stop at a running node.
 #[tactic(auto, unfolding(craq_model::specs::Sends::tick_sends))]
 fn meet<H: History>(alloc: Global, node: &mut Node<H>, event: &Event) -> Result<Step, Refusal>
     requires sound { IsSound (plain_of H.past node.old) }
+    requires arrives { CanArrive event.now }
     requires goes_on { event.now ≢ Event.Stop }
     ensures gives { Gives (plain_of H.past node.old) (plain_of H.past node.new) result (event_turn (plain_of H.past node.old) event.now) }
     ensures name { (plain_of H.past node.new).name ≡ (plain_of H.past node.old).name }
@@ -87,13 +96,13 @@ fn meet<H: History>(alloc: Global, node: &mut Node<H>, event: &Event) -> Result<
     match event {
         Event::Ask(ask) => {
             let (change, step) = plan_ask(alloc, node, ask)?;
-            made(node, change, step)
+            made(alloc, node, change, step)
         }
         Event::Deliver(message) => hear(alloc, node, message),
         Event::Tick => {
             let mut outs = Vec::new(alloc);
             add_tick_outs(&mut outs, alloc, node)?;
-            made(node, Change::none(), done(outs))
+            made(alloc, node, Change::none(), done(outs))
         }
         Event::Stop => Ok(done(Vec::new(alloc))),
     }
@@ -143,6 +152,7 @@ impl<H: History> NodeCore<H> {
                 ready,
                 history: H::new(alloc),
                 floor: None,
+                gathering: None,
                 last_ticket: Ticket::new(0),
                 waiting_updates: Vec::new(alloc),
                 waiting_reads: Vec::new(alloc),

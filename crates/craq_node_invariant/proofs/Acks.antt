@@ -6,7 +6,7 @@ use Rattle.craq_model.specs.declared.step.Why.TheVariants.{NotNeighbour, NotRead
 use Rattle.craq_model.specs.declared.waiting.WaitingUpdate.{WaitingUpdate}
 use Rattle.craq_model.specs.Deliveries.{due_updates, later_updates, acknowledgement_turn, ack_turn}
 use Rattle.craq_model.specs.Members.{is_id}
-use Rattle.craq_model.specs.Plain.{Plain, successor, predecessor, length_of}
+use Rattle.craq_model.specs.Plain.{Plain, successor, predecessor, length_of, acknowledging}
 use Rattle.craq_model.specs.Sends.{send, to_neighbour}
 use Rattle.craq_model.specs.Settle.{Turn, turn_ignoring, update_given, answer_outs}
 use Rattle.craq_model.specs.Spelled.{IsReply}
@@ -15,8 +15,8 @@ use Rattle.craq_node_invariant.proofs.Lists.{all_append, all_filter}
 use Rattle.craq_node_invariant.proofs.Sends.{IsSpelledIfFitting, Speaks, ack_sent}
 use Rattle.craq_node_invariant.proofs.Settling.{IsSoundTurn, ignoring, updates_given, answers_spelled}
 
-heard_is : (p : Plain) (position : ℕ) → IsSound p → p.ready ≡ true → p.acknowledged < position → position ≤ length_of p
-    → IsSound (record p { acknowledged = position; waiting_updates = later_updates position p.waiting_updates })
+heard_is : (p : Plain) (position : ℕ) → IsSound p → p.ready ≡ true → p.past.acknowledged < position → position ≤ length_of p
+    → IsSound (record (acknowledging p position) { waiting_updates = later_updates position p.waiting_updates })
 unfolding later_updates
 heard_is p position s r above below = record {
   own = s.own;
@@ -30,11 +30,13 @@ heard_is p position s r above below = record {
   within = below;
   state = s.state;
   entries = s.entries;
+  placed = s.placed;
+  gathering = s.gathering;
   replies = all_filter (λ (u : WaitingUpdate). IsReply u.reply) (λ (u : WaitingUpdate). nat_lt position u.position) p.waiting_updates s.replies;
   tickets = s.tickets;
 }
 
-acknowledgement_is : (p : Plain) (position : ℕ) → IsSound p → Speaks p → p.ready ≡ true → p.acknowledged < position → position ≤ length_of p → IsSoundTurn (acknowledgement_turn p position)
+acknowledgement_is : (p : Plain) (position : ℕ) → IsSound p → Speaks p → p.ready ≡ true → p.past.acknowledged < position → position ≤ length_of p → IsSoundTurn (acknowledgement_turn p position)
 unfolding acknowledgement_turn due_updates
 acknowledgement_is p position s w r above below = (
   heard_is p position s r above below,
@@ -50,10 +52,10 @@ unfolding ack_turn
 ack_is p sender position s w =
     let last : Turn = acknowledgement_turn p position in
     let third : Turn = cond (nat_lt (length_of p) position) (turn_ignoring p TooFar) last in
-    let second : Turn = cond (nat_le position p.acknowledged) (turn_ignoring p AlreadyHave) third in
+    let second : Turn = cond (nat_le position p.past.acknowledged) (turn_ignoring p AlreadyHave) third in
     let first : Turn = cond (not p.ready) (turn_ignoring p NotReadyHere) second in
     cond_both (not (is_id (successor p) sender)) (turn_ignoring p NotNeighbour) first (λ (t : Turn). IsSoundTurn t) (λ a. ignoring p NotNeighbour s)
     (λ a. cond_both (not p.ready) (turn_ignoring p NotReadyHere) second (λ (t : Turn). IsSoundTurn t) (λ b. ignoring p NotReadyHere s)
-    (λ b. cond_both (nat_le position p.acknowledged) (turn_ignoring p AlreadyHave) third (λ (t : Turn). IsSoundTurn t) (λ d. ignoring p AlreadyHave s)
+    (λ b. cond_both (nat_le position p.past.acknowledged) (turn_ignoring p AlreadyHave) third (λ (t : Turn). IsSoundTurn t) (λ d. ignoring p AlreadyHave s)
     (λ d. cond_both (nat_lt (length_of p) position) (turn_ignoring p TooFar) last (λ (t : Turn). IsSoundTurn t) (λ g. ignoring p TooFar s)
-    (λ g. acknowledgement_is p position s w (not-false p.ready b) (leb-false position p.acknowledged d) (ltb-false (length_of p) position g)))))
+    (λ g. acknowledgement_is p position s w (not-false p.ready b) (leb-false position p.past.acknowledged d) (ltb-false (length_of p) position g)))))

@@ -41,6 +41,8 @@ waits p r s ready h = record {
   within = s.within;
   state = s.state;
   entries = s.entries;
+  placed = s.placed;
+  gathering = s.gathering;
   replies = s.replies;
   tickets = all_append (λ (r : WaitingRead). 1 ≤ r.ticket) p.waiting_reads (r ∷ []) s.tickets (h, tt);
 }

@@ -11,7 +11,7 @@ use Rattle.craq_node_invariant.specs.Sound.{IsSound}
 use Rattle.craq_node_invariant.proofs.Lists.{all_like}
 use Rattle.craq_node_invariant.proofs.Settling.{IsSoundTurn, ignoring, settling_is}
 
-adopted_is : (p : Plain) (epoch : ℕ) (members : List ℕ) → IsSound p → 1 ≤ epoch → IsMembership members → IsSound (record p { epoch = epoch; members = members; floor = None })
+adopted_is : (p : Plain) (epoch : ℕ) (members : List ℕ) → IsSound p → 1 ≤ epoch → IsMembership members → IsSound (record p { epoch = epoch; members = members; floor = None; gathering = None })
 adopted_is p epoch members s h m = record {
   own = s.own;
   ids = all_like (λ (id : ℕ). (1 ≤ id) × (id ≤ greatest_count)) (λ (id : ℕ). 1 ≤ id) members (λ id a. a.0) m.ids;
@@ -24,6 +24,8 @@ adopted_is p epoch members s h m = record {
   within = s.within;
   state = s.state;
   entries = s.entries;
+  placed = s.placed;
+  gathering = tt;
   replies = s.replies;
   tickets = s.tickets;
 }
@@ -31,7 +33,7 @@ adopted_is p epoch members s h m = record {
 pub config_is : (p : Plain) (epoch : ℕ) (members : List ℕ) → IsSound p → 1 ≤ epoch → IsMembership members → IsSoundTurn (config_turn p epoch members)
 unfolding config_turn
 config_is p epoch members s h m =
-    let q : Plain = record p { epoch = epoch; members = members; floor = None } in
+    let q : Plain = record p { epoch = epoch; members = members; floor = None; gathering = None } in
     cond_both (nat_le epoch p.epoch) (turn_ignoring p OtherEpoch) (cond (not (is_member members (id_of p))) (turn_ignoring p NotNeighbour) (settling_turn q)) (λ (t : Turn). IsSoundTurn t)
     (λ a. ignoring p OtherEpoch s)
     (λ a. cond_both (not (is_member members (id_of p))) (turn_ignoring p NotNeighbour) (settling_turn q) (λ (t : Turn). IsSoundTurn t)

@@ -1,16 +1,21 @@
 -- A sound node fills its successor, or is filled itself.
-use Rattle.std.proofs.Common.{◌≤◌, ℕ, nat_le, nat_lt, max, not, Bool, ◌||◌, cond, List, [], Some, arith}
-use Rattle.std.proofs.lemmas.Bool.{cond_both, ltb-true}
+use Rattle.std.proofs.Common.{◌≤◌, ℕ, nat_le, nat_lt, max, not, Bool, ◌==◌, ◌||◌, cond, List, [], Option, Some, None, is_some, arith}
+use Rattle.std.proofs.lemmas.Bool.{cond_both, ltb-true, not-false}
 use Rattle.std.specs.List.{AllByRecursion}
-use Rattle.craq_commands.specs.SingleCopy.{State}
+use Rattle.craq_commands.specs.declared.state.State.{State}
 use Rattle.craq_model.specs.declared.message.Body.{Body}
-use Rattle.craq_model.specs.declared.step.Why.TheVariants.{NotNeighbour, NotReadyHere, AlreadyHave}
-use Rattle.craq_model.specs.Deliveries.{fill_bodies, blank_turn, with_copy, copy_turn, floor_turn}
+use Rattle.craq_model.specs.declared.step.Why.TheVariants.{NotNeighbour, NotReadyHere, AlreadyHave, TooFar}
+use Rattle.craq_model.specs.declared.gathering.Gathering.{Gathering}
+use Rattle.craq_model.specs.declared.message.StatePart.{StatePart}
+use Rattle.craq_names.specs.Maps.{at_number}
+use Rattle.craq_model.specs.Parts.{new_gathering, gathering_for, is_in_order, with_part, is_whole, joined_state}
+use Rattle.craq_model.specs.Deliveries.{fill_bodies, blank_turn, with_copy, copy_turn, gathered_turn, gathering_turn, is_outdated, part_turn, floor_turn}
 use Rattle.craq_model.specs.Members.{is_id}
 use Rattle.craq_model.specs.Plain.{Plain, successor, predecessor, length_of, clean}
 use Rattle.craq_model.specs.Sends.{send_all, copy_bodies, catch_up}
 use Rattle.craq_model.specs.Settle.{Turn, turn_with, turn_ignoring, readiness_turn}
-use Rattle.craq_node_invariant.specs.Sound.{IsSoundState, IsSound}
+use Rattle.craq_node_invariant.specs.Sound.{IsSoundState, IsSoundGathering, IsSoundIfAny, IsSound}
+use Rattle.craq_node_invariant.proofs.Gathered.{gathered_is}
 use Rattle.craq_node_invariant.proofs.Lists.{all_append}
 use Rattle.craq_node_invariant.proofs.Sends.{IsSayable, Speaks, all_sent, copy_sayable, catch_up_sayable}
 use Rattle.craq_node_invariant.proofs.Settling.{IsSoundTurn, ignoring, readiness_is}
@@ -19,12 +24,12 @@ use Rattle.craq_node_invariant.proofs.States.{clean_is}
 fill_sayable : (p : Plain) (count : ℕ) → IsSound p → AllByRecursion IsSayable (fill_bodies p count)
 unfolding fill_bodies
 fill_sayable p count s =
-    let copies : List Body = copy_bodies p.acknowledged (clean p) in
-    all_append IsSayable (cond (nat_lt count p.acknowledged) copies []) (catch_up p (max count p.acknowledged))
-    (cond_both (nat_lt count p.acknowledged) copies [] (λ (bs : List Body). AllByRecursion IsSayable bs)
-    (λ e. let below : _ = ltb-true count p.acknowledged e in copy_sayable p.acknowledged (clean p) (omega (arith, below)) (clean_is p s))
+    let copies : List Body = copy_bodies p.past.acknowledged (clean p) in
+    all_append IsSayable (cond (nat_lt count p.past.acknowledged) copies []) (catch_up p (max count p.past.acknowledged))
+    (cond_both (nat_lt count p.past.acknowledged) copies [] (λ (bs : List Body). AllByRecursion IsSayable bs)
+    (λ e. let below : _ = ltb-true count p.past.acknowledged e in copy_sayable p.past.acknowledged (clean p) (omega (arith, below)) (clean_is p s))
     (λ e. tt))
-    (catch_up_sayable p (max count p.acknowledged) s)
+    (catch_up_sayable p (max count p.past.acknowledged) s)
 
 pub blank_is : (p : Plain) (sender count : ℕ) → IsSound p → Speaks p → 1 ≤ sender → IsSoundTurn (blank_turn p sender count)
 unfolding blank_turn
@@ -49,6 +54,8 @@ with_copy_is p position state s h = record {
   within = omega arith;
   state = h;
   entries = tt;
+  placed = tt;
+  gathering = s.gathering;
   replies = s.replies;
   tickets = s.tickets;
 }
@@ -77,6 +84,8 @@ with_floor_is p count s = record {
   within = s.within;
   state = s.state;
   entries = s.entries;
+  placed = s.placed;
+  gathering = s.gathering;
   replies = s.replies;
   tickets = s.tickets;
 }
@@ -90,3 +99,59 @@ floor_is p sender count s w =
     (λ a. cond_both p.ready (turn_ignoring p AlreadyHave) last (λ (t : Turn). IsSoundTurn t)
     (λ b. ignoring p AlreadyHave s)
     (λ b. readiness_is (record p { floor = Some count }) (with_floor_is p count s) w.1))
+
+-- ---- parts
+
+with_gathering_is : (p : Plain) (g : Gathering) → IsSound p → IsSoundGathering g → IsSound (record p { gathering = Some g })
+with_gathering_is p g s h = record {
+  own = s.own;
+  ids = s.ids;
+  unknown = s.unknown;
+  known = s.known;
+  in_epoch = s.in_epoch;
+  idle_updates = s.idle_updates;
+  idle_reads = s.idle_reads;
+  based = s.based;
+  within = s.within;
+  state = s.state;
+  entries = s.entries;
+  placed = s.placed;
+  gathering = h;
+  replies = s.replies;
+  tickets = s.tickets;
+}
+
+new_is : (part : StatePart) → IsSoundGathering (new_gathering part)
+unfolding joined_state
+new_is part = record { numbers_rise = tt; state = record { versions = tt; windows = tt; keys_rise = tt; clients_rise = tt } }
+
+for_is : (part : StatePart) (o : Option Gathering) → IsSoundIfAny o → IsSoundGathering (gathering_for part o)
+for_is part None h = new_is part
+for_is part (Some g) h = cond_both (nat_lt g.position part.position) (new_gathering part) g (λ (g : Gathering). IsSoundGathering g) (λ e. new_is part) (λ e. h)
+
+gathered_turn_is : (p : Plain) (g : Gathering) → IsSound p → Speaks p → IsSoundGathering g → IsSoundTurn (gathered_turn p g)
+gathered_turn_is p g s w h =
+    cond_both (is_whole g) (readiness_turn (with_copy p g.position (joined_state g.parts))) (turn_with (record p { gathering = Some g }) []) (λ (t : Turn). IsSoundTurn t)
+    (λ e. readiness_is (with_copy p g.position (joined_state g.parts)) (with_copy_is p g.position (joined_state g.parts) s h.state) w.1)
+    (λ e. (with_gathering_is p g s h, tt))
+
+gathering_is : (p : Plain) (g : Gathering) (part : StatePart) → IsSound p → Speaks p → IsSoundGathering g → IsSoundState part.state → IsSoundTurn (gathering_turn p g part)
+gathering_is p g part s w h i =
+    let last : Turn = gathered_turn p (with_part g part) in
+    let third : Turn = cond (not (is_in_order g part)) (turn_ignoring p TooFar) last in
+    let second : Turn = cond (is_some (at_number g.parts part.number)) (turn_ignoring p AlreadyHave) third in
+    cond_both (not (part.count == g.count)) (turn_ignoring p TooFar) second (λ (t : Turn). IsSoundTurn t) (λ a. ignoring p TooFar s)
+    (λ a. cond_both (is_some (at_number g.parts part.number)) (turn_ignoring p AlreadyHave) third (λ (t : Turn). IsSoundTurn t) (λ b. ignoring p AlreadyHave s)
+    (λ b. cond_both (not (is_in_order g part)) (turn_ignoring p TooFar) last (λ (t : Turn). IsSoundTurn t) (λ d. ignoring p TooFar s)
+    (λ d. gathered_turn_is p (with_part g part) s w (gathered_is g part h i b (not-false (is_in_order g part) d)))))
+
+pub part_is : (p : Plain) (sender : ℕ) (part : StatePart) → IsSound p → Speaks p → IsSoundState part.state → IsSoundTurn (part_turn p sender part)
+unfolding part_turn
+part_is p sender part s w i =
+    let last : Turn = gathering_turn p (gathering_for part p.gathering) part in
+    let had : Bool = p.ready || is_outdated p part in
+    cond_both (not (is_id (predecessor p) sender)) (turn_ignoring p NotNeighbour) (cond had (turn_ignoring p AlreadyHave) last) (λ (t : Turn). IsSoundTurn t)
+    (λ a. ignoring p NotNeighbour s)
+    (λ a. cond_both had (turn_ignoring p AlreadyHave) last (λ (t : Turn). IsSoundTurn t)
+    (λ b. ignoring p AlreadyHave s)
+    (λ b. gathering_is p (gathering_for part p.gathering) part s w (for_is part p.gathering s.gathering) i))

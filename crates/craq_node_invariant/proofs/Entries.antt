@@ -1,24 +1,32 @@
--- A sound node takes an entry that can be spelled.
-use Rattle.std.proofs.Common.{ℕ, ◌+◌, nat_le, nat_lt, not, cond, [], ◌∷◌, arith, length-append}
-use Rattle.std.proofs.lemmas.Bool.{cond_both}
+-- A sound node takes entries that can be spelled.
+use Rattle.std.proofs.Common.{◌≡◌, ℕ, ◌+◌, nat_le, nat_lt, not, cond, List, [], ◌∷◌, length, subst, arith, length-append}
+use Rattle.std.proofs.lemmas.Bool.{cond_both, ltb-false}
+use Rattle.std.specs.List.{AllByRecursion}
 use Rattle.craq_commands.specs.declared.entry.Entry.{Entry}
 use Rattle.craq_model.specs.declared.message.Body.TheVariants as bodies
 use Rattle.craq_model.specs.declared.step.Why.TheVariants.{NotNeighbour, AlreadyHave, OutOfOrder, TooFar}
-use Rattle.craq_model.specs.Asks.{with_entry}
-use Rattle.craq_model.specs.Deliveries.{is_applicable, forwarding_turn, taken_entry_turn, entry_turn}
+use Rattle.craq_model.specs.Deliveries.{are_applicable, forwarding_turn, taken_entries_turn, appending_turn, first_position, final_position, entries_above, entries_turn}
 use Rattle.craq_model.specs.Members.{is_id}
-use Rattle.craq_model.specs.Plain.{Plain, id_of, successor, predecessor, is_tail, length_of, newest}
+use Rattle.craq_model.specs.Plain.{Plain, id_of, successor, predecessor, is_tail, length_of, newest, with_entries, acknowledging}
 use Rattle.craq_model.specs.Sends.{send, send_all, to_neighbour, entry_bodies}
 use Rattle.craq_model.specs.Settle.{Turn, turn_with, turn_ignoring, readiness_turn}
-use Rattle.craq_model.specs.Spelled.{IsSpelledEntry}
-use Rattle.craq_node_invariant.specs.Sound.{IsSound}
-use Rattle.craq_node_invariant.proofs.Lists.{all_append}
+use Rattle.craq_model.specs.Spelled.{IsSpelledEntry, IsConsecutive}
+use Rattle.craq_node_invariant.specs.Sound.{AreInRow, IsSound}
+use Rattle.craq_node_invariant.proofs.Lists.{all_append, all_filter}
 use Rattle.craq_node_invariant.proofs.Neighbours.{successor_is}
+use Rattle.craq_node_invariant.proofs.Rows.{row_append, above_in_row}
 use Rattle.craq_node_invariant.proofs.Sends.{AreSpelledIfFitting, Speaks, all_sent, entries_sayable, neighbour_sent, ack_sent}
 use Rattle.craq_node_invariant.proofs.Settling.{IsSoundTurn, ignoring, committed_is, readiness_is}
 
-pub with_entry_is : (p : Plain) (e : Entry) → IsSound p → IsSpelledEntry e → IsSound (with_entry p e)
-with_entry_is p e s h = record {
+abbrev pub AreSpelledEntries : List Entry → Type 0
+AreSpelledEntries es = AllByRecursion IsSpelledEntry es
+
+next_place : (base count : ℕ) → base + count + 1 ≡ base + 1 + count
+next_place base count = omega arith
+
+-- the node with the entries that follow its own
+pub with_entries_is : (p : Plain) (es : List Entry) → IsSound p → AreSpelledEntries es → AreInRow (length_of p + 1) es → IsSound (with_entries p es)
+with_entries_is p es s h r = record {
   own = s.own;
   ids = s.ids;
   unknown = s.unknown;
@@ -27,39 +35,46 @@ with_entry_is p e s h = record {
   idle_updates = s.idle_updates;
   idle_reads = s.idle_reads;
   based = s.based;
-  within = omega (arith, s.within, length-append p.entries (e ∷ []));
+  within = omega (arith, s.within, length-append p.past.entries es);
   state = s.state;
-  entries = all_append IsSpelledEntry p.entries (e ∷ []) s.entries (h, tt);
+  entries = all_append IsSpelledEntry p.past.entries es s.entries h;
+  placed = row_append (p.past.base + 1) p.past.entries es s.placed (subst (λ (n : ℕ). AreInRow n es) (next_place p.past.base (length p.past.entries)) r);
+  gathering = s.gathering;
   replies = s.replies;
   tickets = s.tickets;
 }
 
--- an entry goes to the successor
-pub entry_sent : (p : Plain) (e : Entry) → IsSound p → Speaks p → IsSpelledEntry e → AreSpelledIfFitting (to_neighbour (successor p) (λ to. send_all p to (entry_bodies (e ∷ []))))
-entry_sent p e s w h =
-    neighbour_sent (successor p) (λ to. send_all p to (entry_bodies (e ∷ []))) (successor_is p.members (id_of p) s.ids)
-    (λ to t. all_sent p to (entry_bodies (e ∷ [])) w t (entries_sayable (e ∷ []) (h, tt)))
+-- entries in a row go to the successor
+pub entries_sent : (p : Plain) (es : List Entry) (n : ℕ) → IsSound p → Speaks p → AreSpelledEntries es → AreInRow n es → AreSpelledIfFitting (to_neighbour (successor p) (λ to. send_all p to (entry_bodies es)))
+entries_sent p es n s w h r =
+    neighbour_sent (successor p) (λ to. send_all p to (entry_bodies es)) (successor_is p.members (id_of p) s.ids)
+    (λ to t. all_sent p to (entry_bodies es) w t (entries_sayable n es h r))
 
-forwarding_is : (p : Plain) (e : Entry) → IsSound p → Speaks p → IsSpelledEntry e → IsSoundTurn (forwarding_turn p e)
+forwarding_is : (p : Plain) (es : List Entry) (n : ℕ) → IsSound p → Speaks p → AreSpelledEntries es → AreInRow n es → IsSoundTurn (forwarding_turn p es)
 unfolding forwarding_turn
-forwarding_is p e s w h =
-    cond_both (is_tail p) (turn_with (record p { acknowledged = length_of p }) (to_neighbour (predecessor p) (λ to. send p to (bodies.Ack (length_of p)) ∷ [])))
-    (turn_with p (to_neighbour (successor p) (λ to. send_all p to (entry_bodies (e ∷ []))))) (λ (t : Turn). IsSoundTurn t)
+forwarding_is p es n s w h r =
+    cond_both (is_tail p) (turn_with (acknowledging p (length_of p)) (to_neighbour (predecessor p) (λ to. send p to (bodies.Ack (length_of p)) ∷ [])))
+    (turn_with p (to_neighbour (successor p) (λ to. send_all p to (entry_bodies es)))) (λ (t : Turn). IsSoundTurn t)
     (λ t. (committed_is p s, ack_sent p (length_of p) s w))
-    (λ t. (s, entry_sent p e s w h))
+    (λ t. (s, entries_sent p es n s w h r))
 
-taken_is : (p : Plain) (e : Entry) → IsSound p → Speaks p → IsSpelledEntry e → IsSoundTurn (taken_entry_turn p e)
-taken_is p e s w h = cond_both p.ready (forwarding_turn p e) (readiness_turn p) (λ (t : Turn). IsSoundTurn t) (λ r. forwarding_is p e s w h) (λ r. readiness_is p s w.1)
+taken_is : (p : Plain) (es : List Entry) (n : ℕ) → IsSound p → Speaks p → AreSpelledEntries es → AreInRow n es → IsSoundTurn (taken_entries_turn p es)
+taken_is p es n s w h r = cond_both p.ready (forwarding_turn p es) (readiness_turn p) (λ (t : Turn). IsSoundTurn t) (λ e. forwarding_is p es n s w h r) (λ e. readiness_is p s w.1)
 
-pub entry_is : (p : Plain) (sender : ℕ) (e : Entry) → IsSound p → Speaks p → IsSpelledEntry e → IsSoundTurn (entry_turn p sender e)
-unfolding entry_turn
-entry_is p sender e s w h =
-    let last : Turn = taken_entry_turn (with_entry p e) e in
-    let third : Turn = cond (not (is_applicable (newest p) e)) (turn_ignoring p TooFar) last in
-    let second : Turn = cond (nat_lt (length_of p + 1) e.position) (turn_ignoring p OutOfOrder) third in
-    let first : Turn = cond (nat_le e.position (length_of p)) (turn_ignoring p AlreadyHave) second in
+appending_is : (p : Plain) (es : List Entry) → IsSound p → Speaks p → AreSpelledEntries es → AreInRow (length_of p + 1) es → IsSoundTurn (appending_turn p es)
+appending_is p es s w h r =
+    cond_both (are_applicable (newest p) es) (taken_entries_turn (with_entries p es) es) (turn_ignoring p TooFar) (λ (t : Turn). IsSoundTurn t)
+    (λ g. taken_is (with_entries p es) es (length_of p + 1) (with_entries_is p es s h r) w h r)
+    (λ g. ignoring p TooFar s)
+
+pub entries_are : (p : Plain) (sender : ℕ) (es : List Entry) → IsSound p → Speaks p → AreSpelledEntries es → IsConsecutive es → IsSoundTurn (entries_turn p sender es)
+unfolding entries_turn entries_above
+entries_are p sender es s w h c =
+    let last : Turn = appending_turn p (entries_above (length_of p) es) in
+    let second : Turn = cond (nat_lt (length_of p + 1) (first_position es)) (turn_ignoring p OutOfOrder) last in
+    let first : Turn = cond (nat_le (final_position es) (length_of p)) (turn_ignoring p AlreadyHave) second in
     cond_both (not (is_id (predecessor p) sender)) (turn_ignoring p NotNeighbour) first (λ (t : Turn). IsSoundTurn t) (λ a. ignoring p NotNeighbour s)
-    (λ a. cond_both (nat_le e.position (length_of p)) (turn_ignoring p AlreadyHave) second (λ (t : Turn). IsSoundTurn t) (λ b. ignoring p AlreadyHave s)
-    (λ b. cond_both (nat_lt (length_of p + 1) e.position) (turn_ignoring p OutOfOrder) third (λ (t : Turn). IsSoundTurn t) (λ d. ignoring p OutOfOrder s)
-    (λ d. cond_both (not (is_applicable (newest p) e)) (turn_ignoring p TooFar) last (λ (t : Turn). IsSoundTurn t) (λ g. ignoring p TooFar s)
-    (λ g. taken_is (with_entry p e) e (with_entry_is p e s h) w h))))
+    (λ a. cond_both (nat_le (final_position es) (length_of p)) (turn_ignoring p AlreadyHave) second (λ (t : Turn). IsSoundTurn t) (λ b. ignoring p AlreadyHave s)
+    (λ b. cond_both (nat_lt (length_of p + 1) (first_position es)) (turn_ignoring p OutOfOrder) last (λ (t : Turn). IsSoundTurn t) (λ d. ignoring p OutOfOrder s)
+    (λ d. appending_is p (entries_above (length_of p) es) s w (all_filter IsSpelledEntry (λ (e : Entry). nat_lt (length_of p) e.position) es h)
+    (above_in_row (length_of p) es c (ltb-false (length_of p + 1) (first_position es) d)))))

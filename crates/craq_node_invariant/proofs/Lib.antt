@@ -9,7 +9,11 @@ pub mod Neighbours
 pub mod Objects
 pub mod Openings
 pub mod Queries
+pub mod Gathered
+pub mod Rows
 pub mod Sends
+pub mod Shares
+pub mod Sorted
 pub mod Settling
 pub mod Stamps
 pub mod States

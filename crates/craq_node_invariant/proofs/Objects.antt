@@ -5,7 +5,8 @@ use Rattle.std.specs.List.{AllByRecursion}
 use Rattle.craq_names.specs.Maps.{same_bytes}
 use Rattle.craq_commands.specs.declared.entry.Entry.{Entry}
 use Rattle.craq_commands.specs.declared.entry.Write.{Write}
-use Rattle.craq_model.specs.Plain.{Plain, newest, clean, newest_object, clean_object, object_within, values_in, values_after, newest_within, entries_after}
+use Rattle.craq_model.specs.Past.{values_in, values_after, newest_within}
+use Rattle.craq_model.specs.Plain.{Plain, newest, clean, newest_object, clean_object, object_within, entries_after}
 use Rattle.craq_model.specs.Spelled.{IsObjectRead, IsSpelledEntry}
 use Rattle.craq_node_invariant.specs.Sound.{IsSound}
 use Rattle.craq_node_invariant.proofs.Lists.{all_append, all_drop}
@@ -40,7 +41,7 @@ clean_read : (p : Plain) (key : List ℕ) → IsSound p → IsObjectRead (clean_
 clean_read p key s = object_is_read (clean p).objects key (clean_is p s).versions
 
 pub bounded_read : (p : Plain) (key : List ℕ) (bound : ℕ) → IsSound p → IsObjectRead (object_within p key bound)
-unfolding entries_after
+unfolding clean entries_after
 bounded_read p key bound s =
-    within_read bound (clean_object p key) (values_after (entries_after p p.acknowledged) key) (clean_read p key s)
-    (values_after_read (entries_after p p.acknowledged) key (all_drop IsSpelledEntry (p.acknowledged - p.base) p.entries s.entries))
+    within_read bound (clean_object p key) (values_after (entries_after p p.past.acknowledged) key) (clean_read p key s)
+    (values_after_read (entries_after p p.past.acknowledged) key (all_drop IsSpelledEntry (p.past.acknowledged - p.past.base) p.past.entries s.entries))

@@ -9,7 +9,7 @@ use Rattle.craq_node_invariant.specs.Sound.{IsSoundState, IsSound}
 use Rattle.craq_node_invariant.proofs.Lists.{all_like}
 
 opening_state_is : IsSoundState opening_state
-opening_state_is = record { versions = tt; replies = tt; keys_rise = tt; clients_rise = tt }
+opening_state_is = record { versions = tt; windows = tt; keys_rise = tt; clients_rise = tt }
 
 pub member_is_sound : (name : NodeName) (members : List ℕ) → 1 ≤ name.node → IsMembership members → IsSound (opening_member name members)
 member_is_sound name members own m = record {
@@ -24,6 +24,8 @@ member_is_sound name members own m = record {
   within = omega arith;
   state = opening_state_is;
   entries = tt;
+  placed = tt;
+  gathering = tt;
   replies = tt;
   tickets = tt;
 }
@@ -41,6 +43,8 @@ joined_is_sound name own = record {
   within = omega arith;
   state = opening_state_is;
   entries = tt;
+  placed = tt;
+  gathering = tt;
   replies = tt;
   tickets = tt;
 }

@@ -1,22 +1,24 @@
 -- Soundness is a fact: it has one proof at most. A node's type keeps it, which asks for that.
-use Rattle.std.proofs.Common.{◌≡◌, ◌≤◌, ℕ, true, false, T, List, [], length, map}
-use Rattle.std.specs.List.{AllByRecursion, AllByRecursion-prop, IsDistinct}
+use Rattle.std.proofs.Common.{◌≡◌, ◌≤◌, ℕ, ◌+◌, true, false, T, List, [], ◌∷◌, length, map, Option, Some, None}
+use Rattle.std.specs.List.{AllByRecursion, IsDistinct}
 use Rattle.std.specs.Ordering.{nat_cmp}
 use Rattle.std.specs.FinMap.Entries.{is_sorted}
 use Rattle.std.proofs.Props.{props}
-use Rattle.craq_names.specs.Limits.{item_limit}
+use Rattle.craq_names.specs.Limits.{item_limit, window_limit}
 use Rattle.craq_names.specs.Maps.{same_bytes, key_cmp}
 use Rattle.craq_commands.specs.declared.entry.Entry.{Entry}
 use Rattle.craq_commands.specs.declared.entry.Write.{Write}
 use Rattle.craq_commands.specs.declared.reply.Reply.{Reply}
 use Rattle.craq_commands.specs.declared.reply.Reply.TheVariants.{Written, Mismatch, TooLong, NotANumber, Overflow, Underflow, Done, CompareFailed, Stale}
-use Rattle.craq_commands.specs.Kept.{Kept}
-use Rattle.craq_commands.specs.SingleCopy.{State}
+use Rattle.craq_commands.specs.Kept.{Kept, Window}
+use Rattle.craq_model.specs.declared.gathering.Gathering.{Gathering}
+use Rattle.craq_model.specs.Parts.{joined_state}
+use Rattle.craq_commands.specs.declared.state.State.{State}
 use Rattle.craq_model.specs.declared.waiting.WaitingRead.{WaitingRead}
 use Rattle.craq_model.specs.declared.waiting.WaitingUpdate.{WaitingUpdate}
 use Rattle.craq_model.specs.Plain.{Plain, id_of, length_of}
-use Rattle.craq_model.specs.Spelled.{IsObjectRead, IsReply, IsNotStale, IsSpelledEntry}
-use Rattle.craq_node_invariant.specs.Sound.{IsSound, IsSoundState}
+use Rattle.craq_model.specs.Spelled.{IsObjectRead, IsReply, IsNotStale, IsSpelledEntry, IsSpelledWindow}
+use Rattle.craq_node_invariant.specs.Sound.{AreInRow, IsSound, IsSoundGathering, IsSoundIfAny, IsSoundState}
 
 IsObjectRead-prop : (o : ℕ × List ℕ) → IsProp (IsObjectRead o)
 IsObjectRead-prop o = hlevel props
@@ -62,18 +64,39 @@ IsSpelledEntry-prop e x y =
       once = once x.once y.once i;
     }
 
+IsSpelledWindow-prop : (w : Window) → IsProp (IsSpelledWindow w)
+IsSpelledWindow-prop w x y =
+    let some : IsProp (1 ≤ length w) = hlevel props in
+    let few : IsProp (length w ≤ window_limit) = hlevel props in
+    let replies : IsProp (AllByRecursion (λ (k : Kept). IsReply k.1 × IsNotStale k.1) w) = hlevel (props, IsReply-prop, IsNotStale-prop) in
+    let numbers_rise : IsProp (T (is_sorted nat_cmp w)) = hlevel props in
+    λ i. record { some = some x.some y.some i; few = few x.few y.few i; replies = replies x.replies y.replies i; numbers_rise = numbers_rise x.numbers_rise y.numbers_rise i }
+
 IsSoundState-prop : (s : State) → IsProp (IsSoundState s)
 IsSoundState-prop s x y =
     let versions : IsProp (AllByRecursion (λ (o : List ℕ × (ℕ × List ℕ)). 1 ≤ o.1.0) s.objects) = hlevel props in
-    let replies : IsProp (AllByRecursion (λ (k : ℕ × Kept). IsReply k.1.1 × IsNotStale k.1.1) s.kept) = hlevel (props, IsReply-prop, IsNotStale-prop) in
+    let windows : IsProp (AllByRecursion (λ (k : ℕ × Window). IsSpelledWindow k.1) s.kept) = hlevel (props, IsSpelledWindow-prop) in
     let keys_rise : IsProp (T (is_sorted key_cmp s.objects)) = hlevel props in
     let clients_rise : IsProp (T (is_sorted nat_cmp s.kept)) = hlevel props in
     λ i. record {
       versions = versions x.versions y.versions i;
-      replies = replies x.replies y.replies i;
+      windows = windows x.windows y.windows i;
       keys_rise = keys_rise x.keys_rise y.keys_rise i;
       clients_rise = clients_rise x.clients_rise y.clients_rise i;
     }
+
+AreInRow-prop : (n : ℕ) (es : List Entry) → IsProp (AreInRow n es)
+AreInRow-prop n [] = hlevel props
+AreInRow-prop n (e ∷ es) = hlevel (props, AreInRow-prop (n + 1) es)
+
+IsSoundGathering-prop : (g : Gathering) → IsProp (IsSoundGathering g)
+IsSoundGathering-prop g x y =
+    let numbers_rise : IsProp (T (is_sorted nat_cmp g.parts)) = hlevel props in
+    λ i. record { numbers_rise = numbers_rise x.numbers_rise y.numbers_rise i; state = IsSoundState-prop (joined_state g.parts) x.state y.state i }
+
+IsSoundIfAny-prop : (o : Option Gathering) → IsProp (IsSoundIfAny o)
+IsSoundIfAny-prop None = hlevel props
+IsSoundIfAny-prop (Some g) = IsSoundGathering-prop g
 
 pub IsSound-prop : (p : Plain) → IsProp (IsSound p)
 IsSound-prop p x y =
@@ -84,9 +107,9 @@ IsSound-prop p x y =
     let in_epoch : IsProp (p.ready ≡ true → 1 ≤ p.epoch) = hlevel props in
     let idle_updates : IsProp (p.ready ≡ false → p.waiting_updates ≡ []) = hlevel props in
     let idle_reads : IsProp (p.ready ≡ false → p.waiting_reads ≡ []) = hlevel props in
-    let based : IsProp (p.base ≤ p.acknowledged) = hlevel props in
-    let within : IsProp (p.acknowledged ≤ length_of p) = hlevel props in
-    let entries : IsProp (AllByRecursion IsSpelledEntry p.entries) = hlevel (props, IsSpelledEntry-prop) in
+    let based : IsProp (p.past.base ≤ p.past.acknowledged) = hlevel props in
+    let within : IsProp (p.past.acknowledged ≤ length_of p) = hlevel props in
+    let entries : IsProp (AllByRecursion IsSpelledEntry p.past.entries) = hlevel (props, IsSpelledEntry-prop) in
     let replies : IsProp (AllByRecursion (λ (u : WaitingUpdate). IsReply u.reply) p.waiting_updates) = hlevel (props, IsReply-prop) in
     let tickets : IsProp (AllByRecursion (λ (r : WaitingRead). 1 ≤ r.ticket) p.waiting_reads) = hlevel props in
     λ i. record {
@@ -99,8 +122,10 @@ IsSound-prop p x y =
       idle_reads = idle_reads x.idle_reads y.idle_reads i;
       based = based x.based y.based i;
       within = within x.within y.within i;
-      state = IsSoundState-prop p.base_state x.state y.state i;
+      state = IsSoundState-prop p.past.base_state x.state y.state i;
       entries = entries x.entries y.entries i;
+      placed = AreInRow-prop (p.past.base + 1) p.past.entries x.placed y.placed i;
+      gathering = IsSoundIfAny-prop p.gathering x.gathering y.gathering i;
       replies = replies x.replies y.replies i;
       tickets = tickets x.tickets y.tickets i;
     }

@@ -41,6 +41,8 @@ answered_is p ticket s = record {
   within = s.within;
   state = s.state;
   entries = s.entries;
+  placed = s.placed;
+  gathering = s.gathering;
   replies = s.replies;
   tickets = all_filter (λ (r : WaitingRead). 1 ≤ r.ticket) (λ (r : WaitingRead). not (r.ticket == ticket)) p.waiting_reads s.tickets;
 }

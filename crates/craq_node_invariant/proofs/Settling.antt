@@ -1,13 +1,14 @@
 -- A sound node that settles in a membership, or becomes ready, is sound.
-use Rattle.std.proofs.Common.{◌≤◌, true, not, ◌&&◌, nat_lt, List, [], ◌∷◌, ◌++◌, map, refl, arith}
+use Rattle.std.proofs.Common.{◌≤◌, true, not, ◌&&◌, nat_lt, nat_le, None, List, [], ◌∷◌, ◌++◌, map, refl, arith}
 use Rattle.std.proofs.lemmas.Bool.{cond_both}
 use Rattle.std.specs.List.{AllByRecursion}
 use Rattle.craq_model.specs.declared.step.Why.{Why}
 use Rattle.craq_model.specs.declared.waiting.WaitingRead.{WaitingRead}
 use Rattle.craq_model.specs.declared.waiting.WaitingUpdate.{WaitingUpdate}
-use Rattle.craq_model.specs.Plain.{Plain, is_tail, length_of}
+use Rattle.craq_model.specs.Plain.{Plain, is_tail, length_of, acknowledging}
 use Rattle.craq_model.specs.Sends.{tick_sends}
-use Rattle.craq_model.specs.Settle.{Turn, turn_with, turn_ignoring, Given, update_given, read_given, insert_given, by_ticket, answer_outs, all_given, all_committed, settling_turn, is_reached, readiness_turn}
+use Rattle.craq_model.specs.Parts.{gathered_position}
+use Rattle.craq_model.specs.Settle.{Turn, turn_with, turn_ignoring, Given, update_given, read_given, insert_given, by_ticket, answer_outs, all_given, all_committed, settling_turn, is_reached, without_reached, readiness_turn}
 use Rattle.craq_model.specs.Spelled.{IsReply}
 use Rattle.craq_node_invariant.specs.Sound.{IsSound, IsSpelledAnswer}
 use Rattle.craq_node_invariant.proofs.Lists.{all_append, all_map, each}
@@ -55,7 +56,7 @@ answers_spelled (g ∷ gs) a = (λ f. a.0, answers_spelled gs a.1)
 
 -- ---- the node
 
-pub committed_is : (p : Plain) → IsSound p → IsSound (record p { acknowledged = length_of p })
+pub committed_is : (p : Plain) → IsSound p → IsSound (acknowledging p (length_of p))
 committed_is p s = record {
   own = s.own;
   ids = s.ids;
@@ -68,6 +69,8 @@ committed_is p s = record {
   within = omega arith;
   state = s.state;
   entries = s.entries;
+  placed = s.placed;
+  gathering = s.gathering;
   replies = s.replies;
   tickets = s.tickets;
 }
@@ -85,6 +88,8 @@ all_committed_is p s = record {
   within = omega arith;
   state = s.state;
   entries = s.entries;
+  placed = s.placed;
+  gathering = s.gathering;
   replies = tt;
   tickets = tt;
 }
@@ -98,7 +103,7 @@ settling_is p s =
     (λ e. (t, all_append IsSpelledIfFitting (answer_outs (all_given p)) (tick_sends q) (answers_spelled (all_given p) (all_are_given p s)) (tick_sent q t)))
     (λ e. (s, tick_sent p s))
 
-ready_is : (p : Plain) → IsSound p → 1 ≤ p.epoch → IsSound (record p { ready = true })
+ready_is : (p : Plain) → IsSound p → 1 ≤ p.epoch → IsSound (record p { ready = true; gathering = None })
 ready_is p s h = record {
   own = s.own;
   ids = s.ids;
@@ -111,14 +116,41 @@ ready_is p s h = record {
   within = s.within;
   state = s.state;
   entries = s.entries;
+  placed = s.placed;
+  gathering = tt;
   replies = s.replies;
   tickets = s.tickets;
 }
+
+-- the node without what it gathers
+pub dropped_is : (p : Plain) → IsSound p → IsSound (record p { gathering = None })
+dropped_is p s = record {
+  own = s.own;
+  ids = s.ids;
+  unknown = s.unknown;
+  known = s.known;
+  in_epoch = s.in_epoch;
+  idle_updates = s.idle_updates;
+  idle_reads = s.idle_reads;
+  based = s.based;
+  within = s.within;
+  state = s.state;
+  entries = s.entries;
+  placed = s.placed;
+  gathering = tt;
+  replies = s.replies;
+  tickets = s.tickets;
+}
+
+without_reached_is : (p : Plain) → IsSound p → IsSound (without_reached p)
+unfolding without_reached
+without_reached_is p s =
+    cond_both (nat_le (gathered_position p.gathering) (length_of p)) (record p { gathering = None }) p (λ (q : Plain). IsSound q) (λ e. dropped_is p s) (λ e. s)
 
 -- a node that is in a membership and may become ready
 pub readiness_is : (p : Plain) → IsSound p → 1 ≤ p.epoch → IsSoundTurn (readiness_turn p)
 unfolding readiness_turn
 readiness_is p s h =
-    cond_both (not p.ready && is_reached p.floor (length_of p)) (settling_turn (record p { ready = true })) (turn_with p []) (λ (t : Turn). IsSoundTurn t)
-    (λ e. settling_is (record p { ready = true }) (ready_is p s h))
-    (λ e. (s, tt))
+    cond_both (not p.ready && is_reached p.floor (length_of p)) (settling_turn (record p { ready = true; gathering = None })) (turn_with (without_reached p) []) (λ (t : Turn). IsSoundTurn t)
+    (λ e. settling_is (record p { ready = true; gathering = None }) (ready_is p s h))
+    (λ e. (without_reached_is p s, tt))

@@ -5,7 +5,7 @@ use Rattle.std.specs.List.{list_all}
 use Rattle.craq_names.specs.Limits.{greatest_count}
 use Rattle.craq_names.specs.declared.refusal.Refusal.{Refusal}
 use Rattle.craq_names.specs.declared.refusal.Refusal.TheVariants as refusals
-use Rattle.craq_commands.specs.SingleCopy.{State}
+use Rattle.craq_commands.specs.declared.state.State.{State}
 use Rattle.craq_model.specs.declared.ask.Event.{Event}
 use Rattle.craq_model.specs.declared.ask.Event.TheVariants as events
 use Rattle.craq_model.specs.declared.message.Body.{Body}
@@ -14,7 +14,7 @@ use Rattle.craq_model.specs.declared.message.LinkMessage.{LinkMessage}
 use Rattle.craq_model.specs.declared.step.Out.{Out}
 use Rattle.craq_model.specs.declared.step.Step.{Step}
 use Rattle.craq_model.specs.declared.step.Why.TheVariants.{OtherEpoch}
-use Rattle.craq_model.specs.Deliveries.{body_turn, delivery_turn, turn_in_epoch, entry_turn, ack_turn, query_turn, version_turn, blank_turn, copy_turn, floor_turn}
+use Rattle.craq_model.specs.Deliveries.{body_turn, delivery_turn, turn_in_epoch, entries_turn, part_turn, ack_turn, query_turn, version_turn, blank_turn, copy_turn, floor_turn}
 use Rattle.craq_model.specs.Node.{is_for, event_turn, is_send, out_fits, outs_fit, within_counts, node_step}
 use Rattle.craq_model.specs.Plain.{Plain}
 use Rattle.craq_model.specs.Settle.{Turn, turn_ignoring}
@@ -23,8 +23,8 @@ use Rattle.craq_node_invariant.specs.Sound.{IsSoundState, IsSound, AreSpelled, I
 use Rattle.craq_node_invariant.proofs.Acks.{ack_is}
 use Rattle.craq_node_invariant.proofs.Asks.{ask_is}
 use Rattle.craq_node_invariant.proofs.Configs.{config_is}
-use Rattle.craq_node_invariant.proofs.Copies.{blank_is, copy_is, floor_is}
-use Rattle.craq_node_invariant.proofs.Entries.{entry_is}
+use Rattle.craq_node_invariant.proofs.Copies.{blank_is, copy_is, part_is, floor_is}
+use Rattle.craq_node_invariant.proofs.Entries.{entries_are}
 use Rattle.craq_node_invariant.proofs.Queries.{query_is, version_is}
 use Rattle.craq_node_invariant.proofs.Sends.{AreSpelledIfFitting, Speaks, tick_sent}
 use Rattle.craq_node_invariant.proofs.Settling.{IsSoundTurn, ignoring}
@@ -39,18 +39,19 @@ in_epoch p m turn s h f =
     (λ e. let same : m.epoch ≡ p.epoch = eqb-true m.epoch p.epoch e in f (s.own, omega (arith, same, h)))
     (λ e. ignoring p OtherEpoch s)
 
-state_is : (s : State) → IsSpelledState s.objects s.kept → IsSoundState s
-state_is s h = record { versions = h.versions; replies = h.replies; keys_rise = h.keys_rise; clients_rise = h.clients_rise }
+state_is : (s : State) → IsSpelledState s → IsSoundState s
+state_is s h = record { versions = h.versions; windows = h.windows; keys_rise = h.keys_rise; clients_rise = h.clients_rise }
 
 body_is : (p : Plain) (m : LinkMessage) (b : Body) → IsSound p → 1 ≤ m.epoch → IsFromItsSender m.sender b → IsSpelledBody b → IsSoundTurn (body_turn p m b)
 body_is p m (bodies.Config members) s h from b = config_is p m.epoch members s h b
-body_is p m (bodies.Entry e) s h from b = in_epoch p m (entry_turn p m.sender e) s h (λ w. entry_is p m.sender e s w b)
+body_is p m (bodies.Entry e) s h from b = in_epoch p m (entries_turn p m.sender (e ∷ [])) s h (λ w. entries_are p m.sender (e ∷ []) s w (b, tt) tt)
+body_is p m (bodies.Batch es) s h from b = in_epoch p m (entries_turn p m.sender es) s h (λ w. entries_are p m.sender es s w b.entries b.consecutive)
+body_is p m (bodies.Part part) s h from b = in_epoch p m (part_turn p m.sender part) s h (λ w. part_is p m.sender part s w (state_is part.state b.state))
 body_is p m (bodies.Ack position) s h from b = in_epoch p m (ack_turn p m.sender position) s h (λ w. ack_is p m.sender position s w)
 body_is p m (bodies.Query ticket key) s h from b = in_epoch p m (query_turn p m.sender ticket key) s h (λ w. query_is p m.sender ticket key s w from b)
 body_is p m (bodies.VersionIs ticket version) s h from b = in_epoch p m (version_turn p m.sender ticket version) s h (λ w. version_is p m.sender ticket version s)
 body_is p m (bodies.Blank count) s h from b = in_epoch p m (blank_turn p m.sender count) s h (λ w. blank_is p m.sender count s w from)
-body_is p m (bodies.Copy position objects kept) s h from b =
-    let state : State = record { objects = objects; kept = kept } in
+body_is p m (bodies.Copy position state) s h from b =
     in_epoch p m (copy_turn p m.sender position state) s h (λ w. copy_is p m.sender position state s w (state_is state b.1))
 body_is p m (bodies.Floor count) s h from b = in_epoch p m (floor_turn p m.sender count) s h (λ w. floor_is p m.sender count s w)
 
@@ -69,6 +70,8 @@ stopped_is p s = record {
   within = s.within;
   state = s.state;
   entries = s.entries;
+  placed = s.placed;
+  gathering = s.gathering;
   replies = s.replies;
   tickets = s.tickets;
 }

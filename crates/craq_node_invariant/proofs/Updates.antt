@@ -1,9 +1,10 @@
 -- A sound head takes an update whose transaction is within the limits.
-use Rattle.std.proofs.Common.{◌≡◌, ◌≤◌, ℕ, ◌+◌, ◌==◌, nat_le, nat_lt, true, ◌||◌, cond, List, [], ◌∷◌, ◌++◌, Option, Some, None, MatchOption, map, length, Result, Ok, Err, refl, ap, sym, subst, arith}
+use Rattle.std.proofs.Common.{◌≡◌, ◌≤◌, ℕ, ◌+◌, ◌==◌, nat_le, true, ◌||◌, cond, List, [], ◌∷◌, ◌++◌, Option, Some, None, MatchOption, map, length, Result, Ok, Err, refl, ap, sym, subst, arith}
 use Rattle.std.proofs.lemmas.Bool.{cond_both}
 use Rattle.std.proofs.lemmas.List.{length-map}
 use Rattle.std.specs.Prelude.{⊤}
-use Rattle.std.specs.List.{IsDistinct}
+use Rattle.std.specs.List.{AllByRecursion, IsDistinct}
+use Rattle.std.specs.Ordering.{nat_cmp}
 use Rattle.craq_names.specs.Limits.{greatest}
 use Rattle.craq_names.specs.Maps.{same_bytes}
 use Rattle.craq_names.specs.declared.refusal.Refusal.{Refusal}
@@ -14,25 +15,26 @@ use Rattle.craq_commands.specs.declared.entry.Write.{Write}
 use Rattle.craq_commands.specs.declared.reply.Reply.{Reply}
 use Rattle.craq_commands.specs.declared.reply.Reply.TheVariants.{Stale}
 use Rattle.craq_commands.specs.Evaluation.{Outcome, eval, objects_named, all_of_chain, some_used_up}
-use Rattle.craq_commands.specs.Kept.{Kept, said_of}
+use Rattle.craq_names.specs.Maps.{at_number}
+use Rattle.craq_commands.specs.Kept.{Kept, Window, largest, is_stale, said_of}
 use Rattle.craq_commands.specs.Objects.{Objects, version_of}
-use Rattle.craq_commands.specs.SingleCopy.{kept_of, said}
+use Rattle.craq_commands.specs.SingleCopy.{window_of, said}
 use Rattle.craq_model.specs.declared.ask.Answer.TheVariants as answers
 use Rattle.craq_model.specs.declared.step.Out.{Out}
 use Rattle.craq_model.specs.declared.step.Out.TheVariants as outs
 use Rattle.craq_model.specs.declared.waiting.WaitingUpdate.{WaitingUpdate}
 use Rattle.craq_model.specs.Asks.{accepted_turn, answered_turn, is_full, versioned_write, entry_of, with_entry, committed_if_last, reply_turn, new_update_turn, update_turn}
-use Rattle.craq_model.specs.Plain.{Plain, successor, is_last, length_of, newest, position_of}
+use Rattle.craq_model.specs.Plain.{Plain, successor, is_last, length_of, newest, position_of, acknowledging}
 use Rattle.craq_model.specs.Sends.{send_all, to_neighbour, entry_bodies}
 use Rattle.craq_model.specs.Settle.{Turn}
 use Rattle.craq_model.specs.Spelled.{IsReply, IsNotStale, IsSpelledEntry}
 use Rattle.craq_node_invariant.specs.Sound.{IsSound, IsSpelledCommand}
-use Rattle.craq_node_invariant.proofs.Entries.{with_entry_is, entry_sent}
+use Rattle.craq_node_invariant.proofs.Entries.{with_entries_is, entries_sent}
 use Rattle.craq_node_invariant.proofs.Evaluations.{IsSoundOutcome, outcome_is}
-use Rattle.craq_node_invariant.proofs.Lists.{all_append, all_map, each}
+use Rattle.craq_node_invariant.proofs.Lists.{all_append, all_like, all_map, each, found_is}
 use Rattle.craq_node_invariant.proofs.Sends.{AreSpelledIfFitting}
 use Rattle.craq_node_invariant.proofs.Settling.{IsSoundTurn, committed_is}
-use Rattle.craq_node_invariant.proofs.States.{newest_is, kept_is}
+use Rattle.craq_node_invariant.proofs.States.{newest_is, replies_are}
 
 -- an ask that is taken makes a sound turn
 abbrev pub IsSoundIfTaken : Result Turn Refusal → Type 0
@@ -53,6 +55,8 @@ accepted_is p os s a = (
     within = s.within;
     state = s.state;
     entries = s.entries;
+    placed = s.placed;
+    gathering = s.gathering;
     replies = s.replies;
     tickets = s.tickets;
   },
@@ -72,6 +76,8 @@ waits p u s r h = record {
   within = s.within;
   state = s.state;
   entries = s.entries;
+  placed = s.placed;
+  gathering = s.gathering;
   replies = all_append (λ (u : WaitingUpdate). IsReply u.reply) p.waiting_updates (u ∷ []) s.replies (h, tt);
   tickets = s.tickets;
 }
@@ -82,7 +88,7 @@ reply_is p position reply sends s r h a =
     let u : WaitingUpdate = record { ticket = p.last_ticket + 1; position = position; reply = reply } in
     let q : Plain = record p { waiting_updates = p.waiting_updates ++ u ∷ [] } in
     let later : Result Turn Refusal = cond (is_full p) (Err refusals.PendingFull) (Ok (accepted_turn q sends)) in
-    cond_both (nat_le position p.acknowledged) (Ok (answered_turn p (answers.Update reply) sends)) later (λ (r : Result Turn Refusal). IsSoundIfTaken r)
+    cond_both (nat_le position p.past.acknowledged) (Ok (answered_turn p (answers.Update reply) sends)) later (λ (r : Result Turn Refusal). IsSoundIfTaken r)
     (λ e. accepted_is p (outs.Answer (p.last_ticket + 1) (answers.Update reply) ∷ sends) s (λ f. h, a))
     (λ e. cond_both (is_full p) (Err refusals.PendingFull) (Ok (accepted_turn q sends)) (λ (r : Result Turn Refusal). IsSoundIfTaken r)
     (λ b. tt)
@@ -92,8 +98,8 @@ reply_is p position reply sends s r h a =
 replies_after : (p : Plain) (position : ℕ) (reply : Reply) (sends : List Out) → IsSound p → p.ready ≡ true → IsReply reply → AreSpelledIfFitting sends
     → IsSoundIfTaken (reply_turn (committed_if_last p) position reply sends)
 replies_after p position reply sends s r h a =
-    cond_both (is_last p) (record p { acknowledged = length_of p }) p (λ (q : Plain). IsSoundIfTaken (reply_turn q position reply sends))
-    (λ e. reply_is (record p { acknowledged = length_of p }) position reply sends (committed_is p s) r h a)
+    cond_both (is_last p) (acknowledging p (length_of p)) p (λ (q : Plain). IsSoundIfTaken (reply_turn q position reply sends))
+    (λ e. reply_is (acknowledging p (length_of p)) position reply sends (committed_is p s) r h a)
     (λ e. reply_is p position reply sends s r h a)
 
 -- ---- the entry of a new update
@@ -120,16 +126,14 @@ entry_of_is p u o s i =
 
 -- ---- replies
 
-said_of_is : (o : Option Kept) (number : ℕ) → MatchOption o ⊤ (λ (k : Kept). IsReply k.1 × IsNotStale k.1) → MatchOption (said_of o number) ⊤ IsReply
+said_of_is : (w : Window) (number : ℕ) → AllByRecursion (λ (k : Kept). IsReply k.1 × IsNotStale k.1) w → MatchOption (said_of w number) ⊤ IsReply
 unfolding said_of
-said_of_is None number h = tt
-said_of_is (Some kept) number h =
-    let stale : Option Reply = cond (nat_lt number kept.0) (Some (Stale kept.0)) None in
-    cond_both (kept.0 == number) (Some kept.1) stale (λ (o : Option Reply). MatchOption o ⊤ IsReply) (λ e. h.0)
-    (λ e. cond_both (nat_lt number kept.0) (Some (Stale kept.0)) None (λ (o : Option Reply). MatchOption o ⊤ IsReply) (λ b. tt) (λ b. tt))
+said_of_is w number h =
+    cond_both (is_stale w number) (Some (Stale (largest w))) (at_number w number) (λ (o : Option Reply). MatchOption o ⊤ IsReply) (λ e. tt)
+    (λ e. found_is nat_cmp IsReply number w (all_like (λ (k : Kept). IsReply k.1 × IsNotStale k.1) (λ (k : Kept). IsReply k.1) w (λ k h. h.0) h))
 
 pub said_is : (p : Plain) (client number : ℕ) → IsSound p → MatchOption (said (newest p) client number) ⊤ IsReply
-said_is p client number s = said_of_is (kept_of (newest p) client) number (kept_is (newest p) client (newest_is p s))
+said_is p client number s = said_of_is (window_of (newest p) client) number (replies_are (newest p) client (newest_is p s))
 
 -- ---- the turn
 
@@ -144,5 +148,5 @@ update_is p u None s r c h a =
     let i : IsSpelledEntry e = entry_of_is p u o s (outcome_is m p.name.chain u.command (newest_is p s).versions c h) in
     cond_both (length_of p == greatest || some_used_up m (objects_named u.command)) (Err refusals.Exhausted) (new_update_turn p e) (λ (r : Result Turn Refusal). IsSoundIfTaken r)
     (λ b. tt)
-    (λ b. replies_after (with_entry p e) e.position e.reply (to_neighbour (successor p) (λ to. send_all p to (entry_bodies (e ∷ [])))) (with_entry_is p e s i) r i.reply
-    (entry_sent p e s (s.own, s.in_epoch r) i))
+    (λ b. replies_after (with_entry p e) e.position e.reply (to_neighbour (successor p) (λ to. send_all p to (entry_bodies (e ∷ [])))) (with_entries_is p (e ∷ []) s (i, tt) (refl, tt)) r i.reply
+    (entries_sent p (e ∷ []) (length_of p + 1) s (s.own, s.in_epoch r) (i, tt) (refl, tt)))

@@ -1,13 +1,14 @@
 -- The invariant of a node, and when all that it sends can be encoded as bytes.
-use Rattle.std.specs.Prelude.{◌≡◌, ◌≤◌, ⊤, ℕ, T, true, false, List, [], length}
+use Rattle.std.specs.Prelude.{◌≡◌, ◌≤◌, ⊤, ℕ, ◌+◌, T, true, false, List, [], ◌∷◌, length, Option, Some, None}
 use Rattle.std.specs.List.{AllByRecursion}
 use Rattle.std.specs.Ordering.{nat_cmp}
 use Rattle.std.specs.FinMap.Entries.{is_sorted}
 use Rattle.craq_names.specs.Maps.{key_cmp}
 use Rattle.craq_commands.specs.declared.command.Command.{Command}
 use Rattle.craq_commands.specs.declared.command.Command.TheVariants.{Put, TestAndSet, Append, Prepend, Increment, Decrement, Mini}
-use Rattle.craq_commands.specs.Kept.{Kept}
-use Rattle.craq_commands.specs.SingleCopy.{State}
+use Rattle.craq_commands.specs.Kept.{Window}
+use Rattle.craq_commands.specs.declared.entry.Entry.{Entry}
+use Rattle.craq_commands.specs.declared.state.State.{State}
 use Rattle.craq_commands.specs.Transaction.{IsWithinLimits}
 use Rattle.craq_model.specs.declared.ask.Answer.{Answer}
 use Rattle.craq_model.specs.declared.ask.Answer.TheVariants as answers
@@ -19,15 +20,31 @@ use Rattle.craq_model.specs.declared.step.Out.{Out}
 use Rattle.craq_model.specs.declared.step.Out.TheVariants as outs
 use Rattle.craq_model.specs.declared.waiting.WaitingRead.{WaitingRead}
 use Rattle.craq_model.specs.declared.waiting.WaitingUpdate.{WaitingUpdate}
+use Rattle.craq_model.specs.declared.gathering.Gathering.{Gathering}
+use Rattle.craq_model.specs.Parts.{joined_state}
 use Rattle.craq_model.specs.Plain.{Plain, id_of, length_of}
-use Rattle.craq_model.specs.Spelled.{IsObjectRead, IsReply, IsNotStale, IsSpelled, IsSpelledEntry}
+use Rattle.craq_model.specs.Spelled.{IsObjectRead, IsReply, IsSpelled, IsSpelledEntry, IsSpelledWindow}
 
 -- a state that can be spelled once its counts fit
 pub record IsSoundState (s : State) : Type 0 where
   pub versions : AllByRecursion (λ (o : List ℕ × (ℕ × List ℕ)). 1 ≤ o.1.0) s.objects  -- an object that is there was written
-  pub replies : AllByRecursion (λ (k : ℕ × Kept). IsReply k.1.1 × IsNotStale k.1.1) s.kept  -- kept replies are those of updates that were new
+  pub windows : AllByRecursion (λ (k : ℕ × Window). IsSpelledWindow k.1) s.kept  -- of each client 1 to 8 replies are kept, to updates that were new
   pub keys_rise : T (is_sorted key_cmp s.objects)  -- each key once, and in order
   pub clients_rise : T (is_sorted nat_cmp s.kept)  -- each client once, and in order
+
+-- entries in a row: their positions go up one by one from this one
+abbrev pub AreInRow : ℕ → List Entry → Type 0
+AreInRow position [] = ⊤
+AreInRow position (e ∷ es) = (e.position ≡ position) × AreInRow (position + 1) es
+
+-- the parts of a state that a node holds come in order, and together they are a state that can be spelled
+pub record IsSoundGathering (g : Gathering) : Type 0 where
+  pub numbers_rise : T (is_sorted nat_cmp g.parts)
+  pub state : IsSoundState (joined_state g.parts)
+
+abbrev pub IsSoundIfAny : Option Gathering → Type 0
+IsSoundIfAny None = ⊤
+IsSoundIfAny (Some g) = IsSoundGathering g
 
 -- what a node keeps from step to step
 pub record IsSound (p : Plain) : Type 0 where
@@ -38,10 +55,12 @@ pub record IsSound (p : Plain) : Type 0 where
   pub in_epoch : p.ready ≡ true → 1 ≤ p.epoch  -- who is ready is in a membership
   pub idle_updates : p.ready ≡ false → p.waiting_updates ≡ []  -- a node that is not ready takes no asks: no update waits
   pub idle_reads : p.ready ≡ false → p.waiting_reads ≡ []  -- and no read
-  pub based : p.base ≤ p.acknowledged  -- what it knows by its state alone is committed
-  pub within : p.acknowledged ≤ length_of p  -- it holds what it knows to be committed
-  pub state : IsSoundState p.base_state  -- the state before its entries
-  pub entries : AllByRecursion IsSpelledEntry p.entries  -- any of them may be sent again
+  pub based : p.past.base ≤ p.past.acknowledged  -- what it knows by its state alone is committed
+  pub within : p.past.acknowledged ≤ length_of p  -- it holds what it knows to be committed
+  pub state : IsSoundState p.past.base_state  -- the state before its entries
+  pub entries : AllByRecursion IsSpelledEntry p.past.entries  -- any of them may be sent again
+  pub placed : AreInRow (p.past.base + 1) p.past.entries  -- and entries in a row are sent as one message
+  pub gathering : IsSoundIfAny p.gathering  -- what it gathers may take its history's place
   pub replies : AllByRecursion (λ (u : WaitingUpdate). IsReply u.reply) p.waiting_updates  -- what will be answered is a reply
   pub tickets : AllByRecursion (λ (r : WaitingRead). 1 ≤ r.ticket) p.waiting_reads  -- tickets count from 1
 

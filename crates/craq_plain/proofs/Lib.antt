@@ -1,2 +1,4 @@
-pub mod Puts
+mod Batches
+mod Ends
 pub mod Scans
+mod Windows

@@ -1,17 +1,18 @@
--- What entries leave of an object and of a client's reply is what a scan of them finds last.
+-- What entries leave of an object is what a scan of them finds last.
 use Rattle.std.proofs.Common.{◌≡◌, ◌<◌, ◌+◌, ℕ, suc, add-one, length, get_or, drop, drop-cons, Bool, true, false, cond, List, [], ◌∷◌, ◌++◌, Option, Some, unwrap_or, refl, sym, ap, ◌∙◌}
-use Rattle.std.specs.Prelude.{◌==◌, if◌then◌else◌}
+use Rattle.std.specs.Prelude.{◌==◌}
 use Rattle.std.specs.Ordering.{nat_cmp, eq_by_cmp}
-use Rattle.std.specs.Cmp.{nat_cmp_total, eq_by_cmp_equiv, unsigned_ties}
+use Rattle.std.specs.Cmp.{eq_by_cmp_equiv, unsigned_ties}
 use Rattle.std.specs.Cmp.Lexicographic.{nat_list_cmp_total, texts_ties}
 use Rattle.std.specs.FinMap.Entries.{find, find-put}
 use Rattle.craq_names.specs.Maps.{same_bytes, key_cmp, at_key}
 use Rattle.craq_commands.specs.Objects.{Objects, object_of, set_object}
-use Rattle.craq_commands.specs.Kept.{Kept, keep}
-use Rattle.craq_commands.specs.SingleCopy.{State, with_writes, after_entry, after_entries, kept_of, kept_with}
+use Rattle.craq_commands.specs.declared.state.State.{State}
+use Rattle.craq_commands.specs.SingleCopy.{with_writes, after_entry, after_entries}
 use Rattle.craq_commands.specs.declared.entry.Entry.{Entry}
 use Rattle.craq_commands.specs.declared.entry.Write.{Write}
-use Rattle.craq_model.specs.Plain.{values_in, values_after}
+use Rattle.craq_model.specs.Past.{values_in, values_after}
+use Rattle.craq_plain.specs.Scans.{last_value}
 
 -- what is found from a place on, where the test is met there and where it is not
 pub key_here : (es : Objects) (i : ℕ) (e : List ℕ × (ℕ × List ℕ)) (key : List ℕ) → i < length es → e ≡ get_or es i e → same_bytes key e.0 ≡ true → at_key (drop i es) key ≡ Some e.1
@@ -28,16 +29,6 @@ key_later es i e key h is test =
 -- the code's test of numbers is that by which a map is searched
 pub same_numbers : (x y : ℕ) → (x == y) ≡ eq_by_cmp nat_cmp x y
 same_numbers x y = unsigned_ties x y
-
--- the last of some values; where there is none, the one that was found before
-unfoldable pub last_value : ℕ × List ℕ → List (ℕ × List ℕ) → ℕ × List ℕ
-last_value found [] = found
-last_value found (v ∷ vs) = last_value v vs
-
--- what the last of a client's entries keeps; where there is none, what was kept before
-unfoldable pub last_kept : ℕ → Option Kept → List Entry → Option Kept
-last_kept client found [] = found
-last_kept client found (e ∷ es) = last_kept client (if e.client == client then Some (e.number, e.reply) else found) es
 
 pub last_value-append : (found : ℕ × List ℕ) (xs ys : List (ℕ × List ℕ)) → last_value found (xs ++ ys) ≡ last_value (last_value found xs) ys
 unfolding last_value
@@ -73,14 +64,3 @@ last_of_values s (e ∷ es) key =
     last_of_values (after_entry s e) es key
     ∙ ap (λ x. last_value x (values_after es key)) (object_written s.objects e.writes key)
     ∙ sym (last_value-append (object_of s.objects key) (values_in e.writes key) (values_after es key))
-
-kept_put : (s : State) (e : Entry) (client : ℕ) → kept_of (after_entry s e) client ≡ cond (e.client == client) (Some (e.number, e.reply)) (kept_of s client)
-unfolding after_entry kept_with keep
-kept_put s e client =
-    let same : eq_by_cmp nat_cmp client e.client ≡ (e.client == client) = (eq_by_cmp_equiv nat_cmp_total).symm client e.client ∙ sym (unsigned_ties e.client client) in
-    find-put nat_cmp nat_cmp_total client e.client (e.number, e.reply) s.kept ∙ ap (λ b. cond b (Some (e.number, e.reply)) (find nat_cmp client s.kept)) same
-
-pub kept_last : (s : State) (es : List Entry) (client : ℕ) → kept_of (after_entries s es) client ≡ last_kept client (kept_of s client) es
-unfolding last_kept
-kept_last s [] client = refl
-kept_last s (e ∷ es) client = kept_last (after_entry s e) es client ∙ ap (λ k. last_kept client k es) (kept_put s e client)

@@ -1,13 +1,14 @@
 ghost use Rattle.std.specs.Prelude.{◌≡◌, ◌==◌, ◌+◌, ◌-◌, ◌<◌, ◌^◌, length, take, drop};
-ghost use Rattle.craq_commands.specs.SingleCopy.{kept_of};
-ghost use Rattle.craq_commands.specs.Kept.{is_new};
-ghost use Rattle.craq_history.specs.Past.{entries_in, newest_in};
-ghost use Rattle.craq_plain.specs.Shown.{state_of, kept_shown};
+ghost use Rattle.craq_commands.specs.SingleCopy.{after_entries};
+ghost use Rattle.craq_model.specs.Deliveries.{is_applicable};
+ghost use Rattle.craq_model.specs.Past.{entries_in, newest_in};
 
-use crate::lookups::{kept_after, last_position_of, object_after, object_within};
+use crate::lookups::{
+    is_new_after, last_position_of, object_after, object_within, said_after, version_later,
+};
 use crate::states::state_after;
-use craq_commands::{Entry, Reply};
-use craq_history::{History, Said, Snapshot};
+use craq_commands::{Entry, Said, State};
+use craq_history::History;
 use craq_names::{ClientId, Items, Key, RequestNo, Seq, Version};
 use std::alloc::{AllocError, Global};
 
@@ -16,29 +17,36 @@ use std::alloc::{AllocError, Global};
 #[derive(Drop)]
 pub struct PlainHistory {
     base: Seq,
-    base_state: Snapshot,
+    base_state: State,
     entries: Vec<Entry>,
     acknowledged: Seq,
     ghost in_range: { base + length entries.items < 2 ^ 64 },
 }
 
 impl PlainHistory {
-    /// What is kept for a client after all entries: the number of its last update and the reply to it.
-    pub fn kept(&self, client: ClientId) -> Option<(RequestNo, &Reply)>
-        ensures { kept_shown result ≡ kept_of (newest_in (⟦<PlainHistory as History>⟧.past self.now)) client }
+    /// Whether an entry fits the state after all entries and these earlier ones.
+    #[tactic(auto, unfolding(craq_model::specs::Deliveries::is_applicable))]
+    fn is_next(&self, earlier: &[Entry], entry: &Entry) -> bool
+        ensures { result ≡ is_applicable (after_entries (newest_in (⟦<PlainHistory as History>⟧.past self.now)) earlier.now) entry.now }
     {
-        kept_after(&self.base_state, self.entries.as_slice(), client)
-    }
-
-    /// Whether the number is above the one that is kept for the client, if there is one.
-    #[tactic(auto, unfolding(craq_commands::specs::Kept::is_new))]
-    fn is_new(&self, client: ClientId, number: RequestNo) -> bool
-        ensures { result ≡ is_new (kept_of (newest_in (⟦<PlainHistory as History>⟧.past self.now)) client) number }
-    {
-        match self.kept(client) {
-            Some((last, _)) => last < number,
-            None => true,
+        for write in entry.writes.as_slice() {
+            let last = version_later(
+                &self.base_state,
+                self.entries.as_slice(),
+                earlier,
+                &write.key,
+            );
+            if !follows(write.version, last) {
+                return false;
+            }
         }
+        is_new_after(
+            &self.base_state,
+            self.entries.as_slice(),
+            earlier,
+            entry.client,
+            entry.number,
+        )
     }
 
     /// The entries after a position, whichever it is.
@@ -71,15 +79,12 @@ fn follows(version: Version, last: Version) -> bool
 }
 
 impl History for PlainHistory {
-    ghost past = { λ h. record { base = h.base; base_state = state_of h.base_state; entries = h.entries.items; acknowledged = h.acknowledged } };
+    ghost past = { λ h. record { base = h.base; base_state = h.base_state; entries = h.entries.items; acknowledged = h.acknowledged } };
 
     fn new(alloc: Global) -> Self {
         PlainHistory {
             base: Seq::new(0),
-            base_state: Snapshot {
-                objects: Items::new(alloc),
-                kept: Items::new(alloc),
-            },
+            base_state: State::new(alloc),
             entries: Vec::new(alloc),
             acknowledged: Seq::new(0),
         }
@@ -107,31 +112,17 @@ impl History for PlainHistory {
         object_within(&self.base_state, committed, later, key, version, above)
     }
 
-    #[tactic(auto, unfolding(craq_commands::specs::Kept::said_of))]
     fn said(&self, client: ClientId, number: RequestNo) -> Said<'_> {
-        match self.kept(client) {
-            None => Said::Nothing,
-            Some((last, reply)) => {
-                if last == number {
-                    Said::Kept(reply)
-                } else if number < last {
-                    Said::Stale(last)
-                } else {
-                    Said::Nothing
-                }
-            }
-        }
+        said_after(&self.base_state, self.entries.as_slice(), client, number)
     }
 
-    #[tactic(auto, unfolding(craq_model::specs::Deliveries::is_applicable))]
-    fn is_next(&self, entry: &Entry) -> bool {
-        for write in entry.writes.as_slice() {
-            let (version, _) = self.newest(&write.key);
-            if !follows(write.version, version) {
+    fn are_next(&self, entries: &[Entry]) -> bool {
+        for place in 0..entries.len() {
+            if !self.is_next(&entries[..place], &entries[place]) {
                 return false;
             }
         }
-        self.is_new(entry.client, entry.number)
+        true
     }
 
     fn position_of(&self, client: ClientId) -> u64 {
@@ -142,8 +133,9 @@ impl History for PlainHistory {
         self.entries_after(position)
     }
 
-    fn append(&mut self, entry: Entry) -> Result<(), AllocError> {
-        self.entries.push(entry)?;
+    fn append(&mut self, entries: Items<Entry>) -> Result<(), AllocError> {
+        let mut more = entries.into_vec();
+        self.entries.append(&mut more)?;
         Ok(())
     }
 
@@ -151,12 +143,12 @@ impl History for PlainHistory {
         self.acknowledged = position;
     }
 
-    fn snapshot(&self, alloc: Global) -> Result<Snapshot, AllocError> {
+    fn snapshot(&self, alloc: Global) -> Result<State, AllocError> {
         let (committed, _) = self.split(self.acknowledged.get());
         state_after(alloc, &self.base_state, committed)
     }
 
-    fn install(&mut self, position: Seq, state: Snapshot) {
+    fn install(&mut self, position: Seq, state: State) {
         self.base = position;
         self.base_state = state;
         self.entries.clear();

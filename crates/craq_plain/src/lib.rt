@@ -4,6 +4,7 @@
 
 mod history;
 mod lookups;
+mod slots;
 mod states;
 
 pub use history::PlainHistory;

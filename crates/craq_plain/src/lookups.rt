@@ -1,14 +1,15 @@
 //! What stands for a key or a client in a state and in the entries after it. Each call looks at all of
 //! them in turn.
-ghost use Rattle.std.specs.Prelude.{◌≡◌, ◌+◌, ◌≤◌, length};
+ghost use Rattle.std.specs.Prelude.{◌≡◌, ◌+◌, ◌≤◌, [], length, unwrap_or};
 ghost use Rattle.craq_names.specs.Maps.{at_number};
-ghost use Rattle.craq_commands.specs.Objects.{object_of};
-ghost use Rattle.craq_commands.specs.SingleCopy.{after_entries, kept_of};
-ghost use Rattle.craq_model.specs.Plain.{last_position, newest_within, values_after};
-ghost use Rattle.craq_plain.specs.Shown.{state_of, kept_shown};
+ghost use Rattle.craq_commands.specs.Objects.{object_of, version_of};
+ghost use Rattle.craq_commands.specs.SingleCopy.{after_entries, said, is_new_to, window_of};
+ghost use Rattle.craq_commands.specs.Told.{told};
+ghost use Rattle.craq_model.specs.Past.{last_position, newest_within, values_after};
+ghost use Rattle.craq_plain.specs.Scans.{last_value};
 
-use craq_commands::{Entry, Reply};
-use craq_history::Snapshot;
+use crate::slots::{is_new, said_in, slots_after, slots_later};
+use craq_commands::{Entry, Kept, Said, State, Window};
 use craq_names::{ClientId, Key, RequestNo, Value, Version};
 
 /// The version and value of an object of a state.
@@ -25,36 +26,61 @@ fn object_in<'a>(objects: &'a [(Key, (Version, Value))], key: &Key) -> (Version,
     (Version::new(0), &[])
 }
 
-/// The version and value of an object after these entries.
-#[tactic(auto, using(crate::proofs::Scans::last_of_values), unfolding(craq_model::specs::Plain::values_in, craq_model::specs::Plain::values_after, crate::proofs::Scans::last_value))]
-pub fn object_after<'a>(state: &'a Snapshot, entries: &'a [Entry], key: &Key) -> (Version, &'a [u8])
-    ensures object { (result.0, result.1.now) ≡ object_of (after_entries (state_of state.now) entries.now).objects key.now }
+/// The version and value that these entries leave to an object, which has this version and value before them.
+#[tactic(auto, unfolding(craq_model::specs::Past::values_in, craq_model::specs::Past::values_after, crate::specs::Scans::last_value))]
+fn object_past<'a>(
+    version: Version,
+    value: &'a [u8],
+    entries: &'a [Entry],
+    key: &Key,
+) -> (Version, &'a [u8])
+    requires { length value.now ≤ 4096 }
+    ensures object { (result.0, result.1.now) ≡ last_value (version, value.now) (values_after entries.now key.now) }
     ensures short { length result.1.now ≤ 4096 }
 {
-    let (mut version, mut value) = object_in(state.objects.as_slice(), key);
+    let (mut last, mut bytes) = (version, value);
     for entry in entries {
         for write in entry.writes.as_slice() {
             if write.key == *key {
-                version = write.version;
-                value = write.value.as_slice();
+                last = write.version;
+                bytes = write.value.as_slice();
             }
         }
     }
-    (version, value)
+    (last, bytes)
+}
+
+/// The version and value of an object after these entries.
+#[tactic(auto, using(crate::proofs::Scans::last_of_values))]
+pub fn object_after<'a>(state: &'a State, entries: &'a [Entry], key: &Key) -> (Version, &'a [u8])
+    ensures object { (result.0, result.1.now) ≡ object_of (after_entries state.now entries.now).objects key.now }
+    ensures short { length result.1.now ≤ 4096 }
+{
+    let (version, value) = object_in(state.objects.as_slice(), key);
+    object_past(version, value, entries, key)
+}
+
+/// The version of an object after these entries and further ones.
+#[tactic(auto, using(crate::proofs::Scans::last_of_values))]
+pub fn version_later(state: &State, entries: &[Entry], later: &[Entry], key: &Key) -> Version
+    ensures { result ≡ version_of (after_entries (after_entries state.now entries.now) later.now).objects key.now }
+{
+    let (version, value) = object_after(state, entries, key);
+    object_past(version, value, later, key).0
 }
 
 /// The last version and value of an object that is at most so many above a version, from the one after
 /// the first entries on.
-#[tactic(auto, unfolding(craq_model::specs::Plain::values_in, craq_model::specs::Plain::values_after, craq_model::specs::Plain::newest_within))]
+#[tactic(auto, unfolding(craq_model::specs::Past::values_in, craq_model::specs::Past::values_after, craq_model::specs::Past::newest_within))]
 pub fn object_within<'a>(
-    state: &'a Snapshot,
+    state: &'a State,
     first: &'a [Entry],
     later: &'a [Entry],
     key: &Key,
     base: u64,
     above: u64,
 ) -> (Version, &'a [u8])
-    ensures object { (result.0, result.1.now) ≡ newest_within (base + above) (object_of (after_entries (state_of state.now) first.now).objects key.now) (values_after later.now key.now) }
+    ensures object { (result.0, result.1.now) ≡ newest_within (base + above) (object_of (after_entries state.now first.now).objects key.now) (values_after later.now key.now) }
     ensures short { length result.1.now ≤ 4096 }
 {
     let (mut version, mut value) = object_after(state, first, key);
@@ -73,7 +99,7 @@ pub fn object_within<'a>(
 }
 
 /// The position of a client's last entry, or the one given where there is none.
-#[tactic(auto, unfolding(craq_model::specs::Plain::last_position))]
+#[tactic(auto, unfolding(craq_model::specs::Past::last_position))]
 pub fn last_position_of(entries: &[Entry], client: ClientId, base: u64) -> u64
     ensures { result ≡ last_position client base entries.now }
 {
@@ -87,32 +113,46 @@ pub fn last_position_of(entries: &[Entry], client: ClientId, base: u64) -> u64
 }
 
 /// What a state keeps for a client.
-#[tactic(auto, using(crate::proofs::Scans::same_numbers))]
-fn kept_in(kept: &[(ClientId, (RequestNo, Reply))], client: ClientId) -> Option<(RequestNo, &Reply)>
-    ensures { kept_shown result ≡ at_number kept.now client }
+#[tactic(auto, using(crate::proofs::Scans::same_numbers), unfolding(craq_commands::specs::SingleCopy::window_of))]
+fn window_in(state: &State, client: ClientId) -> &[Kept]
+    ensures window { result.now ≡ window_of state.now client }
+    ensures few { length result.now ≤ 8 }
 {
-    for (name, (number, reply)) in kept {
+    for (name, window) in state.kept.as_slice() {
         if client == *name {
-            return Some((*number, reply));
+            return window.as_slice();
         }
     }
-    None
+    &[]
 }
 
-/// What is kept for a client after these entries.
-#[tactic(auto, using(crate::proofs::Scans::kept_last), unfolding(crate::proofs::Scans::last_kept))]
-pub fn kept_after<'a>(
-    state: &'a Snapshot,
+/// What is known of a client's number after these entries.
+#[tactic(auto, using(crate::proofs::Windows::said_after))]
+pub fn said_after<'a>(
+    state: &'a State,
     entries: &'a [Entry],
     client: ClientId,
-) -> Option<(RequestNo, &'a Reply)>
-    ensures { kept_shown result ≡ kept_of (after_entries (state_of state.now) entries.now) client }
+    number: RequestNo,
+) -> Said<'a>
+    ensures { told result ≡ said (after_entries state.now entries.now) client number }
 {
-    let mut kept = kept_in(state.kept.as_slice(), client);
-    for entry in entries {
-        if entry.client == client {
-            kept = Some((entry.number, &entry.reply));
-        }
-    }
-    kept
+    let window = window_in(state, client);
+    let slots = slots_after(window, entries, client);
+    said_in(slots.as_slice(), window, entries, number)
+}
+
+/// Whether a client's number is new after these entries and further ones.
+#[tactic(auto, using(crate::proofs::Windows::new_later))]
+pub fn is_new_after(
+    state: &State,
+    entries: &[Entry],
+    later: &[Entry],
+    client: ClientId,
+    number: RequestNo,
+) -> bool
+    ensures { result ≡ is_new_to (after_entries (after_entries state.now entries.now) later.now) client number }
+{
+    let window = window_in(state, client);
+    let slots = slots_later(window, entries, later, client);
+    is_new(slots.as_slice(), number)
 }

@@ -1,40 +1,12 @@
 //! The state after entries, as a copy of its own.
-ghost use Rattle.std.specs.Prelude.{◌≡◌, IfOk, OnOk};
-ghost use Rattle.craq_names.specs.Maps.{put_number};
-ghost use Rattle.std.specs.FinMap.Entries.{put};
+ghost use Rattle.std.specs.Prelude.{◌≡◌, [], unwrap_or, IfOk, OnOk};
+ghost use Rattle.craq_names.specs.Maps.{at_number, put_number};
+ghost use Rattle.craq_commands.specs.Kept.{keep};
 ghost use Rattle.craq_commands.specs.SingleCopy.{after_entries, with_writes};
-ghost use Rattle.craq_plain.specs.Shown.{state_of};
 
-use craq_commands::{Entry, Reply, Write};
-use craq_history::Snapshot;
-use craq_names::{ClientId, Copied, Items, Key, RequestNo, Value, Version, copies_of};
+use craq_commands::{Entry, Reply, State, Window, Write};
+use craq_names::{ClientId, Copied, Items, Key, RequestNo, Value, Version, copies_of, put_at};
 use std::alloc::{AllocError, Global};
-use std::cmp::Ordering;
-
-/// Puts a value at its key into a list by rising key, in place of the one that is there.
-fn put_at<K: Ord + Drop, V: Drop>(
-    items: &mut Vec<(K, V)>,
-    key: K,
-    value: V,
-) -> Result<(), AllocError>
-    ensures { OnOk result (items.new.items ≡ put K.cmp key value items.old.items) }
-{
-    for place in 0..items.len() {
-        match key.cmp(&items[place].0) {
-            Ordering::Less => {
-                items.insert(place, (key, value))?;
-                return Ok(());
-            }
-            Ordering::Equal => {
-                items[place].1 = value;
-                return Ok(());
-            }
-            Ordering::Greater => {}
-        }
-    }
-    items.push((key, value))?;
-    Ok(())
-}
 
 /// Puts copies of what is written into the objects, in order.
 #[tactic(auto, unfolding(craq_commands::specs::Objects::set_object))]
@@ -52,34 +24,52 @@ fn put_writes(
     Ok(())
 }
 
-/// Puts what is kept for a client at its place.
-fn put_kept(
-    items: &mut Vec<(ClientId, (RequestNo, Reply))>,
+/// A copy of what is kept for a client.
+#[tactic(auto, using(crate::proofs::Scans::same_numbers))]
+fn window_of(
+    alloc: Global,
+    items: &[(ClientId, Window)],
     client: ClientId,
-    kept: (RequestNo, Reply),
-) -> Result<(), AllocError>
-    ensures { OnOk result (items.new.items ≡ put_number items.old.items client kept) }
+) -> Result<Window, AllocError>
+    ensures { IfOk result (λ w. w ≡ unwrap_or (at_number items.now client) []) }
 {
-    put_at(items, client, kept)
+    for (name, window) in items {
+        if client == *name {
+            return window.copied(alloc);
+        }
+    }
+    Ok(Window::new(alloc))
+}
+
+/// Keeps the reply to a client's number.
+fn put_kept(
+    alloc: Global,
+    items: &mut Vec<(ClientId, Window)>,
+    client: ClientId,
+    number: RequestNo,
+    reply: Reply,
+) -> Result<(), AllocError>
+    ensures { OnOk result (items.new.items ≡ put_number items.old.items client (keep (unwrap_or (at_number items.old.items client) []) number reply)) }
+{
+    let mut window = window_of(alloc, items.as_slice(), client)?;
+    window.keep(number, reply)?;
+    put_at(items, client, window)?;
+    Ok(())
 }
 
 /// The state after these entries, in memory of its own.
-#[tactic(auto, unfolding(craq_commands::specs::SingleCopy::after_entry, craq_commands::specs::SingleCopy::kept_with, craq_commands::specs::Kept::keep))]
-pub fn state_after(
-    alloc: Global,
-    state: &Snapshot,
-    entries: &[Entry],
-) -> Result<Snapshot, AllocError>
-    ensures { IfOk result (λ s. state_of s ≡ after_entries (state_of state.now) entries.now) }
+#[tactic(auto, unfolding(craq_commands::specs::SingleCopy::after_entry, craq_commands::specs::SingleCopy::kept_with, craq_commands::specs::SingleCopy::window_of))]
+pub fn state_after(alloc: Global, state: &State, entries: &[Entry]) -> Result<State, AllocError>
+    ensures { IfOk result (λ s. s ≡ after_entries state.now entries.now) }
 {
     let mut objects = copies_of(alloc, state.objects.as_slice())?;
     let mut kept = copies_of(alloc, state.kept.as_slice())?;
     for entry in entries {
         put_writes(alloc, &mut objects, entry.writes.as_slice())?;
         let reply = entry.reply.copied(alloc)?;
-        put_kept(&mut kept, entry.client, (entry.number, reply))?;
+        put_kept(alloc, &mut kept, entry.client, entry.number, reply)?;
     }
-    Ok(Snapshot {
+    Ok(State {
         objects: Items::of(objects),
         kept: Items::of(kept),
     })

@@ -1,7 +1,7 @@
 -- A node that becomes ready by a state: all that it holds is committed, and nothing waits.
-use Rattle.std.proofs.Common.{◌≡◌, ℕ, ◌+◌, ◌-◌, Bool, true, false, [], arith, refl, sym, subst}
+use Rattle.std.proofs.Common.{◌≡◌, ℕ, ◌+◌, ◌-◌, Bool, true, false, [], None, arith, refl, sym, subst}
 use Rattle.std.specs.Prelude.{◌==◌, if◌then◌else◌}
-use Rattle.craq_commands.specs.SingleCopy.{State}
+use Rattle.craq_commands.specs.declared.state.State.{State}
 use Rattle.craq_model.specs.Plain.{Plain, is_last, entries_after}
 use Rattle.craq_model.specs.Deliveries.{with_copy}
 use Rattle.craq_model.specs.Sends.{tick_sends, ready_sends, catch_up}
@@ -12,20 +12,20 @@ use Rattle.craq_write.proofs.Ends.{none_after}
 
 abbrev ready_with : Plain → ℕ → State → Turn
 ready_with p position state =
-    turn_with (record (with_copy p position state) { ready = true })
+    turn_with (record (with_copy p position state) { ready = true; gathering = None })
     (if p.epoch == 0 then [] else ready_outs p.name p.epoch p.members [] position position p.waiting_reads)
 
 no_more : (n : ℕ) → n + 0 ≡ n
 no_more n = search arith
 
 -- the node without what waits
-abbrev idle : Plain → Plain
+abbrev pub idle : Plain → Plain
 idle p = record p { waiting_updates = []; waiting_reads = [] }
 
-is_idle : (p : Plain) → IsIdle p → p ≡ idle p
+pub is_idle : (p : Plain) → IsIdle p → p ≡ idle p
 is_idle p i = rw (i.updates, i.reads) refl
 
-by_last : (p : Plain) (position : ℕ) (state : State) (b : Bool) → is_last p ≡ b → settling_turn (record (with_copy (idle p) position state) { ready = true }) ≡ ready_with (idle p) position state
+by_last : (p : Plain) (position : ℕ) (state : State) (b : Bool) → is_last p ≡ b → settling_turn (record (with_copy (idle p) position state) { ready = true; gathering = None }) ≡ ready_with (idle p) position state
 unfolding settling_turn all_given by_ticket tick_sends ready_sends catch_up entries_after
 by_last p position state true h = rw (h, no_more position, none_after (position - position)) refl
 by_last p position state false h = rw (h, none_after (position - position), no_more position) refl
@@ -33,4 +33,4 @@ by_last p position state false h = rw (h, none_after (position - position), no_m
 pub ready_copy : (p : Plain) (position : ℕ) (state : State) → p.ready ≡ false → IsIdle p → is_reached p.floor position ≡ true → readiness_turn (with_copy p position state) ≡ ready_with p position state
 unfolding readiness_turn
 ready_copy p position state u i f =
-    rw (u, no_more position, f) (subst (λ (q : Plain). settling_turn (record (with_copy q position state) { ready = true }) ≡ ready_with q position state) (sym (is_idle p i)) (by_last p position state (is_last p) refl))
+    rw (u, no_more position, f) (subst (λ (q : Plain). settling_turn (record (with_copy q position state) { ready = true; gathering = None }) ≡ ready_with q position state) (sym (is_idle p i)) (by_last p position state (is_last p) refl))

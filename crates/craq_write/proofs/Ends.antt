@@ -1,16 +1,30 @@
 -- What stands after the end of a list.
-use Rattle.std.proofs.Common.{◌≡◌, ℕ, ◌+◌, ◌-◌, ◌≤◌, List, [], ◌∷◌, ◌++◌, length, drop, arith}
+use Rattle.std.proofs.Common.{◌≡◌, ℕ, zero, suc, ◌+◌, ◌-◌, ◌≤◌, List, [], ◌∷◌, ◌++◌, length, take, drop, refl, ap, arith}
 use Rattle.std.proofs.Math.ListN.{drop_of_length-le}
 use Rattle.std.proofs.lemmas.List.{drop-append-le}
 
 pub nothing_after_all : {A : Type 0} (base : ℕ) (xs : List A) → drop (base + length xs - base) xs ≡ []
 nothing_after_all base xs = drop_of_length-le xs (search arith)
 
--- one more at the end is after any part before it
-pub one_more_after : {A : Type 0} (base acknowledged : ℕ) (xs : List A) (x : A) → acknowledged ≤ base + length xs
-    → drop (acknowledged - base) (xs ++ x ∷ []) ≡ drop (acknowledged - base) xs ++ x ∷ []
-one_more_after base acknowledged xs x h = drop-append-le (acknowledged - base) xs (x ∷ []) (search arith)
+-- more at the end is after any part before it
+pub more_after : {A : Type 0} (base acknowledged : ℕ) (xs ys : List A) → acknowledged ≤ base + length xs
+    → drop (acknowledged - base) (xs ++ ys) ≡ drop (acknowledged - base) xs ++ ys
+more_after base acknowledged xs ys h = drop-append-le (acknowledged - base) xs ys (search arith)
 
 -- nothing stands in an empty list
 pub none_after : {A : Type 0} (place : ℕ) → drop {A = A} place [] ≡ []
 none_after place = drop_of_length-le [] (search arith)
+
+-- as many as there are are all
+pub take_all : {A : Type 0} (n : ℕ) (xs : List A) → length xs ≤ n → take n xs ≡ xs
+take_all zero [] h = refl
+take_all zero (x ∷ xs) h = absurd (omega (arith, h))
+take_all (suc n) [] h = refl
+take_all (suc n) (x ∷ xs) h = ap (λ l. x ∷ l) (take_all n xs (omega (arith, h)))
+
+-- fewer of the first ones
+pub take_fewer : {A : Type 0} (m n : ℕ) (xs : List A) → m ≤ n → take m (take n xs) ≡ take m xs
+take_fewer zero n xs h = refl
+take_fewer (suc m) zero xs h = absurd (omega (arith, h))
+take_fewer (suc m) (suc n) [] h = refl
+take_fewer (suc m) (suc n) (x ∷ xs) h = ap (λ l. x ∷ l) (take_fewer m n xs (omega (arith, h)))

@@ -2,3 +2,11 @@ pub mod Room
 pub mod Ends
 pub mod Copies
 pub mod Places
+pub mod Gathers
+pub mod Rows
+pub mod Orderings
+pub mod Cuts
+pub mod Outgrown
+pub mod Waiting
+pub mod Readying
+pub mod Heard

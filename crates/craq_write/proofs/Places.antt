@@ -11,7 +11,7 @@ use Rattle.craq_commands.specs.declared.reply.Reply.{Reply}
 use Rattle.craq_commands.specs.Evaluation.{eval, objects_named, some_used_up}
 use Rattle.craq_model.specs.declared.step.Out.{Out}
 use Rattle.craq_model.specs.Asks.{reply_turn, new_update_turn, update_turn, committed_if_last, with_entry, entry_of, is_full}
-use Rattle.craq_model.specs.Plain.{Plain, is_last, length_of, newest, successor}
+use Rattle.craq_model.specs.Plain.{Plain, is_last, length_of, newest, successor, acknowledging}
 use Rattle.craq_model.specs.Sends.{send_all, to_neighbour, entry_bodies}
 use Rattle.craq_model.specs.declared.step.Step.{Step}
 use Rattle.craq_model.specs.Settle.{Turn}
@@ -21,23 +21,23 @@ use Rattle.craq_history.specs.Change.{changed, no_change}
 use Rattle.craq_history.specs.Plans.{Plans}
 use Rattle.craq_write.specs.Places.{has_place}
 
-taken : (q : Plain) (position : ℕ) (reply : Reply) (sends : List Out) → (nat_le position q.acknowledged || not (is_full q)) ≡ true → IsOk (reply_turn q position reply sends)
+taken : (q : Plain) (position : ℕ) (reply : Reply) (sends : List Out) → (nat_le position q.past.acknowledged || not (is_full q)) ≡ true → IsOk (reply_turn q position reply sends)
 unfolding reply_turn
 taken q position reply sends h = grind (arith, h)
 
-turned_away : (q : Plain) (position : ℕ) (reply : Reply) (sends : List Out) → (nat_le position q.acknowledged || not (is_full q)) ≡ false → reply_turn q position reply sends ≡ Err PendingFull
+turned_away : (q : Plain) (position : ℕ) (reply : Reply) (sends : List Out) → (nat_le position q.past.acknowledged || not (is_full q)) ≡ false → reply_turn q position reply sends ≡ Err PendingFull
 unfolding reply_turn
 turned_away q position reply sends h = grind (arith, h)
 
 -- the node that commits what it holds where it is last, or does not
-known_taken_at : (b : Bool) (p : Plain) (position : ℕ) (reply : Reply) → (nat_le position (if b then length_of p else p.acknowledged) || not (is_full p)) ≡ true → IsOk (reply_turn (if b then record p { acknowledged = length_of p } else p) position reply [])
+known_taken_at : (b : Bool) (p : Plain) (position : ℕ) (reply : Reply) → (nat_le position (if b then length_of p else p.past.acknowledged) || not (is_full p)) ≡ true → IsOk (reply_turn (if b then acknowledging p (length_of p) else p) position reply [])
 unfolding is_full
-known_taken_at true p position reply h = taken (record p { acknowledged = length_of p }) position reply [] h
+known_taken_at true p position reply h = taken (acknowledging p (length_of p)) position reply [] h
 known_taken_at false p position reply h = taken p position reply [] h
 
-known_refused_at : (b : Bool) (p : Plain) (position : ℕ) (reply : Reply) → (nat_le position (if b then length_of p else p.acknowledged) || not (is_full p)) ≡ false → reply_turn (if b then record p { acknowledged = length_of p } else p) position reply [] ≡ Err PendingFull
+known_refused_at : (b : Bool) (p : Plain) (position : ℕ) (reply : Reply) → (nat_le position (if b then length_of p else p.past.acknowledged) || not (is_full p)) ≡ false → reply_turn (if b then acknowledging p (length_of p) else p) position reply [] ≡ Err PendingFull
 unfolding is_full
-known_refused_at true p position reply h = turned_away (record p { acknowledged = length_of p }) position reply [] h
+known_refused_at true p position reply h = turned_away (acknowledging p (length_of p)) position reply [] h
 known_refused_at false p position reply h = turned_away p position reply [] h
 
 -- an update whose number is not new
@@ -49,16 +49,16 @@ known_refused p position reply h = known_refused_at (is_last p) p position reply
 
 -- the history with one more entry
 one_more : (p : Plain) (e : Entry) → length_of (with_entry p e) ≡ length_of p + 1
-one_more p e = omega (arith, length-append p.entries (e ∷ []))
+one_more p e = omega (arith, length-append p.past.entries (e ∷ []))
 
-new_taken_at : (b : Bool) (p : Plain) (e : Entry) (sends : List Out) → (nat_le e.position (if b then length_of (with_entry p e) else p.acknowledged) || not (is_full p)) ≡ true → IsOk (reply_turn (if b then record (with_entry p e) { acknowledged = length_of (with_entry p e) } else with_entry p e) e.position e.reply sends)
+new_taken_at : (b : Bool) (p : Plain) (e : Entry) (sends : List Out) → (nat_le e.position (if b then length_of (with_entry p e) else p.past.acknowledged) || not (is_full p)) ≡ true → IsOk (reply_turn (if b then acknowledging (with_entry p e) (length_of (with_entry p e)) else with_entry p e) e.position e.reply sends)
 unfolding is_full
-new_taken_at true p e sends h = taken (record (with_entry p e) { acknowledged = length_of (with_entry p e) }) e.position e.reply sends h
+new_taken_at true p e sends h = taken (acknowledging (with_entry p e) (length_of (with_entry p e))) e.position e.reply sends h
 new_taken_at false p e sends h = taken (with_entry p e) e.position e.reply sends h
 
-new_refused_at : (b : Bool) (p : Plain) (e : Entry) (sends : List Out) → (nat_le e.position (if b then length_of (with_entry p e) else p.acknowledged) || not (is_full p)) ≡ false → reply_turn (if b then record (with_entry p e) { acknowledged = length_of (with_entry p e) } else with_entry p e) e.position e.reply sends ≡ Err PendingFull
+new_refused_at : (b : Bool) (p : Plain) (e : Entry) (sends : List Out) → (nat_le e.position (if b then length_of (with_entry p e) else p.past.acknowledged) || not (is_full p)) ≡ false → reply_turn (if b then acknowledging (with_entry p e) (length_of (with_entry p e)) else with_entry p e) e.position e.reply sends ≡ Err PendingFull
 unfolding is_full
-new_refused_at true p e sends h = turned_away (record (with_entry p e) { acknowledged = length_of (with_entry p e) }) e.position e.reply sends h
+new_refused_at true p e sends h = turned_away (acknowledging (with_entry p e) (length_of (with_entry p e))) e.position e.reply sends h
 new_refused_at false p e sends h = turned_away (with_entry p e) e.position e.reply sends h
 
 -- a new update
@@ -87,13 +87,13 @@ no_other : (b : Bool) → (b || false) ≡ b
 no_other true = refl
 no_other false = refl
 
-added_at : (b : Bool) (p : Plain) (e : Entry) → e.position ≡ length_of p + 1 → changed p (if b then record no_change { history = histories.Grows e; acknowledged = Some e.position } else record no_change { history = histories.Grows e }) ≡ (if b then record (with_entry p e) { acknowledged = length_of (with_entry p e) } else with_entry p e)
-added_at true p e h = rw (no_other p.ready) (ap (λ n. record (with_entry p e) { acknowledged = n }) (h ∙ sym (one_more p e)))
+added_at : (b : Bool) (p : Plain) (e : Entry) → e.position ≡ length_of p + 1 → changed p (if b then record no_change { history = histories.Grows (e ∷ []); acknowledged = Some e.position } else record no_change { history = histories.Grows (e ∷ []) }) ≡ (if b then acknowledging (with_entry p e) (length_of (with_entry p e)) else with_entry p e)
+added_at true p e h = rw (no_other p.ready) (ap (λ n. acknowledging (with_entry p e) n) (h ∙ sym (one_more p e)))
 added_at false p e h = rw (no_other p.ready) refl
 
-pub new_plan : (p : Plain) (e : Entry) (g c : Change) (count : ℕ) (reply : Reply) (sends : List Out) → g ≡ no_change → c ≡ (if is_last p then record g { history = histories.Grows e; acknowledged = Some count } else record g { history = histories.Grows e }) → count ≡ e.position → e.position ≡ length_of p + 1 → reply ≡ e.reply → sends ≡ to_neighbour (successor p) (λ to. send_all p to (entry_bodies (e ∷ []))) → reply_turn (changed p c) count reply sends ≡ new_update_turn p e
-new_plan p e g c count reply sends none is here next said sent =
-    rw (is, none, here, said, sent) (ap (λ (q : Plain). reply_turn q e.position e.reply (to_neighbour (successor p) (λ to. send_all p to (entry_bodies (e ∷ []))))) (added_at (is_last p) p e next))
+pub new_plan : (p : Plain) (e : Entry) (es : List Entry) (g c : Change) (count : ℕ) (reply : Reply) (sends : List Out) → es ≡ e ∷ [] → g ≡ no_change → c ≡ (if is_last p then record g { history = histories.Grows es; acknowledged = Some count } else record g { history = histories.Grows es }) → count ≡ e.position → e.position ≡ length_of p + 1 → reply ≡ e.reply → sends ≡ to_neighbour (successor p) (λ to. send_all p to (entry_bodies es)) → reply_turn (changed p c) count reply sends ≡ new_update_turn p e
+new_plan p e es g c count reply sends one none is here next said sent =
+    rw (is, none, here, said, sent, one) (ap (λ (q : Plain). reply_turn q e.position e.reply (to_neighbour (successor p) (λ to. send_all p to (entry_bodies (e ∷ []))))) (added_at (is_last p) p e next))
 
 -- memory runs out in what was to succeed
 pub lacks_memory : (p : Plain) (r : Result (Change × Step) Refusal) (wanted : Result Turn Refusal) → IsErr r × IsErrAnd r (λ e. e ≡ Memory) → IsOk wanted → Plans p r wanted

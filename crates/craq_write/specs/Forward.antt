@@ -1,5 +1,5 @@
 -- What a node sends on.
-use Rattle.std.specs.Prelude.{ℕ, ◌+◌, List, [], ◌∷◌, map}
+use Rattle.std.specs.Prelude.{ℕ, ◌+◌, List, map}
 use Rattle.craq_names.specs.declared.name.NodeName.{NodeName}
 use Rattle.craq_commands.specs.declared.entry.Entry.{Entry}
 use Rattle.craq_model.specs.declared.step.Out.{Out}
@@ -12,9 +12,9 @@ use Rattle.craq_model.specs.Asks.{versioned_write}
 use Rattle.craq_model.specs.Sends.{to_neighbour, entry_bodies}
 use Rattle.craq_history.specs.Standing.{sent_from}
 
--- an entry, to the successor if there is one
-abbrev pub forwarded : NodeName → ℕ → List ℕ → Entry → List Out
-forwarded name epoch members e = to_neighbour (successor_in members name.node) (λ to. map (sent_from name epoch to) (entry_bodies (e ∷ [])))
+-- entries in a row, to the successor if there is one
+abbrev pub forwarded : NodeName → ℕ → List ℕ → List Entry → List Out
+forwarded name epoch members es = to_neighbour (successor_in members name.node) (λ to. map (sent_from name epoch to) (entry_bodies es))
 
 -- the entry of a new update, evaluated on these objects
 abbrev pub entry_in : Plain → Update → Objects → Entry

@@ -5,7 +5,7 @@ use Rattle.craq_model.specs.Plain.{Plain, is_last}
 
 -- how much is committed once the history has this length
 abbrev pub committed_then : Plain → ℕ → ℕ
-committed_then p count = if is_last p then count else p.acknowledged
+committed_then p count = if is_last p then count else p.past.acknowledged
 
 -- an update that is due at a position is answered in its step, once the history has this length, or can wait
 abbrev pub has_place : Plain → ℕ → ℕ → Bool

@@ -1,25 +1,27 @@
-ghost use Rattle.std.specs.Prelude.{◌≡◌, ◌≤◌, ◌+◌, ◌++◌, [], true, false, nat_lt, if◌then◌else◌, Some, None, Ok, IfOk, OnOk, IsOk, IsSome, map};
-ghost use Rattle.craq_model.specs.Asks.{with_entry};
-ghost use Rattle.craq_model.specs.Deliveries.{ack_turn, blank_turn, due_updates, entry_turn, forwarding_turn};
-ghost use Rattle.craq_model.specs.Plain.{length_of};
+ghost use Rattle.std.specs.Prelude.{◌≡◌, ◌≤◌, ◌<◌, ◌+◌, ◌++◌, [], length, true, false, nat_lt, if◌then◌else◌, Some, None, Ok, IfOk, IfErr, OnOk, IsOk, IsSome, map};
+ghost use Rattle.craq_model.specs.Deliveries.{ack_turn, blank_turn, due_updates, entries_above, entries_turn, fill_bodies, final_position, first_position, forwarding_turn, taken_entries_turn};
+ghost use Rattle.craq_model.specs.Past.{length_in, entries_in, clean_in};
+ghost use Rattle.craq_model.specs.Plain.{length_of, with_entries};
+ghost use Rattle.craq_model.specs.Sends.{copy_bodies, send_all};
 ghost use Rattle.craq_model.specs.Settle.{answer_outs, update_given};
+ghost use Rattle.craq_model.specs.Spelled.{IsConsecutive};
 ghost use Rattle.craq_history.specs.Change.{no_change};
 ghost use Rattle.craq_history.specs.Nodes.{plain_of};
-ghost use Rattle.craq_history.specs.Past.{length_in, entries_in, clean_in};
 ghost use Rattle.craq_history.specs.Plans.{IsPlanOf};
 ghost use Rattle.craq_history.specs.Standing.{sent_from, caught_up};
-ghost use Rattle.craq_model.specs.Sends.{copy_bodies};
+ghost use Rattle.craq_write.specs.Sent.{CannotFill, CannotSend, LacksOrOutgrows};
 ghost use Rattle.craq_write.specs.Settling.{IsIdle};
 
 use crate::making_entries::forward;
 use crate::readiness::{growing, taken_unready};
+use crate::sending_states::send_state;
 use craq_commands::Entry;
 use craq_history::members::{last_member, predecessor_of, successor_of};
 use craq_history::outs::{message, send_entries, tell_predecessor};
 use craq_history::steps::{done, ignoring};
 use craq_history::{Change, History, Node, WaitingChange};
 use craq_model::{Answer, Body, Out, Step, WaitingUpdate, Why};
-use craq_names::{Copied, NodeId, Seq};
+use craq_names::{Copied, Items, NodeId, Refusal, Seq, copies_of};
 use std::alloc::{AllocError, Global};
 
 /// A step that ignores its message.
@@ -89,33 +91,33 @@ pub fn plan_ack<H: History>(
     Ok((change, done(outs)))
 }
 
-/// The clean state, where that is ahead of so many entries.
-#[tactic(auto, unfolding(craq_model::specs::Sends::copy_bodies))]
-fn copy_ahead<H: History>(
+/// Sends the clean state, where that is ahead of so many entries.
+fn state_ahead<H: History>(
     outs: &mut Vec<Out>,
     alloc: Global,
     node: &Node<H>,
     to: NodeId,
     count: u64,
-) -> Result<(), AllocError>
-    ensures { OnOk result (outs.new.items ≡ outs.old.items ++ map (sent_from node.now.name node.now.epoch to) (if nat_lt count (H.past node.now.history).acknowledged then copy_bodies (H.past node.now.history).acknowledged (clean_in (H.past node.now.history)) else [])) }
+) -> Result<(), Refusal>
+    ensures ok { OnOk result (outs.new.items ≡ outs.old.items ++ map (sent_from node.now.name node.now.epoch to) (if nat_lt count (H.past node.now.history).acknowledged then copy_bodies (H.past node.now.history).acknowledged (clean_in (H.past node.now.history)) else [])) }
+    ensures err { IfErr result (λ e. (count < (H.past node.now.history).acknowledged) × CannotSend (clean_in (H.past node.now.history)) e) }
 {
     let acknowledged = node.history.acknowledged();
     if count >= acknowledged {
         return Ok(());
     }
     let state = node.history.snapshot(alloc)?;
-    let body = Body::Copy {
-        position: Seq::new(acknowledged),
-        objects: state.objects,
-        kept: state.kept,
-    };
-    outs.push(message(&node.sender(), to, body))?;
-    Ok(())
+    send_state(
+        outs,
+        alloc,
+        &node.sender(),
+        to,
+        Seq::new(acknowledged),
+        state,
+    )
 }
 
 /// The entries after a position that is not below the acknowledged one, then how many there are.
-#[tactic(auto, unfolding(craq_model::specs::Sends::entry_bodies))]
 fn entries_ahead<H: History>(
     outs: &mut Vec<Out>,
     alloc: Global,
@@ -127,96 +129,168 @@ fn entries_ahead<H: History>(
     ensures { OnOk result (outs.new.items ≡ outs.old.items ++ caught_up node.now.name node.now.epoch (entries_in (H.past node.now.history) position) (length_in (H.past node.now.history)) to) }
 {
     let sender = node.sender();
-    send_entries(outs, alloc, &sender, to, node.history.after(position))?;
+    send_entries(outs, alloc, &sender, to, node.history.after(position), &[])?;
     let length = Seq::new(node.history.len());
     outs.push(message(&sender, to, Body::Floor(length)))?;
     Ok(())
 }
 
 /// What an unready successor lacks that has so many entries: the clean state if that is ahead of it, then
-/// the entries after it, then how many there are. Ignored where the sender is not the successor
-/// (`NotNeighbour`) or this node is not ready (`NotReadyHere`). This project's profile.
-#[tactic(auto, unfolding(craq_model::specs::Deliveries::blank_turn, craq_model::specs::Deliveries::fill_bodies, craq_model::specs::Sends::catch_up, craq_model::specs::Plain::clean, craq_model::specs::Plain::entries_after))]
+/// the entries after it, then how many there are. Refused for want of memory (`Memory`), and where the state has
+/// more parts than 32 bits count (`Exhausted`).
+#[tactic(auto, unfolding(craq_model::specs::Deliveries::fill_bodies, craq_model::specs::Sends::catch_up, craq_model::specs::Plain::clean, craq_model::specs::Plain::entries_after))]
+fn filling<H: History>(
+    alloc: Global,
+    node: &Node<H>,
+    to: NodeId,
+    count: Seq,
+) -> Result<Vec<Out>, Refusal>
+    ensures ok { IfOk result (λ outs. outs.items ≡ send_all (plain_of H.past node.now) to (fill_bodies (plain_of H.past node.now) count)) }
+    ensures err { IfErr result (λ e. CannotFill (plain_of H.past node.now) to count e) }
+{
+    let mut outs = Vec::new(alloc);
+    state_ahead(&mut outs, alloc, node, to, count.get())?;
+    let position = count.get().max(node.history.acknowledged());
+    entries_ahead(&mut outs, alloc, node, to, position)?;
+    Ok(outs)
+}
+
+/// An unready successor has so many entries: it is sent what it lacks, the clean state if that is ahead of it, the
+/// entries after it, and how many there are. Ignored where the sender is not the successor
+/// (`NotNeighbour`) or this node is not ready (`NotReadyHere`). Refused for want of memory (`Memory`), and
+/// where the state has more parts than 32 bits count (`Exhausted`). This project's profile.
+#[tactic(auto, unfolding(craq_model::specs::Deliveries::blank_turn))]
 pub fn plan_blank<H: History>(
     alloc: Global,
     node: &Node<H>,
     sender: NodeId,
     count: Seq,
-) -> Result<(Change, Step), AllocError>
+) -> Result<(Change, Step), Refusal>
     ensures turn { IfOk result (λ r. IsPlanOf (plain_of H.past node.now) r (blank_turn (plain_of H.past node.now) sender count)) }
+    ensures err { IfErr result (λ e. LacksOrOutgrows (blank_turn (plain_of H.past node.now) sender count) e) }
     ensures free { IsSome (blank_turn (plain_of H.past node.now) sender count).1.ignored → IsOk result }
 {
     if successor_of(node.members.as_slice(), node.name.node) != Some(sender) {
-        return ignored(alloc, Why::NotNeighbour);
+        return Ok((Change::none(), ignoring(alloc, Why::NotNeighbour)));
     }
     if !node.ready {
-        return ignored(alloc, Why::NotReadyHere);
+        return Ok((Change::none(), ignoring(alloc, Why::NotReadyHere)));
     }
-    let mut outs = Vec::new(alloc);
-    copy_ahead(&mut outs, alloc, node, sender, count.get())?;
-    let position = count.get().max(node.history.acknowledged());
-    entries_ahead(&mut outs, alloc, node, sender, position)?;
+    let outs = filling(alloc, node, sender, count)?;
     Ok((Change::none(), done(outs)))
 }
 
-/// An entry of the predecessor, at a ready node: the tail commits it and says so to its predecessor; any
-/// other node sends it on.
+/// Entries of the predecessor, at a ready node that takes them: the tail commits them and says so to its
+/// predecessor, once for all of them; any other node sends them on.
 #[tactic(auto, unfolding(craq_model::specs::Deliveries::forwarding_turn))]
 fn passed_on<H: History>(
     alloc: Global,
     node: &Node<H>,
-    entry: Entry,
+    entries: &[Entry],
+    end: Seq,
 ) -> Result<(Change, Step), AllocError>
-    requires next { entry.position ≡ length_of (plain_of H.past node.now) + 1 }
+    requires end { end ≡ length_of (plain_of H.past node.now) + length entries.now }
     requires ready { node.now.ready ≡ true }
-    ensures { IfOk result (λ r. IsPlanOf (plain_of H.past node.now) r (forwarding_turn (with_entry (plain_of H.past node.now) entry) entry)) }
+    ensures { IfOk result (λ r. IsPlanOf (plain_of H.past node.now) r (forwarding_turn (with_entries (plain_of H.past node.now) entries.now) entries.now)) }
 {
     let members = node.members.as_slice();
-    let length = entry.position;
     let is_tail = last_member(members) == node.name.node;
     let mut outs = Vec::new(alloc);
     if is_tail {
-        tell_predecessor(&mut outs, &node.sender(), members, Body::Ack(length))?;
+        tell_predecessor(&mut outs, &node.sender(), members, Body::Ack(end))?;
     } else {
-        forward(&mut outs, alloc, &node.sender(), members, &entry)?;
+        forward(&mut outs, alloc, &node.sender(), members, entries)?;
     }
-    let acknowledged = if is_tail { Some(length) } else { None };
-    Ok((growing(entry, acknowledged, false), done(outs)))
+    let acknowledged = if is_tail { Some(end) } else { None };
+    let taken = Items::of(copies_of(alloc, entries)?);
+    Ok((growing(taken, acknowledged), done(outs)))
 }
 
-/// An entry from the predecessor: it is appended where it is the next and fits. The tail commits it, any
-/// other ready node sends it on (OSDI 2004), and a node that is not ready may become so by it. Ignored where the sender is not the
-/// predecessor (`NotNeighbour`), where the node has it (`AlreadyHave`), where it is further on than the
-/// next (`OutOfOrder`), or where it does not fit: a write whose version is not the next of its object, or
-/// a number that is not new (`TooFar`).
-#[tactic(auto, unfolding(craq_model::specs::Deliveries::entry_turn, craq_model::specs::Deliveries::forwarding_turn, craq_model::specs::Settle::readiness_turn, craq_model::specs::Settle::settling_turn, craq_model::specs::Plain::newest))]
-pub fn plan_entry<H: History>(
+/// The position of the first of some entries; 0 where there is none.
+fn start_of(entries: &[Entry]) -> Seq
+    ensures { result ≡ first_position entries.now }
+{
+    match entries {
+        [] => Seq::new(0),
+        [first, ..] => first.position,
+    }
+}
+
+/// The position of the last of some entries; 0 where there is none.
+#[tactic(auto, using(crate::proofs::Rows::final_last))]
+fn end_of(entries: &[Entry]) -> Seq
+    ensures { result ≡ final_position entries.now }
+{
+    match entries.last() {
+        Some(last) => last.position,
+        None => Seq::new(0),
+    }
+}
+
+/// Those of some entries in a row whose positions are above this one.
+fn entries_above(entries: &[Entry], position: u64) -> &[Entry]
+    requires { IsConsecutive entries.now }
+    ensures { result.now ≡ entries_above position entries.now }
+{
+    for place in 0..entries.len() {
+        if entries[place].position.get() > position {
+            return &entries[place..];
+        }
+    }
+    &[]
+}
+
+/// Entries that follow the node's own, and that the node takes: all of them.
+fn taken<H: History>(
+    alloc: Global,
+    node: &Node<H>,
+    entries: &[Entry],
+    end: Seq,
+) -> Result<(Change, Step), AllocError>
+    requires end { end ≡ length_of (plain_of H.past node.now) + length entries.now }
+    requires idle { node.now.ready ≡ false → IsIdle (plain_of H.past node.now) }
+    requires within { (H.past node.now.history).acknowledged ≤ length_of (plain_of H.past node.now) }
+    ensures { IfOk result (λ r. IsPlanOf (plain_of H.past node.now) r (taken_entries_turn (with_entries (plain_of H.past node.now) entries.now) entries.now)) }
+{
+    if node.ready {
+        return passed_on(alloc, node, entries, end);
+    }
+    taken_unready(alloc, node, entries, end)
+}
+
+/// Entries in a row from the predecessor. Those that the node has already are left out; the others are
+/// appended, all of them or none. The tail commits them, any other ready node sends them on (OSDI 2004), and a
+/// node that is not ready may become so by them. Ignored where the sender is not the
+/// predecessor (`NotNeighbour`), where the node has all of them (`AlreadyHave`), where the first is further on
+/// than the next (`OutOfOrder`), or where one does not fit after those before it: a write whose version is not
+/// the next of its object, or a number that is not new (`TooFar`). Batches are this project's profile.
+#[tactic(auto, using(crate::proofs::Rows::row_end, crate::proofs::Heard::taken_heard), unfolding(craq_model::specs::Deliveries::entries_turn, craq_model::specs::Plain::newest))]
+pub fn plan_entries<H: History>(
     alloc: Global,
     node: &Node<H>,
     sender: NodeId,
-    entry: &Entry,
+    entries: &[Entry],
 ) -> Result<(Change, Step), AllocError>
+    requires row { IsConsecutive entries.now }
     requires idle { node.now.ready ≡ false → IsIdle (plain_of H.past node.now) }
     requires within { (H.past node.now.history).acknowledged ≤ length_of (plain_of H.past node.now) }
-    ensures turn { IfOk result (λ r. IsPlanOf (plain_of H.past node.now) r (entry_turn (plain_of H.past node.now) sender entry.now)) }
-    ensures free { IsSome (entry_turn (plain_of H.past node.now) sender entry.now).1.ignored → IsOk result }
+    ensures turn { IfOk result (λ r. IsPlanOf (plain_of H.past node.now) r (entries_turn (plain_of H.past node.now) sender entries.now)) }
+    ensures free { IsSome (entries_turn (plain_of H.past node.now) sender entries.now).1.ignored → IsOk result }
 {
     if predecessor_of(node.members.as_slice(), node.name.node) != Some(sender) {
         return ignored(alloc, Why::NotNeighbour);
     }
     let length = node.history.len();
-    if entry.position.get() <= length {
+    let end = end_of(entries);
+    if end.get() <= length {
         return ignored(alloc, Why::AlreadyHave);
     }
-    if entry.position.get() - 1 > length {
+    if start_of(entries).get().saturating_sub(1) > length {
         return ignored(alloc, Why::OutOfOrder);
     }
-    if !node.history.is_next(entry) {
+    let next = entries_above(entries, length);
+    if !node.history.are_next(next) {
         return ignored(alloc, Why::TooFar);
     }
-    let entry = entry.copied(alloc)?;
-    if node.ready {
-        return passed_on(alloc, node, entry);
-    }
-    taken_unready(alloc, node, entry)
+    taken(alloc, node, next, end)
 }

@@ -2,14 +2,14 @@ ghost use Rattle.std.specs.Prelude.{◌≡◌, ◌≢◌, ℕ, List, All, map, �
 ghost use Rattle.craq_names.specs.Limits.{greatest};
 ghost use Rattle.craq_commands.specs.Objects.{version_of};
 ghost use Rattle.craq_model.specs.Asks.{versioned_write};
-ghost use Rattle.craq_history.specs.Past.{newest_in};
+ghost use Rattle.craq_model.specs.Past.{newest_in};
 ghost use Rattle.craq_write.specs.Forward.{forwarded};
 
-use craq_commands::{Entry, Look, Write, Writes};
+use craq_commands::{Entry, Look, Write};
 use craq_history::History;
 use craq_history::members::successor_of;
-use craq_history::outs::{Sender, message};
-use craq_model::{Body, Out};
+use craq_history::outs::{Sender, send_entries};
+use craq_model::Out;
 use craq_names::{Copied, Key, NodeId, Value, Version};
 use std::alloc::{AllocError, Global};
 
@@ -46,20 +46,18 @@ pub(crate) fn versioned<H: History>(
     Ok(made)
 }
 
-/// Adds the entry as it is sent to the successor, if there is one.
-#[tactic(auto, unfolding(craq_model::specs::Sends::entry_bodies))]
+/// Adds entries in a row as they are sent to the successor, if there is one.
 pub(crate) fn forward(
     outs: &mut Vec<Out>,
     alloc: Global,
     sender: &Sender,
     members: &[NodeId],
-    entry: &Entry,
+    entries: &[Entry],
 ) -> Result<(), AllocError>
-    ensures { OnOk result (outs.new.items ≡ outs.old.items ++ forwarded sender.now.name sender.now.epoch members.now entry.now) }
+    ensures { OnOk result (outs.new.items ≡ outs.old.items ++ forwarded sender.now.name sender.now.epoch members.now entries.now) }
 {
-    if let Some(to) = successor_of(members, sender.id()) {
-        let copy = entry.copied(alloc)?;
-        outs.push(message(sender, to, Body::Entry(copy)))?;
+    match successor_of(members, sender.id()) {
+        Some(to) => send_entries(outs, alloc, sender, to, entries, &[]),
+        None => Ok(()),
     }
-    Ok(())
 }

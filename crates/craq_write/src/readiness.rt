@@ -1,22 +1,22 @@
 //! A node that joined: entries, states and floors that reach it until it is ready.
-ghost use Rattle.std.specs.Prelude.{◌≡◌, ◌≤◌, ◌+◌, ◌==◌, ◌++◌, [], Some, true, false, if◌then◌else◌, OnOk, IfOk, IsOk, IsSome};
-ghost use Rattle.craq_model.specs.Asks.{with_entry};
+ghost use Rattle.std.specs.Prelude.{◌≡◌, ◌≤◌, ◌+◌, ◌==◌, ◌++◌, [], length, Some, true, false, if◌then◌else◌, OnOk, IfOk, IsOk, IsSome};
 ghost use Rattle.craq_model.specs.Deliveries.{copy_turn, floor_turn, with_copy};
-ghost use Rattle.craq_model.specs.Plain.{length_of};
+ghost use Rattle.craq_model.specs.Plain.{length_of, with_entries};
 ghost use Rattle.craq_model.specs.Settle.{is_reached, readiness_turn};
 ghost use Rattle.craq_history.specs.Change.{no_change};
 ghost use Rattle.craq_history.specs.Nodes.{plain_of};
 ghost use Rattle.craq_history.specs.Plans.{IsPlanOf};
 ghost use Rattle.craq_history.specs.Standing.{ready_outs};
+ghost use Rattle.craq_write.specs.Gathered.{gathering_at};
 ghost use Rattle.craq_write.specs.Settling.{IsIdle};
 
-use craq_commands::{Entry, Reply};
+use craq_commands::{Entry, State};
 use craq_history::members::{last_member, predecessor_of};
 use craq_history::outs::add_ready_outs;
 use craq_history::steps::{done, ignoring};
-use craq_history::{Change, History, HistoryChange, Node, Snapshot, WaitingChange};
+use craq_history::{Change, GatheringChange, History, HistoryChange, Node};
 use craq_model::{Out, Step, Why};
-use craq_names::{ClientId, Copied, Items, Key, NodeId, RequestNo, Seq, Value, Version};
+use craq_names::{Copied, Items, NodeId, Seq, copies_of};
 use std::alloc::{AllocError, Global};
 
 /// Whether the floor is known and reached.
@@ -59,115 +59,134 @@ fn outs_when_ready<H: History>(
     Ok(outs)
 }
 
-/// The change by one more entry.
-pub(crate) fn growing(entry: Entry, acknowledged: Option<Seq>, becomes_ready: bool) -> Change
-    ensures { result ≡ record no_change { history = HistoryChange.Grows entry; acknowledged = acknowledged; becomes_ready = becomes_ready } }
+/// What the node does to the parts that it gathers of a state once it holds so many entries: it drops those
+/// of a position that it has reached.
+fn gathering_at<H>(node: &Node<H>, count: Seq) -> GatheringChange
+    ensures { result ≡ gathering_at node.now.gathering count }
 {
-    Change {
-        accepted: false,
-        membership: None,
-        history: HistoryChange::Grows(entry),
-        acknowledged,
-        floor: None,
-        becomes_ready,
-        waiting: WaitingChange::Same,
+    match &node.gathering {
+        Some(gathering) if gathering.position > count => GatheringChange::Stays,
+        _ => GatheringChange::Dropped,
     }
 }
 
-/// An entry by which a node becomes ready. The last member commits all that it holds.
-#[tactic(auto, using(crate::proofs::Ends::nothing_after_all, crate::proofs::Ends::one_more_after), unfolding(craq_model::specs::Settle::readiness_turn, craq_model::specs::Settle::settling_turn, craq_model::specs::Settle::all_given, craq_model::specs::Settle::by_ticket, craq_model::specs::Sends::tick_sends, craq_model::specs::Sends::ready_sends, craq_model::specs::Sends::catch_up, craq_model::specs::Plain::entries_after))]
-fn ready_by_entry<H: History>(
+/// The change by more entries.
+pub(crate) fn growing(entries: Items<Entry>, acknowledged: Option<Seq>) -> Change
+    ensures { result ≡ record no_change { history = HistoryChange.Grows entries; acknowledged = acknowledged } }
+{
+    let mut change = Change::none();
+    change.history = HistoryChange::Grows(entries);
+    change.acknowledged = acknowledged;
+    change
+}
+
+/// The same, by which the node becomes ready; it gathers no more.
+fn growing_ready(entries: Items<Entry>, acknowledged: Option<Seq>) -> Change
+    ensures { result ≡ record no_change { history = HistoryChange.Grows entries; acknowledged = acknowledged; becomes_ready = true; gathering = GatheringChange.Dropped } }
+{
+    let mut change = growing(entries, acknowledged);
+    change.becomes_ready = true;
+    change.gathering = GatheringChange::Dropped;
+    change
+}
+
+/// Entries by which a node becomes ready. The last member commits all that it holds.
+fn ready_by_entries<H: History>(
     alloc: Global,
     node: &Node<H>,
-    entry: Entry,
+    entries: &[Entry],
+    end: Seq,
 ) -> Result<(Change, Step), AllocError>
-    requires next { entry.position ≡ length_of (plain_of H.past node.now) + 1 }
+    requires end { end ≡ length_of (plain_of H.past node.now) + length entries.now }
     requires unready { node.now.ready ≡ false }
     requires idle { IsIdle (plain_of H.past node.now) }
     requires within { (H.past node.now.history).acknowledged ≤ length_of (plain_of H.past node.now) }
-    requires reached { is_reached node.now.floor entry.position ≡ true }
-    ensures { IfOk result (λ r. IsPlanOf (plain_of H.past node.now) r (readiness_turn (with_entry (plain_of H.past node.now) entry))) }
+    requires reached { is_reached node.now.floor end ≡ true }
+    ensures { IfOk result (λ r. IsPlanOf (plain_of H.past node.now) r (readiness_turn (with_entries (plain_of H.past node.now) entries.now))) }
 {
-    let length = entry.position;
+    let taken = Items::of(copies_of(alloc, entries)?);
     if last_member(node.members.as_slice()) == node.name.node {
-        let outs = outs_when_ready(alloc, node, &[], &[], length, length)?;
-        return Ok((growing(entry, Some(length), true), done(outs)));
+        let outs = outs_when_ready(alloc, node, &[], &[], end, end)?;
+        return Ok((growing_ready(taken, Some(end)), done(outs)));
     }
     let acknowledged = node.history.acknowledged();
     let held = node.history.after(acknowledged);
-    let last = std::slice::from_ref(&entry);
-    let outs = outs_when_ready(alloc, node, held, last, length, Seq::new(acknowledged))?;
-    Ok((growing(entry, None, true), done(outs)))
+    let outs = outs_when_ready(alloc, node, held, entries, end, Seq::new(acknowledged))?;
+    Ok((growing_ready(taken, None), done(outs)))
 }
 
-/// The next entry of the predecessor, at a node that is not ready: it is appended, and the node becomes
+/// The next entries of the predecessor, at a node that is not ready: they are appended, and the node becomes
 /// ready where it then holds as many entries as its floor says.
-#[tactic(auto, unfolding(craq_model::specs::Settle::readiness_turn))]
 pub(crate) fn taken_unready<H: History>(
     alloc: Global,
     node: &Node<H>,
-    entry: Entry,
+    entries: &[Entry],
+    end: Seq,
 ) -> Result<(Change, Step), AllocError>
-    requires next { entry.position ≡ length_of (plain_of H.past node.now) + 1 }
+    requires end { end ≡ length_of (plain_of H.past node.now) + length entries.now }
     requires unready { node.now.ready ≡ false }
     requires idle { IsIdle (plain_of H.past node.now) }
     requires within { (H.past node.now.history).acknowledged ≤ length_of (plain_of H.past node.now) }
-    ensures { IfOk result (λ r. IsPlanOf (plain_of H.past node.now) r (readiness_turn (with_entry (plain_of H.past node.now) entry))) }
+    ensures { IfOk result (λ r. IsPlanOf (plain_of H.past node.now) r (readiness_turn (with_entries (plain_of H.past node.now) entries.now))) }
 {
-    if is_floor_reached(node.floor, entry.position) {
-        return ready_by_entry(alloc, node, entry);
+    if is_floor_reached(node.floor, end) {
+        return ready_by_entries(alloc, node, entries, end);
     }
-    Ok((growing(entry, None, false), done(Vec::new(alloc))))
+    let mut change = growing(Items::of(copies_of(alloc, entries)?), None);
+    change.gathering = gathering_at(node, end);
+    Ok((change, done(Vec::new(alloc))))
 }
 
 /// The change of a state that is taken.
-fn copying(state: Snapshot, position: Seq, becomes_ready: bool) -> Change
-    ensures { result ≡ record no_change { history = HistoryChange.IsCopied position state.objects state.kept; becomes_ready = becomes_ready } }
+fn copying(state: State, position: Seq, becomes_ready: bool, gathering: GatheringChange) -> Change
+    ensures { result ≡ record no_change { history = HistoryChange.IsCopied position state; becomes_ready = becomes_ready; gathering = gathering } }
 {
-    Change {
-        accepted: false,
-        membership: None,
-        history: HistoryChange::IsCopied {
-            position,
-            objects: state.objects,
-            kept: state.kept,
-        },
-        acknowledged: None,
-        floor: None,
-        becomes_ready,
-        waiting: WaitingChange::Same,
-    }
+    let mut change = Change::none();
+    change.history = HistoryChange::IsCopied { position, state };
+    change.becomes_ready = becomes_ready;
+    change.gathering = gathering;
+    change
 }
 
 /// A state by which a node becomes ready. All of it is committed, and nothing waits.
-#[tactic(auto, using(crate::proofs::Ends::nothing_after_all, crate::proofs::Ends::none_after), unfolding(craq_model::specs::Settle::readiness_turn, craq_model::specs::Settle::settling_turn, craq_model::specs::Settle::all_given, craq_model::specs::Settle::by_ticket, craq_model::specs::Sends::tick_sends, craq_model::specs::Sends::ready_sends, craq_model::specs::Sends::catch_up, craq_model::specs::Plain::entries_after))]
 fn ready_by_copy<H: History>(
     alloc: Global,
     node: &Node<H>,
     position: Seq,
-    state: Snapshot,
+    state: State,
 ) -> Result<(Change, Step), AllocError>
     requires unready { node.now.ready ≡ false }
     requires idle { IsIdle (plain_of H.past node.now) }
     requires reached { is_reached node.now.floor position ≡ true }
-    ensures { IfOk result (λ r. IsPlanOf (plain_of H.past node.now) r (readiness_turn (with_copy (plain_of H.past node.now) position (record { objects = state.objects; kept = state.kept })))) }
+    ensures { IfOk result (λ r. IsPlanOf (plain_of H.past node.now) r (readiness_turn (with_copy (plain_of H.past node.now) position state))) }
 {
     let outs = outs_when_ready(alloc, node, &[], &[], position, position)?;
-    Ok((copying(state, position, true), done(outs)))
+    Ok((
+        copying(state, position, true, GatheringChange::Dropped),
+        done(outs),
+    ))
 }
 
-/// A copy of a state.
-fn state_copied(
+/// A state takes the place of the history of a node that is not ready, which becomes ready where it then
+/// holds as many entries as its floor says.
+pub(crate) fn state_taken<H: History>(
     alloc: Global,
-    objects: &Items<(Key, (Version, Value))>,
-    kept: &Items<(ClientId, (RequestNo, Reply))>,
-) -> Result<Snapshot, AllocError>
-    ensures { IfOk result (λ s. (s.objects ≡ objects.now) × (s.kept ≡ kept.now)) }
+    node: &Node<H>,
+    position: Seq,
+    state: State,
+) -> Result<(Change, Step), AllocError>
+    requires unready { node.now.ready ≡ false }
+    requires idle { IsIdle (plain_of H.past node.now) }
+    ensures { IfOk result (λ r. IsPlanOf (plain_of H.past node.now) r (readiness_turn (with_copy (plain_of H.past node.now) position state))) }
 {
-    Ok(Snapshot {
-        objects: objects.copied(alloc)?,
-        kept: kept.copied(alloc)?,
-    })
+    if is_floor_reached(node.floor, position) {
+        return ready_by_copy(alloc, node, position, state);
+    }
+    let gathering = gathering_at(node, position);
+    Ok((
+        copying(state, position, false, gathering),
+        done(Vec::new(alloc)),
+    ))
 }
 
 /// A state from the predecessor, at a node that is not ready: it takes the place of the history where it is
@@ -175,18 +194,17 @@ fn state_copied(
 /// where the sender is not the predecessor (`NotNeighbour`), and where the node is ready or holds as much
 /// (`AlreadyHave`). A new server gets its history behind the tail (OSDI 2004); that it comes as a state, and
 /// floors, are this project's profile.
-#[tactic(auto, unfolding(craq_model::specs::Deliveries::copy_turn, craq_model::specs::Settle::readiness_turn, craq_model::specs::Settle::settling_turn))]
+#[tactic(auto, using(crate::proofs::Heard::readiness_heard), unfolding(craq_model::specs::Deliveries::copy_turn))]
 pub fn plan_copy<H: History>(
     alloc: Global,
     node: &Node<H>,
     sender: NodeId,
     position: Seq,
-    objects: &Items<(Key, (Version, Value))>,
-    kept: &Items<(ClientId, (RequestNo, Reply))>,
+    state: &State,
 ) -> Result<(Change, Step), AllocError>
     requires idle { node.now.ready ≡ false → IsIdle (plain_of H.past node.now) }
-    ensures turn { IfOk result (λ r. IsPlanOf (plain_of H.past node.now) r (copy_turn (plain_of H.past node.now) sender position (record { objects = objects.now; kept = kept.now }))) }
-    ensures free { IsSome (copy_turn (plain_of H.past node.now) sender position (record { objects = objects.now; kept = kept.now })).1.ignored → IsOk result }
+    ensures turn { IfOk result (λ r. IsPlanOf (plain_of H.past node.now) r (copy_turn (plain_of H.past node.now) sender position state.now)) }
+    ensures free { IsSome (copy_turn (plain_of H.past node.now) sender position state.now).1.ignored → IsOk result }
 {
     if predecessor_of(node.members.as_slice(), node.name.node) != Some(sender) {
         return Ok((Change::none(), ignoring(alloc, Why::NotNeighbour)));
@@ -194,11 +212,8 @@ pub fn plan_copy<H: History>(
     if node.ready || position.get() <= node.history.len() {
         return Ok((Change::none(), ignoring(alloc, Why::AlreadyHave)));
     }
-    let state = state_copied(alloc, objects, kept)?;
-    if is_floor_reached(node.floor, position) {
-        return ready_by_copy(alloc, node, position, state);
-    }
-    Ok((copying(state, position, false), done(Vec::new(alloc))))
+    let state = state.copied(alloc)?;
+    state_taken(alloc, node, position, state)
 }
 
 /// A floor that is reached already: the node becomes ready, and the last member commits all that it holds.
@@ -219,6 +234,7 @@ fn ready_by_floor<H: History>(
         let mut change = Change::none();
         change.floor = Some(count);
         change.becomes_ready = true;
+        change.gathering = GatheringChange::Dropped;
         change.acknowledged = Some(length);
         return Ok((change, done(outs)));
     }
@@ -228,13 +244,34 @@ fn ready_by_floor<H: History>(
     let mut change = Change::none();
     change.floor = Some(count);
     change.becomes_ready = true;
+    change.gathering = GatheringChange::Dropped;
     Ok((change, done(outs)))
+}
+
+/// A floor is told to a node that is not ready, which becomes so at once where it holds as many entries.
+fn floor_taken<H: History>(
+    alloc: Global,
+    node: &Node<H>,
+    count: Seq,
+) -> Result<(Change, Step), AllocError>
+    requires unready { node.now.ready ≡ false }
+    requires idle { IsIdle (plain_of H.past node.now) }
+    ensures { IfOk result (λ r. IsPlanOf (plain_of H.past node.now) r (readiness_turn (record (plain_of H.past node.now) { floor = Some count }))) }
+{
+    let length = Seq::new(node.history.len());
+    if count.get() <= length.get() {
+        return ready_by_floor(alloc, node, count);
+    }
+    let mut change = Change::none();
+    change.floor = Some(count);
+    change.gathering = gathering_at(node, length);
+    Ok((change, done(Vec::new(alloc))))
 }
 
 /// The floor of a node that is not ready, from its ready predecessor: how many entries the node must hold
 /// to become ready, which it does at once where it holds as many. Ignored where the sender is not the
 /// predecessor (`NotNeighbour`) or the node is ready (`AlreadyHave`). This project's profile.
-#[tactic(auto, unfolding(craq_model::specs::Deliveries::floor_turn, craq_model::specs::Settle::readiness_turn, craq_model::specs::Settle::settling_turn))]
+#[tactic(auto, using(crate::proofs::Heard::readiness_heard), unfolding(craq_model::specs::Deliveries::floor_turn))]
 pub fn plan_floor<H: History>(
     alloc: Global,
     node: &Node<H>,
@@ -251,10 +288,5 @@ pub fn plan_floor<H: History>(
     if node.ready {
         return Ok((Change::none(), ignoring(alloc, Why::AlreadyHave)));
     }
-    if count.get() <= node.history.len() {
-        return ready_by_floor(alloc, node, count);
-    }
-    let mut change = Change::none();
-    change.floor = Some(count);
-    Ok((change, done(Vec::new(alloc))))
+    floor_taken(alloc, node, count)
 }

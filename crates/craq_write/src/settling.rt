@@ -1,5 +1,5 @@
 //! Settling in a membership, and what a node repeats in it.
-ghost use Rattle.std.specs.Prelude.{◌≡◌, ◌&&◌, ◌==◌, ◌++◌, true, false, OnOk, OnErr, IfOk, IsOk, IsSome};
+ghost use Rattle.std.specs.Prelude.{◌≡◌, ◌&&◌, ◌==◌, ◌++◌, true, false, Some, OnOk, OnErr, IfOk, IsOk, IsSome};
 ghost use Rattle.craq_model.specs.Deliveries.{config_turn};
 ghost use Rattle.craq_model.specs.Members.{last_of};
 ghost use Rattle.craq_model.specs.Sends.{tick_sends};
@@ -12,7 +12,7 @@ use crate::answers::answer_all;
 use craq_history::members::{is_member_of, last_member};
 use craq_history::outs::{Sender, add_ready_outs, add_unready_outs};
 use craq_history::steps::{done, ignoring};
-use craq_history::{Change, History, Node, WaitingChange};
+use craq_history::{Change, GatheringChange, History, Node, WaitingChange};
 use craq_model::{Config, Out, Step, Why};
 use craq_names::{Copied, Epoch, Items, NodeId, Seq};
 use std::alloc::{AllocError, Global};
@@ -92,6 +92,14 @@ fn add_tail_outs<H: History>(
     add_ready_outs(outs, alloc, &sender, members, &[], &[], length, length, &[])
 }
 
+/// The membership is taken, and what was gathered in the old one is dropped.
+fn take_membership(change: &mut Change, config: Config)
+    ensures { change.new ≡ record change.old { membership = Some config; gathering = GatheringChange.Dropped } }
+{
+    change.membership = Some(config);
+    change.gathering = GatheringChange::Dropped;
+}
+
 /// Settling as the tail: all that the node holds is committed, and all that waits is answered.
 #[tactic(auto, unfolding(craq_model::specs::Settle::settling_turn, craq_model::specs::Settle::all_given, craq_model::specs::Plain::newest))]
 fn settled_as_tail<H: History>(
@@ -115,7 +123,7 @@ fn settled_as_tail<H: History>(
     let mut change = Change::none();
     change.acknowledged = Some(Seq::new(node.history.len()));
     change.waiting = WaitingChange::AllAnswered;
-    change.membership = Some(config);
+    take_membership(&mut change, config);
     Ok((change, done(outs)))
 }
 
@@ -138,11 +146,12 @@ fn settled_in_line<H: History>(
         config.members.as_slice(),
     )?;
     let mut change = Change::none();
-    change.membership = Some(config);
+    take_membership(&mut change, config);
     Ok((change, done(outs)))
 }
 
-/// A membership of a later epoch is taken, and the floor of the old one is forgotten; the tail of it
+/// A membership of a later epoch is taken; the floor of the old one and the parts of a state that were
+/// gathered in it are forgotten; the tail of it
 /// commits all that it holds and answers all that waits; then the node repeats what it has to send in it
 /// (the master tells the servers of each new chain, and neighbours send what is not acknowledged: OSDI
 /// 2004; epochs and floors are this project's profile). Ignored where the epoch is not later than the node's (`OtherEpoch`), or where the node is no member

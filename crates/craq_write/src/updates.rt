@@ -3,18 +3,19 @@ ghost use Rattle.craq_commands.specs.Evaluation.{some_used_up, objects_named};
 ghost use Rattle.craq_commands.specs.SingleCopy.{said};
 ghost use Rattle.craq_model.specs.Asks.{reply_turn, update_turn, new_update_turn, committed_if_last, is_full};
 ghost use Rattle.craq_model.specs.Plain.{newest, length_of, is_last, position_of};
+ghost use Rattle.craq_history.specs.declared.change.GatheringChange.TheVariants.{Stays};
 ghost use Rattle.craq_history.specs.Change.{changed};
 ghost use Rattle.craq_history.specs.Nodes.{plain_of};
-ghost use Rattle.craq_history.specs.Past.{newest_in};
+ghost use Rattle.craq_model.specs.Past.{newest_in};
 ghost use Rattle.craq_history.specs.Plans.{CanGrow, IsPlanned, Plans};
 ghost use Rattle.craq_write.specs.Forward.{entry_in};
 ghost use Rattle.craq_write.specs.Places.{committed_then, has_place};
 
 use crate::making_entries::{Newest, forward, versioned};
-use craq_commands::{Entry, Reply, Update, evaluate};
+use craq_commands::{Entry, Reply, Said, Update, evaluate};
 use craq_history::members::last_member;
 use craq_history::steps::accepted;
-use craq_history::{Change, History, HistoryChange, Node, Said, WaitingChange};
+use craq_history::{Change, History, HistoryChange, Node, WaitingChange};
 use craq_model::{Answer, Out, Step, WaitingUpdate};
 use craq_names::{ClientId, Copied, Items, Refusal, Seq, Ticket};
 use std::alloc::{AllocError, Global};
@@ -27,6 +28,7 @@ fn accepting(change: Change, waiting: WaitingChange) -> Change
         accepted: true,
         membership: change.membership,
         history: change.history,
+        gathering: change.gathering,
         acknowledged: change.acknowledged,
         floor: change.floor,
         becomes_ready: change.becomes_ready,
@@ -77,9 +79,10 @@ fn replied<H: History>(
 ) -> Result<(Change, Step), AllocError>
     requires room { node.now.last_ticket < 2 ^ 64 - 1 }
     requires grows { CanGrow (length_of (plain_of H.past node.now)) change.history }
+    requires alone { change.gathering ≡ Stays }
     requires not_yet { change.accepted ≡ false }
     requires same { change.waiting ≡ WaitingChange.Same }
-    requires committed { acknowledged ≡ (changed (plain_of H.past node.now) change).acknowledged }
+    requires committed { acknowledged ≡ (changed (plain_of H.past node.now) change).past.acknowledged }
     requires place { (nat_le position acknowledged || not (is_full (plain_of H.past node.now))) ≡ true }
     ensures { IfOk result (λ r. IsPlanned (plain_of H.past node.now) r (reply_turn (changed (plain_of H.past node.now) change) position reply sends.items)) }
 {
@@ -112,6 +115,7 @@ fn committing<H: History>(node: &Node<H>, change: Change, length: u64) -> (Chang
         accepted: change.accepted,
         membership: change.membership,
         history: change.history,
+        gathering: change.gathering,
         acknowledged: Some(Seq::new(length)),
         floor: change.floor,
         becomes_ready: change.becomes_ready,
@@ -170,9 +174,17 @@ fn entered<H: History>(
     let reply = entry.reply.copied(alloc)?;
     let mut sends = Vec::new(alloc);
     let sender = node.sender();
-    forward(&mut sends, alloc, &sender, node.members.as_slice(), &entry)?;
+    let mut entries = Items::new(alloc);
+    entries.push(entry)?;
+    forward(
+        &mut sends,
+        alloc,
+        &sender,
+        node.members.as_slice(),
+        entries.as_slice(),
+    )?;
     let mut change = Change::none();
-    change.history = HistoryChange::Grows(entry);
+    change.history = HistoryChange::Grows(entries);
     let (change, acknowledged) = committing(node, change, length);
     replied(node, change, acknowledged, length, reply, sends)
 }
@@ -230,8 +242,8 @@ fn plan_new<H: History>(
 /// An update at a ready head that has a ticket left. A number that was asked before has what is said to
 /// it, at the position of its client's newest entry; a new one makes an entry. It is answered in this
 /// step if its position is committed, else it waits. The head decides an update and sends the resulting
-/// values (USENIX ATC 2009); that refused commands make entries, and that one reply is kept for a client,
-/// are this project's profile.
+/// values (USENIX ATC 2009); that refused commands make entries, and that up to eight replies are kept
+/// for a client, are this project's profile.
 ///
 /// The refusals, in order: `Exhausted` where a new one finds no next position, or names an object without
 /// a next version; `PendingFull` where it would have to wait and 1,024 asks wait; `Memory` only where none
@@ -246,7 +258,7 @@ pub fn plan_update<H: History>(
     ensures { Plans (plain_of H.past node.now) result (update_turn (plain_of H.past node.now) update.now (said (newest (plain_of H.past node.now)) update.now.client update.now.number)) }
 {
     match node.history.said(update.client, update.number) {
-        Said::Nothing => plan_new(alloc, node, update),
+        Said::New => plan_new(alloc, node, update),
         Said::Kept(reply) => asked_before(alloc, node, update.client, reply),
         Said::Stale(last) => asked_before(alloc, node, update.client, &Reply::Stale(last)),
     }

@@ -1,5 +1,5 @@
 use Rattle.std.proofs.Common.{◌≡◌, drop}
-use Rattle.craq_model.specs.Plain.{last_position}
+use Rattle.craq_model.specs.Past.{last_position}
 use Rattle.craq_plain.proofs.lookups.last_position_of.Given as goal
 
 -- the rest goes on from the position found so far

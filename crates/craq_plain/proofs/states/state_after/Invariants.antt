@@ -1,8 +1,7 @@
 use Rattle.std.proofs.Common.{◌≡◌, drop}
 use Rattle.craq_commands.specs.SingleCopy.{after_entries}
-use Rattle.craq_plain.specs.Shown.{state_of}
 use Rattle.craq_plain.proofs.states.state_after.Given as goal
 
 -- the rest goes on from the state so far
 abbrev pub invariant-loop-entry : goal.invariant-loop-entry
-invariant-loop-entry l = after_entries (record { objects = l.objects.items; kept = l.kept.items }) (drop l.entry-index l.entries) ≡ after_entries (state_of l.state) l.entries
+invariant-loop-entry l = after_entries (record { objects = l.objects.items; kept = l.kept.items }) (drop l.entry-index l.entries) ≡ after_entries l.state l.entries

@@ -1,6 +1,6 @@
 use Rattle.std.proofs.Common.{◌≡◌, map, take}
 use Rattle.craq_model.specs.Asks.{versioned_write}
-use Rattle.craq_history.specs.Past.{newest_in}
+use Rattle.craq_model.specs.Past.{newest_in}
 use Rattle.craq_write.proofs.making_entries.versioned.Given as goal
 
 abbrev pub invariant-loop-key : goal.invariant-loop-key

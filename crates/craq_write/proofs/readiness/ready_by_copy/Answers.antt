@@ -5,4 +5,4 @@ use Rattle.craq_write.proofs.readiness.ready_by_copy.Goals as goal
 
 pub returns : goal.returns
 returns g c =
-    rw (ready_copy (plain_of g.H.History.past c.args.node.now) c.args.position (record { objects = c.args.state.objects; kept = c.args.state.kept }) c.requires.unready c.requires.idle c.requires.reached) (search rules)
+    rw (ready_copy (plain_of g.H.History.past c.args.node.now) c.args.position c.args.state c.requires.unready c.requires.idle c.requires.reached) (search rules)

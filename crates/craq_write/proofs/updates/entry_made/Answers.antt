@@ -1,6 +1,6 @@
 use Rattle.std.proofs.Common.{◌≡◌, ap}
 use Rattle.craq_commands.specs.Evaluation.{Outcome, eval}
-use Rattle.craq_history.specs.Past.{newest_in}
+use Rattle.craq_model.specs.Past.{newest_in}
 use Rattle.craq_write.proofs.Room.{written_have_next}
 use Rattle.craq_write.proofs.updates.entry_made.Goals as goal
 

@@ -1,0 +1,24 @@
+-- A state as it is sent.
+use Rattle.std.specs.Prelude.{◌≡◌, ◌<◌, ◌⊎◌, ℕ, false}
+use Rattle.craq_names.specs.Limits.{greatest_count}
+use Rattle.craq_names.specs.declared.refusal.Refusal.{Refusal}
+use Rattle.craq_names.specs.declared.refusal.Refusal.TheVariants.{Memory, Exhausted}
+use Rattle.craq_commands.specs.declared.state.State.{State}
+use Rattle.craq_model.specs.Deliveries.{fill_bodies}
+use Rattle.craq_model.specs.Node.{outs_fit}
+use Rattle.craq_model.specs.Parts.{part_count}
+use Rattle.craq_model.specs.Plain.{Plain}
+use Rattle.craq_model.specs.Sends.{send_all}
+use Rattle.craq_model.specs.Settle.{Turn}
+
+-- memory ran out; or the state has more parts than 32 bits count
+abbrev pub CannotSend : State → Refusal → Type 0
+CannotSend s e = (e ≡ Memory) ⊎ ((e ≡ Exhausted) × (greatest_count < part_count s))
+
+-- memory ran out; or what a successor with so many entries lacks has more parts, or sends, than messages count
+abbrev pub CannotFill : Plain → ℕ → ℕ → Refusal → Type 0
+CannotFill p to count e = (e ≡ Memory) ⊎ ((e ≡ Exhausted) × (outs_fit (send_all p to (fill_bodies p count)) ≡ false))
+
+-- memory ran out; or what the turn sends has more parts, or sends, than messages count
+abbrev pub LacksOrOutgrows : Turn → Refusal → Type 0
+LacksOrOutgrows turn e = (e ≡ Memory) ⊎ ((e ≡ Exhausted) × (outs_fit turn.1.outs ≡ false))

@@ -1,0 +1,115 @@
+//! A state as it is sent: whole, or in parts. Its items are moved into the messages, not copied.
+ghost use Rattle.std.specs.Prelude.{◌≡◌, ◌<◌, ◌++◌, map, take, drop, IfOk, IfErr, OnOk, MatchOption};
+ghost use Rattle.craq_names.specs.Limits.{greatest_count};
+ghost use Rattle.craq_model.specs.declared.message.Body.TheVariants.{Part as part_body};
+ghost use Rattle.craq_model.specs.Parts.{part_count, parts_of};
+ghost use Rattle.craq_model.specs.Sends.{copy_bodies};
+ghost use Rattle.craq_history.specs.Standing.{sent_from};
+ghost use Rattle.craq_write.specs.Sent.{CannotSend};
+
+use craq_commands::State;
+use craq_history::outs::{Sender, message};
+use craq_model::{Body, Out, StatePart};
+use craq_names::{Items, NodeId, Refusal, Seq};
+use std::alloc::{AllocError, Global};
+use std::collections::VecDeque;
+
+/// How many items of a state a message holds at most.
+const PART_LENGTH: usize = 64;
+
+/// How many parts a state has, where 32 bits count them.
+fn part_count_of(state: &State) -> Option<u32>
+    ensures { MatchOption result (greatest_count < part_count state.now) (λ count. count ≡ part_count state.now) }
+{
+    let items = state.objects.len() as u128 + state.kept.len() as u128;
+    let count = items.div_ceil(PART_LENGTH as u128);
+    if count > u32::MAX as u128 {
+        return None;
+    }
+    Some(count as u32)
+}
+
+/// Takes the items from a place on; there may be fewer than so many.
+fn take_from<T: Drop>(items: &mut Vec<T>, place: usize, alloc: Global) -> Result<Vec<T>, AllocError>
+    ensures taken { IfOk result (λ taken. taken.items ≡ drop place items.old.items) }
+    ensures left { OnOk result (items.new.items ≡ take place items.old.items) }
+{
+    if place < items.len() {
+        return items.split_off(place);
+    }
+    Ok(Vec::new(alloc))
+}
+
+/// The parts of a state, in order, cut off from its end.
+#[tactic(auto, unfolding(craq_model::specs::Parts::parts_of))]
+fn cut_into_parts(
+    alloc: Global,
+    position: Seq,
+    state: State,
+    count: u32,
+) -> Result<VecDeque<StatePart>, AllocError>
+    requires { count ≡ part_count state }
+    ensures { IfOk result (λ parts. parts.items ≡ parts_of position state) }
+{
+    let mut objects = state.objects.into_vec();
+    let mut kept = state.kept.into_vec();
+    let objects_in_all = objects.len();
+    let mut parts = VecDeque::new(alloc);
+    for place in (0..count).rev() {
+        let from = place as usize * PART_LENGTH;
+        let last_objects = take_from(&mut objects, from, alloc)?;
+        let last_kept = take_from(&mut kept, from.saturating_sub(objects_in_all), alloc)?;
+        parts.push_front(StatePart {
+            position,
+            number: place + 1,
+            count,
+            state: State {
+                objects: Items::of(last_objects),
+                kept: Items::of(last_kept),
+            },
+        })?;
+    }
+    Ok(parts)
+}
+
+/// Sends parts in order.
+fn send_parts(
+    outs: &mut Vec<Out>,
+    sender: &Sender,
+    to: NodeId,
+    mut parts: VecDeque<StatePart>,
+) -> Result<(), AllocError>
+    ensures { OnOk result (outs.new.items ≡ outs.old.items ++ map (sent_from sender.now.name sender.now.epoch to) (map part_body parts.items)) }
+{
+    while let Some(part) = parts.pop_front() {
+        outs.push(message(sender, to, Body::Part(part)))?;
+    }
+    Ok(())
+}
+
+/// Sends the state after a position: whole where it has up to 64 items, else in parts of 64 (this project's
+/// profile). Refused for want of memory (`Memory`), and where it has more parts than 32 bits count
+/// (`Exhausted`).
+#[tactic(auto, unfolding(craq_model::specs::Sends::copy_bodies))]
+pub(crate) fn send_state(
+    outs: &mut Vec<Out>,
+    alloc: Global,
+    sender: &Sender,
+    to: NodeId,
+    position: Seq,
+    state: State,
+) -> Result<(), Refusal>
+    ensures ok { OnOk result (outs.new.items ≡ outs.old.items ++ map (sent_from sender.now.name sender.now.epoch to) (copy_bodies position state)) }
+    ensures err { IfErr result (λ e. CannotSend state e) }
+{
+    let Some(count) = part_count_of(&state) else {
+        return Err(Refusal::Exhausted);
+    };
+    if count <= 1 {
+        outs.push(message(sender, to, Body::Copy { position, state }))?;
+        return Ok(());
+    }
+    let parts = cut_into_parts(alloc, position, state, count)?;
+    send_parts(outs, sender, to, parts)?;
+    Ok(())
+}

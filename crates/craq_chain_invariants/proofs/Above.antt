@@ -1,5 +1,5 @@
 -- A waiting update waits for more than its node knows to be committed: line by line of a node's step.
-use Rattle.std.proofs.Common.{◌≡◌, ℕ, ◌+◌, ◌<◌, ◌≤◌, ◌==◌, nat_le, nat_lt, Bool, true, false, not, cond, ◌&&◌, ◌||◌, List, [], ◌∷◌, ◌++◌, Option, Some, None, Result, Ok, Err, refl, ap, sym, subst, ◌∙◌, arith, length-append}
+use Rattle.std.proofs.Common.{◌≡◌, ℕ, ◌+◌, ◌<◌, ◌≤◌, ◌==◌, nat_le, nat_lt, Bool, true, false, not, cond, ◌&&◌, ◌||◌, List, [], ◌∷◌, ◌++◌, is_some, Option, Some, None, Result, Ok, Err, refl, ap, sym, subst, ◌∙◌, arith, length-append}
 use Rattle.std.specs.List.{AllByRecursion}
 use Rattle.std.proofs.lemmas.Bool.{cond_both, and_from, and_parts, both_ways, leb-false, ltb-true, not-false, or_parts}
 use Rattle.craq_names.specs.Limits.{greatest}
@@ -11,7 +11,8 @@ use Rattle.craq_commands.specs.declared.entry.Entry.{Entry}
 use Rattle.craq_commands.specs.declared.reply.Reply.{Reply}
 use Rattle.craq_commands.specs.declared.read_mode.ReadMode.{ReadMode}
 use Rattle.craq_commands.specs.declared.read_mode.ReadMode.TheVariants.{Strong, Eventual, Bounded}
-use Rattle.craq_commands.specs.SingleCopy.{State, said}
+use Rattle.craq_commands.specs.declared.state.State.{State}
+use Rattle.craq_commands.specs.SingleCopy.{said}
 use Rattle.craq_commands.specs.Evaluation.{objects_named, all_of_chain, some_used_up}
 use Rattle.craq_model.specs.declared.message.Body.{Body}
 use Rattle.craq_model.specs.declared.message.Body.TheVariants as bodies
@@ -25,12 +26,16 @@ use Rattle.craq_model.specs.declared.step.Why.{Why}
 use Rattle.craq_model.specs.declared.step.Why.TheVariants.{OtherEpoch, NotNeighbour, OutOfOrder, AlreadyHave, NotReadyHere, TooFar}
 use Rattle.craq_model.specs.declared.waiting.WaitingUpdate.{WaitingUpdate}
 use Rattle.craq_model.specs.declared.waiting.WaitingRead.{WaitingRead}
+use Rattle.craq_names.specs.Maps.{at_number}
+use Rattle.craq_model.specs.declared.gathering.Gathering.{Gathering}
+use Rattle.craq_model.specs.declared.message.StatePart.{StatePart}
+use Rattle.craq_model.specs.Parts.{gathered_position, gathering_for, is_in_order, with_part, is_whole, joined_state}
 use Rattle.craq_model.specs.Members.{is_member, is_id, first_of, last_of}
-use Rattle.craq_model.specs.Plain.{Plain, id_of, successor, predecessor, is_first, is_last, is_tail, length_of, newest, newest_object, position_of}
+use Rattle.craq_model.specs.Plain.{Plain, id_of, successor, predecessor, is_first, is_last, is_tail, length_of, newest, newest_object, position_of, with_entries, acknowledging}
 use Rattle.craq_model.specs.Sends.{send, send_all, to_neighbour, entry_bodies}
-use Rattle.craq_model.specs.Settle.{Turn, turn_with, turn_ignoring, all_committed, is_reached, settling_turn, readiness_turn, read_answer}
+use Rattle.craq_model.specs.Settle.{Turn, turn_with, turn_ignoring, all_committed, is_reached, settling_turn, without_reached, readiness_turn, read_answer}
 use Rattle.craq_model.specs.Asks.{accepted_turn, answered_turn, is_full, is_clean, with_entry, committed_if_last, reply_turn, new_update_turn, update_turn, waiting_read_turn, read_turn, accepted_ask_turn, ask_turn}
-use Rattle.craq_model.specs.Deliveries.{config_turn, is_applicable, forwarding_turn, taken_entry_turn, entry_turn, later_updates, acknowledgement_turn, ack_turn, query_turn, told_version_turn, version_turn, read_with, blank_turn, with_copy, copy_turn, floor_turn, turn_in_epoch, body_turn}
+use Rattle.craq_model.specs.Deliveries.{config_turn, are_applicable, forwarding_turn, taken_entries_turn, first_position, final_position, entries_above, entries_turn, later_updates, acknowledgement_turn, ack_turn, query_turn, told_version_turn, version_turn, read_with, blank_turn, with_copy, copy_turn, gathered_turn, gathering_turn, is_outdated, part_turn, floor_turn, turn_in_epoch, body_turn}
 use Rattle.craq_model.specs.Node.{event_turn}
 use Rattle.craq_refinement.specs.Follows.{IsPlaced}
 use Rattle.craq_refinement.proofs.Updates.{refused, turn_same}
@@ -45,35 +50,41 @@ AllAbove count us = AllByRecursion (λ (u : WaitingUpdate). count < u.position) 
 
 -- a node's updates wait for more than it knows to be committed; at a tail, or where the node is not ready, none waits
 pub record WaitAbove (p : Plain) : Type 0 where
-  pub above : AllAbove p.acknowledged p.waiting_updates
+  pub above : AllAbove p.past.acknowledged p.waiting_updates
   pub tail : is_tail p ≡ true → p.waiting_updates ≡ []
   pub unready : p.ready ≡ false → p.waiting_updates ≡ []
 
 pub none_waits : (p : Plain) → p.waiting_updates ≡ [] → WaitAbove p
-none_waits p none = let P : List WaitingUpdate → Type 0 = λ l. AllAbove p.acknowledged l in record { above = subst P (sym none) tt; tail = λ e. none; unready = λ e. none }
+none_waits p none = let P : List WaitingUpdate → Type 0 = λ l. AllAbove p.past.acknowledged l in record { above = subst P (sym none) tt; tail = λ e. none; unready = λ e. none }
 
 -- the same waits at a node that knows as much
-like : (p q : Plain) → WaitAbove p → q.acknowledged ≡ p.acknowledged → q.waiting_updates ≡ p.waiting_updates → is_tail q ≡ is_tail p → q.ready ≡ p.ready → WaitAbove q
+like : (p q : Plain) → WaitAbove p → q.past.acknowledged ≡ p.past.acknowledged → q.waiting_updates ≡ p.waiting_updates → is_tail q ≡ is_tail p → q.ready ≡ p.ready → WaitAbove q
 like p q w a u t r =
     let P : ℕ → Type 0 = λ n. AllAbove n p.waiting_updates in
-    let Q : List WaitingUpdate → Type 0 = λ l. AllAbove q.acknowledged l in
+    let Q : List WaitingUpdate → Type 0 = λ l. AllAbove q.past.acknowledged l in
     record { above = subst Q (sym u) (subst P (sym a) w.above); tail = λ e. u ∙ w.tail (sym t ∙ e); unready = λ e. u ∙ w.unready (sym r ∙ e) }
 
 -- ---- settling
 
-settles : (p : Plain) → AllAbove p.acknowledged p.waiting_updates → (p.ready ≡ false → p.waiting_updates ≡ []) → WaitAbove (settling_turn p).0
+settles : (p : Plain) → AllAbove p.past.acknowledged p.waiting_updates → (p.ready ≡ false → p.waiting_updates ≡ []) → WaitAbove (settling_turn p).0
 unfolding settling_turn
 settles p above unready =
     cond_both (is_tail p) (turn_with (all_committed p) _) (turn_with p _) (λ (t : Turn). WaitAbove t.0)
     (λ e. none_waits (all_committed p) refl)
     (λ e. record { above = above; tail = λ t. absurd (both_ways (is_tail p) e t); unready = unready })
 
+waits_on : (p : Plain) → WaitAbove p → WaitAbove (without_reached p)
+unfolding without_reached
+waits_on p w =
+    let q : Plain = record p { gathering = None } in
+    cond_both (nat_le (gathered_position p.gathering) (length_of p)) q p (λ (x : Plain). WaitAbove x) (λ e. like p q w refl refl refl refl) (λ e. w)
+
 becomes : (p : Plain) → p.waiting_updates ≡ [] → WaitAbove (readiness_turn p).0
 unfolding readiness_turn
 becomes p none =
-    let q : Plain = record p { ready = true } in
+    let q : Plain = record p { ready = true; gathering = None } in
     let w : WaitAbove q = none_waits q none in
-    cond_both (not p.ready && is_reached p.floor (length_of p)) (settling_turn q) (turn_with p []) (λ (t : Turn). WaitAbove t.0) (λ e. settles q w.above w.unready) (λ e. none_waits p none)
+    cond_both (not p.ready && is_reached p.floor (length_of p)) (settling_turn q) (turn_with (without_reached p) []) (λ (t : Turn). WaitAbove t.0) (λ e. settles q w.above w.unready) (λ e. waits_on p (none_waits p none))
 
 -- ---- messages
 
@@ -84,37 +95,39 @@ guard p w b why t go = cond_both b (turn_ignoring p why) t (λ (t : Turn). WaitA
 config_above : (p : Plain) → WaitAbove p → (epoch : ℕ) (members : List ℕ) → WaitAbove (config_turn p epoch members).0
 unfolding config_turn
 config_above p w epoch members =
-    let q : Plain = record p { epoch = epoch; members = members; floor = None } in
+    let q : Plain = record p { epoch = epoch; members = members; floor = None; gathering = None } in
     guard p w (nat_le epoch p.epoch) OtherEpoch (cond (not (is_member members (id_of p))) (turn_ignoring p NotNeighbour) (settling_turn q))
     (λ e. guard p w (not (is_member members (id_of p))) NotNeighbour (settling_turn q) (λ f. settles q w.above w.unready))
 
-forwards : (p : Plain) → WaitAbove p → (e : Entry) → WaitAbove (forwarding_turn p e).0
+forwards : (p : Plain) → WaitAbove p → (es : List Entry) → WaitAbove (forwarding_turn p es).0
 unfolding forwarding_turn
-forwards p w e =
-    let q : Plain = record p { acknowledged = length_of p } in
+forwards p w es =
+    let q : Plain = acknowledging p (length_of p) in
     cond_both (is_tail p) (turn_with q _) (turn_with p _) (λ (t : Turn). WaitAbove t.0) (λ t. none_waits q (w.tail t)) (λ t. w)
 
-entry_above : (p : Plain) → WaitAbove p → (sender : ℕ) (e : Entry) → WaitAbove (entry_turn p sender e).0
-unfolding entry_turn
-entry_above p w sender e =
-    let q : Plain = with_entry p e in
-    let last : Turn = taken_entry_turn q e in
-    let third : Turn = cond (not (is_applicable (newest p) e)) (turn_ignoring p TooFar) last in
-    let second : Turn = cond (nat_lt (length_of p + 1) e.position) (turn_ignoring p OutOfOrder) third in
-    let first : Turn = cond (nat_le e.position (length_of p)) (turn_ignoring p AlreadyHave) second in
+entries_above_all : (p : Plain) → WaitAbove p → (sender : ℕ) (es : List Entry) → WaitAbove (entries_turn p sender es).0
+unfolding entries_turn
+entries_above_all p w sender es =
+    let new : List Entry = entries_above (length_of p) es in
+    let q : Plain = with_entries p new in
+    let last : Turn = taken_entries_turn q new in
+    let third : Turn = cond (are_applicable (newest p) new) last (turn_ignoring p TooFar) in
+    let second : Turn = cond (nat_lt (length_of p + 1) (first_position es)) (turn_ignoring p OutOfOrder) third in
+    let first : Turn = cond (nat_le (final_position es) (length_of p)) (turn_ignoring p AlreadyHave) second in
     guard p w (not (is_id (predecessor p) sender)) NotNeighbour first
-    (λ a. guard p w (nat_le e.position (length_of p)) AlreadyHave second
-    (λ b. guard p w (nat_lt (length_of p + 1) e.position) OutOfOrder third
-    (λ d. guard p w (not (is_applicable (newest p) e)) TooFar last
-    (λ g. cond_both p.ready (forwarding_turn q e) (readiness_turn q) (λ (t : Turn). WaitAbove t.0)
-    (λ r. forwards q (like p q w refl refl refl refl) e) (λ r. becomes q (w.unready r))))))
+    (λ a. guard p w (nat_le (final_position es) (length_of p)) AlreadyHave second
+    (λ b. guard p w (nat_lt (length_of p + 1) (first_position es)) OutOfOrder third
+    (λ d. cond_both (are_applicable (newest p) new) last (turn_ignoring p TooFar) (λ (t : Turn). WaitAbove t.0)
+    (λ g. cond_both p.ready (forwarding_turn q new) (readiness_turn q) (λ (t : Turn). WaitAbove t.0)
+    (λ r. forwards q (like p q w refl refl refl refl) new) (λ r. becomes q (w.unready r)))
+    (λ g. w))))
 
 acknowledges : (p : Plain) → WaitAbove p → (position : ℕ) → WaitAbove (acknowledgement_turn p position).0
 unfolding acknowledgement_turn later_updates
 acknowledges p w position =
     let none : p.waiting_updates ≡ [] → later_updates position p.waiting_updates ≡ [] = λ e. ap (later_updates position) e in
     record {
-      above = all_passing (λ (u : WaitingUpdate). p.acknowledged < u.position) (λ (u : WaitingUpdate). position < u.position) (λ (u : WaitingUpdate). nat_lt position u.position) p.waiting_updates (λ u h e. ltb-true position u.position e) w.above;
+      above = all_passing (λ (u : WaitingUpdate). p.past.acknowledged < u.position) (λ (u : WaitingUpdate). position < u.position) (λ (u : WaitingUpdate). nat_lt position u.position) p.waiting_updates (λ u h e. ltb-true position u.position e) w.above;
       tail = λ e. none (w.tail e);
       unready = λ e. none (w.unready e);
     }
@@ -124,11 +137,11 @@ unfolding ack_turn
 ack_above p w sender position =
     let last : Turn = acknowledgement_turn p position in
     let third : Turn = cond (nat_lt (length_of p) position) (turn_ignoring p TooFar) last in
-    let second : Turn = cond (nat_le position p.acknowledged) (turn_ignoring p AlreadyHave) third in
+    let second : Turn = cond (nat_le position p.past.acknowledged) (turn_ignoring p AlreadyHave) third in
     let first : Turn = cond (not p.ready) (turn_ignoring p NotReadyHere) second in
     guard p w (not (is_id (successor p) sender)) NotNeighbour first
     (λ a. guard p w (not p.ready) NotReadyHere second
-    (λ b. guard p w (nat_le position p.acknowledged) AlreadyHave third
+    (λ b. guard p w (nat_le position p.past.acknowledged) AlreadyHave third
     (λ d. guard p w (nat_lt (length_of p) position) TooFar last
     (λ g. acknowledges p w position))))
 
@@ -163,6 +176,27 @@ copy_above p w sender position state =
     (λ a. guard p w (p.ready || nat_le position (length_of p)) AlreadyHave last
     (λ b. becomes (with_copy p position state) (w.unready (or_parts p.ready (nat_le position (length_of p)) b).0)))
 
+gathered_above : (p : Plain) → WaitAbove p → p.ready ≡ false → (g : Gathering) → WaitAbove (gathered_turn p g).0
+gathered_above p w r g =
+    let q : Plain = with_copy p g.position (joined_state g.parts) in
+    let h : Plain = record p { gathering = Some g } in
+    cond_both (is_whole g) (readiness_turn q) (turn_with h []) (λ (t : Turn). WaitAbove t.0) (λ e. becomes q (w.unready r)) (λ e. like p h w refl refl refl refl)
+
+part_above : (p : Plain) → WaitAbove p → (sender : ℕ) (part : StatePart) → WaitAbove (part_turn p sender part).0
+unfolding part_turn
+part_above p w sender part =
+    let g : Gathering = gathering_for part p.gathering in
+    let last : Turn = gathered_turn p (with_part g part) in
+    let fourth : Turn = cond (not (is_in_order g part)) (turn_ignoring p TooFar) last in
+    let third : Turn = cond (is_some (at_number g.parts part.number)) (turn_ignoring p AlreadyHave) fourth in
+    let second : Turn = gathering_turn p g part in
+    let first : Turn = cond (p.ready || is_outdated p part) (turn_ignoring p AlreadyHave) second in
+    guard p w (not (is_id (predecessor p) sender)) NotNeighbour first
+    (λ a. guard p w (p.ready || is_outdated p part) AlreadyHave second
+    (λ b. guard p w (not (part.count == g.count)) TooFar third
+    (λ d. guard p w (is_some (at_number g.parts part.number)) AlreadyHave fourth
+    (λ e. guard p w (not (is_in_order g part)) TooFar last (λ f. gathered_above p w (or_parts p.ready (is_outdated p part) b).0 (with_part g part))))))
+
 floor_above : (p : Plain) → WaitAbove p → (sender count : ℕ) → WaitAbove (floor_turn p sender count).0
 unfolding floor_turn
 floor_above p w sender count =
@@ -175,12 +209,14 @@ in_epoch p w m t go = cond_both (m.epoch == p.epoch) t (turn_ignoring p OtherEpo
 
 body_above : (p : Plain) → WaitAbove p → (m : LinkMessage) (b : Body) → WaitAbove (body_turn p m b).0
 body_above p w m (bodies.Config members) = config_above p w m.epoch members
-body_above p w m (bodies.Entry e) = in_epoch p w m (entry_turn p m.sender e) (entry_above p w m.sender e)
+body_above p w m (bodies.Entry e) = in_epoch p w m (entries_turn p m.sender (e ∷ [])) (entries_above_all p w m.sender (e ∷ []))
+body_above p w m (bodies.Batch es) = in_epoch p w m (entries_turn p m.sender es) (entries_above_all p w m.sender es)
+body_above p w m (bodies.Part part) = in_epoch p w m (part_turn p m.sender part) (part_above p w m.sender part)
 body_above p w m (bodies.Ack position) = in_epoch p w m (ack_turn p m.sender position) (ack_above p w m.sender position)
 body_above p w m (bodies.Query ticket key) = in_epoch p w m (query_turn p m.sender ticket key) (query_above p w m.sender ticket key)
 body_above p w m (bodies.VersionIs ticket version) = in_epoch p w m (version_turn p m.sender ticket version) (version_above p w m.sender ticket version)
 body_above p w m (bodies.Blank count) = in_epoch p w m (blank_turn p m.sender count) (blank_above p w m.sender count)
-body_above p w m (bodies.Copy position objects kept) = in_epoch p w m (copy_turn p m.sender position (record { objects = objects; kept = kept })) (copy_above p w m.sender position (record { objects = objects; kept = kept }))
+body_above p w m (bodies.Copy position state) = in_epoch p w m (copy_turn p m.sender position state) (copy_above p w m.sender position state)
 body_above p w m (bodies.Floor count) = in_epoch p w m (floor_turn p m.sender count) (floor_above p w m.sender count)
 
 -- ---- asks
@@ -194,37 +230,37 @@ replies_not_last p w ready inner position reply sends t h =
     let q : Plain = record p { waiting_updates = p.waiting_updates ++ u ∷ [] } in
     let later : Turn = accepted_turn q sends in
     let S : Turn → Type 0 = λ t. WaitAbove t.0 in
-    cond_both (nat_le position p.acknowledged) (Ok now) (cond (is_full p) (Err refusals.PendingFull) (Ok later)) (λ (r : Result Turn Refusal). r ≡ Ok t → WaitAbove t.0)
+    cond_both (nat_le position p.past.acknowledged) (Ok now) (cond (is_full p) (Err refusals.PendingFull) (Ok later)) (λ (r : Result Turn Refusal). r ≡ Ok t → WaitAbove t.0)
     (λ e k. subst S (turn_same now t (Ok now) refl k) (like p now.0 w refl refl refl refl))
     (λ e k.
     let g : (is_full p ≡ false) × (Ok later ≡ Ok t) = refused (is_full p) refusals.PendingFull (Ok later) k in
     subst S (turn_same later t (Ok later) refl g.1) (record {
-      above = all_joined (λ (u : WaitingUpdate). p.acknowledged < u.position) p.waiting_updates (u ∷ []) w.above (leb-false position p.acknowledged e, tt);
+      above = all_joined (λ (u : WaitingUpdate). p.past.acknowledged < u.position) p.waiting_updates (u ∷ []) w.above (leb-false position p.past.acknowledged e, tt);
       tail = λ i. absurd (both_ways (is_last p) inner (and_parts p.ready (is_last p) i).1);
       unready = λ i. absurd (both_ways p.ready i ready);
     }))
     h
 
 -- a tail knows that all is committed, and answers at once
-replies_last : (p : Plain) → p.waiting_updates ≡ [] → (position : ℕ) → position ≤ p.acknowledged → (reply : Reply) (sends : List Out) (t : Turn) → reply_turn p position reply sends ≡ Ok t → WaitAbove t.0
+replies_last : (p : Plain) → p.waiting_updates ≡ [] → (position : ℕ) → position ≤ p.past.acknowledged → (reply : Reply) (sends : List Out) (t : Turn) → reply_turn p position reply sends ≡ Ok t → WaitAbove t.0
 unfolding reply_turn
 replies_last p none position le reply sends t h =
     let now : Turn = answered_turn p (answers.Update reply) sends in
     let S : Turn → Type 0 = λ t. WaitAbove t.0 in
-    cond_both (nat_le position p.acknowledged) (Ok now) (cond (is_full p) (Err refusals.PendingFull) _) (λ (r : Result Turn Refusal). r ≡ Ok t → WaitAbove t.0)
+    cond_both (nat_le position p.past.acknowledged) (Ok now) (cond (is_full p) (Err refusals.PendingFull) _) (λ (r : Result Turn Refusal). r ≡ Ok t → WaitAbove t.0)
     (λ e k. subst S (turn_same now t (Ok now) refl k) (none_waits now.0 none))
-    (λ e k. absurd (omega (arith, le, leb-false position p.acknowledged e)))
+    (λ e k. absurd (omega (arith, le, leb-false position p.past.acknowledged e)))
     h
 
 replies : (p : Plain) → WaitAbove p → p.ready ≡ true → (position : ℕ) → position ≤ length_of p → (reply : Reply) (sends : List Out) (t : Turn) → reply_turn (committed_if_last p) position reply sends ≡ Ok t → WaitAbove t.0
 replies p w ready position le reply sends t h =
-    let q : Plain = record p { acknowledged = length_of p } in
+    let q : Plain = acknowledging p (length_of p) in
     cond_both (is_last p) q p (λ (x : Plain). reply_turn x position reply sends ≡ Ok t → WaitAbove t.0)
     (λ e k. replies_last q (w.tail (and_from p.ready (is_last p) ready e)) position le reply sends t k)
     (λ e k. replies_not_last p w ready e position reply sends t k)
     h
 
-update_above : (p : Plain) → WaitAbove p → IsPlaced p.base p.entries → (u : Update) (t : Turn) → ask_turn p (asks.Update u) ≡ Ok t → WaitAbove t.0
+update_above : (p : Plain) → WaitAbove p → IsPlaced p.past.base p.past.entries → (u : Update) (t : Turn) → ask_turn p (asks.Update u) ≡ Ok t → WaitAbove t.0
 unfolding ask_turn update_turn
 update_above p w placed u t k =
     let a : _ = refused (not p.ready) refusals.NotReady (cond (not (all_of_chain p.name.chain (objects_named u.command))) (Err refusals.TwoChains) (accepted_ask_turn p (asks.Update u))) k in
@@ -235,13 +271,13 @@ update_above p w placed u t k =
   where
     by_reply : (o : Option Reply) → p.ready ≡ true → update_turn p u o ≡ Ok t → WaitAbove t.0
     by_reply (Some reply) ready i =
-        let n : IsNewest u.client p.base p.base p.entries = newest_position u.client p.base p.base p.entries placed (omega arith) in
+        let n : IsNewest u.client p.past.base p.past.base p.past.entries = newest_position u.client p.past.base p.past.base p.past.entries placed (omega arith) in
         replies p w ready (position_of p u.client) n.short reply [] t i
     by_reply None ready i =
         let e : Entry = entry_for p u in
         let q : Plain = with_entry p e in
         let g : _ = refused (length_of p == greatest || some_used_up (newest p).objects (objects_named u.command)) refusals.Exhausted (new_update_turn p e) i in
-        replies q (like p q w refl refl refl refl) ready e.position (omega (arith, length-append p.entries (e ∷ []))) e.reply (to_neighbour (successor p) (λ to. send_all p to (entry_bodies (e ∷ [])))) t g.1
+        replies q (like p q w refl refl refl refl) ready e.position (omega (arith, length-append p.past.entries (e ∷ []))) e.reply (to_neighbour (successor p) (λ to. send_all p to (entry_bodies (e ∷ [])))) t g.1
 
 reads_above : (p : Plain) → WaitAbove p → (mode : ReadMode) (key : List ℕ) (t : Turn) → read_turn p mode key ≡ Ok t → WaitAbove t.0
 unfolding read_turn waiting_read_turn
@@ -275,7 +311,7 @@ read_above p w mode object t k =
 
 -- ---- whatever happens at the node
 
-pub event_above : (p : Plain) → WaitAbove p → IsPlaced p.base p.entries → (e : Event) (t : Turn) → event_turn p e ≡ Ok t → WaitAbove t.0
+pub event_above : (p : Plain) → WaitAbove p → IsPlaced p.past.base p.past.entries → (e : Event) (t : Turn) → event_turn p e ≡ Ok t → WaitAbove t.0
 event_above p w placed (events.Ask (asks.Update u)) t h = update_above p w placed u t h
 event_above p w placed (events.Ask (asks.Read mode object)) t h = read_above p w mode object t h
 event_above p w placed (events.Deliver m) t h = let S : Turn → Type 0 = λ t. WaitAbove t.0 in subst S (for_node p m t h) (body_above p w m m.body)

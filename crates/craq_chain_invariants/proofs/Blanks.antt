@@ -42,7 +42,9 @@ IsOf w sender (bodies.Ack position) = ⊤
 IsOf w sender (bodies.Query ticket key) = ⊤
 IsOf w sender (bodies.VersionIs ticket version) = ⊤
 IsOf w sender (bodies.Blank count) = (is_member w.joined sender ≡ true) × (count ≤ length (w.history sender))
-IsOf w sender (bodies.Copy position objects kept) = ⊤
+IsOf w sender (bodies.Batch es) = ⊤
+IsOf w sender (bodies.Copy position state) = ⊤
+IsOf w sender (bodies.Part part) = ⊤
 IsOf w sender (bodies.Floor count) = ⊤
 
 abbrev pub IsHeld : World Entry → LinkMessage → Type 0
@@ -58,7 +60,9 @@ later_of w v sender (bodies.Ack position) l h = tt
 later_of w v sender (bodies.Query ticket key) l h = tt
 later_of w v sender (bodies.VersionIs ticket version) l h = tt
 later_of w v sender (bodies.Blank count) l h = (l.joined sender h.0, omega (arith, h.1, prefix_length (l.history sender)))
-later_of w v sender (bodies.Copy position objects kept) l h = tt
+later_of w v sender (bodies.Batch es) l h = tt
+later_of w v sender (bodies.Copy position state) l h = tt
+later_of w v sender (bodies.Part part) l h = tt
 later_of w v sender (bodies.Floor count) l h = tt
 
 stays : (w v : World Entry) (ms : List LinkMessage) → Later w v → AllByRecursion (IsHeld w) ms → AllByRecursion (IsHeld v) ms
@@ -72,7 +76,9 @@ body_of v id (bodies.Ack position) j h = tt
 body_of v id (bodies.Query ticket key) j h = tt
 body_of v id (bodies.VersionIs ticket version) j h = tt
 body_of v id (bodies.Blank count) j h = (j, h)
-body_of v id (bodies.Copy position objects kept) j h = tt
+body_of v id (bodies.Batch es) j h = tt
+body_of v id (bodies.Copy position state) j h = tt
+body_of v id (bodies.Part part) j h = tt
 body_of v id (bodies.Floor count) j h = tt
 
 sent_held : (v : World Entry) (id held : ℕ) (os : List Out) → held ≡ length (v.history id) → is_member v.joined id ≡ true → AreWithin id held os → AllByRecursion (IsHeld v) (sent_in os)

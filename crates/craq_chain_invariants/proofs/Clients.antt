@@ -1,7 +1,8 @@
 -- The laws of what clients wait for: versions that were told, and replies of waiting updates.
 use Rattle.std.proofs.Common.{◌≡◌, ℕ, List, [], length, take, Some, ap, sym, subst, ◌∙◌, arith}
 use Rattle.std.specs.List.{AllByRecursion}
-use Rattle.craq_commands.specs.SingleCopy.{State, opening_state, after_entries, said}
+use Rattle.craq_commands.specs.declared.state.State.{State}
+use Rattle.craq_commands.specs.SingleCopy.{opening_state, after_entries, said}
 use Rattle.craq_commands.specs.Objects.{version_of}
 use Rattle.craq_model.specs.declared.message.Body.{Body}
 use Rattle.craq_model.specs.declared.message.Body.TheVariants as bodies

@@ -2,9 +2,9 @@
 use Rattle.std.proofs.Common.{ℕ, sym, ◌∙◌, arith}
 use Rattle.craq_runs.specs.Typed.{IsTypedRunOf}
 use Rattle.craq_runs.specs.declared.run.Run.{Run}
-use Rattle.craq_chain_invariants.specs.Invariants.{HistoriesAreWhole, MembersAreNodes, PredecessorsHoldMore, PredecessorsAreReady, OneTailHoldsTheList, ReadyMembersHoldTheList, AcknowledgedIsCommitted, CopiesAreCommitted, MessagesAgreeWithSenders, ToldVersionsWereCommitted, WaitingUpdatesAreOwed, HasInvariants}
+use Rattle.craq_chain_invariants.specs.Invariants.{HistoriesAreWhole, MembersAreNodes, PredecessorsHoldMore, PredecessorsAreReady, OneTailHoldsTheList, ReadyMembersHoldTheList, AcknowledgedIsCommitted, CopiesAreCommitted, PartsAreShares, MessagesAgreeWithSenders, ToldVersionsWereCommitted, WaitingUpdatesAreOwed, HasInvariants}
 use Rattle.craq_chain_invariants.proofs.Clients.{replies, told}
-use Rattle.craq_chain_invariants.proofs.Messages.{copy_committed, copy_state, entry_agrees, ack_agrees, copy_agrees, floor_agrees, blank_agrees}
+use Rattle.craq_chain_invariants.proofs.Messages.{copy_committed, copy_state, part_committed, part_numbered, part_share, entry_agrees, batch_agrees, ack_agrees, copy_agrees, part_agrees, floor_agrees, blank_agrees}
 use Rattle.craq_chain_invariants.proofs.Nodes.{are_nodes, are_ready, held, committed, same, hold_list, hold_more, hold_more_known, one, list, known, whole, placed}
 use Rattle.craq_updates.proofs.Replay.{as_many as all_updates}
 use Rattle.craq_chain_invariants.proofs.Replayed.{as_many, replayed, list_updates, prefix_updates}
@@ -61,16 +61,26 @@ acknowledged_is_committed chain run i =
 pub copies_are_committed : (chain : ℕ) (run : Run) → IsTypedRunOf chain run → CopiesAreCommitted chain run
 copies_are_committed chain run i =
     record {
-      committed = λ number m position objects kept at is. copy_committed chain run number m position objects kept i at is;
-      state = λ number m position objects kept at is. copy_state chain run number m position objects kept i at is;
+      committed = λ number m position state at is. copy_committed chain run number m position state i at is;
+      state = λ number m position state at is. copy_state chain run number m position state i at is;
+    }
+
+pub parts_are_shares : (chain : ℕ) (run : Run) → IsTypedRunOf chain run → PartsAreShares chain run
+parts_are_shares chain run i =
+    record {
+      committed = λ number m part at is. part_committed chain run number m part i at is;
+      numbered = λ number m part at is. part_numbered chain run number m part i at is;
+      share = λ number m part at is. part_share chain run number m part i at is;
     }
 
 pub messages_agree_with_senders : (chain : ℕ) (run : Run) → IsTypedRunOf chain run → MessagesAgreeWithSenders chain run
 messages_agree_with_senders chain run i =
     record {
       entry = λ number m e at is. entry_agrees chain run number m e i at is;
+      batch = λ number m es at is. batch_agrees chain run number m es i at is;
       ack = λ number m position at is. ack_agrees chain run number m position i at is;
-      copy = λ number m position objects kept at is. copy_agrees chain run number m position objects kept i at is;
+      copy = λ number m position state at is. copy_agrees chain run number m position state i at is;
+      part = λ number m part at is. part_agrees chain run number m part i at is;
       floor = λ number m count at is. floor_agrees chain run number m count i at is;
       blank = λ number m count at is. blank_agrees chain run number m count i at is;
     }
@@ -96,6 +106,7 @@ runs_keep_invariants chain run i = record {
   ready_members = ready_members_hold_the_list chain run i;
   acknowledged = acknowledged_is_committed chain run i;
   copies = copies_are_committed chain run i;
+  parts = parts_are_shares chain run i;
   messages = messages_agree_with_senders chain run i;
   versions = told_versions_were_committed chain run i;
   waiting = waiting_updates_are_owed chain run i;

@@ -1,12 +1,14 @@
 -- The laws of messages: what was sent stays true.
 use Rattle.std.proofs.Common.{◌≡◌, ℕ, ◌≤◌, true, List, length, take, Some, refl, ap, sym, subst, ◌∙◌, arith}
+use Rattle.std.specs.List.{AllByRecursion}
 use Rattle.craq_commands.specs.declared.entry.Entry.{Entry}
-use Rattle.craq_commands.specs.Kept.{Kept}
-use Rattle.craq_commands.specs.Objects.{Objects}
+use Rattle.craq_commands.specs.declared.state.State.{State}
 use Rattle.craq_commands.specs.SingleCopy.{opening_state, after, after_entries}
 use Rattle.craq_model.specs.declared.message.Body.{Body}
 use Rattle.craq_model.specs.declared.message.Body.TheVariants as bodies
 use Rattle.craq_model.specs.declared.message.LinkMessage.{LinkMessage}
+use Rattle.craq_model.specs.declared.message.StatePart.{StatePart}
+use Rattle.craq_model.specs.Parts.{part_of}
 use Rattle.craq_model.specs.Plain.{Plain, id_of, length_of}
 use Rattle.craq_protocol.specs.Machine as machine
 use Rattle.craq_protocol.specs.Promises.{IsPrefix, IsSafe, Sent}
@@ -18,8 +20,10 @@ use Rattle.craq_protocol.proofs.Reached.{reached_safe, reached_inv}
 use Rattle.craq_runs.specs.Chain.{node_at}
 use Rattle.craq_runs.specs.Typed.{IsTypedRunOf}
 use Rattle.craq_runs.specs.declared.run.Run.{Run}
-use Rattle.craq_refinement.specs.Follows.{BodyFollows, Follows, NodeFollows, said, seen_of}
+use Rattle.craq_refinement.specs.Follows.{PartFollows, BodyFollows, Follows, NodeFollows, said, seen_of}
 use Rattle.craq_refinement.proofs.EachLine.{said_as}
+use Rattle.craq_refinement.proofs.Gathered.{part_is}
+use Rattle.craq_refinement.proofs.Lists.{all_like}
 use Rattle.craq_refinement.proofs.Master.{found}
 use Rattle.craq_refinement.proofs.Nodes.{node_id}
 use Rattle.craq_refinement.proofs.Worlds.{history_length}
@@ -32,34 +36,66 @@ use Rattle.craq_chain_invariants.proofs.Senders.{SenderHas, all_have}
 -- ---- copies
 
 -- the entries that a copy is after
-record CopyOf (chain : ℕ) (run : Run) (position : ℕ) (objects : Objects) (kept : List (ℕ × Kept)) : Type 0 where
+record CopyOf (chain : ℕ) (run : Run) (position : ℕ) (state : State) : Type 0 where
   pub entries : List Entry
   pub count : length entries ≡ position
-  pub after : after_entries opening_state entries ≡ record { objects = objects; kept = kept }
+  pub after : after_entries opening_state entries ≡ state
   pub begins : IsPrefix entries (committed_in chain run)
 
-copy_of : (chain : ℕ) (run : Run) (number : ℕ) (m : LinkMessage) (position : ℕ) (objects : Objects) (kept : List (ℕ × Kept)) → IsTypedRunOf chain run
-    → WasSent (chain_after chain run) number m → m.body ≡ bodies.Copy position objects kept → CopyOf chain run position objects kept
-copy_of chain run number m position objects kept i at is =
+copy_of : (chain : ℕ) (run : Run) (number : ℕ) (m : LinkMessage) (position : ℕ) (state : State) → IsTypedRunOf chain run
+    → WasSent (chain_after chain run) number m → m.body ≡ bodies.Copy position state → CopyOf chain run position state
+copy_of chain run number m position state i at is =
     let s : Stands chain run = stands chain run i in
     let safe : IsSafe s.world = reached_safe s.reached in
-    let b : BodyFollows s.world.memberships s.world.messages m.epoch m.sender m.receiver (bodies.Copy position objects kept) = said_as s.follows number m (bodies.Copy position objects kept) at is in
+    let b : BodyFollows s.world.memberships s.world.messages m.epoch m.sender m.receiver (bodies.Copy position state) = said_as s.follows number m (bodies.Copy position state) at is in
     let sent : Sent s.world.messages (said m.epoch m.sender m.receiver (machine.Copy b.0)) = b.4 in
     let P : List Entry → Type 0 = λ l. IsPrefix b.0 l in
     record { entries = b.0; count = b.1; after = b.2; begins = subst P s.log (safe.copy (said m.epoch m.sender m.receiver (machine.Copy b.0)) b.0 sent refl) }
 
-pub copy_committed : (chain : ℕ) (run : Run) (number : ℕ) (m : LinkMessage) (position : ℕ) (objects : Objects) (kept : List (ℕ × Kept)) → IsTypedRunOf chain run
-    → WasSent (chain_after chain run) number m → m.body ≡ bodies.Copy position objects kept → position ≤ length (updates_committed chain run)
-copy_committed chain run number m position objects kept i at is =
-    let c : CopyOf chain run position objects kept = copy_of chain run number m position objects kept i at is in
+pub copy_committed : (chain : ℕ) (run : Run) (number : ℕ) (m : LinkMessage) (position : ℕ) (state : State) → IsTypedRunOf chain run
+    → WasSent (chain_after chain run) number m → m.body ≡ bodies.Copy position state → position ≤ length (updates_committed chain run)
+copy_committed chain run number m position state i at is =
+    let c : CopyOf chain run position state = copy_of chain run number m position state i at is in
     omega (arith, c.count, prefix_length c.begins, as_many chain run i)
 
-pub copy_state : (chain : ℕ) (run : Run) (number : ℕ) (m : LinkMessage) (position : ℕ) (objects : Objects) (kept : List (ℕ × Kept)) → IsTypedRunOf chain run
-    → WasSent (chain_after chain run) number m → m.body ≡ bodies.Copy position objects kept → after (take position (updates_committed chain run)) ≡ record { objects = objects; kept = kept }
-copy_state chain run number m position objects kept i at is =
-    let c : CopyOf chain run position objects kept = copy_of chain run number m position objects kept i at is in
+pub copy_state : (chain : ℕ) (run : Run) (number : ℕ) (m : LinkMessage) (position : ℕ) (state : State) → IsTypedRunOf chain run
+    → WasSent (chain_after chain run) number m → m.body ≡ bodies.Copy position state → after (take position (updates_committed chain run)) ≡ state
+copy_state chain run number m position state i at is =
+    let c : CopyOf chain run position state = copy_of chain run number m position state i at is in
     sym (state_replayed chain run position i)
     ∙ (ap (λ k. after_entries opening_state (take k (committed_in chain run))) (sym c.count) ∙ (ap (after_entries opening_state) (prefix_is_take c.begins) ∙ c.after))
+
+-- ---- parts
+
+part_said : (chain : ℕ) (run : Run) (number : ℕ) (m : LinkMessage) (part : StatePart) (s : Stands chain run)
+    → WasSent (chain_after chain run) number m → m.body ≡ bodies.Part part → PartFollows s.world.messages m.epoch m.sender m.receiver part
+part_said chain run number m part s at is = said_as s.follows number m (bodies.Part part) at is
+
+pub part_committed : (chain : ℕ) (run : Run) (number : ℕ) (m : LinkMessage) (part : StatePart) → IsTypedRunOf chain run
+    → WasSent (chain_after chain run) number m → m.body ≡ bodies.Part part → part.position ≤ length (updates_committed chain run)
+part_committed chain run number m part i at is =
+    let s : Stands chain run = stands chain run i in
+    let safe : IsSafe s.world = reached_safe s.reached in
+    let f : PartFollows s.world.messages m.epoch m.sender m.receiver part = part_said chain run number m part s at is in
+    let P : List Entry → Type 0 = λ l. IsPrefix f.entries l in
+    let begins : IsPrefix f.entries (committed_in chain run) = subst P s.log (safe.copy (said m.epoch m.sender m.receiver (machine.Copy f.entries)) f.entries f.sent refl) in
+    omega (arith, f.count, prefix_length begins, as_many chain run i)
+
+pub part_numbered : (chain : ℕ) (run : Run) (number : ℕ) (m : LinkMessage) (part : StatePart) → IsTypedRunOf chain run
+    → WasSent (chain_after chain run) number m → m.body ≡ bodies.Part part → (1 ≤ part.number) × (part.number ≤ part.count)
+part_numbered chain run number m part i at is =
+    let s : Stands chain run = stands chain run i in
+    let f : PartFollows s.world.messages m.epoch m.sender m.receiver part = part_said chain run number m part s at is in
+    (f.first, f.last)
+
+pub part_share : (chain : ℕ) (run : Run) (number : ℕ) (m : LinkMessage) (part : StatePart) → IsTypedRunOf chain run
+    → WasSent (chain_after chain run) number m → m.body ≡ bodies.Part part → part_of part.position (after (take part.position (updates_committed chain run))) part.number ≡ part
+part_share chain run number m part i at is =
+    let s : Stands chain run = stands chain run i in
+    let f : PartFollows s.world.messages m.epoch m.sender m.receiver part = part_said chain run number m part s at is in
+    let share : List Entry → StatePart = λ log. part_of part.position (after_entries opening_state (take part.position log)) part.number in
+    ap (λ state. part_of part.position state part.number) (sym (state_replayed chain run part.position i))
+    ∙ (ap share (sym s.log) ∙ part_is s.reached m.epoch m.sender m.receiver part f)
 
 -- ---- senders
 
@@ -91,20 +127,39 @@ entry_agrees chain run number m e i at is =
     sender_of chain run s m (machine.Entry e.position e) (λ p. entry_at (history_of (committed_in chain run) p) e.position ≡ Some e) (said_as s.follows number m (bodies.Entry e) at is)
     (λ p n h. ap (λ l. entry_at l e.position) (sym n.history) ∙ h)
 
+pub batch_agrees : (chain : ℕ) (run : Run) (number : ℕ) (m : LinkMessage) (es : List Entry) → IsTypedRunOf chain run → WasSent (chain_after chain run) number m → m.body ≡ bodies.Batch es
+    → AllByRecursion (λ (e : Entry). HasSender (chain_after chain run) m (λ p. entry_at (history_of (committed_in chain run) p) e.position ≡ Some e)) es
+batch_agrees chain run number m es i at is =
+    let s : Stands chain run = stands chain run i in
+    let b : BodyFollows s.world.memberships s.world.messages m.epoch m.sender m.receiver (bodies.Batch es) = said_as s.follows number m (bodies.Batch es) at is in
+    all_like (λ (e : Entry). Sent s.world.messages (said m.epoch m.sender m.receiver (machine.Entry e.position e)))
+    (λ (e : Entry). HasSender (chain_after chain run) m (λ p. entry_at (history_of (committed_in chain run) p) e.position ≡ Some e)) es
+    (λ e sent. sender_of chain run s m (machine.Entry e.position e) (λ p. entry_at (history_of (committed_in chain run) p) e.position ≡ Some e) sent
+    (λ p n h. ap (λ l. entry_at l e.position) (sym n.history) ∙ h))
+    b.2
+
 pub ack_agrees : (chain : ℕ) (run : Run) (number : ℕ) (m : LinkMessage) (position : ℕ) → IsTypedRunOf chain run → WasSent (chain_after chain run) number m → m.body ≡ bodies.Ack position
-    → HasSender (chain_after chain run) m (λ p. position ≤ p.acknowledged)
+    → HasSender (chain_after chain run) m (λ p. position ≤ p.past.acknowledged)
 ack_agrees chain run number m position i at is =
     let s : Stands chain run = stands chain run i in
-    sender_of chain run s m (machine.Ack position) (λ p. position ≤ p.acknowledged) (said_as s.follows number m (bodies.Ack position) at is)
+    sender_of chain run s m (machine.Ack position) (λ p. position ≤ p.past.acknowledged) (said_as s.follows number m (bodies.Ack position) at is)
     (λ p n h. let f : _ = n.follows in omega (arith, h, f.acknowledged))
 
-pub copy_agrees : (chain : ℕ) (run : Run) (number : ℕ) (m : LinkMessage) (position : ℕ) (objects : Objects) (kept : List (ℕ × Kept)) → IsTypedRunOf chain run → WasSent (chain_after chain run) number m → m.body ≡ bodies.Copy position objects kept
-    → HasSender (chain_after chain run) m (λ p. position ≤ p.acknowledged)
-copy_agrees chain run number m position objects kept i at is =
+pub copy_agrees : (chain : ℕ) (run : Run) (number : ℕ) (m : LinkMessage) (position : ℕ) (state : State) → IsTypedRunOf chain run → WasSent (chain_after chain run) number m → m.body ≡ bodies.Copy position state
+    → HasSender (chain_after chain run) m (λ p. position ≤ p.past.acknowledged)
+copy_agrees chain run number m position state i at is =
     let s : Stands chain run = stands chain run i in
-    let b : BodyFollows s.world.memberships s.world.messages m.epoch m.sender m.receiver (bodies.Copy position objects kept) = said_as s.follows number m (bodies.Copy position objects kept) at is in
-    sender_of chain run s m (machine.Copy b.0) (λ p. position ≤ p.acknowledged) b.4
+    let b : BodyFollows s.world.memberships s.world.messages m.epoch m.sender m.receiver (bodies.Copy position state) = said_as s.follows number m (bodies.Copy position state) at is in
+    sender_of chain run s m (machine.Copy b.0) (λ p. position ≤ p.past.acknowledged) b.4
     (λ p n h. let f : _ = n.follows in omega (arith, h, f.acknowledged, b.1))
+
+pub part_agrees : (chain : ℕ) (run : Run) (number : ℕ) (m : LinkMessage) (part : StatePart) → IsTypedRunOf chain run → WasSent (chain_after chain run) number m → m.body ≡ bodies.Part part
+    → HasSender (chain_after chain run) m (λ p. part.position ≤ p.past.acknowledged)
+part_agrees chain run number m part i at is =
+    let s : Stands chain run = stands chain run i in
+    let f : PartFollows s.world.messages m.epoch m.sender m.receiver part = part_said chain run number m part s at is in
+    sender_of chain run s m (machine.Copy f.entries) (λ p. part.position ≤ p.past.acknowledged) f.sent
+    (λ p n h. let g : _ = n.follows in omega (arith, h, g.acknowledged, f.count))
 
 pub floor_agrees : (chain : ℕ) (run : Run) (number : ℕ) (m : LinkMessage) (count : ℕ) → IsTypedRunOf chain run → WasSent (chain_after chain run) number m → m.body ≡ bodies.Floor count
     → HasSender (chain_after chain run) m (λ p. (p.ready ≡ true) × (count ≤ length_of p))

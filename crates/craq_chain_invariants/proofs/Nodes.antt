@@ -22,7 +22,7 @@ use Rattle.craq_chain_invariants.proofs.Worlds.{Stands, stands, Node, node}
 
 -- ---- histories
 
-pub whole : (chain : ℕ) (run : Run) (p : Plain) → IsTypedRunOf chain run → IsNode (chain_after chain run) p → IsHistory p.base p.base_state p.entries (history_of (committed_in chain run) p)
+pub whole : (chain : ℕ) (run : Run) (p : Plain) → IsTypedRunOf chain run → IsNode (chain_after chain run) p → IsHistory p.past.base p.past.base_state p.past.entries (history_of (committed_in chain run) p)
 whole chain run p i at =
     let s : Stands chain run = stands chain run i in
     let n : Node chain run p s = node chain run p s at in
@@ -135,7 +135,7 @@ list chain run p i at running tail =
     sym n.history ∙ (safe.tail (id_of p) (tail_of chain run p s at running tail) ∙ s.log)
 
 pub known : (chain : ℕ) (run : Run) (p : Plain) → IsTypedRunOf chain run → IsNode (chain_after chain run) p → p.running ≡ true → is_tail p ≡ true
-    → p.acknowledged ≡ length (committed_in chain run)
+    → p.past.acknowledged ≡ length (committed_in chain run)
 known chain run p i at running tail =
     let s : Stands chain run = stands chain run i in
     let n : Node chain run p s = node chain run p s at in
@@ -146,7 +146,7 @@ known chain run p i at running tail =
 
 -- ---- what is acknowledged
 
-pub held : (chain : ℕ) (run : Run) (p : Plain) → IsTypedRunOf chain run → IsNode (chain_after chain run) p → p.acknowledged ≤ length_of p
+pub held : (chain : ℕ) (run : Run) (p : Plain) → IsTypedRunOf chain run → IsNode (chain_after chain run) p → p.past.acknowledged ≤ length_of p
 held chain run p i at =
     let s : Stands chain run = stands chain run i in
     let n : Node chain run p s = node chain run p s at in
@@ -154,7 +154,7 @@ held chain run p i at =
     let safe : IsSafe s.world = reached_safe s.reached in
     omega (arith, mine.acknowledged, (safe.acknowledged (id_of p)).0, history_length mine.history)
 
-pub committed : (chain : ℕ) (run : Run) (p : Plain) → IsTypedRunOf chain run → IsNode (chain_after chain run) p → p.acknowledged ≤ length (committed_in chain run)
+pub committed : (chain : ℕ) (run : Run) (p : Plain) → IsTypedRunOf chain run → IsNode (chain_after chain run) p → p.past.acknowledged ≤ length (committed_in chain run)
 committed chain run p i at =
     let s : Stands chain run = stands chain run i in
     let n : Node chain run p s = node chain run p s at in
@@ -162,12 +162,12 @@ committed chain run p i at =
     let safe : IsSafe s.world = reached_safe s.reached in
     omega (arith, mine.acknowledged, (safe.acknowledged (id_of p)).1, ap length s.log)
 
-pub same : (chain : ℕ) (run : Run) (p : Plain) → IsTypedRunOf chain run → IsNode (chain_after chain run) p → take p.acknowledged (history_of (committed_in chain run) p) ≡ take p.acknowledged (committed_in chain run)
+pub same : (chain : ℕ) (run : Run) (p : Plain) → IsTypedRunOf chain run → IsNode (chain_after chain run) p → take p.past.acknowledged (history_of (committed_in chain run) p) ≡ take p.past.acknowledged (committed_in chain run)
 same chain run p i at =
     let s : Stands chain run = stands chain run i in
     let n : Node chain run p s = node chain run p s at in
     let mine : _ = n.follows in
     let safe : IsSafe s.world = reached_safe s.reached in
     let P : ℕ → Type 0 = λ k. take k (s.world.history (id_of p)) ≡ take k s.world.log in
-    let there : take p.acknowledged (s.world.history (id_of p)) ≡ take p.acknowledged s.world.log = subst P mine.acknowledged (safe.acknowledged (id_of p)).2 in
-    ap (take p.acknowledged) (sym n.history) ∙ (there ∙ ap (take p.acknowledged) s.log)
+    let there : take p.past.acknowledged (s.world.history (id_of p)) ≡ take p.past.acknowledged s.world.log = subst P mine.acknowledged (safe.acknowledged (id_of p)).2 in
+    ap (take p.past.acknowledged) (sym n.history) ∙ (there ∙ ap (take p.past.acknowledged) s.log)

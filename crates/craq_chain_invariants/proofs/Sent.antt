@@ -1,9 +1,8 @@
 -- A node that says how many entries it holds, holds so many: line by line of its step.
-use Rattle.std.proofs.Common.{◌≡◌, ℕ, ◌+◌, ◌≤◌, ◌==◌, nat_le, nat_lt, max, Bool, true, not, cond, ◌&&◌, ◌||◌, List, [], ◌∷◌, ◌++◌, map, Option, Some, None, Result, Ok, Err, refl, subst, arith}
+use Rattle.std.proofs.Common.{◌≡◌, ℕ, ◌+◌, ◌≤◌, ◌==◌, nat_le, nat_lt, max, Bool, true, not, cond, ◌&&◌, ◌||◌, List, [], ◌∷◌, ◌++◌, map, is_some, Option, Some, None, Result, Ok, Err, refl, subst, arith}
 use Rattle.std.specs.Prelude.{⊤}
 use Rattle.std.specs.List.{AllByRecursion}
 use Rattle.std.proofs.lemmas.Bool.{cond_both}
-use Rattle.craq_names.specs.Limits.{greatest}
 use Rattle.craq_names.specs.declared.refusal.Refusal.TheVariants as refusals
 use Rattle.craq_names.specs.declared.name.ObjectId.{ObjectId}
 use Rattle.craq_commands.specs.declared.command.Update.{Update}
@@ -11,7 +10,8 @@ use Rattle.craq_commands.specs.declared.entry.Entry.{Entry}
 use Rattle.craq_commands.specs.declared.reply.Reply.{Reply}
 use Rattle.craq_commands.specs.declared.read_mode.ReadMode.{ReadMode}
 use Rattle.craq_commands.specs.declared.read_mode.ReadMode.TheVariants.{Strong, Eventual, Bounded}
-use Rattle.craq_commands.specs.SingleCopy.{State, said}
+use Rattle.craq_commands.specs.declared.state.State.{State}
+use Rattle.craq_commands.specs.SingleCopy.{said}
 use Rattle.craq_commands.specs.Evaluation.{objects_named, all_of_chain, some_used_up}
 use Rattle.craq_model.specs.declared.message.Body.{Body}
 use Rattle.craq_model.specs.declared.message.Body.TheVariants as bodies
@@ -26,12 +26,17 @@ use Rattle.craq_model.specs.declared.step.Why.{Why}
 use Rattle.craq_model.specs.declared.step.Why.TheVariants.{OtherEpoch, NotNeighbour, OutOfOrder, AlreadyHave, NotReadyHere, TooFar}
 use Rattle.craq_model.specs.declared.waiting.WaitingRead.{WaitingRead}
 use Rattle.craq_model.specs.declared.waiting.WaitingUpdate.{WaitingUpdate}
+use Rattle.craq_names.specs.Limits.{greatest, part_limit}
+use Rattle.craq_names.specs.Maps.{at_number}
+use Rattle.craq_model.specs.declared.gathering.Gathering.{Gathering}
+use Rattle.craq_model.specs.declared.message.StatePart.{StatePart}
+use Rattle.craq_model.specs.Parts.{item_count, parts_of, gathering_for, is_in_order, with_part, is_whole, joined_state}
 use Rattle.craq_model.specs.Members.{is_member, is_id, first_of, last_of}
-use Rattle.craq_model.specs.Plain.{Plain, id_of, successor, predecessor, is_first, is_last, is_tail, length_of, newest, newest_object, clean, position_of, entries_after}
-use Rattle.craq_model.specs.Sends.{send, send_all, to_neighbour, entry_bodies, copy_bodies, catch_up, queries, ready_sends, unready_sends, tick_sends}
-use Rattle.craq_model.specs.Settle.{Turn, Given, turn_with, turn_ignoring, all_committed, all_given, answer_outs, update_given, is_reached, settling_turn, readiness_turn, read_answer}
+use Rattle.craq_model.specs.Plain.{Plain, id_of, successor, predecessor, is_first, is_last, is_tail, length_of, newest, newest_object, clean, position_of, entries_after, with_entries, acknowledging}
+use Rattle.craq_model.specs.Sends.{send, send_all, to_neighbour, runs_of, run_body, entry_bodies, copy_bodies, catch_up, queries, ready_sends, unready_sends, tick_sends}
+use Rattle.craq_model.specs.Settle.{Turn, Given, turn_with, turn_ignoring, all_committed, all_given, answer_outs, update_given, is_reached, settling_turn, without_reached, readiness_turn, read_answer}
 use Rattle.craq_model.specs.Asks.{accepted_turn, answered_turn, is_full, is_clean, with_entry, committed_if_last, reply_turn, new_update_turn, update_turn, waiting_read_turn, read_turn, accepted_ask_turn, ask_turn}
-use Rattle.craq_model.specs.Deliveries.{config_turn, is_applicable, forwarding_turn, taken_entry_turn, entry_turn, due_updates, acknowledgement_turn, ack_turn, query_turn, told_version_turn, version_turn, read_with, fill_bodies, blank_turn, with_copy, copy_turn, floor_turn, turn_in_epoch, body_turn}
+use Rattle.craq_model.specs.Deliveries.{config_turn, are_applicable, forwarding_turn, taken_entries_turn, first_position, final_position, entries_above, entries_turn, due_updates, acknowledgement_turn, ack_turn, query_turn, told_version_turn, version_turn, read_with, fill_bodies, blank_turn, with_copy, copy_turn, gathered_turn, gathering_turn, is_outdated, part_turn, floor_turn, turn_in_epoch, body_turn}
 use Rattle.craq_model.specs.Node.{event_turn}
 use Rattle.craq_refinement.proofs.Lists.{all_append}
 use Rattle.craq_refinement.proofs.Updates.{refused, turn_same}
@@ -46,7 +51,9 @@ IsWithin held (bodies.Ack position) = ⊤
 IsWithin held (bodies.Query ticket key) = ⊤
 IsWithin held (bodies.VersionIs ticket version) = ⊤
 IsWithin held (bodies.Blank count) = count ≤ held
-IsWithin held (bodies.Copy position objects kept) = ⊤
+IsWithin held (bodies.Batch es) = ⊤
+IsWithin held (bodies.Copy position state) = ⊤
+IsWithin held (bodies.Part part) = ⊤
 IsWithin held (bodies.Floor count) = ⊤
 
 -- what the node of this id sends, while it holds so much
@@ -72,10 +79,29 @@ neighbour : (id held : ℕ) (o : Option ℕ) (sends : ℕ → List Out) → ((to
 neighbour id held None sends f = tt
 neighbour id held (Some to) sends f = f to
 
+run_within : (held : ℕ) (es : List Entry) → IsWithin held (run_body es)
+run_within held [] = tt
+run_within held (e ∷ []) = tt
+run_within held (e ∷ f ∷ es) = tt
+
+runs_within : (held : ℕ) (runs : List (List Entry)) → AllByRecursion (IsWithin held) (map run_body runs)
+runs_within held [] = tt
+runs_within held (es ∷ runs) = (run_within held es, runs_within held runs)
+
 entries_within : (held : ℕ) (es : List Entry) → AllByRecursion (IsWithin held) (entry_bodies es)
 unfolding entry_bodies
-entries_within held [] = tt
-entries_within held (e ∷ es) = (tt, entries_within held es)
+entries_within held es = runs_within held (runs_of es)
+
+parts_within : (held : ℕ) (parts : List StatePart) → AllByRecursion (IsWithin held) (map bodies.Part parts)
+parts_within held [] = tt
+parts_within held (part ∷ parts) = (tt, parts_within held parts)
+
+copies_within : (held position : ℕ) (state : State) → AllByRecursion (IsWithin held) (copy_bodies position state)
+unfolding copy_bodies
+copies_within held position state =
+    cond_both (nat_le (item_count state) part_limit) (bodies.Copy position state ∷ []) (map bodies.Part (parts_of position state)) (λ (bs : List Body). AllByRecursion (IsWithin held) bs)
+    (λ e. (tt, tt))
+    (λ e. parts_within held (parts_of position state))
 
 catch_up_within : (p : Plain) (held position : ℕ) → AllByRecursion (IsWithin held) (catch_up p position)
 unfolding catch_up
@@ -89,12 +115,12 @@ ready_within : (p : Plain) (held : ℕ) → AreWithin (id_of p) held (ready_send
 unfolding ready_sends
 ready_within p held =
     let id : ℕ = id_of p in
-    let first : List Out = to_neighbour (successor p) (λ to. send_all p to (catch_up p p.acknowledged)) in
-    let second : List Out = to_neighbour (predecessor p) (λ to. send p to (bodies.Ack p.acknowledged) ∷ []) in
+    let first : List Out = to_neighbour (successor p) (λ to. send_all p to (catch_up p p.past.acknowledged)) in
+    let second : List Out = to_neighbour (predecessor p) (λ to. send p to (bodies.Ack p.past.acknowledged) ∷ []) in
     both id held (first ++ second) (cond (is_last p) [] (queries p))
     (both id held first second
-    (neighbour id held (successor p) (λ to. send_all p to (catch_up p p.acknowledged)) (λ to. all_sent p held to (catch_up p p.acknowledged) (catch_up_within p held p.acknowledged)))
-    (neighbour id held (predecessor p) (λ to. send p to (bodies.Ack p.acknowledged) ∷ []) (λ to. ((refl, tt), tt))))
+    (neighbour id held (successor p) (λ to. send_all p to (catch_up p p.past.acknowledged)) (λ to. all_sent p held to (catch_up p p.past.acknowledged) (catch_up_within p held p.past.acknowledged)))
+    (neighbour id held (predecessor p) (λ to. send p to (bodies.Ack p.past.acknowledged) ∷ []) (λ to. ((refl, tt), tt))))
     (cond_both (is_last p) [] (queries p) (λ (os : List Out). AreWithin id held os) (λ e. tt) (λ e. queries_within p held p.waiting_reads))
 
 unready_within : (p : Plain) → AreWithin (id_of p) (length_of p) (unready_sends p)
@@ -124,7 +150,9 @@ settles p =
 
 becomes : (p : Plain) → SaysHeld (readiness_turn p)
 unfolding readiness_turn
-becomes p = cond_both (not p.ready && is_reached p.floor (length_of p)) (settling_turn (record p { ready = true })) (turn_with p []) SaysHeld (λ e. settles (record p { ready = true })) (λ e. tt)
+becomes p =
+    let q : Plain = record p { ready = true; gathering = None } in
+    cond_both (not p.ready && is_reached p.floor (length_of p)) (settling_turn q) (turn_with (without_reached p) []) SaysHeld (λ e. settles q) (λ e. tt)
 
 guard : (p : Plain) (b : Bool) (why : Why) (t : Turn) → SaysHeld t → SaysHeld (cond b (turn_ignoring p why) t)
 guard p b why t go = cond_both b (turn_ignoring p why) t SaysHeld (λ e. tt) (λ e. go)
@@ -132,33 +160,35 @@ guard p b why t go = cond_both b (turn_ignoring p why) t SaysHeld (λ e. tt) (λ
 config_held : (p : Plain) (epoch : ℕ) (members : List ℕ) → SaysHeld (config_turn p epoch members)
 unfolding config_turn
 config_held p epoch members =
-    let q : Plain = record p { epoch = epoch; members = members; floor = None } in
+    let q : Plain = record p { epoch = epoch; members = members; floor = None; gathering = None } in
     guard p (nat_le epoch p.epoch) OtherEpoch (cond (not (is_member members (id_of p))) (turn_ignoring p NotNeighbour) (settling_turn q)) (guard p (not (is_member members (id_of p))) NotNeighbour (settling_turn q) (settles q))
 
-forwards : (p : Plain) (e : Entry) → SaysHeld (forwarding_turn p e)
+forwards : (p : Plain) (es : List Entry) → SaysHeld (forwarding_turn p es)
 unfolding forwarding_turn
-forwards p e =
+forwards p es =
     let id : ℕ = id_of p in
     let held : ℕ = length_of p in
     let acks : ℕ → List Out = λ to. send p to (bodies.Ack (length_of p)) ∷ [] in
-    let entries : ℕ → List Out = λ to. send_all p to (entry_bodies (e ∷ [])) in
-    cond_both (is_tail p) (turn_with (record p { acknowledged = length_of p }) (to_neighbour (predecessor p) acks)) (turn_with p (to_neighbour (successor p) entries)) SaysHeld
+    let entries : ℕ → List Out = λ to. send_all p to (entry_bodies es) in
+    cond_both (is_tail p) (turn_with (acknowledging p (length_of p)) (to_neighbour (predecessor p) acks)) (turn_with p (to_neighbour (successor p) entries)) SaysHeld
     (λ t. neighbour id held (predecessor p) acks (λ to. ((refl, tt), tt)))
-    (λ t. neighbour id held (successor p) entries (λ to. all_sent p held to (entry_bodies (e ∷ [])) (entries_within held (e ∷ []))))
+    (λ t. neighbour id held (successor p) entries (λ to. all_sent p held to (entry_bodies es) (entries_within held es)))
 
-entry_held : (p : Plain) (sender : ℕ) (e : Entry) → SaysHeld (entry_turn p sender e)
-unfolding entry_turn
-entry_held p sender e =
-    let q : Plain = with_entry p e in
-    let last : Turn = taken_entry_turn q e in
-    let third : Turn = cond (not (is_applicable (newest p) e)) (turn_ignoring p TooFar) last in
-    let second : Turn = cond (nat_lt (length_of p + 1) e.position) (turn_ignoring p OutOfOrder) third in
-    let first : Turn = cond (nat_le e.position (length_of p)) (turn_ignoring p AlreadyHave) second in
+entries_held : (p : Plain) (sender : ℕ) (es : List Entry) → SaysHeld (entries_turn p sender es)
+unfolding entries_turn
+entries_held p sender es =
+    let new : List Entry = entries_above (length_of p) es in
+    let q : Plain = with_entries p new in
+    let last : Turn = taken_entries_turn q new in
+    let third : Turn = cond (are_applicable (newest p) new) last (turn_ignoring p TooFar) in
+    let second : Turn = cond (nat_lt (length_of p + 1) (first_position es)) (turn_ignoring p OutOfOrder) third in
+    let first : Turn = cond (nat_le (final_position es) (length_of p)) (turn_ignoring p AlreadyHave) second in
     guard p (not (is_id (predecessor p) sender)) NotNeighbour first
-    (guard p (nat_le e.position (length_of p)) AlreadyHave second
-    (guard p (nat_lt (length_of p + 1) e.position) OutOfOrder third
-    (guard p (not (is_applicable (newest p) e)) TooFar last
-    (cond_both p.ready (forwarding_turn q e) (readiness_turn q) SaysHeld (λ r. forwards q e) (λ r. becomes q)))))
+    (guard p (nat_le (final_position es) (length_of p)) AlreadyHave second
+    (guard p (nat_lt (length_of p + 1) (first_position es)) OutOfOrder third
+    (cond_both (are_applicable (newest p) new) last (turn_ignoring p TooFar) SaysHeld
+    (λ g. cond_both p.ready (forwarding_turn q new) (readiness_turn q) SaysHeld (λ r. forwards q new) (λ r. becomes q))
+    (λ g. tt))))
 
 acknowledges : (p : Plain) (position : ℕ) → SaysHeld (acknowledgement_turn p position)
 unfolding acknowledgement_turn
@@ -174,10 +204,10 @@ unfolding ack_turn
 ack_held p sender position =
     let last : Turn = acknowledgement_turn p position in
     let third : Turn = cond (nat_lt (length_of p) position) (turn_ignoring p TooFar) last in
-    let second : Turn = cond (nat_le position p.acknowledged) (turn_ignoring p AlreadyHave) third in
+    let second : Turn = cond (nat_le position p.past.acknowledged) (turn_ignoring p AlreadyHave) third in
     let first : Turn = cond (not p.ready) (turn_ignoring p NotReadyHere) second in
     guard p (not (is_id (successor p) sender)) NotNeighbour first
-    (guard p (not p.ready) NotReadyHere second (guard p (nat_le position p.acknowledged) AlreadyHave third (guard p (nat_lt (length_of p) position) TooFar last (acknowledges p position))))
+    (guard p (not p.ready) NotReadyHere second (guard p (nat_le position p.past.acknowledged) AlreadyHave third (guard p (nat_lt (length_of p) position) TooFar last (acknowledges p position))))
 
 query_held : (p : Plain) (sender ticket : ℕ) (key : List ℕ) → SaysHeld (query_turn p sender ticket key)
 unfolding query_turn
@@ -196,12 +226,12 @@ version_held p sender ticket version =
     guard p (not (sender == last_of p.members)) NotNeighbour (told_version_turn p version (read_with ticket p.waiting_reads)) (told_held p version (read_with ticket p.waiting_reads))
 
 fill_within : (p : Plain) (held count : ℕ) → AllByRecursion (IsWithin held) (fill_bodies p count)
-unfolding fill_bodies copy_bodies
+unfolding fill_bodies
 fill_within p held count =
-    let copies : List Body = copy_bodies p.acknowledged (clean p) in
-    all_append (IsWithin held) (cond (nat_lt count p.acknowledged) copies []) (catch_up p (max count p.acknowledged))
-    (cond_both (nat_lt count p.acknowledged) copies [] (λ (l : List Body). AllByRecursion (IsWithin held) l) (λ e. (tt, tt)) (λ e. tt))
-    (catch_up_within p held (max count p.acknowledged))
+    let copies : List Body = copy_bodies p.past.acknowledged (clean p) in
+    all_append (IsWithin held) (cond (nat_lt count p.past.acknowledged) copies []) (catch_up p (max count p.past.acknowledged))
+    (cond_both (nat_lt count p.past.acknowledged) copies [] (λ (l : List Body). AllByRecursion (IsWithin held) l) (λ e. copies_within held p.past.acknowledged (clean p)) (λ e. tt))
+    (catch_up_within p held (max count p.past.acknowledged))
 
 blank_held : (p : Plain) (sender count : ℕ) → SaysHeld (blank_turn p sender count)
 unfolding blank_turn
@@ -217,6 +247,26 @@ copy_held p sender position state =
     guard p (not (is_id (predecessor p) sender)) NotNeighbour (cond (p.ready || nat_le position (length_of p)) (turn_ignoring p AlreadyHave) last)
     (guard p (p.ready || nat_le position (length_of p)) AlreadyHave last (becomes (with_copy p position state)))
 
+gathered_held : (p : Plain) (g : Gathering) → SaysHeld (gathered_turn p g)
+gathered_held p g =
+    let q : Plain = with_copy p g.position (joined_state g.parts) in
+    cond_both (is_whole g) (readiness_turn q) (turn_with (record p { gathering = Some g }) []) SaysHeld (λ e. becomes q) (λ e. tt)
+
+part_held : (p : Plain) (sender : ℕ) (part : StatePart) → SaysHeld (part_turn p sender part)
+unfolding part_turn
+part_held p sender part =
+    let g : Gathering = gathering_for part p.gathering in
+    let last : Turn = gathered_turn p (with_part g part) in
+    let fourth : Turn = cond (not (is_in_order g part)) (turn_ignoring p TooFar) last in
+    let third : Turn = cond (is_some (at_number g.parts part.number)) (turn_ignoring p AlreadyHave) fourth in
+    let second : Turn = gathering_turn p g part in
+    let first : Turn = cond (p.ready || is_outdated p part) (turn_ignoring p AlreadyHave) second in
+    guard p (not (is_id (predecessor p) sender)) NotNeighbour first
+    (guard p (p.ready || is_outdated p part) AlreadyHave second
+    (guard p (not (part.count == g.count)) TooFar third
+    (guard p (is_some (at_number g.parts part.number)) AlreadyHave fourth
+    (guard p (not (is_in_order g part)) TooFar last (gathered_held p (with_part g part))))))
+
 floor_held : (p : Plain) (sender count : ℕ) → SaysHeld (floor_turn p sender count)
 unfolding floor_turn
 floor_held p sender count =
@@ -228,12 +278,14 @@ in_epoch p m t go = cond_both (m.epoch == p.epoch) t (turn_ignoring p OtherEpoch
 
 body_held : (p : Plain) (m : LinkMessage) (b : Body) → SaysHeld (body_turn p m b)
 body_held p m (bodies.Config members) = config_held p m.epoch members
-body_held p m (bodies.Entry e) = in_epoch p m (entry_turn p m.sender e) (entry_held p m.sender e)
+body_held p m (bodies.Entry e) = in_epoch p m (entries_turn p m.sender (e ∷ [])) (entries_held p m.sender (e ∷ []))
+body_held p m (bodies.Batch es) = in_epoch p m (entries_turn p m.sender es) (entries_held p m.sender es)
+body_held p m (bodies.Part part) = in_epoch p m (part_turn p m.sender part) (part_held p m.sender part)
 body_held p m (bodies.Ack position) = in_epoch p m (ack_turn p m.sender position) (ack_held p m.sender position)
 body_held p m (bodies.Query ticket key) = in_epoch p m (query_turn p m.sender ticket key) (query_held p m.sender ticket key)
 body_held p m (bodies.VersionIs ticket version) = in_epoch p m (version_turn p m.sender ticket version) (version_held p m.sender ticket version)
 body_held p m (bodies.Blank count) = in_epoch p m (blank_turn p m.sender count) (blank_held p m.sender count)
-body_held p m (bodies.Copy position objects kept) = in_epoch p m (copy_turn p m.sender position (record { objects = objects; kept = kept })) (copy_held p m.sender position (record { objects = objects; kept = kept }))
+body_held p m (bodies.Copy position state) = in_epoch p m (copy_turn p m.sender position state) (copy_held p m.sender position state)
 body_held p m (bodies.Floor count) = in_epoch p m (floor_turn p m.sender count) (floor_held p m.sender count)
 
 -- ---- asks
@@ -245,15 +297,15 @@ reply_held p position reply sends t a h =
     let now : Turn = answered_turn p (answers.Update reply) sends in
     let u : WaitingUpdate = record { ticket = p.last_ticket + 1; position = position; reply = reply } in
     let later : Turn = accepted_turn (record p { waiting_updates = p.waiting_updates ++ u ∷ [] }) sends in
-    cond_both (nat_le position p.acknowledged) (Ok now) (cond (is_full p) (Err refusals.PendingFull) (Ok later)) (λ (r : Result Turn _). r ≡ Ok t → SaysHeld t)
+    cond_both (nat_le position p.past.acknowledged) (Ok now) (cond (is_full p) (Err refusals.PendingFull) (Ok later)) (λ (r : Result Turn _). r ≡ Ok t → SaysHeld t)
     (λ e k. subst SaysHeld (turn_same now t (Ok now) refl k) (a (length_of p)))
     (λ e k. subst SaysHeld (turn_same later t (Ok later) refl (refused (is_full p) refusals.PendingFull (Ok later) k).1) (a (length_of p)))
     h
 
 replies_held : (p : Plain) (position : ℕ) (reply : Reply) (sends : List Out) (t : Turn) → ((held : ℕ) → AreWithin (id_of p) held sends) → reply_turn (committed_if_last p) position reply sends ≡ Ok t → SaysHeld t
 replies_held p position reply sends t a h =
-    cond_both (is_last p) (record p { acknowledged = length_of p }) p (λ (x : Plain). reply_turn x position reply sends ≡ Ok t → SaysHeld t)
-    (λ e k. reply_held (record p { acknowledged = length_of p }) position reply sends t a k)
+    cond_both (is_last p) (acknowledging p (length_of p)) p (λ (x : Plain). reply_turn x position reply sends ≡ Ok t → SaysHeld t)
+    (λ e k. reply_held (acknowledging p (length_of p)) position reply sends t a k)
     (λ e k. reply_held p position reply sends t a k)
     h
 

@@ -31,13 +31,13 @@ abbrev pub AllWaitAbove : Chain → Type 0
 AllWaitAbove c = (id : ℕ) (p : Plain) → node_at c.nodes id ≡ Some p → WaitAbove p
 
 -- a node's entries stand at their positions
-entries_placed : {c : Chain} {w : World Entry} → Follows c w → (id : ℕ) (p : Plain) → node_at c.nodes id ≡ Some p → IsPlaced p.base p.entries
+entries_placed : {c : Chain} {w : World Entry} → Follows c w → (id : ℕ) (p : Plain) → node_at c.nodes id ≡ Some p → IsPlaced p.past.base p.past.entries
 entries_placed {c} {w} f id p at =
     let n : NodeFollows w (seen_of p) = f.nodes id p at in
     let P : List Entry → Type 0 = λ l. IsPlaced 0 l in
-    let Q : ℕ → Type 0 = λ j. IsPlaced j p.entries in
-    let count : 0 + length n.history.front ≡ p.base = omega (arith, n.history.count) in
-    subst Q count (placed_back 0 n.history.front p.entries (subst P (sym n.history.whole) n.placed))
+    let Q : ℕ → Type 0 = λ j. IsPlaced j p.past.entries in
+    let count : 0 + length n.history.front ≡ p.past.base = omega (arith, n.history.count) in
+    subst Q count (placed_back 0 n.history.front p.past.entries (subst P (sym n.history.whole) n.placed))
 
 at_node : (c : Chain) (w : World Entry) (chosen : Move) (x : Progress) → Follows c w → AllWaitAbove c → AtNode c chosen x → AllWaitAbove x.0
 at_node c w chosen x f all h id p at =
@@ -88,7 +88,7 @@ opening_above chain members (m ∷ ids) id p h =
     (λ e i. opening_above chain members ids id p i)
     h
 
-pub above : (chain : ℕ) (run : Run) (p : Plain) → IsTypedRunOf chain run → IsNode (chain_after chain run) p → AllAbove p.acknowledged p.waiting_updates
+pub above : (chain : ℕ) (run : Run) (p : Plain) → IsTypedRunOf chain run → IsNode (chain_after chain run) p → AllAbove p.past.acknowledged p.waiting_updates
 above chain run p i at =
     let o : World Entry = opening run.members in
     let r : IsReached o = reached_opening run.members (distinct_members run.members i.run_of.members.distinct) in

@@ -44,12 +44,12 @@ history_in w p r n =
     let h : List Entry = w.history (id_of p) in
     let a : ℕ = w.acknowledged (id_of p) in
     let known : take a h ≡ take a w.log = (s.acknowledged (id_of p)).2 in
-    let le : p.base ≤ a = omega (arith, n.based, n.acknowledged) in
+    let le : p.past.base ≤ a = omega (arith, n.based, n.acknowledged) in
     let front : List Entry = n.history.front in
-    let begins : IsPrefix front h = record { rest = p.entries; is = n.history.whole } in
-    let mine : take p.base h ≡ front = ap (λ k. take k h) (sym n.history.count) ∙ prefix_is_take begins in
-    let same : take p.base w.log ≡ front = sym (take-take p.base a w.log le) ∙ (ap (take p.base) (sym known) ∙ (take-take p.base a h le ∙ mine)) in
-    ap (λ l. l ++ p.entries) same ∙ n.history.whole
+    let begins : IsPrefix front h = record { rest = p.past.entries; is = n.history.whole } in
+    let mine : take p.past.base h ≡ front = ap (λ k. take k h) (sym n.history.count) ∙ prefix_is_take begins in
+    let same : take p.past.base w.log ≡ front = sym (take-take p.past.base a w.log le) ∙ (ap (take p.past.base) (sym known) ∙ (take-take p.past.base a h le ∙ mine)) in
+    ap (λ l. l ++ p.past.entries) same ∙ n.history.whole
 
 -- a node of a run's chain, in the world that stands for it
 pub record Node (chain : ℕ) (run : Run) (p : Plain) (s : Stands chain run) : Type 0 where

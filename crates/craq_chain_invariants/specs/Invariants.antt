@@ -1,14 +1,15 @@
 -- The invariants of a chain: what each run keeps true of the chain's nodes, of its messages and of what waits.
 use Rattle.std.specs.Prelude.{◌≡◌, ◌<◌, ◌≤◌, ℕ, IsSome, true, List, Some, length, take}
 use Rattle.std.specs.List.{AllByRecursion}
-use Rattle.craq_commands.specs.Kept.{Kept}
-use Rattle.craq_commands.specs.Objects.{Objects}
 use Rattle.craq_commands.specs.SingleCopy.{after, after_entries, opening_state}
 use Rattle.craq_commands.specs.declared.entry.Entry.{Entry}
+use Rattle.craq_commands.specs.declared.state.State.{State}
 use Rattle.craq_model.specs.Members.{is_member}
+use Rattle.craq_model.specs.Parts.{part_of}
 use Rattle.craq_model.specs.Plain.{Plain, id_of, is_tail, length_of}
 use Rattle.craq_model.specs.declared.message.Body.TheVariants as bodies
 use Rattle.craq_model.specs.declared.message.LinkMessage.{LinkMessage}
+use Rattle.craq_model.specs.declared.message.StatePart.{StatePart}
 use Rattle.craq_model.specs.declared.waiting.WaitingUpdate.{WaitingUpdate}
 use Rattle.craq_runs.specs.Chain.{node_at}
 use Rattle.craq_runs.specs.declared.run.Run.{Run}
@@ -22,7 +23,7 @@ use Rattle.craq_chain_invariants.specs.Kept.{HasReply, HasSender, IsNode, TellsV
 -- a node's state before the entries that it holds is that after so many committed entries; the entries of its whole history stand
 -- at their positions, from 1 on; and replaying them is applying the updates that they were made of on the single copy
 pub record HistoriesAreWhole (chain : ℕ) (run : Run) : Type 0 where
-  pub whole : (p : Plain) → IsNode (chain_after chain run) p → IsHistory p.base p.base_state p.entries (history_of (committed_in chain run) p)
+  pub whole : (p : Plain) → IsNode (chain_after chain run) p → IsHistory p.past.base p.past.base_state p.past.entries (history_of (committed_in chain run) p)
   pub placed : (p : Plain) → IsNode (chain_after chain run) p → IsPlaced 0 (history_of (committed_in chain run) p)
   pub as_many : (p : Plain) → IsNode (chain_after chain run) p → length (updates_held chain run p) ≡ length_of p
   pub replayed : (p : Plain) (count : ℕ) → IsNode (chain_after chain run) p
@@ -58,7 +59,7 @@ pub record OneTailHoldsTheList (chain : ℕ) (run : Run) : Type 0 where
   pub updates : (p : Plain) → IsNode (chain_after chain run) p
       → p.running ≡ true → is_tail p ≡ true → updates_held chain run p ≡ updates_committed chain run
   pub known : (p : Plain) → IsNode (chain_after chain run) p
-      → p.running ≡ true → is_tail p ≡ true → p.acknowledged ≡ length (updates_committed chain run)
+      → p.running ≡ true → is_tail p ≡ true → p.past.acknowledged ≡ length (updates_committed chain run)
 
 -- the committed entries are a prefix of the history of each ready member of the master's membership, so the committed updates are
 -- a prefix of the updates that its entries were made of
@@ -71,36 +72,55 @@ pub record ReadyMembersHoldTheList (chain : ℕ) (run : Run) : Type 0 where
 -- what a node knows to be committed it holds, it is committed, and it is the same
 pub record AcknowledgedIsCommitted (chain : ℕ) (run : Run) : Type 0 where
   pub held : (p : Plain) → IsNode (chain_after chain run) p
-      → p.acknowledged ≤ length_of p
+      → p.past.acknowledged ≤ length_of p
   pub committed : (p : Plain) → IsNode (chain_after chain run) p
-      → p.acknowledged ≤ length (updates_committed chain run)
+      → p.past.acknowledged ≤ length (updates_committed chain run)
   pub same : (p : Plain) → IsNode (chain_after chain run) p
-      → take p.acknowledged (history_of (committed_in chain run) p) ≡ take p.acknowledged (committed_in chain run)
+      → take p.past.acknowledged (history_of (committed_in chain run) p) ≡ take p.past.acknowledged (committed_in chain run)
 
 -- ---- messages
 
 -- each state that was ever sent is that of the single copy after so many committed updates as it says
 pub record CopiesAreCommitted (chain : ℕ) (run : Run) : Type 0 where
-  pub committed : (number : ℕ) (m : LinkMessage) (position : ℕ) (objects : Objects) (kept : List (ℕ × Kept))
-      → WasSent (chain_after chain run) number m → m.body ≡ bodies.Copy position objects kept
+  pub committed : (number : ℕ) (m : LinkMessage) (position : ℕ) (state : State)
+      → WasSent (chain_after chain run) number m → m.body ≡ bodies.Copy position state
       → position ≤ length (updates_committed chain run)
-  pub state : (number : ℕ) (m : LinkMessage) (position : ℕ) (objects : Objects) (kept : List (ℕ × Kept))
-      → WasSent (chain_after chain run) number m → m.body ≡ bodies.Copy position objects kept
-      → after (take position (updates_committed chain run)) ≡ record { objects = objects; kept = kept }
+  pub state : (number : ℕ) (m : LinkMessage) (position : ℕ) (state : State)
+      → WasSent (chain_after chain run) number m → m.body ≡ bodies.Copy position state
+      → after (take position (updates_committed chain run)) ≡ state
 
--- each message that was ever sent agrees with its sender, a node of the chain: an entry stands at its position in the sender's
--- history; of an acknowledgement and of a state the sender knows that so much is committed; of a floor the sender is ready and
--- holds so many entries; and a sender that says how many entries it holds, holds as many
+-- each part of a state that was ever sent is its share of the single copy's state after so many committed updates as it says
+pub record PartsAreShares (chain : ℕ) (run : Run) : Type 0 where
+  pub committed : (number : ℕ) (m : LinkMessage) (part : StatePart)
+      → WasSent (chain_after chain run) number m → m.body ≡ bodies.Part part
+      → part.position ≤ length (updates_committed chain run)
+  pub numbered : (number : ℕ) (m : LinkMessage) (part : StatePart)
+      → WasSent (chain_after chain run) number m → m.body ≡ bodies.Part part
+      → (1 ≤ part.number) × (part.number ≤ part.count)
+  pub share : (number : ℕ) (m : LinkMessage) (part : StatePart)
+      → WasSent (chain_after chain run) number m → m.body ≡ bodies.Part part
+      → part_of part.position (after (take part.position (updates_committed chain run))) part.number ≡ part
+
+-- each message that was ever sent agrees with its sender, a node of the chain: an entry, alone or in a batch, stands at its
+-- position in the sender's history; of an acknowledgement, of a state and of a part of one the sender knows that so much is
+-- committed; of a floor the sender is ready and holds so many entries; and a sender that says how many entries it holds, holds
+-- as many
 pub record MessagesAgreeWithSenders (chain : ℕ) (run : Run) : Type 0 where
   pub entry : (number : ℕ) (m : LinkMessage) (e : Entry)
       → WasSent (chain_after chain run) number m → m.body ≡ bodies.Entry e
       → HasSender (chain_after chain run) m (λ p. entry_at (history_of (committed_in chain run) p) e.position ≡ Some e)
+  pub batch : (number : ℕ) (m : LinkMessage) (entries : List Entry)
+      → WasSent (chain_after chain run) number m → m.body ≡ bodies.Batch entries
+      → AllByRecursion (λ (e : Entry). HasSender (chain_after chain run) m (λ p. entry_at (history_of (committed_in chain run) p) e.position ≡ Some e)) entries
   pub ack : (number : ℕ) (m : LinkMessage) (position : ℕ)
       → WasSent (chain_after chain run) number m → m.body ≡ bodies.Ack position
-      → HasSender (chain_after chain run) m (λ p. position ≤ p.acknowledged)
-  pub copy : (number : ℕ) (m : LinkMessage) (position : ℕ) (objects : Objects) (kept : List (ℕ × Kept))
-      → WasSent (chain_after chain run) number m → m.body ≡ bodies.Copy position objects kept
-      → HasSender (chain_after chain run) m (λ p. position ≤ p.acknowledged)
+      → HasSender (chain_after chain run) m (λ p. position ≤ p.past.acknowledged)
+  pub copy : (number : ℕ) (m : LinkMessage) (position : ℕ) (state : State)
+      → WasSent (chain_after chain run) number m → m.body ≡ bodies.Copy position state
+      → HasSender (chain_after chain run) m (λ p. position ≤ p.past.acknowledged)
+  pub part : (number : ℕ) (m : LinkMessage) (part : StatePart)
+      → WasSent (chain_after chain run) number m → m.body ≡ bodies.Part part
+      → HasSender (chain_after chain run) m (λ p. part.position ≤ p.past.acknowledged)
   pub floor : (number : ℕ) (m : LinkMessage) (count : ℕ)
       → WasSent (chain_after chain run) number m → m.body ≡ bodies.Floor count
       → HasSender (chain_after chain run) m (λ p. (p.ready ≡ true) × (count ≤ length_of p))
@@ -122,7 +142,7 @@ ToldVersionsWereCommitted chain run =
 -- is what the single copy says to its client and number after so many updates of the node's history as it waits for
 pub record WaitingUpdatesAreOwed (chain : ℕ) (run : Run) : Type 0 where
   pub above : (p : Plain) → IsNode (chain_after chain run) p
-      → AllByRecursion (λ (u : WaitingUpdate). p.acknowledged < u.position) p.waiting_updates
+      → AllByRecursion (λ (u : WaitingUpdate). p.past.acknowledged < u.position) p.waiting_updates
   pub reply : (p : Plain) → IsNode (chain_after chain run) p
       → AllByRecursion (HasReply chain run p) p.waiting_updates
 
@@ -137,6 +157,7 @@ pub record HasInvariants (chain : ℕ) (run : Run) : Type 0 where
   pub ready_members : ReadyMembersHoldTheList chain run
   pub acknowledged : AcknowledgedIsCommitted chain run
   pub copies : CopiesAreCommitted chain run
+  pub parts : PartsAreShares chain run
   pub messages : MessagesAgreeWithSenders chain run
   pub versions : ToldVersionsWereCommitted chain run
   pub waiting : WaitingUpdatesAreOwed chain run

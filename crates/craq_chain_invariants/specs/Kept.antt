@@ -44,7 +44,7 @@ IsNode c p = node_at c.nodes (id_of p) ≡ Some p
 
 -- a node's whole history: the committed entries that it knows by their state alone, then those that it holds
 abbrev pub history_of : List Entry → Plain → List Entry
-history_of entries p = take p.base entries ++ p.entries
+history_of entries p = take p.past.base entries ++ p.past.entries
 
 -- the updates that the entries of a node's whole history were made of
 abbrev pub updates_held : ℕ → Run → Plain → List Update

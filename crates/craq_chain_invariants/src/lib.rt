@@ -5,7 +5,7 @@
 ghost use Rattle.std.specs.Prelude.{ℕ};
 ghost use Rattle.craq_runs.specs.Typed.{IsTypedRunOf};
 ghost use Rattle.craq_runs.specs.declared.run.Run.{Run};
-ghost use Rattle.craq_chain_invariants.specs.Invariants.{AcknowledgedIsCommitted, CopiesAreCommitted, HasInvariants, HistoriesAreWhole, MembersAreNodes, MessagesAgreeWithSenders, OneTailHoldsTheList, PredecessorsAreReady, PredecessorsHoldMore, ReadyMembersHoldTheList, ToldVersionsWereCommitted, WaitingUpdatesAreOwed};
+ghost use Rattle.craq_chain_invariants.specs.Invariants.{AcknowledgedIsCommitted, CopiesAreCommitted, HasInvariants, HistoriesAreWhole, MembersAreNodes, MessagesAgreeWithSenders, OneTailHoldsTheList, PartsAreShares, PredecessorsAreReady, PredecessorsHoldMore, ReadyMembersHoldTheList, ToldVersionsWereCommitted, WaitingUpdatesAreOwed};
 
 /// A node's state before the entries that it holds is the state after so many committed entries, and the entries of its whole
 /// history stand at their positions, from 1 on: `history_of` is what the node's state and entries stand for. Replaying that
@@ -51,9 +51,16 @@ pub fn copies_are_committed()
     ensures { (chain : ℕ) (run : Run) → IsTypedRunOf chain run → CopiesAreCommitted chain run }
 {}
 
-/// Each message that was ever sent agrees with its sender, then and for good: the sender is a node of the chain; an entry
-/// stands at its position in the sender's history; of an acknowledgement and of a state the sender knows that so much is
-/// committed; of a floor the sender is ready and holds so many entries; and who says how many it holds, holds as many.
+/// Each part of a state that was ever sent is its share of the single copy's state after so many committed updates as it
+/// says: of the objects by rising key and then the kept replies by rising client, 64 items a part.
+pub fn parts_are_shares()
+    ensures { (chain : ℕ) (run : Run) → IsTypedRunOf chain run → PartsAreShares chain run }
+{}
+
+/// Each message that was ever sent agrees with its sender, then and for good: the sender is a node of the chain; an entry,
+/// alone or in a batch, stands at its position in the sender's history; of an acknowledgement, of a state and of a part of
+/// one the sender knows that so much is committed; of a floor the sender is ready and holds so many entries; and who says
+/// how many it holds, holds as many.
 pub fn messages_agree_with_senders()
     ensures { (chain : ℕ) (run : Run) → IsTypedRunOf chain run → MessagesAgreeWithSenders chain run }
 {}

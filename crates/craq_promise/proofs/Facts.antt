@@ -10,7 +10,8 @@ use Rattle.craq_commands.specs.declared.read_mode.ReadMode.{ReadMode}
 use Rattle.craq_commands.specs.declared.read_mode.ReadMode.TheVariants.{Strong, Eventual, Bounded}
 use Rattle.craq_commands.specs.declared.reply.Reply.TheVariants.{Written}
 use Rattle.craq_commands.specs.Objects.{object_of, version_of}
-use Rattle.craq_commands.specs.SingleCopy.{State, opening_state, after_entry, after_entries}
+use Rattle.craq_commands.specs.declared.state.State.{State}
+use Rattle.craq_commands.specs.SingleCopy.{opening_state, after_entry, after_entries}
 use Rattle.craq_model.specs.declared.ask.Ask.{Ask}
 use Rattle.craq_model.specs.declared.ask.Ask.TheVariants as asks
 use Rattle.craq_model.specs.declared.ask.Answer.{Answer}

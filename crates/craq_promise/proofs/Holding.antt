@@ -15,7 +15,8 @@ use Rattle.craq_commands.specs.declared.read_mode.ReadMode.TheVariants.{Strong, 
 use Rattle.craq_commands.specs.declared.reply.Reply.{Reply}
 use Rattle.craq_commands.specs.declared.reply.Reply.TheVariants.{Written, Mismatch, TooLong, NotANumber, Overflow, Underflow, Done, CompareFailed, Stale}
 use Rattle.craq_commands.specs.Objects.{object_of, version_of}
-use Rattle.craq_commands.specs.SingleCopy.{State, opening_state, after, after_entry}
+use Rattle.craq_commands.specs.declared.state.State.{State}
+use Rattle.craq_commands.specs.SingleCopy.{opening_state, after, after_entry}
 use Rattle.craq_model.specs.declared.ask.Ask.{Ask}
 use Rattle.craq_model.specs.declared.ask.Ask.TheVariants as asks
 use Rattle.craq_model.specs.declared.ask.Answer.{Answer}
@@ -31,6 +32,7 @@ use Rattle.craq_runs.specs.Valid as valid
 use Rattle.craq_updates.specs.Genuine.{IsGenuine, AllGenuine}
 use Rattle.craq_runs.specs.Typed.{IsTypedRunOf}
 use Rattle.craq_updates.proofs.Entries.{genuine_closed}
+use Rattle.craq_laws.proofs.Histories.{opening_rises}
 use Rattle.craq_updates.proofs.Updates.{numbers_of, updates_of, number_is, updates_cons, updates_take, after_updates, no_request_twice}
 use Rattle.craq_updates.proofs.Known.{Known}
 use Rattle.craq_updates.proofs.Runs.{run_account}
@@ -80,7 +82,7 @@ line_is a w answers x h k l =
     ∙ filter_map-append (update_at a.asks) (numbers_of a.asks (take (after_move a x.move) a.committed)) (numbers_of a.asks p.rest)) in
     record {
       asked = were_asked a w answers x.move opening_state h k l.genuine l.in_time;
-      once = no_request_twice a.asks opening_state h k.numbered l.genuine;
+      once = no_request_twice a.asks opening_state h opening_rises k.numbered l.genuine;
       rest = updates_of a.asks p.rest;
       begins = ap (λ us. us ++ updates_of a.asks p.rest) (updates_take a.asks opening_state (after_move a x.move) a.committed k.numbered (log_genuine k)) ∙ sym split;
     }

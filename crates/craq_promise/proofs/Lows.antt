@@ -10,11 +10,13 @@ use Rattle.craq_commands.specs.declared.read_mode.ReadMode.TheVariants.{Strong, 
 use Rattle.craq_commands.specs.declared.reply.Reply.{Reply}
 use Rattle.craq_commands.specs.declared.reply.Reply.TheVariants.{Written}
 use Rattle.craq_commands.specs.Objects.{version_of}
-use Rattle.craq_commands.specs.SingleCopy.{State, opening_state, kept_of, after_entry, after_entries}
+use Rattle.craq_commands.specs.declared.state.State.{State}
+use Rattle.craq_commands.specs.SingleCopy.{opening_state, window_of, after_entry, after_entries}
 use Rattle.craq_model.specs.declared.ask.Ask.{Ask}
 use Rattle.craq_model.specs.declared.ask.Ask.TheVariants as asks
 use Rattle.craq_model.specs.declared.ask.Answer.{Answer}
 use Rattle.craq_model.specs.declared.ask.Answer.TheVariants as answers
+use Rattle.craq_laws.proofs.Histories.{opening_rises}
 use Rattle.craq_protocol.specs.Machine.{World}
 use Rattle.craq_protocol.specs.Promises.{IsPrefix, IsSafe, Later}
 use Rattle.craq_protocol.proofs.Prefix.{prefix_take, prefix_length}
@@ -31,7 +33,7 @@ use Rattle.craq_strong_answers.proofs.Stands.{state_after, UpdateTold, Owed, IsA
 use Rattle.craq_strong_answers.proofs.Stays.{GoesOn, state_stays}
 use Rattle.craq_strong_answers.proofs.Versions.{no_older_prefix, version_rises}
 use Rattle.craq_strong_answers.proofs.Nodes.{version_after, rises_between}
-use Rattle.craq_promise.proofs.Writes.{IsReplyOf, reply_of, said_kept}
+use Rattle.craq_promise.proofs.Writes.{Has, IsReplyOf, reply_of, said_kept}
 
 -- ---- the updates of longer lists
 
@@ -170,15 +172,20 @@ beginning_whole b v n id count key =
     version_rises (state_after count (v.history id)).objects (after_entries opening_state (v.history id)).objects key
     (no_older_prefix b.asks (take count (v.history id)) (v.history id) key n.numbered (held.histories id) (prefix_take count (v.history id)))
 
+-- nothing is kept at first
+nothing_kept : (number version client : ℕ) → Has (number, Written version) (window_of opening_state client) → ⊥
+unfolding window_of
+nothing_kept number version client h = h
+
 low_update : (b : Account) (v : World Entry) (id ticket : ℕ) (ask : Asked) (u : Update) (reply : Reply) → Known b v → UpdateTold b v id ticket ask u reply → (version : ℕ) → reply ≡ Written version → LowWrite b v id u version
 low_update b v id ticket ask u reply n t version is =
     let held : _ = n.held in
     let h : List Entry = v.history id in
     let s : IsSafe v = reached_safe n.reached in
     let part : AllGenuine b.asks opening_state (take t.known h) = genuine_closed b.asks opening_state (take t.known h) h (prefix_take t.known h) (held.histories id) in
-    let kept : kept_of (state_after t.known h) u.client ≡ Some (u.number, Written version) = said_kept (kept_of (state_after t.known h) u.client) u.number version (t.is_known ∙ ap (λ r. Some r) is) in
+    let kept : Has (u.number, Written version) (window_of (state_after t.known h) u.client) = said_kept (window_of (state_after t.known h) u.client) u.number version (t.is_known ∙ ap (λ r. Some r) is) in
     let r : IsReplyOf b.asks opening_state (take t.known h) u (Written version) =
-    ⊎_elim (λ e. absurd (nothing u.client e)) (λ r. r) (reply_of b.asks opening_state (take t.known h) u (Written version) n.numbered part kept) in
+    ⊎_elim (λ e. absurd (nothing_kept u.number version u.client e)) (λ r. r) (reply_of b.asks opening_state (take t.known h) u (Written version) opening_rises n.numbered part kept) in
     let a : _ = s.acknowledged id in
     let within : t.known ≤ length v.log = omega (arith, t.acknowledged, a.1) in
     let same : take t.known h ≡ take t.known v.log = sym (take-take t.known (v.acknowledged id) h t.acknowledged) ∙ (ap (take t.known) a.2 ∙ take-take t.known (v.acknowledged id) v.log t.acknowledged) in
@@ -190,9 +197,6 @@ low_update b v id ticket ask u reply n t version is =
       found = found_longer b.asks (take t.known h) b.committed u r.update prefix r.found;
       low = λ o single. omega (arith, r.low o version single refl, rises_between b.asks h o.key t.known (v.acknowledged id) n.numbered (held.histories id) t.acknowledged);
     }
-  where
-    nothing : (client : ℕ) → kept_of opening_state client ≡ Some (u.number, Written version) → ⊥
-    nothing client h = cc
 
 low_owed : (b : Account) (v : World Entry) (position : List ℕ → ℕ) (id ticket : ℕ) (ask : Asked) (kind : Ask) (answer : Answer) → Known b v → Owed b v position id ticket ask kind answer → LowBy b v id kind answer
 low_owed b v position id ticket ask (asks.Update u) (answers.Update reply) n o = low_update b v id ticket ask u reply n o

@@ -1,8 +1,14 @@
 -- The version that a reply tells as written is the object's version after the command's writes.
-use Rattle.std.proofs.Common.{◌≡◌, ◌≢◌, ◌⊎◌, inl, inr, ⊎_elim, ℕ, ◌+◌, ◌-◌, ◌≤◌, ◌==◌, nat_lt, Bool, true, false, cond, List, [], ◌∷◌, ◌++◌, length, find, unwrap_or, Option, Some, None, refl, ap, sym, subst, ◌∙◌, arith}
+use Rattle.std.proofs.Common.{◌≡◌, ◌≢◌, ◌⊎◌, inl, inr, ⊎_elim, ℕ, ◌+◌, ◌-◌, ◌≤◌, ◌==◌, nat_lt, Bool, true, false, cond, List, [], ◌∷◌, ◌++◌, length, drop, find, unwrap_or, Option, Some, None, refl, ap, sym, subst, ◌∙◌, arith}
 use Rattle.std.specs.List.{AllByRecursion}
 use Rattle.std.proofs.lemmas.Bool.{cond_both, cond-true, cond-false, eq-eqb, eqb-true, and_from, and_parts, both_ways, false_from_ne_true, cases_eq}
+use Rattle.std.proofs.lemmas.Bool.Decides.{nat_tests}
 use Rattle.std.specs.Int.{to_be_bytes, w64}
+use Rattle.std.specs.Ordering.{nat_cmp, eq_by_cmp}
+use Rattle.std.specs.declared.cmp.Ordering.TheVariants.{Less, Equal, Greater}
+use Rattle.std.specs.Cmp.{ranked}
+use Rattle.std.specs.FinMap.Entries.{by_order}
+use Rattle.craq_names.specs.Maps.{at_number, put_number}
 use Rattle.craq_names.specs.Limits.{greatest, value_limit}
 use Rattle.craq_names.specs.declared.name.ObjectId.{ObjectId}
 use Rattle.craq_commands.specs.declared.command.Command.{Command}
@@ -13,17 +19,18 @@ use Rattle.craq_commands.specs.declared.reply.Reply.{Reply}
 use Rattle.craq_commands.specs.declared.reply.Reply.TheVariants.{Written, Mismatch, TooLong, Overflow, Underflow, Stale}
 use Rattle.craq_commands.specs.Objects.{Objects, object_of, version_of, value_of, set_object, all_written}
 use Rattle.craq_commands.specs.Evaluation.{Outcome, writes_one, writes_none, writes_number, tested, joined, number_at, increased, decreased, eval}
-use Rattle.craq_commands.specs.Kept.{Kept, keep, said_of}
-use Rattle.craq_commands.specs.SingleCopy.{State, kept_of, is_new_to, kept_with, apply, after_entry, after_entries}
+use Rattle.craq_commands.specs.Kept.{Kept, Window, largest, is_stale, keep, said_of}
+use Rattle.craq_commands.specs.declared.state.State.{State}
+use Rattle.craq_commands.specs.SingleCopy.{window_of, is_new_to, apply, after_entry, after_entries}
 use Rattle.craq_runs.specs.Seen.{Asked}
 use Rattle.craq_runs.specs.Valid.{same_request, single_object}
 use Rattle.craq_laws.proofs.Writes.{found_here}
-use Rattle.craq_laws.proofs.Histories.{kept_here}
+use Rattle.craq_laws.proofs.Histories.{HasRisingWindows}
 use Rattle.craq_updates.specs.Genuine.{IsGenuine, AllGenuine}
 use Rattle.craq_updates.proofs.Found.{IsNumbered, find_all, find_true}
-use Rattle.craq_updates.proofs.Updates.{updates_of, updates_cons, all_new, other_request}
+use Rattle.craq_updates.proofs.Updates.{updates_of, updates_cons, genuine_rises, all_new, other_request}
 use Rattle.craq_strong_answers.proofs.Versions.{no_older_entries, version_rises}
-use Rattle.craq_strong_answers.proofs.Kept.{kept_by_others}
+use Rattle.craq_strong_answers.proofs.Kept.{window_here, kept_by_others}
 
 set_version : (m : Objects) (key : List ℕ) (version : ℕ) (value : List ℕ) → version_of (set_object m key version value) key ≡ version
 unfolding object_of set_object
@@ -84,30 +91,57 @@ applied_objects : (s : State) (e : Entry) (asked : List Asked) → (g : IsGenuin
 unfolding apply
 applied_objects s e asked g = ap (λ (t : State). t.objects) g.applied ∙ rw g.new refl
 
-kept_pair : (s : State) (e : Entry) → kept_of (after_entry s e) e.client ≡ Some (e.number, e.reply)
-unfolding after_entry kept_with keep
-kept_pair s e = kept_here s e.client (e.number, e.reply)
+-- the window has this number with this reply
+abbrev pub Has : Kept → Window → Type 0
+Has x [] = ⊥
+Has x (k ∷ ks) = (k ≡ x) ⊎ Has x ks
 
-pair_same : (p q : ℕ × Reply) → Some p ≡ Some q → (p.0 ≡ q.0) × (p.1 ≡ q.1)
-pair_same p q h = let same : p ≡ q = cc in (ap (λ (p : ℕ × Reply). p.0) same, ap (λ (p : ℕ × Reply). p.1) same)
+-- what a window has with one more reply, it had, or it is the new one
+has_put : (x : Kept) (w : Window) (m : ℕ) (r : Reply) → Has x (put_number w m r) → Has x w ⊎ ((m, r) ≡ x)
+has_put x [] m r = elim [ inl e ↦ inr e | inr h ↦ absurd h ]
+has_put x (k ∷ ks) m r =
+    elim (nat_cmp m k.0) as (λ o. o ≡ nat_cmp m k.0 → Has x (by_order o ((m, r) ∷ k ∷ ks) ((k.0, r) ∷ ks) (k ∷ put_number ks m r)) → Has x (k ∷ ks) ⊎ ((m, r) ≡ x)) [
+      | Less ↦ λ e. elim [ inl h ↦ inr h | inr h ↦ inl h ]
+      | Equal ↦ λ e. elim [ inl h ↦ inr ((λ i. (ranked m k.0 Equal e i, r)) ∙ h) | inr h ↦ inl (inr h) ]
+      | Greater ↦ λ e. elim [ inl h ↦ inl (inl h) | inr h ↦ ⊎_elim (λ a. inl (inr a)) (λ b. inr b) (has_put x ks m r h) ]
+    ] refl
 
-pub reply_of : (asked : List Asked) (s : State) (es : List Entry) (u : Update) (reply : Reply) → IsNumbered asked → AllGenuine asked s es → kept_of (after_entries s es) u.client ≡ Some (u.number, reply)
-    → (kept_of s u.client ≡ Some (u.number, reply)) ⊎ IsReplyOf asked s es u reply
-reply_of asked s [] u reply n g h = inl h
-reply_of asked s (e ∷ es) u reply n g h =
+has_rest : (x : Kept) (w : Window) → Has x (drop 1 w) → Has x w
+has_rest x [] h = absurd h
+has_rest x (k ∷ ks) h = inr h
+
+has_kept : (x : Kept) (w : Window) (m : ℕ) (r : Reply) → Has x (keep w m r) → Has x w ⊎ ((m, r) ≡ x)
+unfolding keep
+has_kept x w m r h =
+    let p : Window = put_number w m r in
+    cond_both (nat_lt 8 (length p)) (drop 1 p) p (λ (v : Window). Has x v → Has x w ⊎ ((m, r) ≡ x)) (λ e h. has_put x w m r (has_rest x p h)) (λ e h. has_put x w m r h) h
+
+has_found : (w : Window) (n : ℕ) (r : Reply) → at_number w n ≡ Some r → Has (n, r) w
+has_found [] n r h = absurd (cc)
+has_found (k ∷ ks) n r h =
+    cond_both (eq_by_cmp nat_cmp n k.0) (Some k.1) (at_number ks n) (λ (o : Option Reply). o ≡ Some r → Has (n, r) (k ∷ ks))
+    (λ e i. let a : k.0 ≡ n = same_number k.0 n e in let b : k.1 ≡ r = cc in inl (λ j. (a j, b j)))
+    (λ e i. inr (has_found ks n r i))
+    h
+  where
+    same_number : (x y : ℕ) → eq_by_cmp nat_cmp y x ≡ true → x ≡ y
+    same_number x y e = grind (arith, nat_tests, e)
+
+pub reply_of : (asked : List Asked) (s : State) (es : List Entry) (u : Update) (reply : Reply) → HasRisingWindows s → IsNumbered asked → AllGenuine asked s es → Has (u.number, reply) (window_of (after_entries s es) u.client)
+    → Has (u.number, reply) (window_of s u.client) ⊎ IsReplyOf asked s es u reply
+reply_of asked s [] u reply rises n g h = inl h
+reply_of asked s (e ∷ es) u reply rises n g h =
     let t : State = after_entry s e in
     let gu : Update = g.0.update in
+    let x : Kept = (u.number, reply) in
     let cons : updates_of asked (e ∷ es) ≡ gu ∷ updates_of asked es = updates_cons asked s e es n g.0 in
-    ⊎_elim
-    (λ (old : kept_of t u.client ≡ Some (u.number, reply)).
-    ⊎_elim
-    (λ (mine : u.client ≡ e.client).
-    let P : ℕ → Type 0 = λ c. kept_of t c ≡ Some (u.number, reply) in
-    let same : (e.number ≡ u.number) × (e.reply ≡ reply) = pair_same (e.number, e.reply) (u.number, reply) (sym (kept_pair s e) ∙ subst P mine old) in
+    let rises_on : HasRisingWindows t = genuine_rises asked s e rises g.0 in
+    let by_entry : u.client ≡ e.client → (e.number, e.reply) ≡ x → IsReplyOf asked s (e ∷ es) u reply = λ mine pair.
+    let same : (e.number ≡ u.number) × (e.reply ≡ reply) = (ap (λ (p : Kept). p.0) pair, ap (λ (p : Kept). p.1) pair) in
     let client : (u.client == gu.client) ≡ true = eq-eqb u.client gu.client (mine ∙ g.0.by.client) in
     let number : (u.number == gu.number) ≡ true = eq-eqb u.number gu.number (sym same.0 ∙ g.0.by.number) in
     let match : same_request u gu ≡ true = and_from (u.client == gu.client) (u.number == gu.number) client number in
-    inr (record {
+    record {
       update = gu;
       found = ap (find (same_request u)) cons ∙ cond-true (same_request u gu) (Some gu) (find (same_request u) (updates_of asked es)) match;
       low = λ o version single w.
@@ -115,12 +149,24 @@ reply_of asked s (e ∷ es) u reply n g h =
           let here : version_of (all_written s.objects (eval s.objects gu.command).0) o.key ≡ version = tells s.objects gu.command o single version wrote in
           let there : version_of t.objects o.key ≡ version = ap (λ m. version_of m o.key) (applied_objects s e asked g.0) ∙ here in
           omega (arith, there, version_rises t.objects (after_entries t es).objects o.key (no_older_entries asked t es o.key n g.1));
-    }))
-    (λ (other : u.client ≢ e.client). inl (sym (kept_by_others s (e ∷ []) u.client (λ x. other (sym x), tt)) ∙ old))
+    }
+    in
+    let P : ℕ → Type 0 = λ c. Has x (window_of t c) in
+    let Q : ℕ → Type 0 = λ c. Has x (window_of s c) in
+    let W : Window → Type 0 = λ w. Has x w in
+    ⊎_elim
+    (λ (old : P u.client).
+    ⊎_elim
+    (λ (mine : u.client ≡ e.client).
+    ⊎_elim
+    (λ (before : Q e.client). inl (subst Q (sym mine) before))
+    (λ (pair : (e.number, e.reply) ≡ x). inr (by_entry mine pair))
+    (has_kept x (window_of s e.client) e.number e.reply (subst W (window_here s e) (subst P mine old))))
+    (λ (other : u.client ≢ e.client). inl (subst W (kept_by_others s (e ∷ []) u.client (λ y. other (sym y), tt)) old))
     (cases_eq u.client e.client))
     (λ (r : IsReplyOf asked t es u reply).
-    let Q : State → Type 0 = λ z. AllByRecursion (λ (x : Update). is_new_to z x.client x.number ≡ true) (updates_of asked es) in
-    let fresh : Q (apply s gu) = subst Q g.0.applied (all_new asked t es n g.1) in
+    let R : State → Type 0 = λ z. AllByRecursion (λ (x : Update). is_new_to z x.client x.number ≡ true) (updates_of asked es) in
+    let fresh : R (apply s gu) = subst R g.0.applied (all_new asked t es rises_on n g.1) in
     let new : is_new_to (apply s gu) r.update.client r.update.number ≡ true = find_all (λ (x : Update). is_new_to (apply s gu) x.client x.number ≡ true) (same_request u) (updates_of asked es) r.update fresh r.found in
     let miss : same_request u gu ≡ false = differs u gu r.update s (find_true (same_request u) (updates_of asked es) r.update r.found) new in
     inr (record {
@@ -128,7 +174,7 @@ reply_of asked s (e ∷ es) u reply n g h =
       found = ap (find (same_request u)) cons ∙ (cond-false (same_request u gu) (Some gu) (find (same_request u) (updates_of asked es)) miss ∙ r.found);
       low = r.low;
     }))
-    (reply_of asked t es u reply n g.1 h)
+    (reply_of asked t es u reply rises_on n g.1 h)
   where
     differs : (u g x : Update) (s : State) → same_request u x ≡ true → is_new_to (apply s g) x.client x.number ≡ true → same_request u g ≡ false
     differs u g x s hit new =
@@ -141,11 +187,10 @@ reply_of asked s (e ∷ es) u reply n g h =
         both_ways (same_request g x) (other_request s g x new) same)
 
 -- a reply that is said and tells of a write is kept
-pub said_kept : (kept : Option Kept) (number version : ℕ) → said_of kept number ≡ Some (Written version) → kept ≡ Some (number, Written version)
+pub said_kept : (w : Window) (number version : ℕ) → said_of w number ≡ Some (Written version) → Has (number, Written version) w
 unfolding said_of
-said_kept None number version h = absurd (cc)
-said_kept (Some k) number version h =
-    cond_both (k.0 == number) (Some k.1) (cond (nat_lt number k.0) (Some (Stale k.0)) None) (λ (o : Option Reply). o ≡ Some (Written version) → Some k ≡ Some (number, Written version))
-    (λ e i. let a : k.0 ≡ number = eqb-true k.0 number e in let b : k.1 ≡ Written version = cc in λ j. Some (a j, b j))
-    (λ e i. cond_both (nat_lt number k.0) (Some (Stale k.0)) None (λ (o : Option Reply). o ≡ Some (Written version) → Some k ≡ Some (number, Written version)) (λ f x. absurd (cc)) (λ f x. absurd (cc)) i)
+said_kept w number version h =
+    cond_both (is_stale w number) (Some (Stale (largest w))) (at_number w number) (λ (o : Option Reply). o ≡ Some (Written version) → Has (number, Written version) w)
+    (λ e i. absurd (cc))
+    (λ e i. has_found w number (Written version) i)
     h

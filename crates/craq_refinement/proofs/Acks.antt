@@ -7,7 +7,7 @@ use Rattle.craq_model.specs.declared.message.LinkMessage.{LinkMessage}
 use Rattle.craq_model.specs.declared.step.Out.{Out}
 use Rattle.craq_model.specs.declared.step.Why.TheVariants.{NotNeighbour, AlreadyHave, NotReadyHere, TooFar}
 use Rattle.craq_model.specs.Members.{is_id}
-use Rattle.craq_model.specs.Plain.{Plain, id_of, successor, predecessor, length_of}
+use Rattle.craq_model.specs.Plain.{Plain, id_of, successor, predecessor, length_of, acknowledging}
 use Rattle.craq_model.specs.Sends.{send, to_neighbour}
 use Rattle.craq_model.specs.Settle.{Turn, Given, turn_ignoring, update_given, answer_outs}
 use Rattle.craq_model.specs.Deliveries.{due_updates, later_updates, acknowledgement_turn, ack_turn, turn_in_epoch}
@@ -27,16 +27,16 @@ use Rattle.craq_refinement.proofs.Ticks.{sendable_both, sendable_answers, sendab
 use Rattle.craq_refinement.proofs.Here.{Here, here_node, guard, in_epoch, takes, next_is_succ}
 
 -- the node that knows so many entries to be committed
-abbrev acknowledging : Plain → ℕ → Plain
-acknowledging p position = record p { acknowledged = position; waiting_updates = later_updates position p.waiting_updates }
+abbrev hearing : Plain → ℕ → Plain
+hearing p position = record (acknowledging p position) { waiting_updates = later_updates position p.waiting_updates }
 
 heard : {c : Chain} {w : World Entry} (p : Plain) → Here c w p → (m : LinkMessage) (position : ℕ) → m.receiver ≡ id_of p → m.epoch ≡ p.epoch
-    → Sent w.messages (said m.epoch m.sender m.receiver (machine.Ack position)) → successor p ≡ Some m.sender → p.ready ≡ true → p.acknowledged < position → position ≤ length_of p
-    → (k : ℕ) × Stage c w (Take (id_of p) k ∷ []) (record w { acknowledged = with_value w.acknowledged (id_of p) position }) (acknowledging p position)
+    → Sent w.messages (said m.epoch m.sender m.receiver (machine.Ack position)) → successor p ≡ Some m.sender → p.ready ≡ true → p.past.acknowledged < position → position ≤ length_of p
+    → (k : ℕ) × Stage c w (Take (id_of p) k ∷ []) (record w { acknowledged = with_value w.acknowledged (id_of p) position }) (hearing p position)
 heard {c} {w} p h m position to ep s su r lt le =
     let id : ℕ = id_of p in
     let n : NodeFollows w (seen_of p) = here_node p h in
-    let t : (k : ℕ) × (after_move w (Take id k) ≡ after_receipt w id m.sender (machine.Ack position)) = takes p h m (machine.Ack position) to ep s in (
+    let t : (k : ℕ) × (after_move w (Take id k) ≡ after_receipt w id m.sender (machine.Ack position)) = takes p n h.running m (machine.Ack position) to ep s in (
       t.0,
       record {
         was = p;
@@ -63,17 +63,18 @@ heard {c} {w} p h m position to ep s su r lt le =
           acknowledged = put_same w.acknowledged id position;
           based = omega (arith, n.based, lt);
           floor = n.floor;
+          gathering = n.gathering;
         };
         running = h.running;
       },
     )
 
 passes : {Own : List (Move Entry) → Type 0} {c : Chain} {w : World Entry} {own : List (Move Entry)} {v : World Entry} (p : Plain) (position : ℕ) → Follows c w
-    → Stage c w own v (acknowledging p position) → Own own → TurnFollows Own c w (acknowledgement_turn p position)
+    → Stage c w own v (hearing p position) → Own own → TurnFollows Own c w (acknowledgement_turn p position)
 unfolding acknowledgement_turn
 passes {Own} {c} {w} {own} {v} p position f s line =
     let id : ℕ = id_of p in
-    let q : Plain = acknowledging p position in
+    let q : Plain = hearing p position in
     let gs : List Given = map update_given (due_updates position p.waiting_updates) in
     let acks : ℕ → List Out = λ to. send p to (bodies.Ack position) ∷ [] in
     stage_turn f s line (record { ticket = None; outs = answer_outs gs ++ to_neighbour (predecessor p) acks; ignored = None })
@@ -88,16 +89,16 @@ ack_follows {c} {w} p h m position to s =
     let none : Own [] = inl refl in
     let last : Turn = acknowledgement_turn p position in
     let third : Turn = cond (nat_lt (length_of p) position) (turn_ignoring p TooFar) last in
-    let second : Turn = cond (nat_le position p.acknowledged) (turn_ignoring p AlreadyHave) third in
+    let second : Turn = cond (nat_le position p.past.acknowledged) (turn_ignoring p AlreadyHave) third in
     let first : Turn = cond (not p.ready) (turn_ignoring p NotReadyHere) second in
     in_epoch p h none m (ack_turn p m.sender position)
     (λ ep. guard p h none (not (is_id (successor p) m.sender)) NotNeighbour first
     (λ a. guard p h none (not p.ready) NotReadyHere second
-    (λ b. guard p h none (nat_le position p.acknowledged) AlreadyHave third
+    (λ b. guard p h none (nat_le position p.past.acknowledged) AlreadyHave third
     (λ d. guard p h none (nat_lt (length_of p) position) TooFar last
     (λ g.
     let su : successor p ≡ Some m.sender = is_id-some (successor p) m.sender (not-false (is_id (successor p) m.sender) a) in
-    let t : (k : ℕ) × Stage c w (Take (id_of p) k ∷ []) (record w { acknowledged = with_value w.acknowledged (id_of p) position }) (acknowledging p position) =
-    heard p h m position to ep s su (not-false p.ready b) (leb-false position p.acknowledged d) (ltb-false (length_of p) position g)
+    let t : (k : ℕ) × Stage c w (Take (id_of p) k ∷ []) (record w { acknowledged = with_value w.acknowledged (id_of p) position }) (hearing p position) =
+    heard p h m position to ep s su (not-false p.ready b) (leb-false position p.past.acknowledged d) (ltb-false (length_of p) position g)
     in
     passes p position h.follows t.1 (inr (t.0, refl)))))))

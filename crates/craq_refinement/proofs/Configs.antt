@@ -21,7 +21,7 @@ use Rattle.craq_refinement.proofs.Here.{Here, here_node, guard}
 
 adopted : {c : Chain} {w : World Entry} (p : Plain) → Here c w p → (epoch : ℕ) (members : List ℕ) → membership_of w.memberships epoch ≡ members → p.epoch < epoch → is_member members (id_of p) ≡ true
     → Uncommitted c w (Adopt (id_of p) epoch ∷ []) (record w { epoch = with_value w.epoch (id_of p) epoch; floor = with_value w.floor (id_of p) None })
-    (record p { epoch = epoch; members = members; floor = None })
+    (record p { epoch = epoch; members = members; floor = None; gathering = None })
 adopted {c} {w} p h epoch members is lt m =
     let id : ℕ = id_of p in
     let n : NodeFollows w (seen_of p) = here_node p h in
@@ -51,6 +51,7 @@ adopted {c} {w} p h epoch members is lt m =
         acknowledged = n.acknowledged;
         based = n.based;
         floor = put_same w.floor id None;
+        gathering = tt;
       };
       running = h.running;
       member = λ r. m;
@@ -62,7 +63,7 @@ unfolding config_turn
 config_follows {c} {w} p h epoch members is =
     let Own : List (Move Entry) → Type 0 = IsAdopting (id_of p) epoch in
     let none : Own [] = inl refl in
-    let last : Turn = settling_turn (record p { epoch = epoch; members = members; floor = None }) in
+    let last : Turn = settling_turn (record p { epoch = epoch; members = members; floor = None; gathering = None }) in
     guard p h none (nat_le epoch p.epoch) OtherEpoch (cond (not (model.is_member members (id_of p))) (turn_ignoring p NotNeighbour) last)
     (λ a. guard p h none (not (model.is_member members (id_of p))) NotNeighbour last
     (λ b.

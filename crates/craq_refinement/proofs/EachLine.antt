@@ -15,11 +15,11 @@ use Rattle.craq_protocol.specs.Promises.{IsReached}
 use Rattle.craq_runs.specs.declared.run.Move.TheVariants.{Ask, Deliver}
 use Rattle.craq_runs.specs.Chain.{Chain, Progress, node_at, message_at, chain_step}
 use Rattle.craq_refinement.specs.Follows.{BodyFollows, Follows}
-use Rattle.craq_refinement.specs.Lines.{StandsFor, IsTaking, IsHearing, IsAdopting, IsUpdating}
+use Rattle.craq_refinement.specs.Lines.{StandsFor, IsTaking, IsTakingAll, IsHearing, IsAdopting, IsUpdating}
 use Rattle.craq_refinement.proofs.Nodes.{node_id}
 use Rattle.craq_refinement.proofs.Stages.{TurnFollows, Took, took, Arrived, arrived, message_said}
 use Rattle.craq_refinement.proofs.Here.{Here}
-use Rattle.craq_refinement.proofs.Entries.{entry_follows}
+use Rattle.craq_refinement.proofs.Entries.{entry_follows, batch_follows}
 use Rattle.craq_refinement.proofs.Acks.{ack_follows}
 use Rattle.craq_refinement.proofs.Configs.{config_follows}
 use Rattle.craq_refinement.proofs.Updates.{update_follows}
@@ -43,6 +43,14 @@ entry_line c w number m e x f at is step =
     let a : Arrived c m x = arrived c number m x at step in
     let h : Here c w a.node = record { follows = f; at = a.at; running = a.running } in
     delivered (λ id. IsTaking id) m (bodies.Entry e) x is a (entry_follows a.node h m e a.own (said_as f number m (bodies.Entry e) at is))
+
+pub batch_line : (c : Chain) (w : World Entry) (number : ℕ) (m : LinkMessage) (es : List Entry) (x : Progress) → Follows c w → message_at c.messages number ≡ Some m → m.body ≡ bodies.Batch es
+    → chain_step c (Deliver number) ≡ Ok x → StandsFor (IsTakingAll m.receiver) w x
+batch_line c w number m es x f at is step =
+    let a : Arrived c m x = arrived c number m x at step in
+    let h : Here c w a.node = record { follows = f; at = a.at; running = a.running } in
+    let s : BodyFollows w.memberships w.messages m.epoch m.sender m.receiver (bodies.Batch es) = said_as f number m (bodies.Batch es) at is in
+    delivered (λ id. IsTakingAll id) m (bodies.Batch es) x is a (batch_follows a.node h m es s.0 a.own s.1 s.2)
 
 pub ack_line : (c : Chain) (w : World Entry) (number : ℕ) (m : LinkMessage) (position : ℕ) (x : Progress) → Follows c w → message_at c.messages number ≡ Some m → m.body ≡ bodies.Ack position
     → chain_step c (Deliver number) ≡ Ok x → StandsFor (IsHearing m.receiver) w x

@@ -5,9 +5,11 @@ use Rattle.craq_names.specs.declared.name.ObjectId.{ObjectId}
 use Rattle.craq_names.specs.declared.refusal.Refusal.{Refusal}
 use Rattle.craq_commands.specs.declared.entry.Entry.{Entry}
 use Rattle.craq_commands.specs.declared.read_mode.ReadMode.{ReadMode}
+use Rattle.craq_commands.specs.declared.state.State.{State}
 use Rattle.craq_model.specs.declared.message.Body.{Body}
 use Rattle.craq_model.specs.declared.message.Body.TheVariants as bodies
 use Rattle.craq_model.specs.declared.message.LinkMessage.{LinkMessage}
+use Rattle.craq_model.specs.declared.message.StatePart.{StatePart}
 use Rattle.craq_model.specs.declared.ask.Ask.TheVariants as asks
 use Rattle.craq_model.specs.declared.ask.Event.{Event}
 use Rattle.craq_model.specs.declared.ask.Event.TheVariants as events
@@ -26,28 +28,35 @@ use Rattle.craq_runs.specs.declared.run.Taken.{Taken}
 use Rattle.craq_runs.specs.Chain.{Chain, Progress, node_at, message_at, sent_in, config_progress, node_progress, arrival_progress, counted_progress, chain_step, opening_chain}
 use Rattle.craq_runs.specs.Runs.{progressed, Takes, AreTaken, after_moves, IsRunOf}
 use Rattle.craq_refinement.specs.Follows.{BodyFollows, Follows}
-use Rattle.craq_refinement.specs.Lines.{moves_of_sends, StandsFor, CanFollow, IsFollowed, IsTaking, IsHearing, IsAdopting, IsUpdating, IsStopping, IsRemoving, IsJoining, IsNothing}
+use Rattle.craq_refinement.specs.Lines.{moves_of_sends, StandsFor, CanFollow, IsFollowed, IsTaking, IsTakingAll, IsHearing, IsAdopting, IsUpdating, IsStopping, IsRemoving, IsJoining, IsNothing}
 use Rattle.craq_refinement.proofs.Nodes.{node_id}
 use Rattle.craq_refinement.proofs.Stages.{TurnFollows, Took, took, Arrived, arrived}
 use Rattle.craq_refinement.proofs.Here.{Here}
-use Rattle.craq_refinement.proofs.Copies.{copy_follows, floor_follows}
+use Rattle.craq_refinement.proofs.Copies.{copy_follows, part_follows, floor_follows}
 use Rattle.craq_refinement.proofs.Blanks.{blank_follows}
 use Rattle.craq_refinement.proofs.Others.{query_follows, version_follows, tick_follows, read_follows, stop_follows}
 use Rattle.craq_refinement.proofs.Updates.{turn_same}
 use Rattle.craq_refinement.proofs.Master.{Counted, counted, progress_same, master_stands, removal_follows, join_follows}
 use Rattle.craq_refinement.proofs.Opening.{opening_follows, distinct_members}
-use Rattle.craq_refinement.proofs.EachLine.{delivered, said_as, entry_line, ack_line, config_line, update_line}
+use Rattle.craq_refinement.proofs.EachLine.{delivered, said_as, entry_line, batch_line, ack_line, config_line, update_line}
 
 -- ---- what the other messages do
 
-pub copy_line : (c : Chain) (w : World Entry) (number : ℕ) (m : LinkMessage) (position : ℕ) (objects : _) (kept : _) (x : Progress) → Follows c w → message_at c.messages number ≡ Some m
-    → m.body ≡ bodies.Copy position objects kept → chain_step c (Deliver number) ≡ Ok x → StandsFor (IsTaking m.receiver) w x
-copy_line c w number m position objects kept x f at is step =
+pub copy_line : (c : Chain) (w : World Entry) (number : ℕ) (m : LinkMessage) (position : ℕ) (state : State) (x : Progress) → Follows c w → message_at c.messages number ≡ Some m
+    → m.body ≡ bodies.Copy position state → chain_step c (Deliver number) ≡ Ok x → StandsFor (IsTaking m.receiver) w x
+copy_line c w number m position state x f at is step =
     let a : Arrived c m x = arrived c number m x at step in
     let h : Here c w a.node = record { follows = f; at = a.at; running = a.running } in
-    let s : BodyFollows w.memberships w.messages m.epoch m.sender m.receiver (bodies.Copy position objects kept) = said_as f number m (bodies.Copy position objects kept) at is in
-    delivered (λ id. IsTaking id) m (bodies.Copy position objects kept) x is a
-    (copy_follows a.node h m position (record { objects = objects; kept = kept }) s.0 a.own s.1 s.2 s.3 s.4)
+    let s : BodyFollows w.memberships w.messages m.epoch m.sender m.receiver (bodies.Copy position state) = said_as f number m (bodies.Copy position state) at is in
+    delivered (λ id. IsTaking id) m (bodies.Copy position state) x is a
+    (copy_follows a.node h m position state s.0 a.own s.1 s.2 s.3 s.4)
+
+pub part_line : (c : Chain) (w : World Entry) (number : ℕ) (m : LinkMessage) (part : StatePart) (x : Progress) → Follows c w → IsReached w → message_at c.messages number ≡ Some m
+    → m.body ≡ bodies.Part part → chain_step c (Deliver number) ≡ Ok x → StandsFor (IsTaking m.receiver) w x
+part_line c w number m part x f r at is step =
+    let a : Arrived c m x = arrived c number m x at step in
+    let h : Here c w a.node = record { follows = f; at = a.at; running = a.running } in
+    delivered (λ id. IsTaking id) m (bodies.Part part) x is a (part_follows a.node h r m part a.own (said_as f number m (bodies.Part part) at is))
 
 pub floor_line : (c : Chain) (w : World Entry) (number : ℕ) (m : LinkMessage) (count : ℕ) (x : Progress) → Follows c w → message_at c.messages number ≡ Some m
     → m.body ≡ bodies.Floor count → chain_step c (Deliver number) ≡ Ok x → StandsFor (IsTaking m.receiver) w x
@@ -141,11 +150,13 @@ by_body : (c : Chain) (w : World Entry) (number : ℕ) (m : LinkMessage) (b : Bo
     → chain_step c (Deliver number) ≡ Ok x → CanFollow w x.0
 by_body c w number m (bodies.Config members) x f r at is k = goes (IsAdopting m.receiver m.epoch) (config_line c w number m members x f at is k)
 by_body c w number m (bodies.Entry e) x f r at is k = goes (IsTaking m.receiver) (entry_line c w number m e x f at is k)
+by_body c w number m (bodies.Batch es) x f r at is k = goes (IsTakingAll m.receiver) (batch_line c w number m es x f at is k)
+by_body c w number m (bodies.Part part) x f r at is k = goes (IsTaking m.receiver) (part_line c w number m part x f r at is k)
 by_body c w number m (bodies.Ack position) x f r at is k = goes (IsHearing m.receiver) (ack_line c w number m position x f at is k)
 by_body c w number m (bodies.Query ticket key) x f r at is k = goes IsNothing (query_line c w number m ticket key x f at is k)
 by_body c w number m (bodies.VersionIs ticket version) x f r at is k = goes IsNothing (version_line c w number m ticket version x f at is k)
 by_body c w number m (bodies.Blank count) x f r at is k = goes IsNothing (blank_line c w number m count x f r at is k)
-by_body c w number m (bodies.Copy position objects kept) x f r at is k = goes (IsTaking m.receiver) (copy_line c w number m position objects kept x f at is k)
+by_body c w number m (bodies.Copy position state) x f r at is k = goes (IsTaking m.receiver) (copy_line c w number m position state x f at is k)
 by_body c w number m (bodies.Floor count) x f r at is k = goes (IsTaking m.receiver) (floor_line c w number m count x f at is k)
 
 by_message : (c : Chain) (w : World Entry) (number : ℕ) (o : Option LinkMessage) (x : Progress) → Follows c w → IsReached w → message_at c.messages number ≡ o

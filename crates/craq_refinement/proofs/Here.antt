@@ -43,14 +43,13 @@ in_epoch {Own} {c} {w} p h line m t go =
     (λ e. ignored_follows h.follows p h.at h.running line OtherEpoch)
 
 -- a message of the node's epoch arrives
-pub takes : {c : Chain} {w : World Entry} (p : Plain) → Here c w p → (m : LinkMessage) (b : machine.Body Entry) → m.receiver ≡ id_of p → m.epoch ≡ p.epoch
+pub takes : {w : World Entry} (p : Plain) → NodeFollows w (seen_of p) → p.running ≡ true → (m : LinkMessage) (b : machine.Body Entry) → m.receiver ≡ id_of p → m.epoch ≡ p.epoch
     → Sent w.messages (said m.epoch m.sender m.receiver b)
     → (k : ℕ) × (after_move w (Take (id_of p) k) ≡ after_receipt w (id_of p) m.sender b)
-takes {c} {w} p h m b to ep s =
-    let n : NodeFollows w (seen_of p) = here_node p h in
+takes {w} p n u m b to ep s =
     let P : ℕ → Type 0 = λ j. Sent w.messages (said m.epoch m.sender j b) in
     let Q : ℕ → Type 0 = λ e. Sent w.messages (said e m.sender (id_of p) b) in
-    take_does w (id_of p) m.sender b (n.running ∙ h.running) (subst Q (ep ∙ sym n.epoch) (subst P to s))
+    take_does w (id_of p) m.sender b (n.running ∙ u) (subst Q (ep ∙ sym n.epoch) (subst P to s))
 
 -- neighbours
 pub pred_is_next : {c : Chain} {w : World Entry} (p : Plain) → Here c w p → (s : ℕ) → predecessor p ≡ Some s → is_next (known_membership w (id_of p)) s (id_of p) ≡ true

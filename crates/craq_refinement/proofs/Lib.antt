@@ -1,5 +1,7 @@
 pub mod Members
 pub mod Lists
+pub mod Rows
+pub mod Gathered
 pub mod Nodes
 pub mod Worlds
 pub mod Sends

@@ -24,6 +24,19 @@ all_drop P zero xs a = a
 all_drop P (suc k) [] a = tt
 all_drop P (suc k) (x ∷ xs) a = all_drop P k xs a.1
 
+pub all_take : {A : Type 0} (P : A → Type 0) (k : ℕ) (xs : List A) → AllByRecursion P xs → AllByRecursion P (take k xs)
+all_take P zero xs a = tt
+all_take P (suc k) [] a = tt
+all_take P (suc k) (x ∷ xs) a = (a.0, all_take P k xs a.1)
+
+pub all_back : {A : Type 0} (P : A → Type 0) (xs ys : List A) → AllByRecursion P (xs ++ ys) → AllByRecursion P ys
+all_back P [] ys a = a
+all_back P (x ∷ xs) ys a = all_back P xs ys a.1
+
+pub all_each : {A : Type 0} (P : A → Type 0) (xs : List A) → ((x : A) → P x) → AllByRecursion P xs
+all_each P [] f = tt
+all_each P (x ∷ xs) f = (f x, all_each P xs f)
+
 pub all_at : {A : Type 0} (P : A → Type 0) (xs : List A) (i : ℕ) (x : A) → slice_get xs i ≡ Some x → AllByRecursion P xs → P x
 all_at P [] i x h a = absurd (cc)
 all_at P (y ∷ xs) zero x h a = let same : y ≡ x = cc in subst P same a.0

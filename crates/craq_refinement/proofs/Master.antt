@@ -103,7 +103,9 @@ grown_body : (cs : List (List ℕ)) (c : List ℕ) (messages : List (Message Ent
 grown_body cs c messages epoch from to (bodies.Config members) a = (omega (arith, a.0, length_push cs c), membership_old cs c epoch a.0 ∙ a.1)
 grown_body cs c messages epoch from to (bodies.Entry e) a = a
 grown_body cs c messages epoch from to (bodies.Ack position) a = a
-grown_body cs c messages epoch from to (bodies.Copy position objects kept) a = a
+grown_body cs c messages epoch from to (bodies.Batch es) a = a
+grown_body cs c messages epoch from to (bodies.Copy position state) a = a
+grown_body cs c messages epoch from to (bodies.Part part) a = a
 grown_body cs c messages epoch from to (bodies.Floor count) a = a
 grown_body cs c messages epoch from to (bodies.Query ticket key) a = a
 grown_body cs c messages epoch from to (bodies.VersionIs ticket version) a = a
@@ -166,6 +168,7 @@ removal_follows {c} {w} f r id x k =
         acknowledged = n.acknowledged;
         based = n.based;
         floor = n.floor;
+        gathering = n.gathering;
       };
       messages = grown_messages w c2 c.messages f.messages;
     } in
@@ -238,6 +241,7 @@ join_follows {c} {w} f r id x k =
       acknowledged = put_same w.acknowledged id 0;
       based = omega arith;
       floor = put_same w.floor id None;
+      gathering = tt;
     } in
     let old : (j : ℕ) (p : Plain) → node_at c.nodes j ≡ Some p → NodeFollows v (seen_of p) = λ j p h.
     let n : NodeFollows w (seen_of p) = f.nodes j p h in
@@ -256,6 +260,7 @@ join_follows {c} {w} f r id x k =
       acknowledged = put_other w.acknowledged id 0 (id_of p) ne ∙ n.acknowledged;
       based = n.based;
       floor = put_other w.floor id None (id_of p) ne ∙ n.floor;
+      gathering = n.gathering;
     } in
     let next : Follows d v = record {
       epoch = omega (arith, length_push w.memberships c2, f.epoch);

@@ -44,6 +44,7 @@ member_follows chain members id m =
       acknowledged = refl;
       based = omega arith;
       floor = refl;
+      gathering = tt;
     }
 
 pub opening_follows : (chain : ℕ) (members : List ℕ) → Follows (opening_chain chain members) (opening members)

@@ -146,6 +146,7 @@ stop_follows {c} {w} p h =
         acknowledged = n.acknowledged;
         based = n.based;
         floor = n.floor;
+        gathering = n.gathering;
       };
     } in
     let nothing : AfterSends v [] [] = record { messages = v.messages; is = refl; kept = λ m i. i; said = tt } in

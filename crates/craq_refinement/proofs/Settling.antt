@@ -1,11 +1,12 @@
 -- A node settles in a membership, or becomes ready.
-use Rattle.std.proofs.Common.{◌≡◌, ℕ, ◌≤◌, true, false, not, ◌&&◌, List, [], ◌∷◌, ◌++◌, Option, Some, None, refl, ap, ◌∙◌, arith}
+use Rattle.std.proofs.Common.{◌≡◌, ℕ, ◌≤◌, nat_le, true, false, not, ◌&&◌, List, [], ◌∷◌, ◌++◌, Option, Some, None, refl, ap, ◌∙◌, arith}
 use Rattle.std.proofs.lemmas.Bool.{cond_both, and_parts, not-true, leb-true}
 use Rattle.craq_commands.specs.declared.entry.Entry.{Entry}
 use Rattle.craq_model.specs.declared.step.Out.{Out}
-use Rattle.craq_model.specs.Plain.{Plain, id_of, is_tail, length_of}
+use Rattle.craq_model.specs.Parts.{gathered_position}
+use Rattle.craq_model.specs.Plain.{Plain, id_of, is_tail, length_of, acknowledging}
 use Rattle.craq_model.specs.Sends.{tick_sends}
-use Rattle.craq_model.specs.Settle.{all_given, answer_outs, all_committed, settling_turn, is_reached, readiness_turn, turn_with}
+use Rattle.craq_model.specs.Settle.{all_given, answer_outs, all_committed, settling_turn, is_reached, without_reached, readiness_turn, turn_with}
 use Rattle.craq_protocol.specs.Members.{is_member, with_value}
 use Rattle.craq_protocol.specs.Machine.{World, Move, Become_ready, after_commit, after_move, after_moves}
 use Rattle.craq_protocol.proofs.Lists.{put_same, put_other}
@@ -29,7 +30,7 @@ pub record Uncommitted (c : Chain) (w : World Entry) (own : List (Move Entry)) (
 
 -- a tail committed
 pub committed_stage : {c : Chain} {w : World Entry} {own : List (Move Entry)} {v : World Entry} {q : Plain} → Uncommitted c w own v q → is_tail q ≡ true
-    → Stage c w own (after_commit v (id_of q)) (record q { acknowledged = length_of q })
+    → Stage c w own (after_commit v (id_of q)) (acknowledging q (length_of q))
 committed_stage {c} {w} {own} {v} {q} u e = record {
   was = u.was;
   at = u.at;
@@ -52,7 +53,7 @@ other_stage {c} {w} {own} {v} {q} u e = record {
 }
 
 -- fields that the protocol does not see
-reseen : {c : Chain} {w : World Entry} {own : List (Move Entry)} {v : World Entry} (q : Plain) → Stage c w own v (record q { acknowledged = length_of q }) → Stage c w own v (all_committed q)
+reseen : {c : Chain} {w : World Entry} {own : List (Move Entry)} {v : World Entry} (q : Plain) → Stage c w own v (acknowledging q (length_of q)) → Stage c w own v (all_committed q)
 reseen q s = record { was = s.was; at = s.at; is = s.is; only = s.only; node = s.node; running = s.running }
 
 pub settling_follows : {Own : List (Move Entry) → Type 0} {c : Chain} {w : World Entry} {own : List (Move Entry)} {v : World Entry} {q : Plain}
@@ -76,7 +77,7 @@ floor_is (Some k) count h = (k, refl, leb-true k count h)
 
 becomes_ready : {c : Chain} {w : World Entry} {own : List (Move Entry)} {v : World Entry} {q : Plain} → Stage c w own v q → q.ready ≡ false → is_reached q.floor (length_of q) ≡ true
     → is_member q.members (id_of q) ≡ true
-    → Uncommitted c w (own ++ Become_ready (id_of q) ∷ []) (record v { ready = with_value v.ready (id_of q) true }) (record q { ready = true })
+    → Uncommitted c w (own ++ Become_ready (id_of q) ∷ []) (record v { ready = with_value v.ready (id_of q) true }) (record q { ready = true; gathering = None })
 becomes_ready {c} {w} {own} {v} {q} s r h m =
     let id : ℕ = id_of q in
     let f : (k : ℕ) × (q.floor ≡ Some k) × (k ≤ length_of q) = floor_is q.floor (length_of q) h in
@@ -108,17 +109,44 @@ becomes_ready {c} {w} {own} {v} {q} s r h m =
         acknowledged = s.node.acknowledged;
         based = s.node.based;
         floor = s.node.floor;
+        gathering = tt;
       };
       running = s.running;
       member = λ t. m;
     }
 
+-- a gathering that the node has no use for any more is dropped
+kept_gathering : {c : Chain} {w : World Entry} {own : List (Move Entry)} {v : World Entry} (q : Plain) → Stage c w own v q → Stage c w own v (without_reached q)
+unfolding without_reached
+kept_gathering {c} {w} {own} {v} q s =
+    cond_both (nat_le (gathered_position q.gathering) (length_of q)) (record q { gathering = None }) q (λ (x : Plain). Stage c w own v x)
+    (λ e. record {
+      was = s.was;
+      at = s.at;
+      is = s.is;
+      only = s.only;
+      node = record {
+        running = s.node.running;
+        epoch = s.node.epoch;
+        members = s.node.members;
+        ready = s.node.ready;
+        history = s.node.history;
+        placed = s.node.placed;
+        acknowledged = s.node.acknowledged;
+        based = s.node.based;
+        floor = s.node.floor;
+        gathering = tt;
+      };
+      running = s.running;
+    })
+    (λ e. s)
+
 pub readiness_follows : {Own : List (Move Entry) → Type 0} {c : Chain} {w : World Entry} {own : List (Move Entry)} {v : World Entry} {q : Plain}
     → Follows c w → Stage c w own v q → Own own → Own (own ++ Become_ready (id_of q) ∷ []) → is_member q.members (id_of q) ≡ true → TurnFollows Own c w (readiness_turn q)
 unfolding readiness_turn
 readiness_follows {Own} {c} {w} {own} {v} {q} f s line ready m =
-    cond_both (not q.ready && is_reached q.floor (length_of q)) (settling_turn (record q { ready = true })) (turn_with q []) (λ t. TurnFollows Own c w t)
+    cond_both (not q.ready && is_reached q.floor (length_of q)) (settling_turn (record q { ready = true; gathering = None })) (turn_with (without_reached q) []) (λ t. TurnFollows Own c w t)
     (λ e.
     let a : (not q.ready ≡ true) × (is_reached q.floor (length_of q) ≡ true) = and_parts (not q.ready) (is_reached q.floor (length_of q)) e in
     settling_follows f (becomes_ready s (not-true q.ready a.0) a.1 m) ready)
-    (λ e. stage_turn f s line (record { ticket = None; outs = []; ignored = None }) (none_sendable v (id_of q)))
+    (λ e. stage_turn f (kept_gathering q s) line (record { ticket = None; outs = []; ignored = None }) (none_sendable v (id_of (without_reached q))))

@@ -24,7 +24,7 @@ use Rattle.craq_refinement.specs.Follows.{Seen, seen_of, NodeFollows, MessageFol
 use Rattle.craq_refinement.specs.Lines.{moves_of_sends, StandsFor}
 use Rattle.craq_refinement.proofs.Lists.{all_append, all_like, all_at}
 use Rattle.craq_refinement.proofs.Nodes.{node_here, node_elsewhere, node_id, ids_stay}
-use Rattle.craq_refinement.proofs.Worlds.{OnlyAt, only_self, others_follow}
+use Rattle.craq_refinement.proofs.Worlds.{OnlyAt, only_self, gathered_later, others_follow}
 use Rattle.craq_refinement.proofs.Sends.{Sendable, AfterSends, body_stays, sends_all}
 
 -- the chain after a turn of a node
@@ -51,8 +51,8 @@ pub record Stage (c : Chain) (w : World Entry) (own : List (Move Entry)) (v : Wo
   pub node : NodeFollows v (seen_of q)
   pub running : q.running ≡ true
 
-messages_later : {v : World Entry} {s : Seen} (messages : List (Message Entry)) → NodeFollows v s → NodeFollows (record v { messages = messages }) s
-messages_later messages n = record {
+messages_later : {v : World Entry} {s : Seen} (messages : List (Message Entry)) → ((m : Message Entry) → Sent v.messages m → Sent messages m) → NodeFollows v s → NodeFollows (record v { messages = messages }) s
+messages_later {v} {s} messages kept n = record {
   running = n.running;
   epoch = n.epoch;
   members = n.members;
@@ -62,6 +62,7 @@ messages_later messages n = record {
   acknowledged = n.acknowledged;
   based = n.based;
   floor = n.floor;
+  gathering = gathered_later v.messages messages kept s.gathering n.gathering;
 }
 
 nodes_follow : {c : Chain} {w : World Entry} {own : List (Move Entry)} {v : World Entry} {q : Plain} → Follows c w → Changed c w own v q
@@ -99,7 +100,7 @@ changed_turn {Own} {c} {w} {own} {v} {q} f s line step sends =
       epoch = ap length s.only.memberships ∙ f.epoch;
       members = ap (λ (cs : List (List ℕ)). membership_of cs (length cs)) s.only.memberships ∙ f.members;
       joined = s.only.joined ∙ (f.joined ∙ sym (ids_stay c.nodes q));
-      nodes = λ id p h. messages_later sends.messages (nodes_follow f s id p h);
+      nodes = λ id p h. messages_later sends.messages sends.kept (nodes_follow f s id p h);
       messages = all_append (M v.memberships) c.messages ms (subst P (sym s.only.memberships) old) sends.said;
     } in
     let Q : World Entry → Type 0 = λ x. Follows (moved c (q, step)) x in

@@ -14,7 +14,7 @@ use Rattle.craq_model.specs.declared.ask.Answer.TheVariants as answers
 use Rattle.craq_model.specs.declared.step.Out.{Out}
 use Rattle.craq_model.specs.declared.step.Out.TheVariants as outs
 use Rattle.craq_model.specs.Members.{first_of}
-use Rattle.craq_model.specs.Plain.{Plain, id_of, successor, is_first, is_last, is_tail, length_of, newest, position_of}
+use Rattle.craq_model.specs.Plain.{Plain, id_of, successor, is_first, is_last, is_tail, length_of, newest, position_of, acknowledging}
 use Rattle.craq_model.specs.Sends.{send_all, to_neighbour, entry_bodies}
 use Rattle.craq_model.specs.Settle.{Turn}
 use Rattle.craq_model.specs.Asks.{accepted_turn, answered_turn, is_full, entry_of, with_entry, committed_if_last, reply_turn, new_update_turn, update_turn, accepted_ask_turn, ask_turn}
@@ -32,7 +32,7 @@ use Rattle.craq_refinement.proofs.Stages.{TurnFollows, Stage, stage_turn, stage_
 use Rattle.craq_refinement.proofs.Ticks.{AllSendable, none_sendable}
 use Rattle.craq_refinement.proofs.Settling.{Uncommitted, committed_stage, other_stage}
 use Rattle.craq_refinement.proofs.Here.{Here, here_node, ready_member}
-use Rattle.craq_refinement.proofs.Entries.{grown, grown_only, grown_node, newest_sendable, newest_committed_sendable}
+use Rattle.craq_refinement.proofs.Entries.{grown, grown_only, grown_node, newest_sendable}
 
 -- a test by which an ask is refused
 pub refused : {t : Turn} (b : Bool) (e : Refusal) (r : Result Turn Refusal) → cond b (Err e) r ≡ Ok t → (b ≡ false) × (r ≡ Ok t)
@@ -58,7 +58,7 @@ replies {Own} {c} {w} {own} {v} q f s line position reply sends a t h =
     let waits : Stage c w own v waiting = record { was = s.was; at = s.at; is = s.is; only = s.only; node = s.node; running = s.running } in
     let later : Turn = accepted_turn waiting sends in
     let rest : Result Turn Refusal = cond (is_full q) (Err refusals.PendingFull) (Ok later) in
-    cond_both (nat_le position q.acknowledged) (Ok now) rest (λ (r : Result Turn Refusal). r ≡ Ok t → TurnFollows Own c w t)
+    cond_both (nat_le position q.past.acknowledged) (Ok now) rest (λ (r : Result Turn Refusal). r ≡ Ok t → TurnFollows Own c w t)
     (λ e k. subst P (turn_same now t (Ok now) refl k) (accepts q f s line (outs.Answer (q.last_ticket + 1) (answers.Update reply) ∷ sends) a))
     (λ e k.
     let g : (is_full q ≡ false) × (Ok later ≡ Ok t) = refused (is_full q) refusals.PendingFull (Ok later) k in
@@ -91,13 +91,13 @@ new_update {Own} {c} {w} p h r ready first e at line t k =
     let u : Uncommitted c w own (grown w (id_of p) e) q = appended p h r ready first e at in
     let sends : List Out = to_neighbour (successor p) (λ to. send_all p to (entry_bodies (e ∷ []))) in
     let same : is_tail q ≡ is_last q = ap (λ b. b && is_last q) ready in
-    cond_both (is_last q) (record q { acknowledged = length_of q }) q (λ (x : Plain). reply_turn x e.position e.reply sends ≡ Ok t → TurnFollows Own c w t)
+    cond_both (is_last q) (acknowledging q (length_of q)) q (λ (x : Plain). reply_turn x e.position e.reply sends ≡ Ok t → TurnFollows Own c w t)
     (λ l i.
-    let s : Stage c w own (after_commit (grown w (id_of p) e) (id_of p)) (record q { acknowledged = length_of q }) = committed_stage u (same ∙ l) in
-    replies (record q { acknowledged = length_of q }) h.follows s line e.position e.reply sends (newest_committed_sendable p e s.node) t i)
+    let s : Stage c w own (after_commit (grown w (id_of p) e) (id_of p)) (acknowledging q (length_of q)) = committed_stage u (same ∙ l) in
+    replies (acknowledging q (length_of q)) h.follows s line e.position e.reply sends (newest_sendable p (e ∷ []) (length_of p) (length_of q) (at, tt) s.node) t i)
     (λ l i.
     let s : Stage c w own (after_commit (grown w (id_of p) e) (id_of p)) q = other_stage u (same ∙ l) in
-    replies q h.follows s line e.position e.reply sends (newest_sendable p e s.node) t i)
+    replies q h.follows s line e.position e.reply sends (newest_sendable p (e ∷ []) (length_of p) p.past.acknowledged (at, tt) s.node) t i)
     k
 
 -- what was asked before has its reply
@@ -107,12 +107,12 @@ old_update {Own} {c} {w} p h r ready position reply none t k =
     let id : ℕ = id_of p in
     let n : NodeFollows w (seen_of p) = here_node p h in
     let before : Stage c w [] w p = stage_before h.follows p h.at h.running in
-    cond_both (is_last p) (record p { acknowledged = length_of p }) p (λ (x : Plain). reply_turn x position reply [] ≡ Ok t → TurnFollows Own c w t)
+    cond_both (is_last p) (acknowledging p (length_of p)) p (λ (x : Plain). reply_turn x position reply [] ≡ Ok t → TurnFollows Own c w t)
     (λ l i.
     let tail : is_tail p ≡ true = ap (λ b. b && is_last p) ready ∙ l in
     let s : IsSafe w = reached_safe r in
     let known : w.acknowledged id ≡ length (w.history id) = s.tail_knows id (is_tail-seen w (seen_of p) n h.running (λ x. ready_member p h r ready) ∙ tail) in
-    let stage : Stage c w [] w (record p { acknowledged = length_of p }) = record {
+    let stage : Stage c w [] w (acknowledging p (length_of p)) = record {
       was = p;
       at = h.at;
       is = refl;
@@ -127,10 +127,11 @@ old_update {Own} {c} {w} p h r ready position reply none t k =
         acknowledged = known ∙ history_length n.history;
         based = omega arith;
         floor = n.floor;
+        gathering = n.gathering;
       };
       running = h.running;
     } in
-    replies (record p { acknowledged = length_of p }) h.follows stage none position reply [] (none_sendable w id) t i)
+    replies (acknowledging p (length_of p)) h.follows stage none position reply [] (none_sendable w id) t i)
     (λ l i. replies p h.follows before none position reply [] (none_sendable w id) t i)
     k
 

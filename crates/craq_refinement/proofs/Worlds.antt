@@ -1,14 +1,20 @@
 -- Worlds that differ at one node alone.
-use Rattle.std.proofs.Common.{◌≡◌, ◌≢◌, ℕ, Bool, true, false, ◌&&◌, ◌==◌, List, length, refl, ap, sym, subst, ◌∙◌, ◌+◌, arith, length-append}
+use Rattle.std.proofs.Common.{◌≡◌, ◌≢◌, ℕ, Bool, true, false, ◌&&◌, ◌==◌, List, length, Option, Some, None, refl, ap, sym, subst, ◌∙◌, ◌+◌, arith, length-append}
 use Rattle.std.proofs.lemmas.Bool.{cond_both}
 use Rattle.craq_commands.specs.declared.entry.Entry.{Entry}
-use Rattle.craq_commands.specs.SingleCopy.{State}
+use Rattle.craq_commands.specs.declared.state.State.{State}
 use Rattle.craq_model.specs.Members.{last_of}
+use Rattle.craq_model.specs.declared.gathering.Gathering.{Gathering}
+use Rattle.craq_model.specs.declared.message.StatePart.{StatePart}
+use Rattle.craq_model.specs.Past.{acknowledged_in, length_in}
 use Rattle.craq_protocol.specs.Members.{is_member, is_last, membership_of, with_value}
-use Rattle.craq_protocol.specs.Machine.{World, known_membership, is_tail, after_commit}
+use Rattle.craq_protocol.specs.Machine as machine
+use Rattle.craq_protocol.specs.Promises.{Sent}
+use Rattle.craq_protocol.specs.Machine.{World, Message, known_membership, is_tail, after_commit}
 use Rattle.craq_protocol.proofs.Lists.{put_same, put_other}
 use Rattle.craq_protocol.proofs.Effects.{commit_tail, commit_other}
-use Rattle.craq_refinement.specs.Follows.{IsHistory, IsPlaced, Seen, NodeFollows}
+use Rattle.craq_refinement.specs.Follows.{IsHistory, IsPlaced, PartFollows, PartWasSent, held_part, AreGathered, said, Seen, NodeFollows}
+use Rattle.craq_refinement.proofs.Lists.{all_like}
 use Rattle.craq_refinement.proofs.Members.{last_of-same}
 
 pub record OnlyAt (id : ℕ) (w v : World Entry) : Type 0 where
@@ -59,6 +65,23 @@ placed_like a e = let P : List Entry → Type 0 = λ l. IsPlaced 0 l in subst P 
 pub history_length : {base : ℕ} {state : State} {entries h : List Entry} → IsHistory base state entries h → length h ≡ (base + length entries)
 history_length {base} {state} {entries} {h} a = omega (arith, length-append a.front entries, ap length a.whole, a.count)
 
+-- ---- what was sent stays sent
+
+pub part_later : (old new : List (Message Entry)) → ((m : Message Entry) → Sent old m → Sent new m) → (epoch from to : ℕ) (part : StatePart) → PartFollows old epoch from to part → PartFollows new epoch from to part
+part_later old new kept epoch from to part f =
+    record { entries = f.entries; count = f.count; placed = f.placed; first = f.first; last = f.last; share = f.share; sent = kept (said epoch from to (machine.Copy f.entries)) f.sent }
+
+pub gathered_later : (old new : List (Message Entry)) → ((m : Message Entry) → Sent old m → Sent new m) → (o : Option Gathering) → AreGathered old o → AreGathered new o
+gathered_later old new kept None a = tt
+gathered_later old new kept (Some g) a = record {
+  numbers_rise = a.numbers_rise;
+  parts = all_like (λ (held : ℕ × State). PartWasSent old (held_part g held)) (λ (held : ℕ × State). PartWasSent new (held_part g held)) g.parts
+      (λ held h. (h.0, h.1, h.2, part_later old new kept h.0 h.1 h.2 (held_part g held) h.3)) a.parts;
+}
+
+pub gathered_like : {old new : List (Message Entry)} (o : Option Gathering) → AreGathered old o → new ≡ old → AreGathered new o
+gathered_like {old} {new} o a e = let P : List (Message Entry) → Type 0 = λ l. AreGathered l o in subst P (sym e) a
+
 -- the other nodes stay
 pub others_follow : {id : ℕ} {w v : World Entry} → OnlyAt id w v → (s : Seen) → s.id ≢ id → NodeFollows w s → NodeFollows v s
 others_follow {id} {w} {v} o s ne n = record {
@@ -71,6 +94,7 @@ others_follow {id} {w} {v} o s ne n = record {
   acknowledged = o.acknowledged s.id ne ∙ n.acknowledged;
   based = n.based;
   floor = o.floor s.id ne ∙ n.floor;
+  gathering = gathered_like s.gathering n.gathering o.messages;
 }
 
 -- ---- a tail commits
@@ -106,7 +130,7 @@ is_tail-seen w s n u h =
 
 -- the node once a tail committed
 abbrev pub committed_seen : Seen → Seen
-committed_seen s = record s { acknowledged = s.base + length s.entries }
+committed_seen s = record s { past = acknowledged_in s.past (length_in s.past) }
 
 pub tail_follows : (w : World Entry) (s : Seen) → NodeFollows w s → is_tail w s.id ≡ true → NodeFollows (after_commit w s.id) (committed_seen s)
 tail_follows w s n e =
@@ -122,6 +146,7 @@ tail_follows w s n e =
       acknowledged = put_same w.acknowledged s.id (length (w.history s.id)) ∙ history_length n.history;
       based = omega arith;
       floor = n.floor;
+      gathering = n.gathering;
     })
 
 pub other_follows : (w : World Entry) (s : Seen) → NodeFollows w s → is_tail w s.id ≡ false → NodeFollows (after_commit w s.id) s

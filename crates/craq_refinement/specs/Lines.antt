@@ -1,5 +1,5 @@
 -- Which moves of the protocol each line of a node's step stands for.
-use Rattle.std.specs.Prelude.{◌≡◌, ◌⊎◌, ℕ, List, [], ◌∷◌, ◌++◌}
+use Rattle.std.specs.Prelude.{◌≡◌, ◌⊎◌, ℕ, List, [], ◌∷◌, ◌++◌, map}
 use Rattle.craq_commands.specs.declared.entry.Entry.{Entry}
 use Rattle.craq_model.specs.declared.message.Body.{Body}
 use Rattle.craq_model.specs.declared.message.Body.TheVariants as bodies
@@ -9,11 +9,13 @@ use Rattle.craq_protocol.specs.Promises.{IsReached}
 use Rattle.craq_runs.specs.Chain.{Chain, Progress, sent_in}
 use Rattle.craq_refinement.specs.Follows.{Follows}
 
--- the move that sends what a message says; the protocol knows nothing of questions about versions, nor of who is not ready
+-- the moves that send what a message says; the protocol knows nothing of questions about versions, nor of who is not ready
 abbrev pub moves_of_send : ℕ → ℕ → Body → List (Move Entry)
 moves_of_send from to (bodies.Entry e) = Send_entry from to e.position ∷ []
+moves_of_send from to (bodies.Batch es) = map (λ (e : Entry). Send_entry from to e.position) es
 moves_of_send from to (bodies.Ack position) = Send_ack from to ∷ []
-moves_of_send from to (bodies.Copy position objects kept) = Send_copy from to ∷ []
+moves_of_send from to (bodies.Copy position state) = Send_copy from to ∷ []
+moves_of_send from to (bodies.Part part) = Send_copy from to ∷ []
 moves_of_send from to (bodies.Floor count) = Send_floor from to ∷ []
 moves_of_send from to body = []
 
@@ -36,9 +38,14 @@ CanFollow w c = (moves : List (Move Entry)) × Follows c (after_moves w moves)
 abbrev pub IsFollowed : Chain → Type 0
 IsFollowed c = (w : World Entry) × IsReached w × Follows c w
 
--- a node takes an entry, a copy or a floor, and may become ready by it; or it ignores it
+-- a node takes an entry, a state or a floor, and may become ready by it; or it ignores it, or keeps it as a part of a state
 abbrev pub IsTaking : ℕ → List (Move Entry) → Type 0
 IsTaking id own = (own ≡ []) ⊎ ((which : ℕ) × ((own ≡ Take id which ∷ []) ⊎ (own ≡ Take id which ∷ Become_ready id ∷ [])))
+
+-- a node takes entries one after the other, and may become ready by them; or it ignores them
+abbrev pub IsTakingAll : ℕ → List (Move Entry) → Type 0
+IsTakingAll id own =
+    (own ≡ []) ⊎ ((first : ℕ) × (later : List ℕ) × ((own ≡ map (Take id) (first ∷ later)) ⊎ (own ≡ map (Take id) (first ∷ later) ++ Become_ready id ∷ [])))
 
 -- a node takes an acknowledgement, or ignores it
 abbrev pub IsHearing : ℕ → List (Move Entry) → Type 0

@@ -1,27 +1,35 @@
 //! The lines of a node's step and the master's moves, each with the moves of the protocol that it stands for.
 
 ghost use Rattle.std.specs.Prelude.{◌≡◌, ℕ, List, Ok, Some};
-ghost use Rattle.craq_commands.specs.Kept.{Kept};
-ghost use Rattle.craq_commands.specs.Objects.{Objects};
 ghost use Rattle.craq_commands.specs.declared.command.Update.{Update};
 ghost use Rattle.craq_commands.specs.declared.entry.Entry.{Entry};
 ghost use Rattle.craq_commands.specs.declared.read_mode.ReadMode.{ReadMode};
+ghost use Rattle.craq_commands.specs.declared.state.State.{State};
 ghost use Rattle.craq_model.specs.declared.ask.Ask.{Ask};
 ghost use Rattle.craq_model.specs.declared.message.Body.{Body};
 ghost use Rattle.craq_model.specs.declared.message.LinkMessage.{LinkMessage};
+ghost use Rattle.craq_model.specs.declared.message.StatePart.{StatePart};
 ghost use Rattle.craq_names.specs.declared.name.ObjectId.{ObjectId};
 ghost use Rattle.craq_protocol.specs.Machine.{World};
 ghost use Rattle.craq_protocol.specs.Promises.{IsReached};
 ghost use Rattle.craq_runs.specs.Chain.{Chain, Progress, chain_step, message_at};
 ghost use Rattle.craq_runs.specs.declared.run.Move.{Move};
 ghost use Rattle.craq_refinement.specs.Follows.{Follows};
-ghost use Rattle.craq_refinement.specs.Lines.{IsAdopting, IsHearing, IsJoining, IsNothing, IsRemoving, IsStopping, IsTaking, IsUpdating, StandsFor};
+ghost use Rattle.craq_refinement.specs.Lines.{IsAdopting, IsHearing, IsJoining, IsNothing, IsRemoving, IsStopping, IsTaking, IsTakingAll, IsUpdating, StandsFor};
 
 /// An entry that arrives: it is ignored, or taken, and the node may become ready by it. A tail commits it.
 pub fn entry_line()
     ensures { (c : Chain) (w : World Entry) (number : ℕ) (m : LinkMessage) (e : Entry) (x : Progress) → Follows c w
         → message_at c.messages number ≡ Some m → m.body ≡ Body.Entry e → chain_step c (Move.Deliver number) ≡ Ok x
         → StandsFor (IsTaking m.receiver) w x }
+{}
+
+/// A batch that arrives: it is ignored, or its entries that the node lacks are taken one after the other, and the node
+/// may become ready by them. A tail commits them.
+pub fn batch_line()
+    ensures { (c : Chain) (w : World Entry) (number : ℕ) (m : LinkMessage) (entries : List Entry) (x : Progress) → Follows c w
+        → message_at c.messages number ≡ Some m → m.body ≡ Body.Batch entries → chain_step c (Move.Deliver number) ≡ Ok x
+        → StandsFor (IsTakingAll m.receiver) w x }
 {}
 
 /// An acknowledgement that arrives: it is ignored, or the node knows so many entries to be committed.
@@ -40,8 +48,16 @@ pub fn config_line()
 
 /// A state that arrives: it is ignored, or stands for the entries that it is after, and the node may become ready by it.
 pub fn copy_line()
-    ensures { (c : Chain) (w : World Entry) (number : ℕ) (m : LinkMessage) (position : ℕ) (objects : Objects) (kept : List (ℕ × Kept)) (x : Progress) → Follows c w
-        → message_at c.messages number ≡ Some m → m.body ≡ Body.Copy position objects kept → chain_step c (Move.Deliver number) ≡ Ok x
+    ensures { (c : Chain) (w : World Entry) (number : ℕ) (m : LinkMessage) (position : ℕ) (state : State) (x : Progress) → Follows c w
+        → message_at c.messages number ≡ Some m → m.body ≡ Body.Copy position state → chain_step c (Move.Deliver number) ≡ Ok x
+        → StandsFor (IsTaking m.receiver) w x }
+{}
+
+/// A part of a state that arrives: it is ignored or kept; or no part is missing then, and the state stands for the entries
+/// that it is after. The node may become ready by it.
+pub fn part_line()
+    ensures { (c : Chain) (w : World Entry) (number : ℕ) (m : LinkMessage) (part : StatePart) (x : Progress) → Follows c w → IsReached w
+        → message_at c.messages number ≡ Some m → m.body ≡ Body.Part part → chain_step c (Move.Deliver number) ≡ Ok x
         → StandsFor (IsTaking m.receiver) w x }
 {}
 

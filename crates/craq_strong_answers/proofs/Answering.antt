@@ -3,7 +3,8 @@ use Rattle.std.proofs.Common.{◌≡◌, ⊎_elim, ℕ, suc, ◌-◌, ◌≤◌,
 use Rattle.craq_commands.specs.declared.entry.Entry.{Entry}
 use Rattle.craq_commands.specs.declared.read_mode.ReadMode.TheVariants.{Strong}
 use Rattle.craq_commands.specs.Objects.{object_of}
-use Rattle.craq_commands.specs.SingleCopy.{State, opening_state, said, after_entries}
+use Rattle.craq_commands.specs.declared.state.State.{State}
+use Rattle.craq_commands.specs.SingleCopy.{opening_state, said, after_entries}
 use Rattle.craq_model.specs.declared.ask.Ask.{Ask}
 use Rattle.craq_model.specs.declared.ask.Ask.TheVariants as asks
 use Rattle.craq_model.specs.declared.ask.Answer.{Answer}
@@ -137,7 +138,7 @@ may_answer b v id q position h u last =
           let o : Holds b.asks v q (v.history id) = at_holds b v id q h in
           let l : IsPrefix v.log (v.history id) = holds_log v id k.reached d.ready (at_running b v id q h u) in
           let f : NodeFollows v (seen_of q) = at_node b v id q h in
-          let A : ℕ → Type 0 = λ j. v.acknowledged j ≡ q.acknowledged in
-          let knows : v.acknowledged id ≡ q.acknowledged = subst A h.same f.acknowledged in
+          let A : ℕ → Type 0 = λ j. v.acknowledged j ≡ q.past.acknowledged in
+          let knows : v.acknowledged id ≡ q.past.acknowledged = subst A h.same f.acknowledged in
           update_answered b v position id x d l (⊎_elim (λ a. omega (arith, a, le, o.committed)) (λ a. a) d.reached) (omega (arith, le, knows));
     }

@@ -11,7 +11,8 @@ use Rattle.craq_commands.specs.declared.read_mode.ReadMode.{ReadMode}
 use Rattle.craq_commands.specs.declared.read_mode.ReadMode.TheVariants.{Strong, Eventual, Bounded}
 use Rattle.craq_commands.specs.Objects.{object_of, version_of}
 use Rattle.craq_commands.specs.Kept.{said_of}
-use Rattle.craq_commands.specs.SingleCopy.{State, opening_state, said, after_entries}
+use Rattle.craq_commands.specs.declared.state.State.{State}
+use Rattle.craq_commands.specs.SingleCopy.{opening_state, said, after_entries}
 use Rattle.craq_model.specs.declared.ask.Ask.{Ask}
 use Rattle.craq_model.specs.declared.ask.Ask.TheVariants as asks
 use Rattle.craq_model.specs.declared.ask.Event.{Event}
@@ -110,13 +111,13 @@ due_new a w v node u x step k s n g t h ready runs position reply r =
     let q : Plain = t.here.turn.0 in
     let f : NodeFollows v (seen_of q) = at_node b v node q h in
     let H : List Entry = v.history node in
-    let K : ℕ → Type 0 = λ j. IsHistory q.base q.base_state q.entries (v.history j) in
-    let is_history : IsHistory q.base q.base_state q.entries H = subst K h.same f.history in
+    let K : ℕ → Type 0 = λ j. IsHistory q.past.base q.past.base_state q.past.entries (v.history j) in
+    let is_history : IsHistory q.past.base q.past.base_state q.past.entries H = subst K h.same f.history in
     let PL : ℕ → Type 0 = λ j. IsPlaced 0 (v.history j) in
     let PE : List Entry → Type 0 = λ l. IsPlaced 0 l in
-    let PB : ℕ → Type 0 = λ j. IsPlaced j q.entries in
-    let count : 0 + length is_history.front ≡ q.base = omega (arith, is_history.count) in
-    let placed : IsPlaced q.base q.entries = subst PB count (placed_back 0 is_history.front q.entries (subst PE (sym is_history.whole) (subst PL h.same f.placed))) in
+    let PB : ℕ → Type 0 = λ j. IsPlaced j q.past.entries in
+    let count : 0 + length is_history.front ≡ q.past.base = omega (arith, is_history.count) in
+    let placed : IsPlaced q.past.base q.past.entries = subst PB count (placed_back 0 is_history.front q.past.entries (subst PE (sym is_history.whole) (subst PL h.same f.placed))) in
     let m : ℕ = position_of q u.client in
     let c : ℕ = length a.committed in
     let log : c ≡ length w.log = ap length k.committed in
@@ -125,8 +126,8 @@ due_new a w v node u x step k s n g t h ready runs position reply r =
     let node_ready : v.ready node ≡ true = let P : ℕ → Type 0 = λ j. v.ready j ≡ q.ready in subst P h.same f.ready ∙ ready in
     let l : IsPrefix v.log H = holds_log v node n.reached node_ready (at_running b v node q h runs) in
     let long : length v.log ≤ length H = prefix_length l in
-    let newest : IsNewest u.client q.base q.base q.entries = newest_position u.client q.base q.base q.entries placed (omega arith) in
-    let total : length H ≡ q.base + length q.entries = history_length is_history in
+    let newest : IsNewest u.client q.past.base q.past.base q.past.entries = newest_position u.client q.past.base q.past.base q.past.entries placed (omega arith) in
+    let total : length H ≡ q.past.base + length q.past.entries = history_length is_history in
     let short : m ≤ length H = omega (arith, newest.short, total) in
     let held : max m c ≤ length H = omega (arith, short, log, grown, long) in
     let o : Holds b.asks v q H = at_holds b v node q h in
@@ -169,12 +170,12 @@ asks_update a w v node u x step position k s n g t h runs last waits =
     let D : (position : ℕ) (reply : Reply) → Replied p q u position reply → DueUpdate b v node (record { ticket = p.last_ticket + 1; position = position; reply = reply }) = λ position reply r. due_new a w v node u x step k s n g t h ut.still runs position reply r in
     let both : MayReply (DueUpdate b v node) (DueRead b v node) (Answered b v position node) (Questions b) (Versions b v) p u = record {
       old = λ reply is. ⊎_elim
-          (λ (o : (r : Reply) × (said (newest p) u.client u.number ≡ Some r) × (q.entries ≡ p.entries)). D (position_of p u.client) reply (replied_old p q u reply ut.base ut.state o.2 is))
-          (λ (m : (said (newest p) u.client u.number ≡ None) × (q.entries ≡ p.entries ++ entry_for p u ∷ [])). absurd (none_some (said (newest p) u.client u.number) m.0 is))
+          (λ (o : (r : Reply) × (said (newest p) u.client u.number ≡ Some r) × (q.past.entries ≡ p.past.entries)). D (position_of p u.client) reply (replied_old p q u reply ut.base ut.state o.2 is))
+          (λ (m : (said (newest p) u.client u.number ≡ None) × (q.past.entries ≡ p.past.entries ++ entry_for p u ∷ [])). absurd (none_some (said (newest p) u.client u.number) m.0 is))
           ut.entries;
       new = λ is. ⊎_elim
-          (λ (o : (r : Reply) × (said (newest p) u.client u.number ≡ Some r) × (q.entries ≡ p.entries)). absurd (none_some (said (newest p) u.client u.number) is o.1))
-          (λ (m : (said (newest p) u.client u.number ≡ None) × (q.entries ≡ p.entries ++ entry_for p u ∷ [])). D (entry_for p u).position (entry_for p u).reply (replied_new p q u ut.base ut.state m.1))
+          (λ (o : (r : Reply) × (said (newest p) u.client u.number ≡ Some r) × (q.past.entries ≡ p.past.entries)). absurd (none_some (said (newest p) u.client u.number) is o.1))
+          (λ (m : (said (newest p) u.client u.number ≡ None) × (q.past.entries ≡ p.past.entries ++ entry_for p u ∷ [])). D (entry_for p u).position (entry_for p u).reply (replied_new p q u ut.base ut.state m.1 m.0))
           ut.entries;
     } in
     update_gives (DueUpdate b v node) (DueRead b v node) (Answered b v position node) (Questions b) (Versions b v) p waits u both t.here.turn does (may_answer b v node q position h runs last)
@@ -217,13 +218,13 @@ asks_read a w v node mode object x step position k n g t h runs last waits =
     let f : NodeFollows v (seen_of q) = at_node b v node q h in
     let ready : v.ready node ≡ true = let P : ℕ → Type 0 = λ j. v.ready j ≡ q.ready in subst P h.same f.ready ∙ (same.ready ∙ leaves.1) in
     let l : IsPrefix v.log (v.history node) = holds_log v node n.reached ready (at_running b v node q h runs) in
-    let acked : v.acknowledged node ≡ p.acknowledged = let A : ℕ → Type 0 = λ j. v.acknowledged j ≡ q.acknowledged in subst A h.same f.acknowledged ∙ same.acknowledged in
+    let acked : v.acknowledged node ≡ p.past.acknowledged = let A : ℕ → Type 0 = λ j. v.acknowledged j ≡ q.past.acknowledged in subst A h.same f.acknowledged ∙ same.acknowledged in
     let r : ReadGives (DueUpdate b v node) (DueRead b v node) (Answered b v position node) (Questions b) (Versions b v) p t.here.turn =
     read_gives (DueUpdate b v node) (DueRead b v node) (Answered b v position node) (Questions b) (Versions b v) p waits mode object
     (λ _. by_mode mode o l ready acked (new_asked a w node (asks.Read mode object) x step k t)) t.here.turn does in
     r.gives
   where
-    by_mode : (m : ReadMode) → Holds (next_account a (asking node (asks.Read mode object) step) x).asks v t.here.was (v.history node) → IsPrefix v.log (v.history node) → v.ready node ≡ true → v.acknowledged node ≡ t.here.was.acknowledged
+    by_mode : (m : ReadMode) → Holds (next_account a (asking node (asks.Read mode object) step) x).asks v t.here.was (v.history node) → IsPrefix v.log (v.history node) → v.ready node ≡ true → v.acknowledged node ≡ t.here.was.past.acknowledged
         → ask_with (next_account a (asking node (asks.Read mode object) step) x).asks node (t.here.was.last_ticket + 1) ≡ Some (record { move = a.chain.moves + 1; node = node; ticket = step.ticket; ask = asks.Read m object })
         → (let b : Account = next_account a (asking node (asks.Read mode object) step) x in MayRead (DueUpdate b v node) (DueRead b v node) (Answered b v position node) (Questions b) (Versions b v) t.here.was m object.key)
     by_mode Eventual o l ready acked found =
@@ -240,10 +241,10 @@ asks_read a w v node mode object x step position k n g t h runs last waits =
         let clean_version : ℕ = (clean_object p key).0 in
         let answer : ℕ × List ℕ = object_within p key (clean_version + bound) in
         let w : GivenWithin H p key (clean_version + bound) = given_within b.asks v p H key (clean_version + bound) o (omega arith) in
-        let old : clean_version ≡ version_after H key p.acknowledged = ap (λ (s : State). version_of s.objects key) o.clean_is in
-        let rise : version_after H key p.acknowledged ≤ version_after H key (length v.log) = rises_between b.asks H key p.acknowledged (length v.log) o.numbered o.genuine o.committed in
+        let old : clean_version ≡ version_after H key p.past.acknowledged = ap (λ (s : State). version_of s.objects key) o.clean_is in
+        let rise : version_after H key p.past.acknowledged ≤ version_after H key (length v.log) = rises_between b.asks H key p.past.acknowledged (length v.log) o.numbered o.genuine o.committed in
         let whole : version_after H key (length v.log) ≡ version_of (after_entries opening_state v.log).objects key = ap (λ es. version_of (after_entries opening_state es).objects key) (prefix_is_take l) in
-        let clean_there : version_after H key (v.acknowledged node) ≡ version_after H key p.acknowledged = ap (version_after H key) acked in
+        let clean_there : version_after H key (v.acknowledged node) ≡ version_after H key p.past.acknowledged = ap (version_after H key) acked in
         let mine : answer.0 ≡ version_after H key w.count = ap (λ (o : ℕ × List ℕ). o.0) w.is in
         let ask : Asked = record { move = a.chain.moves + 1; node = node; ticket = step.ticket; ask = asks.Read (Bounded bound) object } in
         owed_by b v position node (p.last_ticket + 1) (read_answer answer) ask (asks.Read (Bounded bound) object) found refl

@@ -20,7 +20,7 @@ use Rattle.craq_model.specs.declared.step.Out.{Out}
 use Rattle.craq_model.specs.declared.waiting.WaitingUpdate.{WaitingUpdate}
 use Rattle.craq_model.specs.declared.waiting.WaitingRead.{WaitingRead}
 use Rattle.craq_model.specs.Members.{first_of, last_of}
-use Rattle.craq_model.specs.Plain.{Plain, id_of, successor, is_first, is_last, length_of, newest, newest_object, clean_object, object_within, position_of}
+use Rattle.craq_model.specs.Plain.{Plain, id_of, successor, is_first, is_last, length_of, newest, newest_object, clean_object, object_within, position_of, acknowledging}
 use Rattle.craq_model.specs.Sends.{send, send_all, to_neighbour, entry_bodies}
 use Rattle.craq_model.specs.Settle.{Turn, read_answer}
 use Rattle.craq_model.specs.Asks.{accepted_turn, answered_turn, is_full, is_clean, with_entry, committed_if_last, reply_turn, new_update_turn, update_turn, waiting_read_turn, read_turn, accepted_ask_turn, ask_turn}
@@ -41,8 +41,8 @@ module _ (P : WaitingUpdate → Type 0) (R : WaitingRead → Type 0) (G : ℕ �
       let later : Turn = accepted_turn waiting sends in
       let rest : Result Turn Refusal = cond (is_full q) (Err refusals.PendingFull) (Ok later) in
       let S : Turn → Type 0 = λ t. MayAnswer P R G Q V t.0 → Gives P R G Q V t in
-      cond_both (nat_le position q.acknowledged) (Ok now) rest (λ (r : Result Turn Refusal). r ≡ Ok t → S t)
-      (λ e k. subst S (turn_same now t (Ok now) refl k) (λ m. record { updates = w.updates; reads = w.reads; told = (m.acknowledged ready u new (leb-true position q.acknowledged e), a) }))
+      cond_both (nat_le position q.past.acknowledged) (Ok now) rest (λ (r : Result Turn Refusal). r ≡ Ok t → S t)
+      (λ e k. subst S (turn_same now t (Ok now) refl k) (λ m. record { updates = w.updates; reads = w.reads; told = (m.acknowledged ready u new (leb-true position q.past.acknowledged e), a) }))
       (λ e k.
       let g : (is_full q ≡ false) × (Ok later ≡ Ok t) = refused (is_full q) refusals.PendingFull (Ok later) k in
       subst S (turn_same later t (Ok later) refl g.1) (λ m. record { updates = all_joined P q.waiting_updates (u ∷ []) w.updates (new, tt); reads = w.reads; told = a }))
@@ -51,7 +51,7 @@ module _ (P : WaitingUpdate → Type 0) (R : WaitingRead → Type 0) (G : ℕ �
   replies_after : (p : Plain) → Waits P R G Q V p → (position : ℕ) (reply : Reply) (sends : List Out) → AllTold G Q V sends → P (record { ticket = p.last_ticket + 1; position = position; reply = reply }) → p.ready ≡ true
       → (t : Turn) → reply_turn (committed_if_last p) position reply sends ≡ Ok t → MayAnswer P R G Q V t.0 → Gives P R G Q V t
   replies_after p w position reply sends a new ready t h m =
-      let q : Plain = record p { acknowledged = length_of p } in
+      let q : Plain = acknowledging p (length_of p) in
       cond_both (is_last p) q p (λ (x : Plain). reply_turn x position reply sends ≡ Ok t → Gives P R G Q V t)
       (λ e k. replies q (like_waits P R G Q V p q w refl refl refl) position reply sends a new ready t k m)
       (λ e k. replies p w position reply sends a new ready t k m)

@@ -1,13 +1,17 @@
 -- What a step answers and asks on, and what waits after it, line by line.
-use Rattle.std.proofs.Common.{◌≡◌, ℕ, ◌+◌, ◌≤◌, ◌==◌, nat_le, nat_lt, max, Bool, true, false, not, cond, ◌&&◌, ◌||◌, List, [], ◌∷◌, ◌++◌, map, filter, find, Option, Some, None, refl, sym, subst}
+use Rattle.std.proofs.Common.{◌≡◌, ℕ, ◌+◌, ◌≤◌, ◌==◌, nat_le, nat_lt, max, Bool, true, false, not, cond, ◌&&◌, ◌||◌, List, [], ◌∷◌, ◌++◌, map, filter, find, is_some, Option, Some, None, refl, sym, subst}
 use Rattle.std.specs.Prelude.{⊤}
 use Rattle.std.specs.List.{AllByRecursion}
 use Rattle.std.proofs.lemmas.Bool.{cond_both, leb-true, ltb-false, not-false, eqb-true}
 use Rattle.craq_commands.specs.declared.entry.Entry.{Entry}
-use Rattle.craq_commands.specs.SingleCopy.{State}
+use Rattle.craq_commands.specs.declared.state.State.{State}
 use Rattle.craq_model.specs.declared.message.Body.{Body}
 use Rattle.craq_model.specs.declared.message.Body.TheVariants as bodies
 use Rattle.craq_model.specs.declared.message.LinkMessage.{LinkMessage}
+use Rattle.craq_names.specs.Maps.{at_number}
+use Rattle.craq_model.specs.declared.gathering.Gathering.{Gathering}
+use Rattle.craq_model.specs.declared.message.StatePart.{StatePart}
+use Rattle.craq_model.specs.Parts.{gathered_position, gathering_for, is_in_order, with_part, is_whole, joined_state}
 use Rattle.craq_model.specs.declared.ask.Answer.{Answer}
 use Rattle.craq_model.specs.declared.ask.Answer.TheVariants as answers
 use Rattle.craq_model.specs.declared.step.Out.{Out}
@@ -17,12 +21,11 @@ use Rattle.craq_model.specs.declared.step.Why.TheVariants.{OtherEpoch, NotNeighb
 use Rattle.craq_model.specs.declared.waiting.WaitingUpdate.{WaitingUpdate}
 use Rattle.craq_model.specs.declared.waiting.WaitingRead.{WaitingRead}
 use Rattle.craq_model.specs.Members.{is_member, is_id, last_of}
-use Rattle.craq_model.specs.Plain.{Plain, id_of, successor, predecessor, is_tail, length_of, newest, newest_object, clean, object_within}
+use Rattle.craq_model.specs.Plain.{Plain, id_of, successor, predecessor, is_tail, length_of, newest, newest_object, clean, object_within, with_entries, acknowledging}
 use Rattle.craq_model.specs.Sends.{send, send_all, to_neighbour, entry_bodies, copy_bodies, catch_up, tick_sends}
-use Rattle.craq_model.specs.Settle.{Turn, turn_with, turn_ignoring, read_answer, Given, update_given, read_given, insert_given, by_ticket, all_given, all_committed, answer_outs, is_reached, settling_turn, readiness_turn}
-use Rattle.craq_model.specs.Asks.{with_entry}
-use Rattle.craq_model.specs.Deliveries.{config_turn, is_applicable, forwarding_turn, taken_entry_turn, entry_turn, due_updates, later_updates, acknowledgement_turn, ack_turn, query_turn, read_with, reads_without, answering_version, told_version_turn, version_turn, fill_bodies, blank_turn, with_copy, copy_turn, floor_turn, turn_in_epoch, body_turn}
-use Rattle.craq_strong_answers.proofs.Outs.{Says, AllTold, told_both, told_answers, told_sends, told_neighbour, says_entry_bodies, says_catch_up, told_tick}
+use Rattle.craq_model.specs.Settle.{Turn, turn_with, turn_ignoring, read_answer, Given, update_given, read_given, insert_given, by_ticket, all_given, all_committed, answer_outs, is_reached, settling_turn, without_reached, readiness_turn}
+use Rattle.craq_model.specs.Deliveries.{config_turn, are_applicable, forwarding_turn, taken_entries_turn, first_position, final_position, entries_above, entries_turn, due_updates, later_updates, acknowledgement_turn, ack_turn, query_turn, read_with, reads_without, answering_version, told_version_turn, version_turn, fill_bodies, blank_turn, with_copy, copy_turn, gathered_turn, gathering_turn, is_outdated, part_turn, floor_turn, turn_in_epoch, body_turn}
+use Rattle.craq_strong_answers.proofs.Outs.{Says, AllTold, told_both, told_answers, told_sends, told_neighbour, says_entry_bodies, says_copy_bodies, says_catch_up, told_tick}
 
 pub all_filter : {A : Type 0} (P : A → Type 0) (test : A → Bool) (xs : List A) → AllByRecursion P xs → AllByRecursion P (filter test xs)
 all_filter P test [] a = tt
@@ -65,7 +68,7 @@ module _ (P : WaitingUpdate → Type 0) (R : WaitingRead → Type 0) (G : ℕ �
   pub record MayAnswer (q : Plain) : Type 0 where
     pub tail_updates : is_tail q ≡ true → (u : WaitingUpdate) → P u → G u.ticket (answers.Update u.reply)
     pub tail_reads : is_tail q ≡ true → (r : WaitingRead) → R r → G r.ticket (read_answer (newest_object q r.key))
-    pub acknowledged : q.ready ≡ true → (u : WaitingUpdate) → P u → u.position ≤ q.acknowledged → G u.ticket (answers.Update u.reply)
+    pub acknowledged : q.ready ≡ true → (u : WaitingUpdate) → P u → u.position ≤ q.past.acknowledged → G u.ticket (answers.Update u.reply)
 
   -- what waits at a node, and the questions about it
   pub record Waits (p : Plain) : Type 0 where
@@ -119,49 +122,59 @@ module _ (P : WaitingUpdate → Type 0) (R : WaitingRead → Type 0) (G : ℕ �
     asks = λ x h. let S : ℕ → Type 0 = λ j. Q j x.ticket x.key in subst S (sym i) (w.asks x h);
   }
 
+  waits_on : (p : Plain) → Waits p → Waits (without_reached p)
+  unfolding without_reached
+  waits_on p w =
+      let q : Plain = record p { gathering = None } in
+      cond_both (nat_le (gathered_position p.gathering) (length_of p)) q p (λ (x : Plain). Waits x) (λ e. like_waits p q w refl refl refl) (λ e. w)
+
   becoming : (p : Plain) → Waits p → MayAnswer (readiness_turn p).0 → Gives (readiness_turn p)
   unfolding readiness_turn
   becoming p w m =
-      cond_both (not p.ready && is_reached p.floor (length_of p)) (settling_turn (record p { ready = true })) (turn_with p []) (λ (t : Turn). MayAnswer t.0 → Gives t)
-      (λ e m. settling (record p { ready = true }) (like_waits p (record p { ready = true }) w refl refl refl) m)
-      (λ e m. quiet p w [] tt)
+      let q : Plain = record p { ready = true; gathering = None } in
+      cond_both (not p.ready && is_reached p.floor (length_of p)) (settling_turn q) (turn_with (without_reached p) []) (λ (t : Turn). MayAnswer t.0 → Gives t)
+      (λ e m. settling q (like_waits p q w refl refl refl) m)
+      (λ e m. quiet (without_reached p) (waits_on p w) [] tt)
       m
 
   config_gives : (p : Plain) → Waits p → (epoch : ℕ) (members : List ℕ) → MayAnswer (config_turn p epoch members).0 → Gives (config_turn p epoch members)
   unfolding config_turn
   config_gives p w epoch members m =
-      let q : Plain = record p { epoch = epoch; members = members; floor = None } in
+      let q : Plain = record p { epoch = epoch; members = members; floor = None; gathering = None } in
       guard p w (nat_le epoch p.epoch) OtherEpoch (cond (not (is_member members (id_of p))) (turn_ignoring p NotNeighbour) (settling_turn q)) m
       (λ e m. guard p w (not (is_member members (id_of p))) NotNeighbour (settling_turn q) m (λ f m. settling q (like_waits p q w refl refl refl) m))
 
-  forwarding : (p : Plain) → Waits p → (e : Entry) → Gives (forwarding_turn p e)
+  forwarding : (p : Plain) → Waits p → (es : List Entry) → Gives (forwarding_turn p es)
   unfolding forwarding_turn
-  forwarding p w e =
+  forwarding p w es =
       let acks : ℕ → List Out = λ to. send p to (bodies.Ack (length_of p)) ∷ [] in
-      let entries : ℕ → List Out = λ to. send_all p to (entry_bodies (e ∷ [])) in
-      let q : Plain = record p { acknowledged = length_of p } in
+      let entries : ℕ → List Out = λ to. send_all p to (entry_bodies es) in
+      let q : Plain = acknowledging p (length_of p) in
       cond_both (is_tail p) (turn_with q (to_neighbour (predecessor p) acks)) (turn_with p (to_neighbour (successor p) entries)) (λ (t : Turn). Gives t)
       (λ t. quiet q (like_waits p q w refl refl refl) (to_neighbour (predecessor p) acks) (told_neighbour G Q V (predecessor p) acks (λ to. ((refl, tt), tt))))
-      (λ t. quiet p w (to_neighbour (successor p) entries) (told_neighbour G Q V (successor p) entries (λ to. told_sends G Q V p to (entry_bodies (e ∷ [])) (says_entry_bodies G Q V (id_of p) to (e ∷ [])))))
+      (λ t. quiet p w (to_neighbour (successor p) entries) (told_neighbour G Q V (successor p) entries (λ to. told_sends G Q V p to (entry_bodies es) (says_entry_bodies G Q V (id_of p) to es))))
 
-  entry_gives : (p : Plain) → Waits p → (sender : ℕ) (e : Entry) → MayAnswer (entry_turn p sender e).0 → Gives (entry_turn p sender e)
-  unfolding entry_turn
-  entry_gives p w sender e m =
-      let q : Plain = with_entry p e in
+  entries_give : (p : Plain) → Waits p → (sender : ℕ) (es : List Entry) → MayAnswer (entries_turn p sender es).0 → Gives (entries_turn p sender es)
+  unfolding entries_turn
+  entries_give p w sender es m =
+      let new : List Entry = entries_above (length_of p) es in
+      let q : Plain = with_entries p new in
       let wq : Waits q = like_waits p q w refl refl refl in
-      let last : Turn = taken_entry_turn q e in
-      let third : Turn = cond (not (is_applicable (newest p) e)) (turn_ignoring p TooFar) last in
-      let second : Turn = cond (nat_lt (length_of p + 1) e.position) (turn_ignoring p OutOfOrder) third in
-      let first : Turn = cond (nat_le e.position (length_of p)) (turn_ignoring p AlreadyHave) second in
+      let last : Turn = taken_entries_turn q new in
+      let third : Turn = cond (are_applicable (newest p) new) last (turn_ignoring p TooFar) in
+      let second : Turn = cond (nat_lt (length_of p + 1) (first_position es)) (turn_ignoring p OutOfOrder) third in
+      let first : Turn = cond (nat_le (final_position es) (length_of p)) (turn_ignoring p AlreadyHave) second in
       guard p w (not (is_id (predecessor p) sender)) NotNeighbour first m
-      (λ a m. guard p w (nat_le e.position (length_of p)) AlreadyHave second m
-      (λ b m. guard p w (nat_lt (length_of p + 1) e.position) OutOfOrder third m
-      (λ d m. guard p w (not (is_applicable (newest p) e)) TooFar last m
-      (λ g m. cond_both p.ready (forwarding_turn q e) (readiness_turn q) (λ (t : Turn). MayAnswer t.0 → Gives t) (λ r m. forwarding q wq e) (λ r m. becoming q wq m) m))))
+      (λ a m. guard p w (nat_le (final_position es) (length_of p)) AlreadyHave second m
+      (λ b m. guard p w (nat_lt (length_of p + 1) (first_position es)) OutOfOrder third m
+      (λ d m. cond_both (are_applicable (newest p) new) last (turn_ignoring p TooFar) (λ (t : Turn). MayAnswer t.0 → Gives t)
+      (λ g m. cond_both p.ready (forwarding_turn q new) (readiness_turn q) (λ (t : Turn). MayAnswer t.0 → Gives t) (λ r m. forwarding q wq new) (λ r m. becoming q wq m) m)
+      (λ g m. ignored p w TooFar)
+      m)))
 
-  acknowledging : (p : Plain) → Waits p → (position : ℕ) → p.ready ≡ true → MayAnswer (acknowledgement_turn p position).0 → Gives (acknowledgement_turn p position)
+  hearing : (p : Plain) → Waits p → (position : ℕ) → p.ready ≡ true → MayAnswer (acknowledgement_turn p position).0 → Gives (acknowledgement_turn p position)
   unfolding acknowledgement_turn due_updates later_updates
-  acknowledging p w position ready m =
+  hearing p w position ready m =
       let S : Given → Type 0 = λ g. G g.0 g.1 in
       let due : WaitingUpdate → Bool = λ u. nat_le u.position position in
       let gs : List Given = map update_given (filter due p.waiting_updates) in
@@ -181,13 +194,13 @@ module _ (P : WaitingUpdate → Type 0) (R : WaitingRead → Type 0) (G : ℕ �
   ack_gives p w sender position m =
       let last : Turn = acknowledgement_turn p position in
       let third : Turn = cond (nat_lt (length_of p) position) (turn_ignoring p TooFar) last in
-      let second : Turn = cond (nat_le position p.acknowledged) (turn_ignoring p AlreadyHave) third in
+      let second : Turn = cond (nat_le position p.past.acknowledged) (turn_ignoring p AlreadyHave) third in
       let first : Turn = cond (not p.ready) (turn_ignoring p NotReadyHere) second in
       guard p w (not (is_id (successor p) sender)) NotNeighbour first m
       (λ a m. guard p w (not p.ready) NotReadyHere second m
-      (λ b m. guard p w (nat_le position p.acknowledged) AlreadyHave third m
+      (λ b m. guard p w (nat_le position p.past.acknowledged) AlreadyHave third m
       (λ d m. guard p w (nat_lt (length_of p) position) TooFar last m
-      (λ g m. acknowledging p w position (not-false p.ready b) m))))
+      (λ g m. hearing p w position (not-false p.ready b) m))))
 
   -- what a tail says of a version
   query_gives : (p : Plain) → Waits p → (sender ticket : ℕ) (key : List ℕ) → (is_tail p ≡ true → V sender ticket (newest_object p key).0) → Gives (query_turn p sender ticket key)
@@ -234,12 +247,12 @@ module _ (P : WaitingUpdate → Type 0) (R : WaitingRead → Type 0) (G : ℕ �
       (λ r h. (read_found ticket p.waiting_reads r w.reads h).0))
 
   says_fill : (p : Plain) (count to : ℕ) → AllByRecursion (Says Q V (id_of p) to) (fill_bodies p count)
-  unfolding fill_bodies copy_bodies
+  unfolding fill_bodies
   says_fill p count to =
-      let copies : List Body = copy_bodies p.acknowledged (clean p) in
-      all_joined (Says Q V (id_of p) to) (cond (nat_lt count p.acknowledged) copies []) (catch_up p (max count p.acknowledged))
-      (cond_both (nat_lt count p.acknowledged) copies [] (λ (l : List Body). AllByRecursion (Says Q V (id_of p) to) l) (λ e. (tt, tt)) (λ e. tt))
-      (says_catch_up G Q V p (max count p.acknowledged) (id_of p) to)
+      let copies : List Body = copy_bodies p.past.acknowledged (clean p) in
+      all_joined (Says Q V (id_of p) to) (cond (nat_lt count p.past.acknowledged) copies []) (catch_up p (max count p.past.acknowledged))
+      (cond_both (nat_lt count p.past.acknowledged) copies [] (λ (l : List Body). AllByRecursion (Says Q V (id_of p) to) l) (λ e. says_copy_bodies G Q V (id_of p) to p.past.acknowledged (clean p)) (λ e. tt))
+      (says_catch_up G Q V p (max count p.past.acknowledged) (id_of p) to)
 
   blank_gives : (p : Plain) → Waits p → (sender count : ℕ) → Gives (blank_turn p sender count)
   unfolding blank_turn
@@ -257,6 +270,30 @@ module _ (P : WaitingUpdate → Type 0) (R : WaitingRead → Type 0) (G : ℕ �
       let q : Plain = with_copy p position state in
       guard p w (not (is_id (predecessor p) sender)) NotNeighbour (cond (p.ready || nat_le position (length_of p)) (turn_ignoring p AlreadyHave) (readiness_turn q)) m
       (λ a m. guard p w (p.ready || nat_le position (length_of p)) AlreadyHave (readiness_turn q) m (λ b m. becoming q (like_waits p q w refl refl refl) m))
+
+  gathered_gives : (p : Plain) → Waits p → (g : Gathering) → MayAnswer (gathered_turn p g).0 → Gives (gathered_turn p g)
+  gathered_gives p w g m =
+      let q : Plain = with_copy p g.position (joined_state g.parts) in
+      let r : Plain = record p { gathering = Some g } in
+      cond_both (is_whole g) (readiness_turn q) (turn_with r []) (λ (t : Turn). MayAnswer t.0 → Gives t)
+      (λ e m. becoming q (like_waits p q w refl refl refl) m)
+      (λ e m. quiet r (like_waits p r w refl refl refl) [] tt)
+      m
+
+  part_gives : (p : Plain) → Waits p → (sender : ℕ) (part : StatePart) → MayAnswer (part_turn p sender part).0 → Gives (part_turn p sender part)
+  unfolding part_turn
+  part_gives p w sender part m =
+      let g : Gathering = gathering_for part p.gathering in
+      let last : Turn = gathered_turn p (with_part g part) in
+      let fourth : Turn = cond (not (is_in_order g part)) (turn_ignoring p TooFar) last in
+      let third : Turn = cond (is_some (at_number g.parts part.number)) (turn_ignoring p AlreadyHave) fourth in
+      let second : Turn = gathering_turn p g part in
+      let first : Turn = cond (p.ready || is_outdated p part) (turn_ignoring p AlreadyHave) second in
+      guard p w (not (is_id (predecessor p) sender)) NotNeighbour first m
+      (λ a m. guard p w (p.ready || is_outdated p part) AlreadyHave second m
+      (λ b m. guard p w (not (part.count == g.count)) TooFar third m
+      (λ d m. guard p w (is_some (at_number g.parts part.number)) AlreadyHave fourth m
+      (λ e m. guard p w (not (is_in_order g part)) TooFar last m (λ f m. gathered_gives p w (with_part g part) m)))))
 
   floor_gives : (p : Plain) → Waits p → (sender count : ℕ) → MayAnswer (floor_turn p sender count).0 → Gives (floor_turn p sender count)
   unfolding floor_turn
@@ -276,7 +313,9 @@ module _ (P : WaitingUpdate → Type 0) (R : WaitingRead → Type 0) (G : ℕ �
   MayTell p m (bodies.VersionIs ticket version) =
       (r : WaitingRead) → R r → r.ticket ≡ ticket → version ≤ (newest_object p r.key).0 → G r.ticket (read_answer (object_within p r.key (answering_version p r.key version)))
   MayTell p m (bodies.Blank count) = ⊤
-  MayTell p m (bodies.Copy position objects kept) = ⊤
+  MayTell p m (bodies.Batch es) = ⊤
+  MayTell p m (bodies.Copy position state) = ⊤
+  MayTell p m (bodies.Part part) = ⊤
   MayTell p m (bodies.Floor count) = ⊤
 
   -- what has to be known of answers, by what the message says
@@ -287,7 +326,9 @@ module _ (P : WaitingUpdate → Type 0) (R : WaitingRead → Type 0) (G : ℕ �
   AnswersOf p m (bodies.Query ticket key) = ⊤
   AnswersOf p m (bodies.VersionIs ticket version) = ⊤
   AnswersOf p m (bodies.Blank count) = ⊤
-  AnswersOf p m (bodies.Copy position objects kept) = MayAnswer (body_turn p m (bodies.Copy position objects kept)).0
+  AnswersOf p m (bodies.Batch es) = MayAnswer (body_turn p m (bodies.Batch es)).0
+  AnswersOf p m (bodies.Copy position state) = MayAnswer (body_turn p m (bodies.Copy position state)).0
+  AnswersOf p m (bodies.Part part) = MayAnswer (body_turn p m (bodies.Part part)).0
   AnswersOf p m (bodies.Floor count) = MayAnswer (body_turn p m (bodies.Floor count)).0
 
   in_epoch : (p : Plain) → Waits p → (m : LinkMessage) (t : Turn) → MayAnswer (turn_in_epoch p m t).0 → (MayAnswer t.0 → Gives t) → Gives (turn_in_epoch p m t)
@@ -298,12 +339,14 @@ module _ (P : WaitingUpdate → Type 0) (R : WaitingRead → Type 0) (G : ℕ �
 
   pub body_gives : (p : Plain) → Waits p → (m : LinkMessage) (b : Body) → AnswersOf p m b → MayTell p m b → Gives (body_turn p m b)
   body_gives p w m (bodies.Config members) a x = config_gives p w m.epoch members a
-  body_gives p w m (bodies.Entry e) a x = in_epoch p w m (entry_turn p m.sender e) a (λ a. entry_gives p w m.sender e a)
+  body_gives p w m (bodies.Entry e) a x = in_epoch p w m (entries_turn p m.sender (e ∷ [])) a (λ a. entries_give p w m.sender (e ∷ []) a)
+  body_gives p w m (bodies.Batch es) a x = in_epoch p w m (entries_turn p m.sender es) a (λ a. entries_give p w m.sender es a)
+  body_gives p w m (bodies.Part part) a x = in_epoch p w m (part_turn p m.sender part) a (λ a. part_gives p w m.sender part a)
   body_gives p w m (bodies.Ack position) a x = in_epoch p w m (ack_turn p m.sender position) a (λ a. ack_gives p w m.sender position a)
   body_gives p w m (bodies.Query ticket key) a x = still_in_epoch p w m (query_turn p m.sender ticket key) (query_gives p w m.sender ticket key x)
   body_gives p w m (bodies.VersionIs ticket version) a x = still_in_epoch p w m (version_turn p m.sender ticket version) (version_gives p w m.sender ticket version x)
   body_gives p w m (bodies.Blank count) a x = still_in_epoch p w m (blank_turn p m.sender count) (blank_gives p w m.sender count)
-  body_gives p w m (bodies.Copy position objects kept) a x = in_epoch p w m (copy_turn p m.sender position (record { objects = objects; kept = kept })) a (λ a. copy_gives p w m.sender position (record { objects = objects; kept = kept }) a)
+  body_gives p w m (bodies.Copy position state) a x = in_epoch p w m (copy_turn p m.sender position state) a (λ a. copy_gives p w m.sender position state a)
   body_gives p w m (bodies.Floor count) a x = in_epoch p w m (floor_turn p m.sender count) a (λ a. floor_gives p w m.sender count a)
 
   pub tick_gives : (p : Plain) → Waits p → Gives (turn_with p (tick_sends p))

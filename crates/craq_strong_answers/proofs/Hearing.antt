@@ -35,10 +35,10 @@ use Rattle.craq_strong_answers.proofs.Answering.{Answered, Questions, Versions, 
 pub holds_same : (asked : List Asked) (w : World Entry) (p q : Plain) (h : List Entry) → SameHistory p q → Holds asked w q h → Holds asked w p h
 unfolding entries_after
 holds_same asked w p q h s o =
-    let A : ℕ → Type 0 = λ k. (clean p ≡ state_after k h) × (drop (k - p.base) p.entries ≡ drop k h) × (k ≤ length h) × (k ≤ length w.log) × (take k h ≡ take k w.log) in
-    let after : drop (q.acknowledged - p.base) p.entries ≡ drop q.acknowledged h = ap (λ n. drop (q.acknowledged - n) p.entries) (sym s.base) ∙ (ap (drop (q.acknowledged - q.base)) (sym s.entries) ∙ o.after_is) in
-    let all : A q.acknowledged = (sym (same_clean p q s) ∙ o.clean_is, after, o.known, o.committed, o.same) in
-    let mine : A p.acknowledged = subst A s.acknowledged all in
+    let A : ℕ → Type 0 = λ k. (clean p ≡ state_after k h) × (drop (k - p.past.base) p.past.entries ≡ drop k h) × (k ≤ length h) × (k ≤ length w.log) × (take k h ≡ take k w.log) in
+    let after : drop (q.past.acknowledged - p.past.base) p.past.entries ≡ drop q.past.acknowledged h = ap (λ n. drop (q.past.acknowledged - n) p.past.entries) (sym s.base) ∙ (ap (drop (q.past.acknowledged - q.past.base)) (sym s.entries) ∙ o.after_is) in
+    let all : A q.past.acknowledged = (sym (same_clean p q s) ∙ o.clean_is, after, o.known, o.committed, o.same) in
+    let mine : A p.past.acknowledged = subst A s.acknowledged all in
     record {
       numbered = o.numbered;
       genuine = o.genuine;
@@ -155,7 +155,9 @@ hears b v id p m body t sent word position h u up w is to turn told says at =
     answers (bodies.Query ticket key) turn says = tt
     answers (bodies.VersionIs ticket version) turn says = tt
     answers (bodies.Blank count) turn says = tt
-    answers (bodies.Copy position objects kept) turn says = by (bodies.Copy position objects kept) turn says
+    answers (bodies.Batch es) turn says = by (bodies.Batch es) turn says
+    answers (bodies.Copy position state) turn says = by (bodies.Copy position state) turn says
+    answers (bodies.Part part) turn says = by (bodies.Part part) turn says
     answers (bodies.Floor count) turn says = by (bodies.Floor count) turn says
 
     tells : (body : Body) → m.body ≡ body → body_turn p m body ≡ t → word ≡ word_of sent body → MayTell (DueUpdate b v id) (DueRead b v id) (Answered b v position id) (Questions b) (Versions b v) p m body
@@ -174,5 +176,7 @@ hears b v id p m body t sent word position h u up w is to turn told says at =
         let known : ToldVersion b v id ticket version sent = subst S to (subst R is told) in
         λ r d e le. version_told b v id p t.0 ticket version sent position h u same known (λ key. at key ∙ ap (λ o. read_place v.log (Some p) o key) says) r d e
     tells (bodies.Blank count) is turn says = tt
-    tells (bodies.Copy position objects kept) is turn says = tt
+    tells (bodies.Batch es) is turn says = tt
+    tells (bodies.Copy position state) is turn says = tt
+    tells (bodies.Part part) is turn says = tt
     tells (bodies.Floor count) is turn says = tt

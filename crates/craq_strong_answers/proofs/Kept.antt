@@ -1,38 +1,34 @@
 -- The reply to a client's number stays the same from the client's newest entry on.
-use Rattle.std.proofs.Common.{◌≡◌, ◌≢◌, ℕ, zero, suc, ◌+◌, ◌-◌, ◌≤◌, ◌==◌, true, false, cond, List, [], ◌∷◌, ◌++◌, length, take, drop, Some, refl, ap, sym, subst, ◌∙◌, arith}
+use Rattle.std.proofs.Common.{◌≡◌, ◌≢◌, ℕ, zero, suc, ◌+◌, ◌-◌, ◌≤◌, ◌==◌, true, cond, List, [], ◌∷◌, ◌++◌, length, take, drop, Some, None, refl, ap, sym, subst, ◌∙◌, arith}
 use Rattle.std.specs.List.{AllByRecursion}
-use Rattle.std.specs.Ordering.{nat_cmp, eq_by_cmp}
-use Rattle.std.specs.Cmp.{nat_cmp_total}
-use Rattle.std.specs.FinMap.{nat_cmp-IsAntisymmetric}
-use Rattle.std.specs.FinMap.Entries.{find, find-put}
 use Rattle.std.proofs.lemmas.Bool.{cond_both, cond-true, eq-eqb}
 use Rattle.std.proofs.Math.Seq.{drop-append-add}
 use Rattle.craq_commands.specs.declared.command.Update.{Update}
 use Rattle.craq_commands.specs.declared.entry.Entry.{Entry}
 use Rattle.craq_commands.specs.declared.reply.Reply.{Reply}
-use Rattle.craq_commands.specs.Kept.{Kept, keep, said_of}
-use Rattle.craq_commands.specs.SingleCopy.{State, opening_state, kept_of, kept_with, said, after_entry, after_entries}
-use Rattle.craq_model.specs.Plain.{Plain, newest, last_position, position_of}
-use Rattle.craq_laws.proofs.Copies.{after_entries-push}
-use Rattle.craq_laws.proofs.Writes.{told_apart}
-use Rattle.craq_laws.proofs.Histories.{kept_here}
+use Rattle.craq_commands.specs.Kept.{keep, said_of}
+use Rattle.craq_commands.specs.declared.state.State.{State}
+use Rattle.craq_commands.specs.SingleCopy.{opening_state, window_of, is_new_to, kept_with, said, after_entry, after_entries}
+use Rattle.craq_model.specs.Past.{last_position}
+use Rattle.craq_model.specs.Plain.{Plain, newest, position_of}
+use Rattle.craq_laws.proofs.Copies.{after_entries-push, new_unsaid}
+use Rattle.craq_laws.proofs.Histories.{kept_here, put_elsewhere}
 use Rattle.craq_refinement.specs.Follows.{IsPlaced, IsHistory}
 use Rattle.craq_updates.proofs.EachMove.{entry_for}
 use Rattle.craq_updates.proofs.Known.{after_entries-append}
 use Rattle.craq_strong_answers.proofs.Stands.{state_after}
+use Rattle.craq_strong_answers.proofs.Windows.{said_kept}
 
-kept_by_other : (s : State) (e : Entry) (client : ℕ) → e.client ≢ client → kept_of (after_entry s e) client ≡ kept_of s client
-unfolding after_entry kept_with
+kept_by_other : (s : State) (e : Entry) (client : ℕ) → e.client ≢ client → window_of (after_entry s e) client ≡ window_of s client
+unfolding after_entry kept_with window_of
 kept_by_other s e client ne =
-    let x : Kept = keep (kept_of s e.client) e.number e.reply in
-    let other : eq_by_cmp nat_cmp client e.client ≡ false = told_apart (nat_cmp client e.client) (λ h. ne (sym (nat_cmp-IsAntisymmetric client e.client h))) in
-    find-put nat_cmp nat_cmp_total client e.client x s.kept ∙ ap (λ b. cond b (Some x) (find nat_cmp client s.kept)) other
+    put_elsewhere s client e.client (keep (window_of s e.client) e.number e.reply) (λ h. ne (sym h))
 
 -- entries of other clients
 abbrev pub OfOthers : ℕ → List Entry → Type 0
 OfOthers client es = AllByRecursion (λ (e : Entry). e.client ≢ client) es
 
-pub kept_by_others : (s : State) (es : List Entry) (client : ℕ) → OfOthers client es → kept_of (after_entries s es) client ≡ kept_of s client
+pub kept_by_others : (s : State) (es : List Entry) (client : ℕ) → OfOthers client es → window_of (after_entries s es) client ≡ window_of s client
 kept_by_others s [] client a = refl
 kept_by_others s (e ∷ es) client a = kept_by_others (after_entry s e) es client a.1 ∙ kept_by_other s e client a.0
 
@@ -73,18 +69,18 @@ last_pushed client found [] e h = cond-true (e.client == client) e.position foun
 last_pushed client found (x ∷ es) e h = last_pushed client (cond (x.client == client) x.position found) es e h
 
 -- what is kept for a client after so many entries, from its newest one on, is kept after all
-pub kept_from : (q : Plain) (h : List Entry) (client d : ℕ) → IsHistory q.base q.base_state q.entries h → IsPlaced q.base q.entries → position_of q client ≤ d → d ≤ length h
-    → (kept_of (state_after d h) client ≡ kept_of (after_entries opening_state h) client)
+pub kept_from : (q : Plain) (h : List Entry) (client d : ℕ) → IsHistory q.past.base q.past.base_state q.past.entries h → IsPlaced q.past.base q.past.entries → position_of q client ≤ d → d ≤ length h
+    → (window_of (state_after d h) client ≡ window_of (after_entries opening_state h) client)
 kept_from q h client d i p le short =
-    let n : IsNewest client q.base q.base q.entries = newest_position client q.base q.base q.entries p (omega arith) in
-    let k : ℕ = d - q.base in
-    let base : q.base ≤ d = omega (arith, n.from, le) in
+    let n : IsNewest client q.past.base q.past.base q.past.entries = newest_position client q.past.base q.past.base q.past.entries p (omega arith) in
+    let k : ℕ = d - q.past.base in
+    let base : q.past.base ≤ d = omega (arith, n.from, le) in
     let count : length i.front + k ≡ d = omega (arith, i.count, base) in
-    let rest : drop d h ≡ drop k q.entries = ap (drop d) (sym i.whole) ∙ (ap (λ j. drop j (i.front ++ q.entries)) (sym count) ∙ drop-append-add i.front q.entries k) in
+    let rest : drop d h ≡ drop k q.past.entries = ap (drop d) (sym i.whole) ∙ (ap (λ j. drop j (i.front ++ q.past.entries)) (sym count) ∙ drop-append-add i.front q.past.entries k) in
     let P : List Entry → Type 0 = λ l. OfOthers client l in
     let others : OfOthers client (drop d h) = subst P (sym rest) (n.others k (omega (arith, le, base))) in
     let split : after_entries opening_state h ≡ after_entries (state_after d h) (drop d h) = ap (after_entries opening_state) (sym (take_drop d h)) ∙ after_entries-append opening_state (take d h) (drop d h) in
-    sym (ap (λ s. kept_of s client) split ∙ kept_by_others (state_after d h) (drop d h) client others)
+    sym (ap (λ s. window_of s client) split ∙ kept_by_others (state_after d h) (drop d h) client others)
   where
     take_drop : {A : Type 0} (i : ℕ) (l : List A) → take i l ++ drop i l ≡ l
     take_drop zero l = refl
@@ -93,29 +89,31 @@ kept_from q h client d i p le short =
 
 -- ---- an update that was asked
 
-said_here : (s : State) (e : Entry) → said (after_entry s e) e.client e.number ≡ Some e.reply
-unfolding after_entry kept_with keep said_of
-said_here s e =
-    ap (λ k. said_of k e.number) (kept_here s e.client (e.number, e.reply)) ∙ cond-true (e.number == e.number) (Some e.reply) _ (eq-eqb e.number e.number refl)
+pub window_here : (s : State) (e : Entry) → window_of (after_entry s e) e.client ≡ keep (window_of s e.client) e.number e.reply
+unfolding after_entry kept_with window_of
+window_here s e = kept_here s e.client (keep (window_of s e.client) e.number e.reply)
+
+said_here : (s : State) (e : Entry) → is_new_to s e.client e.number ≡ true → said (after_entry s e) e.client e.number ≡ Some e.reply
+said_here s e new = ap (λ k. said_of k e.number) (window_here s e) ∙ said_kept (window_of s e.client) e.number e.reply new
 
 -- the reply that is due, and the position of the client's newest entry
 pub record Replied (p q : Plain) (u : Update) (position : ℕ) (reply : Reply) : Type 0 where
   pub is_said : said (newest q) u.client u.number ≡ Some reply
   pub at : position_of q u.client ≡ position
 
-pub replied_old : (p q : Plain) (u : Update) (reply : Reply) → q.base ≡ p.base → q.base_state ≡ p.base_state → q.entries ≡ p.entries → said (newest p) u.client u.number ≡ Some reply → Replied p q u (position_of p u.client) reply
+pub replied_old : (p q : Plain) (u : Update) (reply : Reply) → q.past.base ≡ p.past.base → q.past.base_state ≡ p.past.base_state → q.past.entries ≡ p.past.entries → said (newest p) u.client u.number ≡ Some reply → Replied p q u (position_of p u.client) reply
 unfolding newest
 replied_old p q u reply b s e h = record {
   is_said = ap (λ (t : State). said t u.client u.number) (λ i. after_entries (s i) (e i)) ∙ h;
   at = λ i. last_position u.client (b i) (e i);
 }
 
-pub replied_new : (p q : Plain) (u : Update) → q.base ≡ p.base → q.base_state ≡ p.base_state → q.entries ≡ p.entries ++ entry_for p u ∷ [] → Replied p q u (entry_for p u).position (entry_for p u).reply
+pub replied_new : (p q : Plain) (u : Update) → q.past.base ≡ p.past.base → q.past.base_state ≡ p.past.base_state → q.past.entries ≡ p.past.entries ++ entry_for p u ∷ [] → said (newest p) u.client u.number ≡ None → Replied p q u (entry_for p u).position (entry_for p u).reply
 unfolding newest
-replied_new p q u b s e =
+replied_new p q u b s e unsaid =
     let x : Entry = entry_for p u in
-    let state : newest q ≡ after_entry (newest p) x = (λ i. after_entries (s i) (e i)) ∙ after_entries-push p.base_state p.entries x in
+    let state : newest q ≡ after_entry (newest p) x = (λ i. after_entries (s i) (e i)) ∙ after_entries-push p.past.base_state p.past.entries x in
     record {
-      is_said = ap (λ (t : State). said t u.client u.number) state ∙ said_here (newest p) x;
-      at = (λ i. last_position u.client (b i) (e i)) ∙ last_pushed u.client p.base p.entries x refl;
+      is_said = ap (λ (t : State). said t u.client u.number) state ∙ said_here (newest p) x ((new_unsaid (window_of (newest p) u.client) u.number).1 unsaid);
+      at = (λ i. last_position u.client (b i) (e i)) ∙ last_pushed u.client p.past.base p.past.entries x refl;
     }

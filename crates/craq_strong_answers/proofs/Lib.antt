@@ -8,6 +8,7 @@ pub mod Versions
 pub mod Within
 pub mod Nodes
 pub mod Looks
+pub mod Windows
 pub mod Kept
 pub mod Served
 pub mod Answering

@@ -3,7 +3,8 @@ use Rattle.std.proofs.Common.{◌≡◌, ◌⊎◌, ⊎_elim, ℕ, ◌<◌, ◌�
 use Rattle.std.proofs.lemmas.Bool.{cond_both, eqb-true, leb-true, leb-false}
 use Rattle.craq_commands.specs.declared.entry.Entry.{Entry}
 use Rattle.craq_commands.specs.Objects.{object_of, version_of}
-use Rattle.craq_commands.specs.SingleCopy.{State, opening_state, after_entries}
+use Rattle.craq_commands.specs.declared.state.State.{State}
+use Rattle.craq_commands.specs.SingleCopy.{opening_state, after_entries}
 use Rattle.craq_model.specs.Plain.{Plain, newest_object, clean_object, object_within}
 use Rattle.craq_model.specs.Asks.{is_clean}
 use Rattle.craq_model.specs.Deliveries.{answering_version}
@@ -36,8 +37,8 @@ pub clean_committed : (asked : List Asked) (w : World Entry) (p : Plain) (h : Li
 clean_committed asked w p h key o l c =
     let same : (newest_object p key).0 ≡ (clean_object p key).0 = eqb-true (newest_object p key).0 (clean_object p key).0 c in
     let new : (newest_object p key).0 ≡ version_after h key (length h) = ap (λ (s : State). version_of s.objects key) (o.newest_is ∙ whole_state h) in
-    let old : (clean_object p key).0 ≡ version_after h key p.acknowledged = ap (λ (s : State). version_of s.objects key) o.clean_is in
-    let a : version_after h key p.acknowledged ≤ version_after h key (length w.log) = rises_between asked h key p.acknowledged (length w.log) o.numbered o.genuine o.committed in
+    let old : (clean_object p key).0 ≡ version_after h key p.past.acknowledged = ap (λ (s : State). version_of s.objects key) o.clean_is in
+    let a : version_after h key p.past.acknowledged ≤ version_after h key (length w.log) = rises_between asked h key p.past.acknowledged (length w.log) o.numbered o.genuine o.committed in
     let b : version_after h key (length w.log) ≤ version_after h key (length h) = rises_between asked h key (length w.log) (length h) o.numbered o.genuine (prefix_length l) in
     let equal : version_after h key (length w.log) ≡ version_after h key (length h) = omega (arith, same, new, old, a, b) in
     ap (λ (s : State). object_of s.objects key) (sym (state_stays (length w.log) w.log h l (omega arith)))
@@ -64,12 +65,12 @@ pub told_placed : (asked : List Asked) (w : World Entry) (p : Plain) (h : List E
     → PlacedRead w sent (read_place w.log (Some p) (Some (version, sent)) key) key (object_within p key (answering_version p key version))
 told_placed asked w p h key version sent o l placed gl le is =
     let clean_version : ℕ = (clean_object p key).0 in
-    let old : clean_version ≡ version_after h key p.acknowledged = ap (λ (s : State). version_of s.objects key) o.clean_is in
+    let old : clean_version ≡ version_after h key p.past.acknowledged = ap (λ (s : State). version_of s.objects key) o.clean_is in
     let bound : ℕ = max version clean_version in
     let g : GivenWithin h p key bound = given_within asked w p h key bound o (omega arith) in
     let there : (k : ℕ) → k ≤ length w.log → state_after k w.log ≡ state_after k h = λ k le. sym (state_stays k w.log h l le) in
     let told : version_after h key sent ≡ version = ap (λ (s : State). version_of s.objects key) (sym (there sent le)) ∙ is in
-    let low : version_after h key p.acknowledged ≤ version_after h key g.count = g.most p.acknowledged (omega arith) (omega (arith, old)) in
+    let low : version_after h key p.past.acknowledged ≤ version_after h key g.count = g.most p.past.acknowledged (omega arith) (omega (arith, old)) in
     -- the object at a place with the same version
     let place : (k : ℕ) → k ≤ length w.log → version_after h key k ≡ version_after h key g.count → object_of (state_after k w.log).objects key ≡ object_within p key bound =
     λ k le e. ap (λ (s : State). object_of s.objects key) (there k le) ∙ (same_objects asked h key k g.count o.numbered o.genuine e ∙ sym g.is)
@@ -78,15 +79,15 @@ told_placed asked w p h key version sent o l placed gl le is =
     (λ t.
     let small : clean_version ≤ version = leb-true clean_version version t in
     let high : version ≤ version_after h key g.count = ⊎_elim
-    (λ (after : p.acknowledged ≤ sent). omega (arith, told, g.most sent after (omega (arith, told))))
-    (λ (before : sent ≤ p.acknowledged). omega (arith, told, rises_between asked h key sent p.acknowledged o.numbered o.genuine before, low))
-    (either p.acknowledged sent) in
+    (λ (after : p.past.acknowledged ≤ sent). omega (arith, told, g.most sent after (omega (arith, told))))
+    (λ (before : sent ≤ p.past.acknowledged). omega (arith, told, rises_between asked h key sent p.past.acknowledged o.numbered o.genuine before, low))
+    (either p.past.acknowledged sent) in
     record { from = omega arith; within_log = le; is = place sent le (omega (arith, told, high, g.below, small)) })
     (λ t.
     let big : version < clean_version = leb-false clean_version version t in
     let reach : clean_version ≤ version_of (after_entries opening_state w.log).objects key =
     let e : version_of (after_entries opening_state w.log).objects key ≡ version_after h key (length w.log) = ap (λ (s : State). version_of s.objects key) (log_state w h l) in
-    omega (arith, e, old, rises_between asked h key p.acknowledged (length w.log) o.numbered o.genuine o.committed)
+    omega (arith, e, old, rises_between asked h key p.past.acknowledged (length w.log) o.numbered o.genuine o.committed)
     in
     let i : IsWritten opening_state 0 w.log key clean_version = written asked opening_state 0 w.log key clean_version o.numbered gl placed (positive version clean_version big) reach in
     let at : written_at w.log key clean_version ≡ i.place = found_at w.log key clean_version i in

@@ -3,8 +3,10 @@ use Rattle.std.proofs.Common.{◌≡◌, ◌⊎◌, ⊎_elim, ℕ, zero, suc, �
 use Rattle.std.proofs.Math.Seq.{take-add, take-append-add, drop-append-add}
 use Rattle.craq_commands.specs.declared.entry.Entry.{Entry}
 use Rattle.craq_commands.specs.Objects.{object_of, version_of}
-use Rattle.craq_commands.specs.SingleCopy.{State, opening_state, after_entries}
-use Rattle.craq_model.specs.Plain.{Plain, id_of, newest, clean, clean_object, entries_after, object_within, values_after, newest_within}
+use Rattle.craq_commands.specs.declared.state.State.{State}
+use Rattle.craq_commands.specs.SingleCopy.{opening_state, after_entries}
+use Rattle.craq_model.specs.Past.{values_after, newest_within}
+use Rattle.craq_model.specs.Plain.{Plain, id_of, newest, clean, clean_object, entries_after, object_within}
 use Rattle.craq_protocol.specs.Machine.{World}
 use Rattle.craq_protocol.specs.Promises.{IsPrefix, IsReached, IsSafe}
 use Rattle.craq_protocol.proofs.Prefix.{prefix_take}
@@ -56,11 +58,11 @@ pub record Holds (asked : List Asked) (w : World Entry) (p : Plain) (h : List En
   pub numbered : IsNumbered asked
   pub genuine : AllGenuine asked opening_state h
   pub newest_is : newest p ≡ after_entries opening_state h
-  pub clean_is : clean p ≡ state_after p.acknowledged h
-  pub after_is : entries_after p p.acknowledged ≡ drop p.acknowledged h
-  pub known : p.acknowledged ≤ length h
-  pub committed : p.acknowledged ≤ length w.log
-  pub same : take p.acknowledged h ≡ take p.acknowledged w.log
+  pub clean_is : clean p ≡ state_after p.past.acknowledged h
+  pub after_is : entries_after p p.past.acknowledged ≡ drop p.past.acknowledged h
+  pub known : p.past.acknowledged ≤ length h
+  pub committed : p.past.acknowledged ≤ length w.log
+  pub same : take p.past.acknowledged h ≡ take p.past.acknowledged w.log
 
 pub node_holds : (asked : List Asked) (w : World Entry) (p : Plain) → IsReached w → IsNumbered asked → AllGenuine asked opening_state (w.history (id_of p)) → NodeFollows w (seen_of p) → Holds asked w p (w.history (id_of p))
 unfolding clean entries_after
@@ -68,19 +70,19 @@ node_holds asked w p r n g f =
     let h : List Entry = w.history (id_of p) in
     let s : IsSafe w = reached_safe r in
     let front : List Entry = f.history.front in
-    let k : ℕ = p.acknowledged - p.base in
-    let count : length front + k ≡ p.acknowledged = omega (arith, f.history.count, f.based) in
-    let parts : front ++ p.entries ≡ h = f.history.whole in
-    let start : take p.acknowledged h ≡ front ++ take k p.entries = ap (take p.acknowledged) (sym parts) ∙ (ap (λ j. take j (front ++ p.entries)) (sym count) ∙ take-append-add front p.entries k) in
-    let rest : drop p.acknowledged h ≡ drop k p.entries = ap (drop p.acknowledged) (sym parts) ∙ (ap (λ j. drop j (front ++ p.entries)) (sym count) ∙ drop-append-add front p.entries k) in
+    let k : ℕ = p.past.acknowledged - p.past.base in
+    let count : length front + k ≡ p.past.acknowledged = omega (arith, f.history.count, f.based) in
+    let parts : front ++ p.past.entries ≡ h = f.history.whole in
+    let start : take p.past.acknowledged h ≡ front ++ take k p.past.entries = ap (take p.past.acknowledged) (sym parts) ∙ (ap (λ j. take j (front ++ p.past.entries)) (sym count) ∙ take-append-add front p.past.entries k) in
+    let rest : drop p.past.acknowledged h ≡ drop k p.past.entries = ap (drop p.past.acknowledged) (sym parts) ∙ (ap (λ j. drop j (front ++ p.past.entries)) (sym count) ∙ drop-append-add front p.past.entries k) in
     let a : _ = s.acknowledged (id_of p) in
-    let ack : w.acknowledged (id_of p) ≡ p.acknowledged = f.acknowledged in
+    let ack : w.acknowledged (id_of p) ≡ p.past.acknowledged = f.acknowledged in
     let T : ℕ → Type 0 = λ j. take j h ≡ take j w.log in
     record {
       numbered = n;
       genuine = g;
       newest_is = newest_is p f;
-      clean_is = sym (ap (after_entries opening_state) start ∙ (after_entries-append opening_state front (take k p.entries) ∙ ap (λ s. after_entries s (take k p.entries)) f.history.after));
+      clean_is = sym (ap (after_entries opening_state) start ∙ (after_entries-append opening_state front (take k p.past.entries) ∙ ap (λ s. after_entries s (take k p.past.entries)) f.history.after));
       after_is = sym rest;
       known = omega (arith, a.0, ack);
       committed = omega (arith, a.1, ack);
@@ -93,14 +95,15 @@ pub record GivenWithin (h : List Entry) (p : Plain) (key : List ℕ) (bound : �
   pub short : count ≤ length h
   pub is : object_within p key bound ≡ object_of (state_after count h).objects key
   pub below : version_after h key count ≤ bound
-  pub most : (k : ℕ) → p.acknowledged ≤ k → version_after h key k ≤ bound → version_after h key k ≤ version_after h key count
+  pub most : (k : ℕ) → p.past.acknowledged ≤ k → version_after h key k ≤ bound → version_after h key k ≤ version_after h key count
 
 state_add : (h : List Entry) (i j : ℕ) → state_after (i + j) h ≡ after_entries (state_after i h) (take j (drop i h))
 state_add h i j = ap (after_entries opening_state) (take-add i j h) ∙ after_entries-append opening_state (take i h) (take j (drop i h))
 
 pub given_within : (asked : List Asked) (w : World Entry) (p : Plain) (h : List Entry) (key : List ℕ) (bound : ℕ) → Holds asked w p h → (clean_object p key).0 ≤ bound → GivenWithin h p key bound
+unfolding clean entries_after
 given_within asked w p h key bound o le =
-    let a : ℕ = p.acknowledged in
+    let a : ℕ = p.past.acknowledged in
     let s : State = state_after a h in
     let es : List Entry = drop a h in
     let split : take a h ++ es ≡ h = take_drop a h in
@@ -112,7 +115,7 @@ given_within asked w p h key bound o le =
     record {
       count = a + i.count;
       short = omega (arith, i.short, length-drop a h, o.known);
-      is = ap (λ (s : State). newest_within bound (object_of s.objects key) (values_after (entries_after p p.acknowledged) key)) o.clean_is
+      is = ap (λ (s : State). newest_within bound (object_of s.objects key) (values_after (entries_after p p.past.acknowledged) key)) o.clean_is
           ∙ (ap (λ l. newest_within bound (object_of s.objects key) (values_after l key)) o.after_is
           ∙ (i.is ∙ sym (ap (λ (s : State). object_of s.objects key) (state_add h a i.count))));
       below = omega (arith, at i.count, i.below);

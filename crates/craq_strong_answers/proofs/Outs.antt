@@ -1,18 +1,22 @@
 -- What a step's outs tell: answers, questions about versions, and versions.
-use Rattle.std.proofs.Common.{◌≡◌, ℕ, ◌==◌, cond, List, [], ◌∷◌, ◌++◌, map, Option, Some, None, refl}
+use Rattle.std.proofs.Common.{◌≡◌, ℕ, ◌==◌, nat_le, cond, List, [], ◌∷◌, ◌++◌, map, Option, Some, None, refl}
 use Rattle.std.specs.Prelude.{⊤}
 use Rattle.std.specs.List.{AllByRecursion}
 use Rattle.std.proofs.lemmas.Bool.{cond_both}
 use Rattle.craq_commands.specs.declared.entry.Entry.{Entry}
 use Rattle.craq_model.specs.declared.message.Body.{Body}
 use Rattle.craq_model.specs.declared.message.Body.TheVariants as bodies
+use Rattle.craq_model.specs.declared.message.StatePart.{StatePart}
+use Rattle.craq_model.specs.Parts.{item_count, parts_of}
+use Rattle.craq_names.specs.Limits.{part_limit}
+use Rattle.craq_commands.specs.declared.state.State.{State}
 use Rattle.craq_model.specs.declared.ask.Answer.{Answer}
 use Rattle.craq_model.specs.declared.step.Out.{Out}
 use Rattle.craq_model.specs.declared.step.Out.TheVariants as outs
 use Rattle.craq_model.specs.declared.waiting.WaitingRead.{WaitingRead}
 use Rattle.craq_model.specs.Members.{last_of}
 use Rattle.craq_model.specs.Plain.{Plain, id_of, successor, predecessor, is_last, length_of, entries_after}
-use Rattle.craq_model.specs.Sends.{send, send_all, to_neighbour, entry_bodies, catch_up, queries, ready_sends, unready_sends, tick_sends}
+use Rattle.craq_model.specs.Sends.{send, send_all, to_neighbour, runs_of, run_body, entry_bodies, copy_bodies, catch_up, queries, ready_sends, unready_sends, tick_sends}
 use Rattle.craq_model.specs.Settle.{Given, answer_outs}
 
 -- what a message tells: Q of a question's sender, ticket and key; V of a version's receiver, ticket and version
@@ -23,7 +27,9 @@ Says Q V sender receiver (bodies.Ack position) = ⊤
 Says Q V sender receiver (bodies.Query ticket key) = Q sender ticket key
 Says Q V sender receiver (bodies.VersionIs ticket version) = V receiver ticket version
 Says Q V sender receiver (bodies.Blank count) = ⊤
-Says Q V sender receiver (bodies.Copy position objects kept) = ⊤
+Says Q V sender receiver (bodies.Batch es) = ⊤
+Says Q V sender receiver (bodies.Copy position state) = ⊤
+Says Q V sender receiver (bodies.Part part) = ⊤
 Says Q V sender receiver (bodies.Floor count) = ⊤
 
 -- what outs tell: each is sent to its receiver; G of an answer's ticket and itself
@@ -50,13 +56,29 @@ module _ (G : ℕ → Answer → Type 0) (Q : ℕ → ℕ → List ℕ → Type 
   told_neighbour None sends f = tt
   told_neighbour (Some to) sends f = f to
 
-  says_entries : (id to : ℕ) (es : List Entry) → AllByRecursion (Says Q V id to) (map bodies.Entry es)
-  says_entries id to [] = tt
-  says_entries id to (e ∷ es) = (tt, says_entries id to es)
+  says_run : (id to : ℕ) (es : List Entry) → Says Q V id to (run_body es)
+  says_run id to [] = tt
+  says_run id to (e ∷ []) = tt
+  says_run id to (e ∷ f ∷ es) = tt
+
+  says_runs : (id to : ℕ) (runs : List (List Entry)) → AllByRecursion (Says Q V id to) (map run_body runs)
+  says_runs id to [] = tt
+  says_runs id to (es ∷ runs) = (says_run id to es, says_runs id to runs)
 
   pub says_entry_bodies : (id to : ℕ) (es : List Entry) → AllByRecursion (Says Q V id to) (entry_bodies es)
   unfolding entry_bodies
-  says_entry_bodies id to es = says_entries id to es
+  says_entry_bodies id to es = says_runs id to (runs_of es)
+
+  says_parts : (id to : ℕ) (parts : List StatePart) → AllByRecursion (Says Q V id to) (map bodies.Part parts)
+  says_parts id to [] = tt
+  says_parts id to (part ∷ parts) = (tt, says_parts id to parts)
+
+  pub says_copy_bodies : (id to position : ℕ) (state : State) → AllByRecursion (Says Q V id to) (copy_bodies position state)
+  unfolding copy_bodies
+  says_copy_bodies id to position state =
+      cond_both (nat_le (item_count state) part_limit) (bodies.Copy position state ∷ []) (map bodies.Part (parts_of position state)) (λ (bs : List Body). AllByRecursion (Says Q V id to) bs)
+      (λ e. (tt, tt))
+      (λ e. says_parts id to (parts_of position state))
 
   says_more : (id to : ℕ) (bs cs : List Body) → AllByRecursion (Says Q V id to) bs → AllByRecursion (Says Q V id to) cs → AllByRecursion (Says Q V id to) (bs ++ cs)
   says_more id to [] cs a b = b
@@ -74,13 +96,13 @@ module _ (G : ℕ → Answer → Type 0) (Q : ℕ → ℕ → List ℕ → Type 
   told_ready : (p : Plain) → AllByRecursion (λ (r : WaitingRead). Q (id_of p) r.ticket r.key) p.waiting_reads → AllTold G Q V (ready_sends p)
   unfolding ready_sends
   told_ready p a =
-      let first : List Out = to_neighbour (successor p) (λ to. send_all p to (catch_up p p.acknowledged)) in
-      let second : List Out = to_neighbour (predecessor p) (λ to. send p to (bodies.Ack p.acknowledged) ∷ []) in
+      let first : List Out = to_neighbour (successor p) (λ to. send_all p to (catch_up p p.past.acknowledged)) in
+      let second : List Out = to_neighbour (predecessor p) (λ to. send p to (bodies.Ack p.past.acknowledged) ∷ []) in
       let third : List Out = cond (is_last p) [] (queries p) in
       told_both (first ++ second) third
       (told_both first second
-      (told_neighbour (successor p) (λ to. send_all p to (catch_up p p.acknowledged)) (λ to. told_sends p to (catch_up p p.acknowledged) (says_catch_up p p.acknowledged (id_of p) to)))
-      (told_neighbour (predecessor p) (λ to. send p to (bodies.Ack p.acknowledged) ∷ []) (λ to. ((refl, tt), tt))))
+      (told_neighbour (successor p) (λ to. send_all p to (catch_up p p.past.acknowledged)) (λ to. told_sends p to (catch_up p p.past.acknowledged) (says_catch_up p p.past.acknowledged (id_of p) to)))
+      (told_neighbour (predecessor p) (λ to. send p to (bodies.Ack p.past.acknowledged) ∷ []) (λ to. ((refl, tt), tt))))
       (cond_both (is_last p) [] (queries p) (λ (os : List Out). AllTold G Q V os) (λ e. tt) (λ e. told_queries p p.waiting_reads a))
 
   told_unready : (p : Plain) → AllTold G Q V (unready_sends p)

@@ -3,7 +3,7 @@ use Rattle.std.proofs.Common.{◌≡◌, ℕ, suc, ◌≤◌, cond, List, [], �
 use Rattle.std.specs.List.{AllByRecursion, AllZip}
 use Rattle.craq_commands.specs.declared.entry.Entry.{Entry}
 use Rattle.craq_commands.specs.declared.read_mode.ReadMode.TheVariants.{Strong, Eventual, Bounded}
-use Rattle.craq_commands.specs.SingleCopy.{State}
+use Rattle.craq_commands.specs.declared.state.State.{State}
 use Rattle.craq_model.specs.declared.ask.Ask.{Ask}
 use Rattle.craq_model.specs.declared.ask.Ask.TheVariants as asks
 use Rattle.craq_model.specs.declared.ask.Answer.{Answer}

@@ -14,7 +14,7 @@ use Rattle.craq_model.specs.declared.ask.Answer.TheVariants as answers
 use Rattle.craq_model.specs.declared.step.Out.{Out}
 use Rattle.craq_model.specs.declared.waiting.WaitingRead.{WaitingRead}
 use Rattle.craq_model.specs.Members.{first_of}
-use Rattle.craq_model.specs.Plain.{Plain, successor, is_first, is_last, length_of, newest, clean, object_within, position_of, entries_after}
+use Rattle.craq_model.specs.Plain.{Plain, successor, is_first, is_last, length_of, newest, clean, object_within, position_of, entries_after, acknowledging}
 use Rattle.craq_model.specs.Sends.{send_all, to_neighbour, entry_bodies}
 use Rattle.craq_model.specs.Settle.{Turn}
 use Rattle.craq_model.specs.Asks.{accepted_turn, answered_turn, is_full, with_entry, committed_if_last, reply_turn, new_update_turn, update_turn, accepted_ask_turn, ask_turn}
@@ -23,10 +23,10 @@ use Rattle.craq_refinement.proofs.Updates.{refused}
 use Rattle.craq_updates.proofs.EachMove.{entry_for}
 
 pub record SameHistory (p q : Plain) : Type 0 where
-  pub base : q.base ≡ p.base
-  pub state : q.base_state ≡ p.base_state
-  pub entries : q.entries ≡ p.entries
-  pub acknowledged : q.acknowledged ≡ p.acknowledged
+  pub base : q.past.base ≡ p.past.base
+  pub state : q.past.base_state ≡ p.past.base_state
+  pub entries : q.past.entries ≡ p.past.entries
+  pub acknowledged : q.past.acknowledged ≡ p.past.acknowledged
   pub ready : q.ready ≡ p.ready
 
 pub same_self : (p : Plain) → SameHistory p p
@@ -43,7 +43,7 @@ same_clean p q s = λ i. after_entries (s.state i) (take (s.acknowledged i - s.b
 pub same_within : (p q : Plain) (key : List ℕ) (bound : ℕ) → SameHistory p q → object_within q key bound ≡ object_within p key bound
 unfolding entries_after clean newest
 same_within p q key bound s =
-    λ i. object_within (record p { base = s.base i; base_state = s.state i; entries = s.entries i; acknowledged = s.acknowledged i }) key bound
+    λ i. object_within (record p { past = record { base = s.base i; base_state = s.state i; entries = s.entries i; acknowledged = s.acknowledged i } }) key bound
 
 told_same : (p : Plain) (version : ℕ) (o : Option WaitingRead) → SameHistory p (told_version_turn p version o).0
 unfolding told_version_turn
@@ -62,16 +62,16 @@ query_same p sender ticket key = grind (arith, same_self p)
 
 -- an update makes an entry where it is new, and else leaves the history
 pub record UpdateTurn (p : Plain) (u : Update) (q : Plain) : Type 0 where
-  pub base : q.base ≡ p.base
-  pub state : q.base_state ≡ p.base_state
+  pub base : q.past.base ≡ p.past.base
+  pub state : q.past.base_state ≡ p.past.base_state
   pub ready : p.ready ≡ true
   pub still : q.ready ≡ true
-  pub entries : ((reply : Reply) × (said (newest p) u.client u.number ≡ Some reply) × (q.entries ≡ p.entries))
-      ⊎ ((said (newest p) u.client u.number ≡ None) × (q.entries ≡ p.entries ++ entry_for p u ∷ []))
+  pub entries : ((reply : Reply) × (said (newest p) u.client u.number ≡ Some reply) × (q.past.entries ≡ p.past.entries))
+      ⊎ ((said (newest p) u.client u.number ≡ None) × (q.past.entries ≡ p.past.entries ++ entry_for p u ∷ []))
 
 -- the fields of a node that a reply leaves
 abbrev Leaves : Plain → Result Turn Refusal → Type 0
-Leaves p (Ok t) = (t.0.base ≡ p.base) × (t.0.base_state ≡ p.base_state) × (t.0.entries ≡ p.entries) × (t.0.ready ≡ p.ready)
+Leaves p (Ok t) = (t.0.past.base ≡ p.past.base) × (t.0.past.base_state ≡ p.past.base_state) × (t.0.past.entries ≡ p.past.entries) × (t.0.ready ≡ p.ready)
 Leaves p (Err e) = Unit {0}
 
 reply_leaves : (p : Plain) (position : ℕ) (reply : Reply) (sends : List Out) → Leaves p (reply_turn p position reply sends)
@@ -80,17 +80,17 @@ reply_leaves p position reply sends =
     let now : Turn = answered_turn p (answers.Update reply) sends in
     let q : Plain = record p { waiting_updates = p.waiting_updates ++ (record { ticket = p.last_ticket + 1; position = position; reply = reply }) ∷ [] } in
     let rest : Result Turn Refusal = cond (is_full p) (Err refusals.PendingFull) (Ok (accepted_turn q sends)) in
-    cond_both (nat_le position p.acknowledged) (Ok now) rest (λ (r : Result Turn Refusal). Leaves p r)
+    cond_both (nat_le position p.past.acknowledged) (Ok now) rest (λ (r : Result Turn Refusal). Leaves p r)
     (λ e. (refl, refl, refl, refl))
     (λ e. cond_both (is_full p) (Err refusals.PendingFull) (Ok (accepted_turn q sends)) (λ (r : Result Turn Refusal). Leaves p r) (λ f. tt) (λ f. (refl, refl, refl, refl)))
 
 leaves_after : (p : Plain) (position : ℕ) (reply : Reply) (sends : List Out) → Leaves p (reply_turn (committed_if_last p) position reply sends)
 leaves_after p position reply sends =
-    cond_both (is_last p) (record p { acknowledged = length_of p }) p (λ (q : Plain). Leaves p (reply_turn q position reply sends))
-    (λ e. reply_leaves (record p { acknowledged = length_of p }) position reply sends)
+    cond_both (is_last p) (acknowledging p (length_of p)) p (λ (q : Plain). Leaves p (reply_turn q position reply sends))
+    (λ e. reply_leaves (acknowledging p (length_of p)) position reply sends)
     (λ e. reply_leaves p position reply sends)
 
-left : (p : Plain) (r : Result Turn Refusal) (t : Turn) → Leaves p r → r ≡ Ok t → (t.0.base ≡ p.base) × (t.0.base_state ≡ p.base_state) × (t.0.entries ≡ p.entries) × (t.0.ready ≡ p.ready)
+left : (p : Plain) (r : Result Turn Refusal) (t : Turn) → Leaves p r → r ≡ Ok t → (t.0.past.base ≡ p.past.base) × (t.0.past.base_state ≡ p.past.base_state) × (t.0.past.entries ≡ p.past.entries) × (t.0.ready ≡ p.ready)
 left p r t l h = let S : Result Turn Refusal → Type 0 = λ r. Leaves p r in subst S h l
 
 pub update_turns : (p : Plain) (u : Update) (t : Turn) → ask_turn p (asks.Update u) ≡ Ok t → UpdateTurn p u t.0

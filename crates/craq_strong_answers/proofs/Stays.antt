@@ -3,7 +3,8 @@ use Rattle.std.proofs.Common.{◌≡◌, inl, inr, ⊎_elim, ℕ, ◌-◌, ◌�
 use Rattle.std.specs.List.{AllByRecursion, AllZip}
 use Rattle.craq_commands.specs.declared.entry.Entry.{Entry}
 use Rattle.craq_commands.specs.Objects.{version_of}
-use Rattle.craq_commands.specs.SingleCopy.{State, opening_state, after_entries, said}
+use Rattle.craq_commands.specs.declared.state.State.{State}
+use Rattle.craq_commands.specs.SingleCopy.{opening_state, after_entries, said}
 use Rattle.craq_model.specs.declared.message.Body.{Body}
 use Rattle.craq_model.specs.declared.message.Body.TheVariants as bodies
 use Rattle.craq_model.specs.declared.message.LinkMessage.{LinkMessage}
@@ -95,7 +96,9 @@ message_stays {a} {b} {w} {v} g m sent t = by_body m.body t
     by_body (bodies.Query ticket key) t = asked_stays g m.sender ticket key t
     by_body (bodies.VersionIs ticket version) t = told_stays g m.receiver ticket version sent t
     by_body (bodies.Blank count) t = tt
-    by_body (bodies.Copy position objects kept) t = tt
+    by_body (bodies.Batch es) t = tt
+    by_body (bodies.Copy position state) t = tt
+    by_body (bodies.Part part) t = tt
     by_body (bodies.Floor count) t = tt
 
 pub messages_stay : {a b : Account} {w v : World Entry} → GoesOn a b w v → (ms : List LinkMessage) (sents : List ℕ) → AllZip (IsTold a w) ms sents → AllZip (IsTold b v) ms sents

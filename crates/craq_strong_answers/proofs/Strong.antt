@@ -3,7 +3,8 @@ use Rattle.std.proofs.Common.{◌≡◌, ℕ, ◌+◌, List, [], ◌∷◌, ◌+
 use Rattle.std.specs.List.{AllZip}
 use Rattle.craq_names.specs.declared.refusal.Refusal.{Refusal}
 use Rattle.craq_commands.specs.declared.entry.Entry.{Entry}
-use Rattle.craq_commands.specs.SingleCopy.{State, opening_state, after}
+use Rattle.craq_commands.specs.declared.state.State.{State}
+use Rattle.craq_commands.specs.SingleCopy.{opening_state, after}
 use Rattle.craq_protocol.specs.Machine.{World, opening}
 use Rattle.craq_protocol.proofs.Prefix.{prefix_take}
 use Rattle.craq_runs.specs.declared.explanation.Place.{Place}

@@ -1,5 +1,5 @@
 -- A step answers no ticket twice, and what it answers waits no more.
-use Rattle.std.proofs.Common.{◌≡◌, ℕ, ◌+◌, ◌≤◌, ◌==◌, nat_le, nat_lt, Bool, true, false, not, cond, ◌&&◌, ◌||◌, List, [], ◌∷◌, ◌++◌, map, filter, find, Option, Some, None, Result, Ok, Err, refl, ap, sym, subst, ◌∙◌, arith}
+use Rattle.std.proofs.Common.{◌≡◌, ℕ, ◌+◌, ◌≤◌, ◌==◌, nat_le, nat_lt, Bool, true, false, not, cond, ◌&&◌, ◌||◌, List, [], ◌∷◌, ◌++◌, map, filter, find, is_some, Option, Some, None, Result, Ok, Err, refl, ap, sym, subst, ◌∙◌, arith}
 use Rattle.std.specs.Prelude.{⊤}
 use Rattle.std.specs.List.{AllByRecursion}
 use Rattle.std.proofs.lemmas.Bool.{cond_both, eqb-true}
@@ -13,7 +13,12 @@ use Rattle.craq_commands.specs.declared.reply.Reply.{Reply}
 use Rattle.craq_commands.specs.declared.read_mode.ReadMode.{ReadMode}
 use Rattle.craq_commands.specs.declared.read_mode.ReadMode.TheVariants.{Strong, Eventual, Bounded}
 use Rattle.craq_commands.specs.Evaluation.{eval, objects_named, all_of_chain, some_used_up}
-use Rattle.craq_commands.specs.SingleCopy.{State, said}
+use Rattle.craq_commands.specs.declared.state.State.{State}
+use Rattle.craq_commands.specs.SingleCopy.{said}
+use Rattle.craq_names.specs.Maps.{at_number}
+use Rattle.craq_model.specs.declared.gathering.Gathering.{Gathering}
+use Rattle.craq_model.specs.declared.message.StatePart.{StatePart}
+use Rattle.craq_model.specs.Parts.{gathered_position, gathering_for, is_in_order, with_part, is_whole, joined_state}
 use Rattle.craq_model.specs.declared.ask.Ask.{Ask}
 use Rattle.craq_model.specs.declared.ask.Ask.TheVariants as asks
 use Rattle.craq_model.specs.declared.ask.Answer.{Answer}
@@ -28,11 +33,11 @@ use Rattle.craq_model.specs.declared.step.Why.TheVariants.{OtherEpoch, NotNeighb
 use Rattle.craq_model.specs.declared.waiting.WaitingUpdate.{WaitingUpdate}
 use Rattle.craq_model.specs.declared.waiting.WaitingRead.{WaitingRead}
 use Rattle.craq_model.specs.Members.{is_member, is_id, first_of, last_of}
-use Rattle.craq_model.specs.Plain.{Plain, id_of, successor, predecessor, is_first, is_last, is_tail, length_of, newest, newest_object, clean_object, object_within, position_of}
+use Rattle.craq_model.specs.Plain.{Plain, id_of, successor, predecessor, is_first, is_last, is_tail, length_of, newest, newest_object, clean_object, object_within, position_of, with_entries, acknowledging}
 use Rattle.craq_model.specs.Sends.{send, send_all, to_neighbour, entry_bodies, tick_sends}
-use Rattle.craq_model.specs.Settle.{Turn, turn_with, turn_ignoring, read_answer, Given, update_given, read_given, by_ticket, all_given, all_committed, answer_outs, is_reached, settling_turn, readiness_turn}
+use Rattle.craq_model.specs.Settle.{Turn, turn_with, turn_ignoring, read_answer, Given, update_given, read_given, by_ticket, all_given, all_committed, answer_outs, is_reached, settling_turn, without_reached, readiness_turn}
 use Rattle.craq_model.specs.Asks.{accepted_turn, answered_turn, is_full, is_clean, asked_objects, entry_of, with_entry, committed_if_last, reply_turn, new_update_turn, update_turn, waiting_read_turn, read_turn, accepted_ask_turn, ask_turn}
-use Rattle.craq_model.specs.Deliveries.{config_turn, is_applicable, forwarding_turn, taken_entry_turn, entry_turn, due_updates, later_updates, acknowledgement_turn, ack_turn, query_turn, read_with, reads_without, answering_version, told_version_turn, version_turn, fill_bodies, blank_turn, with_copy, copy_turn, floor_turn, turn_in_epoch, body_turn}
+use Rattle.craq_model.specs.Deliveries.{config_turn, are_applicable, forwarding_turn, taken_entries_turn, first_position, final_position, entries_above, entries_turn, due_updates, later_updates, acknowledgement_turn, ack_turn, query_turn, read_with, reads_without, answering_version, told_version_turn, version_turn, fill_bodies, blank_turn, with_copy, copy_turn, gathered_turn, gathering_turn, is_outdated, part_turn, floor_turn, turn_in_epoch, body_turn}
 use Rattle.craq_strong_answers.proofs.Outs.{Says, AllTold, told_sends, told_neighbour, told_tick}
 use Rattle.craq_strong_answers.proofs.Times.{times, times_cons, times_nil, times_append, update_tickets, read_tickets, open_of, given_in, given_both, given_answers, none_given, sorted_times, parted_times, answered_times}
 
@@ -70,7 +75,9 @@ says_all id to (b ∷ bs) = (one b, says_all id to bs)
     one (bodies.Query ticket key) = tt
     one (bodies.VersionIs ticket version) = tt
     one (bodies.Blank count) = tt
-    one (bodies.Copy position objects kept) = tt
+    one (bodies.Batch es) = tt
+    one (bodies.Copy position state) = tt
+    one (bodies.Part part) = tt
     one (bodies.Floor count) = tt
 
 no_sends : (p : Plain) (to : ℕ) (bs : List Body) → NoAnswer (send_all p to bs)
@@ -119,45 +126,53 @@ settling p =
     })
     (λ e. silent (open_of p) p (tick_sends p) (no_ticks p) refl)
 
+still_open : (p : Plain) → open_of (without_reached p) ≡ open_of p
+unfolding without_reached
+still_open p = cond_both (nat_le (gathered_position p.gathering) (length_of p)) (record p { gathering = None }) p (λ (q : Plain). open_of q ≡ open_of p) (λ e. refl) (λ e. refl)
+
 becoming : (p : Plain) → Closes (open_of p) (readiness_turn p)
 unfolding readiness_turn
 becoming p =
-    cond_both (not p.ready && is_reached p.floor (length_of p)) (settling_turn (record p { ready = true })) (turn_with p []) (λ (t : Turn). Closes (open_of p) t)
-    (λ e. settling (record p { ready = true }))
-    (λ e. silent (open_of p) p [] tt refl)
+    cond_both (not p.ready && is_reached p.floor (length_of p)) (settling_turn (record p { ready = true; gathering = None })) (turn_with (without_reached p) []) (λ (t : Turn). Closes (open_of p) t)
+    (λ e. settling (record p { ready = true; gathering = None }))
+    (λ e. silent (open_of p) (without_reached p) [] tt (still_open p))
 
 config_closes : (p : Plain) (epoch : ℕ) (members : List ℕ) → Closes (open_of p) (config_turn p epoch members)
 unfolding config_turn
 config_closes p epoch members =
-    let last : Turn = settling_turn (record p { epoch = epoch; members = members; floor = None }) in
+    let last : Turn = settling_turn (record p { epoch = epoch; members = members; floor = None; gathering = None }) in
     guard p (nat_le epoch p.epoch) OtherEpoch (cond (not (is_member members (id_of p))) (turn_ignoring p NotNeighbour) last)
-    (guard p (not (is_member members (id_of p))) NotNeighbour last (settling (record p { epoch = epoch; members = members; floor = None })))
+    (guard p (not (is_member members (id_of p))) NotNeighbour last (settling (record p { epoch = epoch; members = members; floor = None; gathering = None })))
 
-forwarding : (p : Plain) (e : Entry) → Closes (open_of p) (forwarding_turn p e)
+forwarding : (p : Plain) (es : List Entry) → Closes (open_of p) (forwarding_turn p es)
 unfolding forwarding_turn
-forwarding p e =
-    let q : Plain = record p { acknowledged = length_of p } in
-    cond_both (is_tail p) (turn_with q (to_neighbour (predecessor p) (λ to. send p to (bodies.Ack (length_of p)) ∷ []))) (turn_with p (to_neighbour (successor p) (λ to. send_all p to (entry_bodies (e ∷ []))))) (λ (t : Turn). Closes (open_of p) t)
-    (λ t. silent (open_of p) q (to_neighbour (predecessor p) (λ to. send p to (bodies.Ack (length_of p)) ∷ [])) (no_neighbour p (predecessor p) (bodies.Ack (length_of p) ∷ [])) refl)
-    (λ t. silent (open_of p) p (to_neighbour (successor p) (λ to. send_all p to (entry_bodies (e ∷ [])))) (no_neighbour p (successor p) (entry_bodies (e ∷ []))) refl)
+forwarding p es =
+    let q : Plain = acknowledging p (length_of p) in
+    let acks : ℕ → List Out = λ to. send p to (bodies.Ack (length_of p)) ∷ [] in
+    let entries : ℕ → List Out = λ to. send_all p to (entry_bodies es) in
+    cond_both (is_tail p) (turn_with q (to_neighbour (predecessor p) acks)) (turn_with p (to_neighbour (successor p) entries)) (λ (t : Turn). Closes (open_of p) t)
+    (λ t. silent (open_of p) q (to_neighbour (predecessor p) acks) (no_neighbour p (predecessor p) (bodies.Ack (length_of p) ∷ [])) refl)
+    (λ t. silent (open_of p) p (to_neighbour (successor p) entries) (no_neighbour p (successor p) (entry_bodies es)) refl)
 
-entry_closes : (p : Plain) (sender : ℕ) (e : Entry) → Closes (open_of p) (entry_turn p sender e)
-unfolding entry_turn
-entry_closes p sender e =
-    let q : Plain = with_entry p e in
-    let last : Turn = taken_entry_turn q e in
-    let third : Turn = cond (not (is_applicable (newest p) e)) (turn_ignoring p TooFar) last in
-    let second : Turn = cond (nat_lt (length_of p + 1) e.position) (turn_ignoring p OutOfOrder) third in
-    let first : Turn = cond (nat_le e.position (length_of p)) (turn_ignoring p AlreadyHave) second in
+entries_close : (p : Plain) (sender : ℕ) (es : List Entry) → Closes (open_of p) (entries_turn p sender es)
+unfolding entries_turn
+entries_close p sender es =
+    let new : List Entry = entries_above (length_of p) es in
+    let q : Plain = with_entries p new in
+    let last : Turn = taken_entries_turn q new in
+    let third : Turn = cond (are_applicable (newest p) new) last (turn_ignoring p TooFar) in
+    let second : Turn = cond (nat_lt (length_of p + 1) (first_position es)) (turn_ignoring p OutOfOrder) third in
+    let first : Turn = cond (nat_le (final_position es) (length_of p)) (turn_ignoring p AlreadyHave) second in
     guard p (not (is_id (predecessor p) sender)) NotNeighbour first
-    (guard p (nat_le e.position (length_of p)) AlreadyHave second
-    (guard p (nat_lt (length_of p + 1) e.position) OutOfOrder third
-    (guard p (not (is_applicable (newest p) e)) TooFar last
-    (cond_both p.ready (forwarding_turn q e) (readiness_turn q) (λ (t : Turn). Closes (open_of p) t) (λ r. forwarding q e) (λ r. becoming q)))))
+    (guard p (nat_le (final_position es) (length_of p)) AlreadyHave second
+    (guard p (nat_lt (length_of p + 1) (first_position es)) OutOfOrder third
+    (cond_both (are_applicable (newest p) new) last (turn_ignoring p TooFar) (λ (t : Turn). Closes (open_of p) t)
+    (λ g. cond_both p.ready (forwarding_turn q new) (readiness_turn q) (λ (t : Turn). Closes (open_of p) t) (λ r. forwarding q new) (λ r. becoming q))
+    (λ g. ignored p TooFar))))
 
-acknowledging : (p : Plain) (position : ℕ) → Closes (open_of p) (acknowledgement_turn p position)
+hearing : (p : Plain) (position : ℕ) → Closes (open_of p) (acknowledgement_turn p position)
 unfolding acknowledgement_turn due_updates later_updates
-acknowledging p position =
+hearing p position =
     let due : List WaitingUpdate = filter (λ (u : WaitingUpdate). nat_le u.position position) p.waiting_updates in
     let later : List WaitingUpdate = filter (λ (u : WaitingUpdate). nat_lt position u.position) p.waiting_updates in
     let given : List Out = answer_outs (map update_given due) in
@@ -176,10 +191,10 @@ unfolding ack_turn
 ack_closes p sender position =
     let last : Turn = acknowledgement_turn p position in
     let third : Turn = cond (nat_lt (length_of p) position) (turn_ignoring p TooFar) last in
-    let second : Turn = cond (nat_le position p.acknowledged) (turn_ignoring p AlreadyHave) third in
+    let second : Turn = cond (nat_le position p.past.acknowledged) (turn_ignoring p AlreadyHave) third in
     let first : Turn = cond (not p.ready) (turn_ignoring p NotReadyHere) second in
     guard p (not (is_id (successor p) sender)) NotNeighbour first
-    (guard p (not p.ready) NotReadyHere second (guard p (nat_le position p.acknowledged) AlreadyHave third (guard p (nat_lt (length_of p) position) TooFar last (acknowledging p position))))
+    (guard p (not p.ready) NotReadyHere second (guard p (nat_le position p.past.acknowledged) AlreadyHave third (guard p (nat_lt (length_of p) position) TooFar last (hearing p position))))
 
 query_closes : (p : Plain) (sender ticket : ℕ) (key : List ℕ) → Closes (open_of p) (query_turn p sender ticket key)
 unfolding query_turn
@@ -223,6 +238,27 @@ copy_closes p sender position state =
     guard p (not (is_id (predecessor p) sender)) NotNeighbour (cond (p.ready || nat_le position (length_of p)) (turn_ignoring p AlreadyHave) (readiness_turn (with_copy p position state)))
     (guard p (p.ready || nat_le position (length_of p)) AlreadyHave (readiness_turn (with_copy p position state)) (becoming (with_copy p position state)))
 
+gathered_closes : (p : Plain) (g : Gathering) → Closes (open_of p) (gathered_turn p g)
+gathered_closes p g =
+    let q : Plain = with_copy p g.position (joined_state g.parts) in
+    let r : Plain = record p { gathering = Some g } in
+    cond_both (is_whole g) (readiness_turn q) (turn_with r []) (λ (t : Turn). Closes (open_of p) t) (λ e. becoming q) (λ e. silent (open_of p) r [] tt refl)
+
+part_closes : (p : Plain) (sender : ℕ) (part : StatePart) → Closes (open_of p) (part_turn p sender part)
+unfolding part_turn
+part_closes p sender part =
+    let g : Gathering = gathering_for part p.gathering in
+    let last : Turn = gathered_turn p (with_part g part) in
+    let fourth : Turn = cond (not (is_in_order g part)) (turn_ignoring p TooFar) last in
+    let third : Turn = cond (is_some (at_number g.parts part.number)) (turn_ignoring p AlreadyHave) fourth in
+    let second : Turn = gathering_turn p g part in
+    let first : Turn = cond (p.ready || is_outdated p part) (turn_ignoring p AlreadyHave) second in
+    guard p (not (is_id (predecessor p) sender)) NotNeighbour first
+    (guard p (p.ready || is_outdated p part) AlreadyHave second
+    (guard p (not (part.count == g.count)) TooFar third
+    (guard p (is_some (at_number g.parts part.number)) AlreadyHave fourth
+    (guard p (not (is_in_order g part)) TooFar last (gathered_closes p (with_part g part))))))
+
 floor_closes : (p : Plain) (sender count : ℕ) → Closes (open_of p) (floor_turn p sender count)
 unfolding floor_turn
 floor_closes p sender count =
@@ -234,12 +270,14 @@ in_epoch p m t c = cond_both (m.epoch == p.epoch) t (turn_ignoring p OtherEpoch)
 
 pub body_closes : (p : Plain) (m : LinkMessage) (b : Body) → Closes (open_of p) (body_turn p m b)
 body_closes p m (bodies.Config members) = config_closes p m.epoch members
-body_closes p m (bodies.Entry e) = in_epoch p m (entry_turn p m.sender e) (entry_closes p m.sender e)
+body_closes p m (bodies.Entry e) = in_epoch p m (entries_turn p m.sender (e ∷ [])) (entries_close p m.sender (e ∷ []))
+body_closes p m (bodies.Batch es) = in_epoch p m (entries_turn p m.sender es) (entries_close p m.sender es)
+body_closes p m (bodies.Part part) = in_epoch p m (part_turn p m.sender part) (part_closes p m.sender part)
 body_closes p m (bodies.Ack position) = in_epoch p m (ack_turn p m.sender position) (ack_closes p m.sender position)
 body_closes p m (bodies.Query ticket key) = in_epoch p m (query_turn p m.sender ticket key) (query_closes p m.sender ticket key)
 body_closes p m (bodies.VersionIs ticket version) = in_epoch p m (version_turn p m.sender ticket version) (version_closes p m.sender ticket version)
 body_closes p m (bodies.Blank count) = in_epoch p m (blank_turn p m.sender count) (blank_closes p m.sender count)
-body_closes p m (bodies.Copy position objects kept) = in_epoch p m (copy_turn p m.sender position (record { objects = objects; kept = kept })) (copy_closes p m.sender position (record { objects = objects; kept = kept }))
+body_closes p m (bodies.Copy position state) = in_epoch p m (copy_turn p m.sender position state) (copy_closes p m.sender position state)
 body_closes p m (bodies.Floor count) = in_epoch p m (floor_turn p m.sender count) (floor_closes p m.sender count)
 
 pub tick_closes : (p : Plain) → Closes (open_of p) (turn_with p (tick_sends p))
@@ -281,7 +319,7 @@ reply_closes p position reply sends a =
     let us : List ℕ = update_tickets p.waiting_updates in
     let rs : List ℕ = read_tickets p.waiting_reads in
     let new : List ℕ = (p.last_ticket + 1) ∷ [] in
-    cond_both (nat_le position p.acknowledged) (Ok (answered_turn p (answers.Update reply) sends)) rest (λ (r : Result Turn Refusal). IfCloses (open_of p) p.last_ticket r)
+    cond_both (nat_le position p.past.acknowledged) (Ok (answered_turn p (answers.Update reply) sends)) rest (λ (r : Result Turn Refusal). IfCloses (open_of p) p.last_ticket r)
     (λ e. answered p (answers.Update reply) sends a)
     (λ e. cond_both (is_full p) (Err refusals.PendingFull) (Ok (accepted_turn q sends)) (λ (r : Result Turn Refusal). IfCloses (open_of p) p.last_ticket r)
     (λ f. tt)
@@ -292,8 +330,8 @@ reply_closes p position reply sends a =
 
 replies_after : (p : Plain) (position : ℕ) (reply : Reply) (sends : List Out) → NoAnswer sends → IfCloses (open_of p) p.last_ticket (reply_turn (committed_if_last p) position reply sends)
 replies_after p position reply sends a =
-    cond_both (is_last p) (record p { acknowledged = length_of p }) p (λ (q : Plain). IfCloses (open_of p) p.last_ticket (reply_turn q position reply sends))
-    (λ e. reply_closes (record p { acknowledged = length_of p }) position reply sends a)
+    cond_both (is_last p) (acknowledging p (length_of p)) p (λ (q : Plain). IfCloses (open_of p) p.last_ticket (reply_turn q position reply sends))
+    (λ e. reply_closes (acknowledging p (length_of p)) position reply sends a)
     (λ e. reply_closes p position reply sends a)
 
 update_closes : (p : Plain) (u : Update) (r : Option Reply) → IfCloses (open_of p) p.last_ticket (update_turn p u r)

@@ -8,9 +8,10 @@ use Rattle.craq_commands.specs.declared.entry.Entry.{Entry}
 use Rattle.craq_commands.specs.declared.entry.Write.{Write}
 use Rattle.craq_commands.specs.Objects.{Objects, object_of, version_of, set_object}
 use Rattle.craq_commands.specs.Evaluation.{eval}
-use Rattle.craq_commands.specs.SingleCopy.{State, opening_state, with_writes, after_entry, after_entries}
+use Rattle.craq_commands.specs.declared.state.State.{State}
+use Rattle.craq_commands.specs.SingleCopy.{opening_state, with_writes, after_entry, after_entries}
 use Rattle.craq_model.specs.Asks.{versioned_write}
-use Rattle.craq_model.specs.Plain.{values_in}
+use Rattle.craq_model.specs.Past.{values_in}
 use Rattle.craq_protocol.specs.Promises.{IsPrefix}
 use Rattle.craq_runs.specs.Seen.{Asked}
 use Rattle.craq_laws.proofs.Histories.{IsNoOlder, more_updates}

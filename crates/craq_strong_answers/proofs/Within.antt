@@ -6,8 +6,9 @@ use Rattle.craq_names.specs.Maps.{same_bytes}
 use Rattle.craq_commands.specs.declared.entry.Entry.{Entry}
 use Rattle.craq_commands.specs.declared.entry.Write.{Write}
 use Rattle.craq_commands.specs.Objects.{object_of, version_of}
-use Rattle.craq_commands.specs.SingleCopy.{State, after_entry, after_entries}
-use Rattle.craq_model.specs.Plain.{values_in, values_after, newest_within}
+use Rattle.craq_commands.specs.declared.state.State.{State}
+use Rattle.craq_commands.specs.SingleCopy.{after_entry, after_entries}
+use Rattle.craq_model.specs.Past.{values_in, values_after, newest_within}
 use Rattle.craq_runs.specs.Seen.{Asked}
 use Rattle.craq_runs.specs.Explain.{wrote}
 use Rattle.craq_refinement.specs.Follows.{IsPlaced}

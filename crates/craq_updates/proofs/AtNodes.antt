@@ -23,7 +23,7 @@ use Rattle.craq_protocol.proofs.Reached.{reached_safe}
 use Rattle.craq_runs.specs.declared.run.Move.{Move}
 use Rattle.craq_runs.specs.declared.run.Move.TheVariants as moves
 use Rattle.craq_runs.specs.Chain.{Chain, Progress, node_at, set_node, message_at}
-use Rattle.craq_refinement.specs.Follows.{seen_of, NodeFollows, Follows, BodyFollows, said}
+use Rattle.craq_refinement.specs.Follows.{seen_of, PartFollows, NodeFollows, Follows, BodyFollows, said}
 use Rattle.craq_refinement.proofs.Nodes.{node_id, node_here, node_elsewhere}
 use Rattle.craq_refinement.proofs.EachLine.{said_as}
 use Rattle.craq_refinement.proofs.Updates.{turn_same}
@@ -84,24 +84,30 @@ pub tickets_rise : {c : Chain} {chosen : Move} {x : Progress} (a : AtNode c chos
 tickets_rise a = tickets_by a.was a.event a.turn a.does
 
 -- the base is no more than what was committed before the step
-based_before : {c : Chain} {w : World Entry} → Follows c w → IsReached w → (id : ℕ) (p : Plain) → node_at c.nodes id ≡ Some p → p.base ≤ length w.log
+based_before : {c : Chain} {w : World Entry} → Follows c w → IsReached w → (id : ℕ) (p : Plain) → node_at c.nodes id ≡ Some p → p.past.base ≤ length w.log
 based_before {c} {w} f r id p at =
     let n : NodeFollows w (seen_of p) = f.nodes id p at in
     let s : IsSafe w = reached_safe r in
     let k : w.acknowledged (id_of p) ≤ length w.log = (s.acknowledged (id_of p)).1 in
     omega (arith, n.based, n.acknowledged, k)
 
-based_body : {c : Chain} {w : World Entry} → Follows c w → IsReached w → (p : Plain) (number : ℕ) (m : LinkMessage) (b : Body) (t : Turn) → message_at c.messages number ≡ Some m → m.body ≡ b → p.base ≤ length w.log
-    → Delivers p b t → t.0.base ≤ length w.log
+based_body : {c : Chain} {w : World Entry} → Follows c w → IsReached w → (p : Plain) (number : ℕ) (m : LinkMessage) (b : Body) (t : Turn) → message_at c.messages number ≡ Some m → m.body ≡ b → p.past.base ≤ length w.log
+    → Delivers p b t → t.0.past.base ≤ length w.log
 based_body f r p number m (bodies.Config members) t at is le d = omega (arith, d.based, le)
 based_body f r p number m (bodies.Entry e) t at is le d = omega (arith, d.based, le)
 based_body f r p number m (bodies.Ack position) t at is le d = omega (arith, d.based, le)
 based_body f r p number m (bodies.Query ticket key) t at is le d = omega (arith, d.based, le)
 based_body f r p number m (bodies.VersionIs ticket version) t at is le d = omega (arith, d.based, le)
 based_body f r p number m (bodies.Blank count) t at is le d = omega (arith, d.based, le)
-based_body {c} {w} f r p number m (bodies.Copy position objects kept) t at is le d =
+based_body f r p number m (bodies.Batch es) t at is le d = omega (arith, d.based, le)
+based_body {c} {w} f r p number m (bodies.Part part) t at is le d =
     let s : IsSafe w = reached_safe r in
-    let b : BodyFollows w.memberships w.messages m.epoch m.sender m.receiver (bodies.Copy position objects kept) = said_as f number m (bodies.Copy position objects kept) at is in
+    let b : PartFollows w.messages m.epoch m.sender m.receiver part = said_as f number m (bodies.Part part) at is in
+    let short : length b.entries ≤ length w.log = prefix_length (s.copy (said m.epoch m.sender m.receiver (machine.Copy b.entries)) b.entries b.sent refl) in
+    ⊎_elim (λ e. omega (arith, e, le)) (λ e. omega (arith, e, short, b.count)) d.based
+based_body {c} {w} f r p number m (bodies.Copy position state) t at is le d =
+    let s : IsSafe w = reached_safe r in
+    let b : BodyFollows w.memberships w.messages m.epoch m.sender m.receiver (bodies.Copy position state) = said_as f number m (bodies.Copy position state) at is in
     let sent : Sent w.messages (said m.epoch m.sender m.receiver (machine.Copy b.0)) = b.4 in
     let p : IsPrefix b.0 w.log = s.copy (said m.epoch m.sender m.receiver (machine.Copy b.0)) b.0 sent refl in
     let short : length b.0 ≤ length w.log = prefix_length p in
@@ -109,23 +115,23 @@ based_body {c} {w} f r p number m (bodies.Copy position objects kept) t at is le
     ⊎_elim (λ e. omega (arith, e, le)) (λ e. omega (arith, e, short, count)) d.based
 based_body f r p number m (bodies.Floor count) t at is le d = omega (arith, d.based, le)
 
-based_by : {c : Chain} {w : World Entry} → Follows c w → IsReached w → (chosen : Move) (p : Plain) (e : Event) (t : Turn) → EventOf c chosen e → p.base ≤ length w.log → event_turn p e ≡ Ok t → t.0.base ≤ length w.log
+based_by : {c : Chain} {w : World Entry} → Follows c w → IsReached w → (chosen : Move) (p : Plain) (e : Event) (t : Turn) → EventOf c chosen e → p.past.base ≤ length w.log → event_turn p e ≡ Ok t → t.0.past.base ≤ length w.log
 based_by f r chosen p (events.Ask ask) t by le h = let a : Accepts p t = ask_accepts p ask t h in omega (arith, a.based, le)
 based_by {c} {w} f r (moves.Deliver number) p (events.Deliver m) t by le h =
     let same : events.Deliver by.0 ≡ events.Deliver m = sym by.2 in
     let there : by.0 ≡ m = cc in
     let P : LinkMessage → Type 0 = λ m. message_at c.messages number ≡ Some m in
-    let Q : Turn → Type 0 = λ t. t.0.base ≤ length w.log in
+    let Q : Turn → Type 0 = λ t. t.0.past.base ≤ length w.log in
     subst Q (for_node p m t h) (based_body f r p number m m.body (delivery_turn p m) (subst P there by.1) refl le (body_delivers p m m.body))
 based_by f r (moves.Ask node ask) p (events.Deliver m) t by le h = absurd (cc)
 based_by f r (moves.Tick node) p (events.Deliver m) t by le h = absurd (cc)
 based_by f r (moves.Stop node) p (events.Deliver m) t by le h = absurd (cc)
 based_by f r (moves.Remove node) p (events.Deliver m) t by le h = absurd by
 based_by f r (moves.Join node) p (events.Deliver m) t by le h = absurd by
-based_by {c} {w} f r chosen p events.Tick t by le h = let P : Turn → Type 0 = λ t. t.0.base ≤ length w.log in subst P (tick_same p t h) le
-based_by {c} {w} f r chosen p events.Stop t by le h = let P : Turn → Type 0 = λ t. t.0.base ≤ length w.log in subst P (stop_same p t h) le
+based_by {c} {w} f r chosen p events.Tick t by le h = let P : Turn → Type 0 = λ t. t.0.past.base ≤ length w.log in subst P (tick_same p t h) le
+based_by {c} {w} f r chosen p events.Stop t by le h = let P : Turn → Type 0 = λ t. t.0.past.base ≤ length w.log in subst P (stop_same p t h) le
 
-pub now_based : {c : Chain} {w : World Entry} {chosen : Move} {x : Progress} → Follows c w → IsReached w → (a : AtNode c chosen x) → a.turn.0.base ≤ length w.log
+pub now_based : {c : Chain} {w : World Entry} {chosen : Move} {x : Progress} → Follows c w → IsReached w → (a : AtNode c chosen x) → a.turn.0.past.base ≤ length w.log
 now_based {c} {w} {chosen} f r a = based_by f r chosen a.was a.event a.turn a.by (based_before f r (place_of c chosen) a.was a.at) a.does
 
 -- ---- who runs

@@ -3,7 +3,7 @@ use Rattle.std.proofs.Common.{◌≡◌, ⊎_elim, ℕ, ◌+◌, ◌-◌, ◌≤
 use Rattle.std.proofs.lemmas.Bool.{cond_both, both_ways}
 use Rattle.std.proofs.Math.Seq.{drop-append-add}
 use Rattle.craq_commands.specs.declared.entry.Entry.{Entry}
-use Rattle.craq_commands.specs.SingleCopy.{State}
+use Rattle.craq_commands.specs.declared.state.State.{State}
 use Rattle.craq_protocol.specs.Promises.{IsPrefix}
 use Rattle.craq_protocol.proofs.Prefix.{prefix_is_take}
 use Rattle.craq_protocol.specs.Members.{is_last}
@@ -59,19 +59,19 @@ commits_log {c} {w} {v} {chosen} {x} f r g s later log a =
     let id : ℕ = place_of c chosen in
     let q : Plain = a.turn.0 in
     let n : NodeFollows v (seen_of q) = g.nodes id q (now_at a) in
-    let H : ℕ → Type 0 = λ j. IsHistory q.base q.base_state q.entries (v.history j) in
-    let here : IsHistory q.base q.base_state q.entries (v.history id) = subst H (now_id a) n.history in
+    let H : ℕ → Type 0 = λ j. IsHistory q.past.base q.past.base_state q.past.entries (v.history j) in
+    let here : IsHistory q.past.base q.past.base_state q.past.entries (v.history id) = subst H (now_id a) n.history in
     -- once the history is the log
-    let whole : v.history id ≡ v.log → w.log ++ drop (length w.log - q.base) q.entries ≡ v.log =
+    let whole : v.history id ≡ v.log → w.log ++ drop (length w.log - q.past.base) q.past.entries ≡ v.log =
     λ e. let Q : List Entry → Type 0 = λ l. IsPrefix w.log l in
-    after_log q.base q.base_state q.entries w.log (v.history id) here (subst Q (sym e) later.log) (now_based f r a) ∙ e
+    after_log q.past.base q.past.base_state q.past.entries w.log (v.history id) here (subst Q (sym e) later.log) (now_based f r a) ∙ e
     in
     let safe : IsSafe v = reached_safe s in
     let safe_before : IsSafe w = reached_safe r in
     let runs : q.running ≡ true → committed_by w.log (Some q) ≡ v.log =
     λ u.
     let same : machine.is_tail v id ≡ is_tail q = tail_seen g s id q (now_id a) (now_at a) u in
-    cond_both (is_tail q) (w.log ++ drop (length w.log - q.base) q.entries) w.log (λ (l : List Entry). l ≡ v.log)
+    cond_both (is_tail q) (w.log ++ drop (length w.log - q.past.base) q.past.entries) w.log (λ (l : List Entry). l ≡ v.log)
     (λ t. whole (safe.tail id (same ∙ t)))
     (λ t. ⊎_elim (λ e. sym e) (λ m. absurd (both_ways (machine.is_tail v id) (same ∙ t) m)) log)
     in
@@ -79,16 +79,16 @@ commits_log {c} {w} {v} {chosen} {x} f r g s later log a =
     λ e.
     let p : Plain = a.was in
     let old : NodeFollows w (seen_of p) = f.nodes id p a.at in
-    let K : ℕ → Type 0 = λ j. IsHistory p.base p.base_state p.entries (w.history j) in
-    let before : IsHistory p.base p.base_state p.entries (w.history id) = subst K (was_id a) old.history in
-    let long : length (w.history id) ≡ length (v.history id) = history_length before ∙ (sym (ap (λ (q : Plain). q.base + length q.entries) e) ∙ sym (history_length here)) in
+    let K : ℕ → Type 0 = λ j. IsHistory p.past.base p.past.base_state p.past.entries (w.history j) in
+    let before : IsHistory p.past.base p.past.base_state p.past.entries (w.history id) = subst K (was_id a) old.history in
+    let long : length (w.history id) ≡ length (v.history id) = history_length before ∙ (sym (ap (λ (q : Plain). q.past.base + length q.past.entries) e) ∙ sym (history_length here)) in
     let kept : w.history id ≡ v.history id = same_length (w.history id) (v.history id) (later.history id) long in
     let tail : is_tail q ≡ is_tail p = ap (λ (q : Plain). is_tail q) e in
     let was : machine.is_tail w id ≡ is_tail p = tail_seen f r id p (was_id a) a.at a.running in
     let stopped : v.running id ≡ false = let R : ℕ → Type 0 = λ j. v.running j ≡ q.running in subst R (now_id a) n.running ∙ ap (λ (q : Plain). q.running) e in
     let silent : machine.is_tail v id ≡ false = ap (λ b. (b && v.ready id) && is_last (known_membership v id) id) stopped in
     let stays : v.log ≡ w.log = ⊎_elim (λ e. e) (λ m. absurd (both_ways (machine.is_tail v id) silent m)) log in
-    cond_both (is_tail q) (w.log ++ drop (length w.log - q.base) q.entries) w.log (λ (l : List Entry). l ≡ v.log)
+    cond_both (is_tail q) (w.log ++ drop (length w.log - q.past.base) q.past.entries) w.log (λ (l : List Entry). l ≡ v.log)
     (λ t. whole (sym kept ∙ (safe_before.tail id (was ∙ (sym tail ∙ t)) ∙ sym stays)))
     (λ t. sym stays)
     in

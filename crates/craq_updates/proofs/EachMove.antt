@@ -31,11 +31,11 @@ use Rattle.craq_refinement.proofs.Nodes.{node_id}
 use Rattle.craq_refinement.proofs.Stages.{TurnFollows, Took, took}
 use Rattle.craq_refinement.proofs.Here.{Here}
 use Rattle.craq_refinement.proofs.Updates.{refused, new_update, old_update}
-use Rattle.craq_refinement.proofs.EachLine.{entry_line, ack_line, config_line}
-use Rattle.craq_refinement.proofs.EachStep.{copy_line, floor_line, blank_line, query_line, version_line, read_line, tick_line, stop_line, removal_line, join_line}
+use Rattle.craq_refinement.proofs.EachLine.{entry_line, batch_line, ack_line, config_line}
+use Rattle.craq_refinement.proofs.EachStep.{copy_line, part_line, floor_line, blank_line, query_line, version_line, read_line, tick_line, stop_line, removal_line, join_line}
 use Rattle.craq_updates.proofs.Machine.{IsClosed}
 use Rattle.craq_updates.proofs.Moves.{held_append, log_by}
-use Rattle.craq_updates.proofs.Steps.{Went, Does, went, does_nothing, does_one, like, taking, hearing, adopting}
+use Rattle.craq_updates.proofs.Steps.{Went, Does, went, does_nothing, does_one, like, taking, taking_all, hearing, adopting}
 
 -- ---- an update
 
@@ -119,7 +119,9 @@ by_body P q c w number m (bodies.Ack position) x f r at is k = let s : _ = ack_l
 by_body P q c w number m (bodies.Query ticket key) x f r at is k = let s : _ = query_line c w number m ticket key x f at is k in went r s (like s.line (does_nothing P ⊤ m.receiver w))
 by_body P q c w number m (bodies.VersionIs ticket version) x f r at is k = let s : _ = version_line c w number m ticket version x f at is k in went r s (like s.line (does_nothing P ⊤ m.receiver w))
 by_body P q c w number m (bodies.Blank count) x f r at is k = let s : _ = blank_line c w number m count x f r at is k in went r s (like s.line (does_nothing P ⊤ m.receiver w))
-by_body P q c w number m (bodies.Copy position objects kept) x f r at is k = let s : _ = copy_line c w number m position objects kept x f at is k in went r s (taking P q ⊤ m.receiver w s.own r s.line)
+by_body P q c w number m (bodies.Batch es) x f r at is k = let s : _ = batch_line c w number m es x f at is k in went r s (taking_all P q ⊤ m.receiver w s.own r s.line)
+by_body P q c w number m (bodies.Part part) x f r at is k = let s : _ = part_line c w number m part x f r at is k in went r s (taking P q ⊤ m.receiver w s.own r s.line)
+by_body P q c w number m (bodies.Copy position state) x f r at is k = let s : _ = copy_line c w number m position state x f at is k in went r s (taking P q ⊤ m.receiver w s.own r s.line)
 by_body P q c w number m (bodies.Floor count) x f r at is k = let s : _ = floor_line c w number m count x f at is k in went r s (taking P q ⊤ m.receiver w s.own r s.line)
 
 by_message : (P : List Entry → Type 0) → IsClosed P → (c : Chain) (w : World Entry) (number : ℕ) (o : Option LinkMessage) (x : Progress) → Follows c w → IsReached w → message_at c.messages number ≡ o

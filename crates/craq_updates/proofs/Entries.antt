@@ -4,7 +4,8 @@ use Rattle.craq_commands.specs.declared.command.Update.{Update}
 use Rattle.craq_commands.specs.declared.entry.Entry.{Entry}
 use Rattle.craq_commands.specs.Objects.{all_written}
 use Rattle.craq_commands.specs.Evaluation.{eval}
-use Rattle.craq_commands.specs.SingleCopy.{State, kept_of, is_new_to, kept_with, apply, with_writes, after_entry, after_entries}
+use Rattle.craq_commands.specs.declared.state.State.{State}
+use Rattle.craq_commands.specs.SingleCopy.{window_of, is_new_to, kept_with, apply, with_writes, after_entry, after_entries}
 use Rattle.craq_model.specs.declared.ask.Ask.TheVariants as asks
 use Rattle.craq_model.specs.Plain.{Plain, id_of, newest}
 use Rattle.craq_runs.specs.Seen.{Asked, ask_with}
@@ -58,7 +59,7 @@ pub entry_genuine : (asked : List Asked) (a : Asked) (p : Plain) (u : Update) �
     → IsGenuine asked (newest p) (entry_for p u)
 entry_genuine asked a p u at is new type =
     let s : State = newest p in
-    let fresh : is_new_to s u.client u.number ≡ true = (new_unsaid (kept_of s u.client) u.number).1 new.new in
+    let fresh : is_new_to s u.client u.number ≡ true = (new_unsaid (window_of s u.client) u.number).1 new.new in
     record {
       update = u;
       by = record { ask = a; is_ask = at; is = is; client = refl; number = refl };

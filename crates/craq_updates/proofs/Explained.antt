@@ -19,6 +19,7 @@ use Rattle.craq_refinement.specs.Follows.{seen_of, NodeFollows}
 use Rattle.craq_runs.specs.Valid.{OnlyGrows}
 use Rattle.craq_updates.specs.Genuine.{AllGenuine, HasGenuineHistory, IsBeginning}
 use Rattle.craq_runs.specs.Typed.{IsMoveOfType, AreOfType, IsTypedRunOf}
+use Rattle.craq_laws.proofs.Histories.{opening_rises}
 use Rattle.craq_updates.proofs.Updates.{numbers_of, updates_length, numbers_name, numbers_stay, no_request_twice}
 use Rattle.craq_updates.proofs.Lens.{AreLens}
 use Rattle.craq_updates.proofs.Known.{Known}
@@ -46,7 +47,7 @@ grows_in a w answers k =
       grows = l.grows;
       ends = l.ends ∙ (numbers_length a.asks a.committed ∙ sym (updates_length a.asks opening_state a.committed k.numbered g));
       asked = l.asked;
-      once = no_request_twice a.asks opening_state a.committed k.numbered g;
+      once = no_request_twice a.asks opening_state a.committed opening_rises k.numbered g;
     }
 
 -- what is seen of a run is what its account has

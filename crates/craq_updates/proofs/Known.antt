@@ -3,7 +3,8 @@ use Rattle.std.proofs.Common.{◌≡◌, ◌≢◌, ⊎_elim, ℕ, ◌≤◌, �
 use Rattle.std.specs.List.{AllByRecursion}
 use Rattle.std.proofs.lemmas.Bool.{cond_both, cases_eq, and_parts, cond-false, ne_eqb}
 use Rattle.craq_commands.specs.declared.entry.Entry.{Entry}
-use Rattle.craq_commands.specs.SingleCopy.{opening_state, State, after_entry, after_entries}
+use Rattle.craq_commands.specs.declared.state.State.{State}
+use Rattle.craq_commands.specs.SingleCopy.{opening_state, after_entry, after_entries}
 use Rattle.craq_model.specs.Plain.{Plain, id_of, newest, opening_joined}
 use Rattle.craq_protocol.specs.Members.{is_member, is_last}
 use Rattle.craq_protocol.specs.Machine as machine
@@ -117,4 +118,4 @@ after_entries-append s (x ∷ xs) ys = after_entries-append (after_entry s x) xs
 pub newest_is : {w : World Entry} (p : Plain) → NodeFollows w (seen_of p) → newest p ≡ after_entries opening_state (w.history (id_of p))
 unfolding newest
 newest_is {w} p n =
-    sym (ap (after_entries opening_state) (sym n.history.whole) ∙ (after_entries-append opening_state n.history.front p.entries ∙ ap (λ s. after_entries s p.entries) n.history.after))
+    sym (ap (after_entries opening_state) (sym n.history.whole) ∙ (after_entries-append opening_state n.history.front p.past.entries ∙ ap (λ s. after_entries s p.past.entries) n.history.after))

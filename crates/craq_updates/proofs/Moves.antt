@@ -1,5 +1,5 @@
 -- The moves of the protocol, one by one: what is held stays held, and who commits is a tail.
-use Rattle.std.proofs.Common.{◌≡◌, ◌⊎◌, inl, inr, ⊎_elim, ℕ, ◌+◌, ◌==◌, nat_lt, nat_le, true, false, not, ◌&&◌, List, [], ◌∷◌, ◌++◌, length, take, slice_get, Option, Some, None, refl, sym, subst, ◌∙◌}
+use Rattle.std.proofs.Common.{◌≡◌, ◌⊎◌, inl, inr, ⊎_elim, ℕ, ◌+◌, ◌==◌, nat_lt, nat_le, true, false, not, ◌&&◌, List, [], ◌∷◌, ◌++◌, map, length, take, slice_get, Option, Some, None, refl, sym, subst, ◌∙◌}
 use Rattle.std.proofs.lemmas.Bool.{cond_both, and_parts, both_ways, not-true}
 use Rattle.craq_protocol.specs.Members.{is_member, is_first, is_next, membership_of, with_value, without}
 use Rattle.craq_protocol.specs.Machine.{Body, Message, World, Move, Entry, Ack, Copy, Floor, Append, Take, Become_ready, Adopt, Stop, Remove, Join, Send_entry, Send_ack, Send_copy, Send_floor, entry_at, known_membership, current_membership, is_tail, after_commit, after_send, after_receipt, after_take, after_floor, after_send_entry, after_move, after_moves}
@@ -238,14 +238,50 @@ already w n (Some floor) r =
     (λ e. absurd (both_ways (w.ready n) (not-true (w.ready n) (and_parts (not (w.ready n)) (nat_le floor (length (w.history n))) (and_parts (w.running n) (not (w.ready n) && nat_le floor (length (w.history n))) e).1).0) r))
     (λ e. refl)
 
--- a node takes something and becomes ready by it
-pub log_taken_ready : {A : Type 0} (w : World A) (id which : ℕ) → LogBy id w (after_moves w (Take id which ∷ Become_ready id ∷ []))
-log_taken_ready {A} w id which =
-    let v : World A = after_move w (Take id which) in
+-- a node may become ready after it committed
+pub log_ready : {A : Type 0} (w v : World A) (id : ℕ) → LogBy id w v → LogBy id w (after_move v (Become_ready id))
+log_ready {A} w v id by =
     ⊎_elim
     (λ e. ⊎_elim (λ f. inl (f ∙ e)) (λ t. inr t) (log_by id v (Become_ready id) refl))
     (λ t.
     let ready : v.ready id ≡ true = (and_parts (v.running id) (v.ready id) (and_parts (v.running id && v.ready id) _ t).0).1 in
     let P : World A → Type 0 = λ u. LogBy id w u in
     subst P (sym (already v id (v.floor id) ready)) (inr t))
-    (log_by id w (Take id which) refl)
+    by
+
+-- a node that takes a message is a tail where it was one
+tail_commit : {A : Type 0} (w : World A) (n : ℕ) → is_tail (after_commit w n) n ≡ is_tail w n
+tail_commit w n =
+    cond_both (is_tail w n) (record w { acknowledged = with_value w.acknowledged n (length (w.history n)); log = w.history n }) w (λ v. is_tail v n ≡ is_tail w n) (λ e. refl) (λ e. refl)
+
+tail_receipt : {A : Type 0} (w : World A) (n from : ℕ) (b : Body A) → is_tail (after_receipt w n from b) n ≡ is_tail w n
+tail_receipt w n from (Entry place entry) =
+    let g : _ = record w { history = with_value w.history n (w.history n ++ entry ∷ []) } in
+    cond_both (is_next (known_membership w n) from n && (place == length (w.history n) + 1)) (after_commit g n) w (λ v. is_tail v n ≡ is_tail w n) (λ e. tail_commit g n) (λ e. refl)
+tail_receipt w n from (Ack count) =
+    cond_both ((is_next (known_membership w n) n from && w.ready n) && (nat_lt (w.acknowledged n) count && nat_le count (length (w.history n))))
+    (record w { acknowledged = with_value w.acknowledged n count }) w (λ v. is_tail v n ≡ is_tail w n) (λ e. refl) (λ e. refl)
+tail_receipt w n from (Copy entries) =
+    cond_both (is_next (known_membership w n) from n && (not (w.ready n) && nat_lt (length (w.history n)) (length entries)))
+    (record w { history = with_value w.history n entries; acknowledged = with_value w.acknowledged n (length entries) }) w (λ v. is_tail v n ≡ is_tail w n) (λ e. refl) (λ e. refl)
+tail_receipt w n from (Floor count) =
+    cond_both (is_next (known_membership w n) from n && not (w.ready n)) (record w { floor = with_value w.floor n (Some count) }) w (λ v. is_tail v n ≡ is_tail w n) (λ e. refl) (λ e. refl)
+
+tail_taken : {A : Type 0} (w : World A) (n : ℕ) (o : Option (Message A)) → is_tail (after_take w n o) n ≡ is_tail w n
+tail_taken w n None = refl
+tail_taken w n (Some m) =
+    cond_both (w.running n && ((m.to == n) && (m.epoch == w.epoch n))) (after_receipt w n m.from m.body) w (λ v. is_tail v n ≡ is_tail w n) (λ e. tail_receipt w n m.from m.body) (λ e. refl)
+
+tail_takes : {A : Type 0} (w : World A) (id : ℕ) (which : List ℕ) → is_tail (after_moves w (map (Take id) which)) id ≡ is_tail w id
+tail_takes w id [] = refl
+tail_takes w id (k ∷ ks) = tail_takes (after_move w (Take id k)) id ks ∙ tail_taken w id (slice_get w.messages k)
+
+-- a node takes messages one after the other
+pub log_takes : {A : Type 0} (w : World A) (id : ℕ) (which : List ℕ) → LogBy id w (after_moves w (map (Take id) which))
+log_takes w id [] = inl refl
+log_takes {A} w id (k ∷ ks) =
+    let v : World A = after_move w (Take id k) in
+    ⊎_elim
+    (λ e. ⊎_elim (λ d. inl (e ∙ d)) (λ t. inr (tail_takes v id ks ∙ t)) (log_by id w (Take id k) refl))
+    (λ t. inr t)
+    (log_takes v id ks)

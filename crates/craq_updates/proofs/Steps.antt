@@ -1,19 +1,19 @@
 -- Each move of a chain, in the world that stands for it.
-use Rattle.std.proofs.Common.{◌≡◌, inl, inr, ℕ, Bool, cond, ◌&&◌, List, [], ◌∷◌, ◌++◌, length, take, Option, Some, None, refl, ap, sym, subst, ◌∙◌}
+use Rattle.std.proofs.Common.{◌≡◌, inl, inr, ℕ, Bool, cond, ◌&&◌, List, [], ◌∷◌, ◌++◌, map, length, take, Option, Some, None, refl, ap, sym, subst, ◌∙◌}
 use Rattle.std.proofs.lemmas.Bool.{cond_both}
 use Rattle.craq_commands.specs.declared.entry.Entry.{Entry}
 use Rattle.craq_model.specs.declared.message.Body.{Body}
 use Rattle.craq_model.specs.declared.message.Body.TheVariants as bodies
 use Rattle.craq_model.specs.declared.message.LinkMessage.{LinkMessage}
 use Rattle.craq_protocol.specs.Members.{is_next}
-use Rattle.craq_protocol.specs.Machine.{World, Message, Move, Entry as EntryBody, Ack as AckBody, Copy as CopyBody, Floor as FloorBody, known_membership, entry_at, after_send_entry, after_move, after_moves, Take, Become_ready, Adopt}
+use Rattle.craq_protocol.specs.Machine.{World, Message, Move, Entry as EntryBody, Ack as AckBody, Copy as CopyBody, Floor as FloorBody, known_membership, entry_at, after_send_entry, after_move, after_moves, Take, Become_ready, Adopt, Send_entry}
 use Rattle.craq_protocol.specs.Promises.{IsReached, Later}
 use Rattle.craq_protocol.proofs.Reached.{after_moves-append, reached_run, reached_later}
 use Rattle.craq_runs.specs.Chain.{Chain, Progress, sent_in}
 use Rattle.craq_refinement.specs.Follows.{Follows}
-use Rattle.craq_refinement.specs.Lines.{moves_of_send, moves_of_sends, StandsFor, IsTaking, IsHearing, IsAdopting}
+use Rattle.craq_refinement.specs.Lines.{moves_of_send, moves_of_sends, StandsFor, IsTaking, IsTakingAll, IsHearing, IsAdopting}
 use Rattle.craq_updates.proofs.Machine.{IsClosed, Held}
-use Rattle.craq_updates.proofs.Moves.{IsQuiet, held_quiet, LogBy, log_by, log_taken_ready}
+use Rattle.craq_updates.proofs.Moves.{IsQuiet, held_quiet, LogBy, log_by, log_ready, log_takes}
 
 -- ---- what is sent changes nothing else
 
@@ -28,6 +28,15 @@ sent_entry : (w : World Entry) (n to place : ℕ) (o : Option Entry) → OnlySen
 sent_entry w n to place None = record { messages = w.messages; is = refl }
 sent_entry w n to place (Some e) = sent_if w (w.running n && is_next (known_membership w n) n to) (record { epoch = w.epoch n; from = n; to = to; body = EntryBody place e } ∷ w.messages)
 
+-- entries are sent one after the other
+sent_entries : (es : List Entry) (w : World Entry) (n to : ℕ) → OnlySent w (after_moves w (map (λ (e : Entry). Send_entry n to e.position) es))
+sent_entries [] w n to = record { messages = w.messages; is = refl }
+sent_entries (e ∷ es) w n to =
+    let v : World Entry = after_move w (Send_entry n to e.position) in
+    let one : OnlySent w v = sent_entry w n to e.position (entry_at (w.history n) e.position) in
+    let more : OnlySent v (after_moves v (map (λ (e : Entry). Send_entry n to e.position) es)) = sent_entries es v n to in
+    record { messages = more.messages; is = more.is ∙ ap (λ (u : World Entry). record u { messages = more.messages }) one.is }
+
 sent_body : (w : World Entry) (n to : ℕ) (b : Body) → OnlySent w (after_moves w (moves_of_send n to b))
 sent_body w n to (bodies.Config members) = record { messages = w.messages; is = refl }
 sent_body w n to (bodies.Entry e) = sent_entry w n to e.position (entry_at (w.history n) e.position)
@@ -35,7 +44,9 @@ sent_body w n to (bodies.Ack position) = sent_if w (w.running n && is_next (know
 sent_body w n to (bodies.Query ticket key) = record { messages = w.messages; is = refl }
 sent_body w n to (bodies.VersionIs ticket version) = record { messages = w.messages; is = refl }
 sent_body w n to (bodies.Blank count) = record { messages = w.messages; is = refl }
-sent_body w n to (bodies.Copy position objects kept) = sent_if w (w.running n && is_next (known_membership w n) n to) (record { epoch = w.epoch n; from = n; to = to; body = CopyBody (take (w.acknowledged n) (w.history n)) } ∷ w.messages)
+sent_body w n to (bodies.Batch es) = sent_entries es w n to
+sent_body w n to (bodies.Part part) = sent_if w (w.running n && is_next (known_membership w n) n to) (record { epoch = w.epoch n; from = n; to = to; body = CopyBody (take (w.acknowledged n) (w.history n)) } ∷ w.messages)
+sent_body w n to (bodies.Copy position state) = sent_if w (w.running n && is_next (known_membership w n) n to) (record { epoch = w.epoch n; from = n; to = to; body = CopyBody (take (w.acknowledged n) (w.history n)) } ∷ w.messages)
 sent_body w n to (bodies.Floor count) = sent_if w ((w.running n && w.ready n) && is_next (known_membership w n) n to) (record { epoch = w.epoch n; from = n; to = to; body = FloorBody (length (w.history n)) } ∷ w.messages)
 
 pub all_sent : (ms : List LinkMessage) (w : World Entry) → OnlySent w (after_moves w (moves_of_sends ms))
@@ -98,9 +109,26 @@ taking P c May id w own r (inl e) = like e (does_nothing P May id w)
 taking P c May id w own r (inr (k, inl e)) = like e (does_one P c May id w (Take id k) r tt (log_by id w (Take id k) refl))
 taking P c May id w own r (inr (k, inr e)) =
     like e (record {
-      log = log_taken_ready w id k;
+      log = log_ready w (after_move w (Take id k)) id (log_by id w (Take id k) refl);
       held = λ m h. held_quiet P c (after_move w (Take id k)) (Become_ready id) (reached_run r (Take id k ∷ [])) tt (held_quiet P c w (Take id k) r tt h);
     })
+
+-- messages that are taken one after the other
+held_takes : (P : List Entry → Type 0) → IsClosed P → (w : World Entry) (id : ℕ) (which : List ℕ) → IsReached w → Held P w → Held P (after_moves w (map (Take id) which))
+held_takes P c w id [] r h = h
+held_takes P c w id (k ∷ ks) r h = held_takes P c (after_move w (Take id k)) id ks (reached_run r (Take id k ∷ [])) (held_quiet P c w (Take id k) r tt h)
+
+pub taking_all : (P : List Entry → Type 0) → IsClosed P → (May : Type 0) (id : ℕ) (w : World Entry) (own : List (Move Entry)) → IsReached w → IsTakingAll id own → Does P May id w (after_moves w own)
+taking_all P c May id w own r (inl e) = like e (does_nothing P May id w)
+taking_all P c May id w own r (inr (k, ks, inl e)) = like e (record { log = log_takes w id (k ∷ ks); held = λ m h. held_takes P c w id (k ∷ ks) r h })
+taking_all P c May id w own r (inr (k, ks, inr e)) =
+    let takes : List (Move Entry) = map (Take id) (k ∷ ks) in
+    let u : World Entry = after_moves w takes in
+    let D : World Entry → Type 0 = λ v. Does P May id w v in
+    like e (subst D (sym (after_moves-append takes (Become_ready id ∷ []) w)) (record {
+      log = log_ready w u id (log_takes w id (k ∷ ks));
+      held = λ m h. held_quiet P c u (Become_ready id) (reached_run r takes) tt (held_takes P c w id (k ∷ ks) r h);
+    }))
 
 pub hearing : (P : List Entry → Type 0) → IsClosed P → (May : Type 0) (id : ℕ) (w : World Entry) (own : List (Move Entry)) → IsReached w → IsHearing id own → Does P May id w (after_moves w own)
 hearing P c May id w own r (inl e) = like e (does_nothing P May id w)

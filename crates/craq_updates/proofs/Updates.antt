@@ -1,16 +1,15 @@
 -- The updates that genuine entries name.
-use Rattle.std.proofs.Common.{◌≡◌, ⊎_elim, ℕ, zero, suc, ◌<◌, ◌==◌, true, false, ◌&&◌, List, [], ◌∷◌, map, length, take, find, filter_map, option_and_then, option_map, unwrap_or, is_some, IsSome, Option, Some, None, refl, ap, sym, subst, ◌∙◌, arith}
+use Rattle.std.proofs.Common.{◌≡◌, ℕ, zero, suc, ◌==◌, Bool, true, false, ◌&&◌, List, [], ◌∷◌, map, length, take, find, filter_map, option_and_then, option_map, unwrap_or, is_some, IsSome, Option, Some, refl, ap, sym, subst, ◌∙◌}
 use Rattle.std.specs.List.{AllByRecursion, IsDistinct}
-use Rattle.std.proofs.lemmas.Bool.{eqb-true, ltb-true, lt-ltb, and_parts, cases_eq, both_ways, false_from_ne_true}
+use Rattle.std.proofs.lemmas.Bool.{eqb-true, and_parts, both_ways, false_from_ne_true}
 use Rattle.craq_commands.specs.declared.command.Update.{Update}
 use Rattle.craq_commands.specs.declared.entry.Entry.{Entry}
-use Rattle.craq_commands.specs.Evaluation.{eval}
-use Rattle.craq_commands.specs.Kept.{Kept, is_new, keep}
-use Rattle.craq_commands.specs.SingleCopy.{State, kept_of, is_new_to, kept_with, apply, after_from, after_entry, after_entries}
+use Rattle.craq_commands.specs.declared.state.State.{State}
+use Rattle.craq_commands.specs.SingleCopy.{is_new_to, apply, after_from, after_entry, after_entries}
 use Rattle.craq_runs.specs.Seen.{Asked, ask_with, update_of, update_at}
 use Rattle.craq_runs.specs.Explain.{ask_number}
 use Rattle.craq_runs.specs.Valid.{same_request}
-use Rattle.craq_laws.proofs.Histories.{kept_here, kept_elsewhere, applied_is_old}
+use Rattle.craq_laws.proofs.Histories.{applied_is_old, HasRisingWindows, apply_rises, old_after_one}
 use Rattle.craq_refinement.proofs.Lists.{all_like}
 use Rattle.craq_updates.specs.Genuine.{IsGenuine, AllGenuine}
 use Rattle.craq_updates.proofs.Entries.{StaysAsked}
@@ -77,37 +76,26 @@ numbers_stay asked more f s (e ∷ es) g =
 
 -- ---- no request twice
 
-kept_applied : (s : State) (v : Update) → is_new_to s v.client v.number ≡ true → kept_of (apply s v) v.client ≡ Some (v.number, (eval s.objects v.command).1)
-unfolding apply kept_with keep
-kept_applied s v new = rw new (kept_here s v.client (v.number, (eval s.objects v.command).1))
-
-above : (kept : Option Kept) (m n : ℕ) → is_new kept m ≡ true → m < n → is_new kept n ≡ true
-unfolding is_new
-above None m n h lt = refl
-above (Some k) m n h lt = let a : k.0 < m = ltb-true k.0 m h in lt-ltb k.0 n (omega (arith, a, lt))
-
 -- what is new after an update was new before it
-pub new_before : (s : State) (v : Update) (client number : ℕ) → is_new_to s v.client v.number ≡ true → is_new_to (apply s v) client number ≡ true → is_new_to s client number ≡ true
-unfolding is_new
-new_before s v client number new h =
-    ⊎_elim
-    (λ e.
-    let P : ℕ → Type 0 = λ c. is_new_to (apply s v) c number ≡ true in
-    let there : is_new (kept_of (apply s v) v.client) number ≡ true = subst P e h in
-    let lt : v.number < number = ltb-true v.number number (sym (ap (λ k. is_new k number) (kept_applied s v new)) ∙ there) in
-    let Q : ℕ → Type 0 = λ c. is_new_to s c number ≡ true in
-    subst Q (sym e) (above (kept_of s v.client) v.number number new lt))
-    (λ ne. sym (ap (λ k. is_new k number) (kept_elsewhere s v client ne)) ∙ h)
-    (cases_eq client v.client)
+pub new_before : (s : State) (v : Update) (client number : ℕ) → HasRisingWindows s → is_new_to (apply s v) client number ≡ true → is_new_to s client number ≡ true
+new_before s v client number rises h =
+    let by : (b : Bool) → is_new_to s client number ≡ b → is_new_to s client number ≡ true = elim [
+      | true ↦ λ e. e
+      | false ↦ λ e. absurd (both_ways (is_new_to (apply s v) client number) (old_after_one s v client number rises e) h)
+    ] in
+    by (is_new_to s client number) refl
 
-pub all_new : (asked : List Asked) (s : State) (es : List Entry) → IsNumbered asked → AllGenuine asked s es → AllByRecursion (λ (v : Update). is_new_to s v.client v.number ≡ true) (updates_of asked es)
-all_new asked s [] n g = tt
-all_new asked s (e ∷ es) n g =
+pub genuine_rises : (asked : List Asked) (s : State) (e : Entry) → HasRisingWindows s → IsGenuine asked s e → HasRisingWindows (after_entry s e)
+genuine_rises asked s e rises g = subst HasRisingWindows (sym g.applied) (apply_rises s g.update rises)
+
+pub all_new : (asked : List Asked) (s : State) (es : List Entry) → HasRisingWindows s → IsNumbered asked → AllGenuine asked s es → AllByRecursion (λ (v : Update). is_new_to s v.client v.number ≡ true) (updates_of asked es)
+all_new asked s [] rises n g = tt
+all_new asked s (e ∷ es) rises n g =
     let u : Update = g.0.update in
     let P : Update → Type 0 = λ v. is_new_to s v.client v.number ≡ true in
     let Q : State → Type 0 = λ t. AllByRecursion (λ (v : Update). is_new_to t v.client v.number ≡ true) (updates_of asked es) in
-    let rest : Q (apply s u) = subst Q g.0.applied (all_new asked (after_entry s e) es n g.1) in
-    let all : AllByRecursion P (u ∷ updates_of asked es) = (g.0.new, all_like (λ (v : Update). is_new_to (apply s u) v.client v.number ≡ true) P (updates_of asked es) (λ v h. new_before s u v.client v.number g.0.new h) rest) in
+    let rest : Q (apply s u) = subst Q g.0.applied (all_new asked (after_entry s e) es (genuine_rises asked s e rises g.0) n g.1) in
+    let all : AllByRecursion P (u ∷ updates_of asked es) = (g.0.new, all_like (λ (v : Update). is_new_to (apply s u) v.client v.number ≡ true) P (updates_of asked es) (λ v h. new_before s u v.client v.number rises h) rest) in
     let R : List Update → Type 0 = λ l. AllByRecursion P l in
     subst R (sym (updates_cons asked s e es n g.0)) all
 
@@ -121,13 +109,13 @@ other_request s u v h =
     let there : P u.client u.number = let R : ℕ → Type 0 = λ k. P u.client k in subst R (sym (eqb-true u.number v.number p.1)) (subst Q (sym (eqb-true u.client v.client p.0)) h) in
     both_ways (is_new_to (apply s u) u.client u.number) (applied_is_old s u) there)
 
-pub no_request_twice : (asked : List Asked) (s : State) (es : List Entry) → IsNumbered asked → AllGenuine asked s es → IsDistinct same_request (updates_of asked es)
+pub no_request_twice : (asked : List Asked) (s : State) (es : List Entry) → HasRisingWindows s → IsNumbered asked → AllGenuine asked s es → IsDistinct same_request (updates_of asked es)
 unfolding IsDistinct
-no_request_twice asked s [] n g = tt
-no_request_twice asked s (e ∷ es) n g =
+no_request_twice asked s [] rises n g = tt
+no_request_twice asked s (e ∷ es) rises n g =
     let u : Update = g.0.update in
     let Q : State → Type 0 = λ t. AllByRecursion (λ (v : Update). is_new_to t v.client v.number ≡ true) (updates_of asked es) in
-    let rest : Q (apply s u) = subst Q g.0.applied (all_new asked (after_entry s e) es n g.1) in
+    let rest : Q (apply s u) = subst Q g.0.applied (all_new asked (after_entry s e) es (genuine_rises asked s e rises g.0) n g.1) in
     let first : AllByRecursion (λ (v : Update). same_request u v ≡ false) (updates_of asked es) = all_like (λ (v : Update). is_new_to (apply s u) v.client v.number ≡ true) (λ (v : Update). same_request u v ≡ false) (updates_of asked es) (λ v h. other_request s u v h) rest in
     let R : List Update → Type 0 = λ l. IsDistinct same_request l in
-    subst R (sym (updates_cons asked s e es n g.0)) (first, no_request_twice asked (after_entry s e) es n g.1)
+    subst R (sym (updates_cons asked s e es n g.0)) (first, no_request_twice asked (after_entry s e) es (genuine_rises asked s e rises g.0) n g.1)

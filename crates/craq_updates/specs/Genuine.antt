@@ -3,7 +3,8 @@ use Rattle.std.specs.Prelude.{◌≡◌, true, ⊤, List, [], ◌∷◌, map, So
 use Rattle.std.specs.List.{IsDistinct}
 use Rattle.craq_names.specs.Maps.{same_bytes}
 use Rattle.craq_commands.specs.Evaluation.{eval}
-use Rattle.craq_commands.specs.SingleCopy.{State, opening_state, is_new_to, apply, after_entry}
+use Rattle.craq_commands.specs.declared.state.State.{State}
+use Rattle.craq_commands.specs.SingleCopy.{opening_state, is_new_to, apply, after_entry}
 use Rattle.craq_commands.specs.declared.command.Update.{Update}
 use Rattle.craq_commands.specs.declared.entry.Entry.{Entry}
 use Rattle.craq_model.specs.declared.ask.Ask.TheVariants as asks
@@ -40,7 +41,7 @@ AllGenuine asked s (e ∷ es) = IsGenuine asked s e × AllGenuine asked (after_e
 -- a history of genuine entries, of which the node has a base's state and the entries after it
 pub record HasGenuineHistory (asked : List Asked) (p : Plain) : Type 0 where
   pub history : List Entry
-  pub is : IsHistory p.base p.base_state p.entries history
+  pub is : IsHistory p.past.base p.past.base_state p.past.entries history
   pub genuine : AllGenuine asked opening_state history
 
 -- ---- explanations

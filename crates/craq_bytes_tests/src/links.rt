@@ -6,39 +6,39 @@ use std::io;
 
 /// An acknowledgement of position 1, from node 3 to node 2, with stamp 5, in epoch 1.
 const ACK: [u8; 40] = [
-    1, 3, 0, 0, 0, 0, 0, 3, 0, 0, 0, 2, 0, 0, 0, 0, 0, 0, 0, 5, 0, 0, 0, 0, 0, 0, 0, 0, 0, 0, 0, 1,
+    2, 3, 0, 0, 0, 0, 0, 3, 0, 0, 0, 2, 0, 0, 0, 0, 0, 0, 0, 5, 0, 0, 0, 0, 0, 0, 0, 0, 0, 0, 0, 1,
     0, 0, 0, 0, 0, 0, 0, 1,
 ];
 
 /// The entry of a put of `a` on `k`, from node 1 to node 2.
-const ENTRY: [u8; 91] = [
-    1, 2, 0, 0, 0, 0, 0, 1, 0, 0, 0, 2, 0, 0, 0, 0, 0, 0, 0, 1, 0, 0, 0, 0, 0, 0, 0, 0, 0, 0, 0, 1,
+pub(crate) const ENTRY: [u8; 91] = [
+    2, 2, 0, 0, 0, 0, 0, 1, 0, 0, 0, 2, 0, 0, 0, 0, 0, 0, 0, 1, 0, 0, 0, 0, 0, 0, 0, 0, 0, 0, 0, 1,
     0, 0, 0, 0, 0, 0, 0, 1, 0, 0, 0, 1, 0, 0, 0, 0, 0, 0, 0, 1, 0, 0, 0, 0, 0, 0, 0, 1, 0, 0, 0, 0,
     0, 0, 0, 1, 1, 0, 0, 0, 0, 0, 0, 0, 1, 1, 1, 107, 0, 0, 0, 0, 0, 0, 0, 1, 0, 1, 97,
 ];
 
-/// A copy of the objects `a` and `b` and of one kept reply, at position 2.
-const COPY: [u8; 99] = [
-    1, 7, 0, 0, 0, 0, 0, 1, 0, 0, 0, 2, 0, 0, 0, 0, 0, 0, 0, 5, 0, 0, 0, 0, 0, 0, 0, 0, 0, 0, 0, 1,
+/// A copy of the objects `a` and `b` and of one reply kept for client 7, at position 2.
+const COPY: [u8; 100] = [
+    2, 7, 0, 0, 0, 0, 0, 1, 0, 0, 0, 2, 0, 0, 0, 0, 0, 0, 0, 5, 0, 0, 0, 0, 0, 0, 0, 0, 0, 0, 0, 1,
     0, 0, 0, 0, 0, 0, 0, 2, 0, 0, 0, 2, 1, 97, 0, 0, 0, 0, 0, 0, 0, 1, 0, 1, 120, 1, 98, 0, 0, 0,
-    0, 0, 0, 0, 1, 0, 1, 121, 0, 0, 0, 1, 0, 0, 0, 0, 0, 0, 0, 7, 0, 0, 0, 0, 0, 0, 0, 2, 1, 0, 0,
-    0, 0, 0, 0, 0, 1,
+    0, 0, 0, 0, 1, 0, 1, 121, 0, 0, 0, 1, 0, 0, 0, 0, 0, 0, 0, 7, 1, 0, 0, 0, 0, 0, 0, 0, 2, 1, 0,
+    0, 0, 0, 0, 0, 0, 1,
 ];
 
 /// The start of a copy that counts 2^32 - 1 objects, and ends there.
 const MANY_OBJECTS: [u8; 44] = [
-    1, 7, 0, 0, 0, 0, 0, 1, 0, 0, 0, 2, 0, 0, 0, 0, 0, 0, 0, 5, 0, 0, 0, 0, 0, 0, 0, 0, 0, 0, 0, 1,
+    2, 7, 0, 0, 0, 0, 0, 1, 0, 0, 0, 2, 0, 0, 0, 0, 0, 0, 0, 5, 0, 0, 0, 0, 0, 0, 0, 0, 0, 0, 0, 1,
     0, 0, 0, 0, 0, 0, 0, 2, 255, 255, 255, 255,
 ];
 
-/// The start of a copy of no object that counts 2^32 - 1 kept replies, and ends there.
+/// The start of a copy of no object that counts 2^32 - 1 clients, and ends there.
 const MANY_REPLIES: [u8; 48] = [
-    1, 7, 0, 0, 0, 0, 0, 1, 0, 0, 0, 2, 0, 0, 0, 0, 0, 0, 0, 5, 0, 0, 0, 0, 0, 0, 0, 0, 0, 0, 0, 1,
+    2, 7, 0, 0, 0, 0, 0, 1, 0, 0, 0, 2, 0, 0, 0, 0, 0, 0, 0, 5, 0, 0, 0, 0, 0, 0, 0, 0, 0, 0, 0, 1,
     0, 0, 0, 0, 0, 0, 0, 2, 0, 0, 0, 0, 255, 255, 255, 255,
 ];
 
 /// Whether what the bytes spell is written as these bytes.
-fn is_written_again(alloc: Global, bytes: &[u8]) -> Result<bool, Refusal> {
+pub(crate) fn is_written_again(alloc: Global, bytes: &[u8]) -> Result<bool, Refusal> {
     let message = decode(alloc, bytes)?;
     if !spelled(&message) {
         return Err(Refusal::Io);
@@ -89,7 +89,12 @@ fn refusal_of_changed(
     Ok(refusal_of(alloc, changed.as_slice()))
 }
 
-fn print_changed<R>(rt: &R, name: &str, bytes: &[u8], changes: &[(usize, u8)]) -> io::Result<()>
+pub(crate) fn print_changed<R>(
+    rt: &R,
+    name: &str,
+    bytes: &[u8],
+    changes: &[(usize, u8)],
+) -> io::Result<()>
 where
     R: AllocGlobal + Print,
 {
@@ -100,14 +105,15 @@ where
     Ok(())
 }
 
-/// The version 2, the kind 9, the sender 0, the receiver 0, the stamp 0, the epoch 0.
-static HEADER_CHANGES: [(usize, u8); 6] = [(0, 2), (1, 9), (7, 0), (11, 0), (19, 0), (31, 0)];
+/// The version 1, the kind 11, the sender 0, the receiver 0, the stamp 0, the epoch 0.
+static HEADER_CHANGES: [(usize, u8); 6] = [(0, 1), (1, 11), (7, 0), (11, 0), (19, 0), (31, 0)];
 
 /// The position 0, the origin 0, the ticket 0, the number 0, a stale reply, the version 0.
 static ENTRY_CHANGES: [(usize, u8); 6] = [(39, 0), (43, 0), (51, 0), (67, 0), (68, 9), (87, 0)];
 
-/// The second key is the first one, and then a lower one.
-static COPY_CHANGES: [(usize, u8); 2] = [(58, 97), (58, 96)];
+/// The second key is the first one, and then a lower one; the client has no reply, and then one more than
+/// there are; the number 0, a stale reply.
+static COPY_CHANGES: [(usize, u8); 6] = [(58, 97), (58, 96), (82, 0), (82, 2), (90, 0), (91, 9)];
 
 /// Messages of links: what is read, what is written again, and what is no message.
 pub(crate) fn run<R: AllocGlobal + Print>(rt: &R) -> io::Result<()> {

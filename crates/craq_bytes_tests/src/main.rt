@@ -6,6 +6,7 @@ mod frames;
 mod links;
 mod payloads;
 mod plans;
+mod states;
 
 use std::fmt::Debug;
 use std::io;
@@ -20,6 +21,7 @@ fn say<R: Print, T: Debug + Drop>(rt: &R, asked: &str, answer: T) -> io::Result<
 fn run<R: AllocGlobal + Print>(rt: &R) -> io::Result<()> {
     links::print_counts(rt)?;
     links::run(rt)?;
+    states::run(rt)?;
     payloads::run(rt)?;
     frames::run(rt)?;
     plans::run(rt)

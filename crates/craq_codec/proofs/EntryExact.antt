@@ -1,17 +1,20 @@
 -- Replies and entries are read as they are spelled, and spelled as they are read.
-use Rattle.std.proofs.Common.{◌≡◌, ℕ, ◌^◌, ◌<◌, List, ◌++◌, Option, Some, refl, arith}
+use Rattle.std.proofs.Common.{◌≡◌, ℕ, ◌^◌, ◌<◌, ◌≤◌, false, cond, ltb, List, ◌++◌, length, Option, Some, None, refl, subst, arith}
 use Rattle.std.specs.Int.{w8, w64}
+use Rattle.std.proofs.lemmas.Bool.{ltb-false, le-ltb}
+use Rattle.craq_names.specs.Limits.{window_limit}
+use Rattle.craq_commands.specs.Kept.{Window}
 use Rattle.craq_commands.specs.declared.reply.Reply.{Reply}
 use Rattle.craq_commands.specs.declared.reply.Reply.TheVariants.{Written, Mismatch, TooLong, NotANumber, Overflow, Underflow, Done, CompareFailed, Stale}
 use Rattle.craq_commands.specs.declared.entry.Entry.{Entry}
 use Rattle.craq_commands.specs.declared.entry.Write.{Write}
 use Rattle.craq_codec.specs.NumberSpelling.{number}
 use Rattle.craq_codec.specs.PartSpelling.{value, pair, counted, IsValue, IsPair, AreCounted}
-use Rattle.craq_codec.specs.EntrySpelling.{reply_tag, reply_body, reply, ReplyFits, write, WriteFits, entry, EntryFits}
+use Rattle.craq_codec.specs.EntrySpelling.{window, WindowFits, reply_tag, reply_body, reply, ReplyFits, write, WriteFits, entry, EntryFits}
 use Rattle.craq_codec.specs.NumberReading.{number_at}
-use Rattle.craq_codec.specs.PartReading.{value_at, pair_at, counted_at, mapped}
-use Rattle.craq_codec.specs.EntryReading.{reply_body_at, reply_at, write_of, write_at, entry_of, entry_at}
-use Rattle.craq_codec.proofs.NumberExact.{IsBytes, Takes, IsExact, chosen, u8_exact, u32_exact, u64_exact, wide8}
+use Rattle.craq_codec.specs.PartReading.{value_at, request_at, pair_at, counted_at, mapped}
+use Rattle.craq_codec.specs.EntryReading.{window_at, reply_body_at, reply_at, write_of, write_at, entry_of, entry_at}
+use Rattle.craq_codec.proofs.NumberExact.{IsBytes, Takes, IsExact, guard_some, some_is, step, chosen, u8_exact, u32_exact, u64_exact, wide8}
 use Rattle.craq_codec.proofs.PartExact.{key_exact, value_exact, request_exact, pair_exact, counted_exact, mapped_exact}
 use Rattle.craq_codec.proofs.Tagged.{one_case, bare_case, tagged_exact}
 
@@ -97,3 +100,27 @@ entry_exact =
     entry_of entry_parts entry EntryFits
     (λ a q. record { position = q.0; origin_node = q.1.0; origin_ticket = q.1.1.0; client = q.1.1.1.0; number = q.1.1.1.1.0; reply = q.1.1.1.1.1.0; writes = q.1.1.1.1.1.1 })
     (λ e q. (q.position, (q.origin_node, (q.origin_ticket, (q.client, (q.number, (q.reply, q.writes))))))) (λ e. refl) (λ a. refl)
+
+-- ---- what is kept for a client
+
+abbrev reply_fits : ℕ × Reply → Type 0
+reply_fits = IsPair (λ number. (1 ≤ number) × (number < 2 ^ 64)) ReplyFits
+
+replies_exact : IsExact window (AreCounted w8 reply_fits) (counted_at w8 (pair_at request_at reply_at))
+replies_exact = counted_exact _ _ _ (pair_exact _ _ _ request_exact _ _ _ reply_exact) w8 wide8
+
+window_takes : (bytes : List ℕ) (x : Window × List ℕ) → IsBytes bytes → window_at bytes ≡ Some x → Takes bytes (window x.0) x.1 × WindowFits x.0
+unfolding window_at
+window_takes bytes x h e =
+    let s = step window (AreCounted w8 reply_fits) (counted_at w8 (pair_at request_at reply_at)) replies_exact bytes (λ w. cond (ltb window_limit (length w.0)) None (Some w)) x h e in
+    let few = guard_some (ltb window_limit (length s.0.0)) (Some s.0) x s.3 in
+    subst (λ (y : Window × List ℕ). Takes bytes (window y.0) y.1 × WindowFits y.0) (some_is s.0 x few.1) (s.1, record { few = ltb-false _ _ few.0; each = s.2.each })
+
+window_again : (w : Window) (rest : List ℕ) → WindowFits w → window_at (window w ++ rest) ≡ Some (w, rest)
+unfolding window_at
+window_again w rest fits =
+    let few : ltb window_limit (length w) ≡ false = le-ltb _ _ fits.few in
+    rw (replies_exact.again w rest (record { few = omega (arith, fits.few); each = fits.each }), few) refl
+
+pub window_exact : IsExact window WindowFits window_at
+window_exact = record { takes = window_takes; again = window_again }

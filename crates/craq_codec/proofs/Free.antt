@@ -1,7 +1,21 @@
--- What holds of every value holds of all values of a list.
-use Rattle.std.proofs.Common.{List, [], ◌∷◌}
+-- What may be written: any number, and the replies of a window that can be spelled.
+use Rattle.std.proofs.Common.{◌<◌, ℕ, List, [], ◌∷◌, length, arith}
+use Rattle.std.specs.Prelude.{⊤}
 use Rattle.std.specs.List.{AllByRecursion}
+use Rattle.craq_commands.specs.Kept.{Kept, Window}
+use Rattle.craq_model.specs.Spelled.{IsReply, IsNotStale, IsSpelledWindow}
+use Rattle.craq_codec.specs.PartSpelling.{IsPair}
 
 pub all_of_any : {A : Type 0} (P : A → Type 0) → ((x : A) → P x) → (xs : List A) → AllByRecursion P xs
 all_of_any P each [] = tt
 all_of_any P each (x ∷ xs) = (each x, all_of_any P each xs)
+
+replies_of : (w : Window) → AllByRecursion (λ (k : Kept). IsReply k.1 × IsNotStale k.1) w → AllByRecursion (IsPair (λ (n : ℕ). ⊤) IsReply) w
+replies_of [] h = tt
+replies_of (k ∷ ks) h = ((tt, h.0.0), replies_of ks h.1)
+
+pub writable_replies : (w : Window) → IsSpelledWindow w → AllByRecursion (IsPair (λ (n : ℕ). ⊤) IsReply) w
+writable_replies w s = replies_of w s.replies
+
+pub few_replies : (w : Window) → IsSpelledWindow w → length w < 256
+few_replies w s = omega (arith, s.few)

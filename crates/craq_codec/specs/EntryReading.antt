@@ -1,8 +1,10 @@
 -- Reading replies and entries from left to right.
-use Rattle.std.specs.Prelude.{ℕ, List, Option, Some, None, ◌==◌, if◌then◌else◌}
+use Rattle.std.specs.Prelude.{ℕ, List, Option, Some, None, ◌==◌, nat_lt, length, if◌then◌else◌}
 use Rattle.std.specs.Int.{w8, w32, w64}
+use Rattle.craq_names.specs.Limits.{window_limit}
 use Rattle.craq_commands.specs.declared.reply.Reply.{Reply}
 use Rattle.craq_commands.specs.declared.reply.Reply.TheVariants.{Written, Mismatch, TooLong, NotANumber, Overflow, Underflow, Done, CompareFailed, Stale}
+use Rattle.craq_commands.specs.Kept.{Window}
 use Rattle.craq_commands.specs.declared.entry.Entry.{Entry}
 use Rattle.craq_commands.specs.declared.entry.Write.{Write}
 use Rattle.craq_codec.specs.NumberReading.{◌>>=◌, number_at}
@@ -39,3 +41,9 @@ unfoldable pub entry_at : List ℕ → Option (Entry × List ℕ)
 entry_at bytes =
     mapped entry_of (pair_at (number_at w64) (pair_at (number_at w32) (pair_at (number_at w64) (pair_at (number_at w64)
     (pair_at request_at (pair_at reply_at (counted_at w8 write_at)))))) bytes)
+
+-- at most 8 replies, each after its number
+unfoldable pub window_at : List ℕ → Option (Window × List ℕ)
+window_at bytes = do
+  w ← counted_at w8 (pair_at request_at reply_at) bytes
+  if nat_lt window_limit (length w.0) then None else Some w

@@ -1,8 +1,11 @@
 -- How replies and entries are spelled.
-use Rattle.std.specs.Prelude.{◌<◌, ◌≤◌, ◌^◌, ⊤, ℕ, List, [], ◌++◌}
+use Rattle.std.specs.Prelude.{◌<◌, ◌≤◌, ◌^◌, ⊤, ℕ, List, [], ◌++◌, length}
+use Rattle.std.specs.List.{AllByRecursion}
 use Rattle.std.specs.Int.{w8, w32, w64}
+use Rattle.craq_names.specs.Limits.{window_limit}
 use Rattle.craq_commands.specs.declared.reply.Reply.{Reply}
 use Rattle.craq_commands.specs.declared.reply.Reply.TheVariants.{Written, Mismatch, TooLong, NotANumber, Overflow, Underflow, Done, CompareFailed, Stale}
+use Rattle.craq_commands.specs.Kept.{Window}
 use Rattle.craq_commands.specs.declared.entry.Entry.{Entry}
 use Rattle.craq_commands.specs.declared.entry.Write.{Write}
 use Rattle.craq_codec.specs.NumberSpelling.{number}
@@ -70,3 +73,13 @@ pub record EntryFits (e : Entry) : Type 0 where
   pub number : (1 ≤ e.number) × (e.number < 2 ^ 64)
   pub reply : ReplyFits e.reply
   pub writes : AreCounted w8 WriteFits e.writes
+
+-- ---- what is kept for a client: a count, and each number with its reply
+
+abbrev pub window : Window → List ℕ
+window = counted w8 (pair (number w64) reply)
+
+-- at most 8 replies, whose numbers and counts are of their widths
+pub record WindowFits (w : Window) : Type 0 where
+  pub few : length w ≤ window_limit
+  pub each : AllByRecursion (IsPair (λ number. (1 ≤ number) × (number < 2 ^ 64)) ReplyFits) w

@@ -1,6 +1,7 @@
 -- Replies and entries as their types hold them: each number of its width, each key and value of a length that its type allows,
 -- and lists of any length.
 use Rattle.std.specs.Prelude.{◌<◌, ◌≤◌, ◌^◌, ⊤}
+use Rattle.craq_commands.specs.Kept.{Window}
 use Rattle.std.specs.List.{AllByRecursion}
 use Rattle.craq_commands.specs.declared.reply.Reply.{Reply}
 use Rattle.craq_commands.specs.declared.reply.Reply.TheVariants.{Written, Mismatch, TooLong, NotANumber, Overflow, Underflow, Done, CompareFailed, Stale}
@@ -29,3 +30,7 @@ pub record IsTypedEntry (e : Entry) : Type 0 where
   pub number : (1 ≤ e.number) × (e.number < 2 ^ 64)
   pub reply : IsTypedReply e.reply
   pub writes : AllByRecursion WriteFits e.writes
+
+-- what is kept for a client is a value of its type
+abbrev pub IsTypedWindow : Window → Type 0
+IsTypedWindow w = AllByRecursion (IsPair (λ number. (1 ≤ number) × (number < 2 ^ 64)) IsTypedReply) w

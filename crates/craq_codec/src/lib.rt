@@ -11,6 +11,7 @@ mod reply;
 mod rules;
 mod undo;
 mod unread;
+mod window;
 
 pub use command::{read_command, write_command};
 pub use list::{

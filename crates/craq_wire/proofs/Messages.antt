@@ -6,18 +6,21 @@ use Rattle.std.proofs.lemmas.List.{append-nil, nil_from_length}
 use Rattle.craq_model.specs.declared.message.Body.{Body}
 use Rattle.craq_model.specs.declared.message.Body.TheVariants as bodies
 use Rattle.craq_model.specs.declared.message.LinkMessage.{LinkMessage}
+use Rattle.craq_model.specs.declared.message.StatePart.{StatePart}
+use Rattle.craq_commands.specs.declared.state.State.{State}
 use Rattle.craq_model.specs.Spelled.{IsSpelled}
 use Rattle.craq_codec.specs.NumberSpelling.{number}
 use Rattle.craq_codec.specs.PartSpelling.{key, pair, counted, IsKey, IsPair, AreCounted}
 use Rattle.craq_codec.specs.NumberReading.{number_at}
-use Rattle.craq_codec.specs.PartReading.{key_at, value_at, request_at, pair_at, counted_at, mapped}
-use Rattle.craq_codec.specs.EntryReading.{reply_at}
+use Rattle.craq_codec.specs.PartReading.{key_at, value_at, pair_at, counted_at, mapped}
+use Rattle.craq_codec.specs.EntryReading.{window_at, entry_at}
+use Rattle.craq_codec.specs.EntrySpelling.{entry, EntryFits}
 use Rattle.craq_codec.proofs.NumberExact.{IsBytes, Takes, Takes-then, IsExact, bind_some, some_is, step, chosen, u8_exact, u16_exact, u32_exact, u64_exact, wide8, wide32}
-use Rattle.craq_codec.proofs.PartExact.{key_exact, request_exact, pair_exact, counted_exact, mapped_exact}
+use Rattle.craq_codec.proofs.PartExact.{key_exact, pair_exact, counted_exact, mapped_exact}
 use Rattle.craq_codec.proofs.Tagged.{one_case}
-use Rattle.craq_codec.proofs.EntryExact.{version_value_exact, reply_exact, entry_exact}
-use Rattle.craq_wire.specs.Reading.{CopyParts, copy_of, copy_at, body_at, Header, header_of, header_at, message_of, message_at, all_of}
-use Rattle.craq_wire.specs.Spelling.{wire_version, kind_of, stored, kept_reply, said, header, spelling_of, StoredFits, KeptFits, BodyFits, MessageFits, Spells}
+use Rattle.craq_codec.proofs.EntryExact.{version_value_exact, window_exact, entry_exact}
+use Rattle.craq_wire.specs.Reading.{state_of, state_at, part_of, part_at, body_at, Header, header_of, header_at, message_of, message_at, all_of}
+use Rattle.craq_wire.specs.Spelling.{wire_version, kind_of, stored, kept_window, state, state_part, said, header, spelling_of, StoredFits, KeptFits, StateFits, PartFits, BodyFits, MessageFits, Spells}
 use Rattle.craq_wire.specs.Tests.{is_spelled}
 use Rattle.craq_wire.proofs.Tests.{decides_spelled}
 
@@ -34,18 +37,28 @@ members_exact = counted_exact _ _ _ u32_exact w8 wide8
 stored_exact : IsExact stored StoredFits (pair_at key_at (pair_at (number_at w64) value_at))
 stored_exact = pair_exact _ _ _ key_exact _ _ _ version_value_exact
 
-kept_exact : IsExact kept_reply KeptFits (pair_at (number_at w64) (pair_at request_at reply_at))
-kept_exact = pair_exact _ _ _ u64_exact _ _ _ (pair_exact _ _ _ request_exact _ _ _ reply_exact)
+kept_exact : IsExact kept_window KeptFits (pair_at (number_at w64) window_at)
+kept_exact = pair_exact _ _ _ u64_exact _ _ _ window_exact
 
-abbrev copy : CopyParts → List ℕ
-copy = pair (number w64) (pair (counted w32 stored) (counted w32 kept_reply))
+state_exact : IsExact state StateFits state_at
+unfolding state_at
+state_exact =
+    mapped_exact _ _ _ (pair_exact _ _ _ (counted_exact _ _ _ stored_exact w32 wide32) _ _ _ (counted_exact _ _ _ kept_exact w32 wide32)) state_of
+    (λ (s : State). (s.objects, s.kept)) state StateFits (λ a q. record { objects = q.0; kept = q.1 }) (λ s q. (q.objects, q.kept)) (λ s. refl) (λ a. refl)
 
-abbrev CopyFits : CopyParts → Type 0
-CopyFits = IsPair (λ position. position < 2 ^ 64) (IsPair (AreCounted w32 StoredFits) (AreCounted w32 KeptFits))
+copy_exact : IsExact (pair (number w64) state) (IsPair (λ position. position < 2 ^ 64) StateFits) (pair_at (number_at w64) state_at)
+copy_exact = pair_exact _ _ _ u64_exact _ _ _ state_exact
 
-copy_exact : IsExact copy CopyFits copy_at
-unfolding copy_at
-copy_exact = pair_exact _ _ _ u64_exact _ _ _ (pair_exact _ _ _ (counted_exact _ _ _ stored_exact w32 wide32) _ _ _ (counted_exact _ _ _ kept_exact w32 wide32))
+part_exact : IsExact state_part PartFits part_at
+unfolding part_at
+part_exact =
+    mapped_exact _ _ _ (pair_exact _ _ _ u64_exact _ _ _ (pair_exact _ _ _ u32_exact _ _ _ (pair_exact _ _ _ u32_exact _ _ _ state_exact))) part_of
+    (λ (p : StatePart). (p.position, (p.number, (p.count, p.state)))) state_part PartFits
+    (λ a q. record { position = q.0; number = q.1.0; count = q.1.1.0; state = q.1.1.1 })
+    (λ p q. (q.position, (q.number, (q.count, q.state)))) (λ p. refl) (λ a. refl)
+
+batch_exact : IsExact (counted w8 entry) (AreCounted w8 EntryFits) (counted_at w8 entry_at)
+batch_exact = counted_exact _ _ _ entry_exact w8 wide8
 
 query_exact : IsExact (pair (number w64) key) (IsPair (λ ticket. ticket < 2 ^ 64) IsKey) (pair_at (number_at w64) key_at)
 query_exact = pair_exact _ _ _ u64_exact _ _ _ key_exact
@@ -63,9 +76,11 @@ body_takes kind bytes x h e =
     chosen kind 4 _ _ x e P (body_case _ _ _ query_exact (λ (y : ℕ × List ℕ). bodies.Query y.0 y.1) (λ a. refl) (λ a q. q) 4 (λ a. refl) bytes x h) (λ e.
     chosen kind 5 _ _ x e P (body_case _ _ _ version_exact (λ (y : ℕ × ℕ). bodies.VersionIs y.0 y.1) (λ a. refl) (λ a q. q) 5 (λ a. refl) bytes x h) (λ e.
     chosen kind 6 _ _ x e P (body_case _ _ _ u64_exact bodies.Blank (λ a. refl) (λ a q. q) 6 (λ a. refl) bytes x h) (λ e.
-    chosen kind 7 _ _ x e P (body_case _ _ _ copy_exact copy_of (λ a. refl) (λ a q. (q.0, q.1.0, q.1.1)) 7 (λ a. refl) bytes x h) (λ e.
+    chosen kind 7 _ _ x e P (body_case _ _ _ copy_exact (λ (y : ℕ × State). bodies.Copy y.0 y.1) (λ a. refl) (λ a q. q) 7 (λ a. refl) bytes x h) (λ e.
     chosen kind 8 _ _ x e P (body_case _ _ _ u64_exact bodies.Floor (λ a. refl) (λ a q. q) 8 (λ a. refl) bytes x h) (λ e.
-    absurd cc))))))))
+    chosen kind 9 _ _ x e P (body_case _ _ _ part_exact bodies.Part (λ a. refl) (λ a q. q) 9 (λ a. refl) bytes x h) (λ e.
+    chosen kind 10 _ _ x e P (body_case _ _ _ batch_exact bodies.Batch (λ a. refl) (λ a q. q) 10 (λ a. refl) bytes x h) (λ e.
+    absurd cc))))))))))
 
 body_again : (b : Body) (rest : List ℕ) → BodyFits b → body_at (kind_of b) (said b ++ rest) ≡ Some (b, rest)
 unfolding body_at
@@ -75,8 +90,10 @@ body_again (bodies.Ack position) rest h = rw (u64_exact.again position rest h) r
 body_again (bodies.Query ticket k) rest h = rw (query_exact.again (ticket, k) rest h) refl
 body_again (bodies.VersionIs ticket version) rest h = rw (version_exact.again (ticket, version) rest h) refl
 body_again (bodies.Blank count) rest h = rw (u64_exact.again count rest h) refl
-body_again (bodies.Copy position objects kept) rest h = rw (copy_exact.again (position, (objects, kept)) rest (h.0, (h.1, h.2))) refl
+body_again (bodies.Copy position s) rest h = rw (copy_exact.again (position, s) rest h) refl
 body_again (bodies.Floor count) rest h = rw (u64_exact.again count rest h) refl
+body_again (bodies.Part p) rest h = rw (part_exact.again p rest h) refl
+body_again (bodies.Batch es) rest h = rw (batch_exact.again es rest h) refl
 
 kind_small : (b : Body) → kind_of b < 2 ^ 8
 kind_small (bodies.Config members) = omega arith
@@ -85,8 +102,10 @@ kind_small (bodies.Ack position) = omega arith
 kind_small (bodies.Query ticket k) = omega arith
 kind_small (bodies.VersionIs ticket version) = omega arith
 kind_small (bodies.Blank count) = omega arith
-kind_small (bodies.Copy position objects kept) = omega arith
+kind_small (bodies.Copy position s) = omega arith
 kind_small (bodies.Floor count) = omega arith
+kind_small (bodies.Part p) = omega arith
+kind_small (bodies.Batch es) = omega arith
 
 -- ---- what stands before it
 

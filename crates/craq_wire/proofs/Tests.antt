@@ -1,5 +1,5 @@
 -- The tests of messages tell whether their rules hold.
-use Rattle.std.proofs.Common.{◌≡◌, ℕ, ◌≤◌, ◌∙◌, Bool, true, false, not, ◌||◌, List, [], ◌∷◌, map, length, refl, sym, ap, subst, T}
+use Rattle.std.proofs.Common.{◌≡◌, ℕ, ◌+◌, ◌<◌, ◌≤◌, ◌∙◌, ltb, Bool, true, false, not, ◌||◌, List, [], ◌∷◌, map, length, refl, sym, ap, subst, T}
 use Rattle.std.specs.Prelude.{nat_eq}
 use Rattle.std.specs.Bool.{Decides}
 use Rattle.std.specs.List.{AllByRecursion, IsDistinct, list_any}
@@ -10,19 +10,22 @@ use Rattle.std.specs.Cmp.{IsTotalOrder, nat_cmp_total}
 use Rattle.std.specs.Cmp.Lexicographic.{nat_list_cmp_total}
 use Rattle.std.specs.FinMap.Entries.{below_all, is_sorted}
 use Rattle.std.proofs.lemmas.Bool.{or_from, or_parts, not-true, not_from_false, and_parts, and_from}
-use Rattle.std.proofs.lemmas.Bool.Decides.{Decides-and, Decides-like, Decides-eqb}
-use Rattle.craq_names.specs.Limits.{greatest_count, item_limit, member_limit}
+use Rattle.std.proofs.lemmas.Bool.Decides.{Decides-and, Decides-like, Decides-eqb, Decides-ltb}
+use Rattle.craq_names.specs.Limits.{greatest_count, item_limit, member_limit, window_limit, part_limit, batch_limit}
 use Rattle.craq_names.specs.Maps.{same_bytes, key_cmp}
 use Rattle.craq_commands.specs.declared.entry.Entry.{Entry}
 use Rattle.craq_commands.specs.declared.entry.Write.{Write}
-use Rattle.craq_commands.specs.Kept.{Kept}
+use Rattle.craq_commands.specs.Kept.{Kept, Window}
+use Rattle.craq_commands.specs.declared.state.State.{State}
+use Rattle.craq_model.specs.declared.message.StatePart.{StatePart}
+use Rattle.craq_model.specs.Parts.{item_count}
 use Rattle.craq_model.specs.Members.{IsMembership}
 use Rattle.craq_model.specs.declared.message.Body.{Body}
 use Rattle.craq_model.specs.declared.message.Body.TheVariants as bodies
 use Rattle.craq_model.specs.declared.message.LinkMessage.{LinkMessage}
-use Rattle.craq_model.specs.Spelled.{IsReply, IsNotStale, IsSpelledEntry, IsSpelledState, IsSpelledBody, IsFromItsSender, IsSpelled}
+use Rattle.craq_model.specs.Spelled.{IsReply, IsNotStale, IsSpelledEntry, IsSpelledWindow, IsSpelledState, IsSpelledPart, IsConsecutive, IsSpelledBatch, IsSpelledBody, IsFromItsSender, IsSpelled}
 use Rattle.craq_codec.proofs.Tests.{decides_le, decides_sure, decides_all, decides_reply, decides_not_stale}
-use Rattle.craq_wire.specs.Tests.{stands_twice, is_below_first, is_rising, same_key, has_version, is_entry, is_stored, is_kept, is_state, is_node, is_membership, is_body, is_from_its_sender, is_spelled}
+use Rattle.craq_wire.specs.Tests.{stands_twice, is_below_first, is_rising, same_key, has_version, is_entry, is_stored, is_kept, is_window, is_client, is_state, is_part, are_consecutive, is_batch, is_node, is_membership, is_body, is_from_its_sender, is_spelled}
 
 -- ---- no two alike
 
@@ -122,17 +125,58 @@ decides_entry e =
     (λ h. record { position = h.0; origin_node = h.1.0; origin_ticket = h.1.1.0; reply = h.1.1.1.0; not_stale = h.1.1.1.1.0; few = h.1.1.1.1.1.0; versions = h.1.1.1.1.1.1.0; once = h.1.1.1.1.1.1.1 })
     (λ s. (s.position, (s.origin_node, (s.origin_ticket, (s.reply, (s.not_stale, (s.few, (s.versions, s.once)))))))) positions
 
-decides_state : (objects : List (List ℕ × (ℕ × List ℕ))) (kept : List (ℕ × Kept)) → Decides (is_state objects kept) (IsSpelledState objects kept)
+decides_window : (w : Window) → Decides (is_window w) (IsSpelledWindow w)
+unfolding is_window
+decides_window w =
+    let replies = Decides-and _ _ (decides_all is_kept (λ (k : Kept). IsReply k.1 × IsNotStale k.1) (λ k. Decides-and _ _ (decides_reply k.1) (decides_not_stale k.1)) w) (decides_rising nat_cmp nat_cmp_total w) in
+    let few = Decides-and _ _ (decides_le (length w) window_limit) replies in
+    let some = Decides-and _ _ (decides_le 1 (length w)) few in
+    Decides-like _ (λ h. record { some = h.0; few = h.1.0; replies = h.1.1.0; numbers_rise = h.1.1.1 }) (λ s. (s.some, (s.few, (s.replies, s.numbers_rise)))) some
+
+decides_state : (s : State) → Decides (is_state s) (IsSpelledState s)
 unfolding is_state
-decides_state objects kept =
-    let rise = Decides-and _ _ (decides_rising key_cmp nat_list_cmp_total objects) (decides_rising nat_cmp nat_cmp_total kept) in
-    let replies = Decides-and _ _ (decides_all is_kept (λ (k : ℕ × Kept). IsReply k.1.1 × IsNotStale k.1.1) (λ k. Decides-and _ _ (decides_reply k.1.1) (decides_not_stale k.1.1)) kept) rise in
-    let versions = Decides-and _ _ (decides_all is_stored (λ (o : List ℕ × (ℕ × List ℕ)). 1 ≤ o.1.0) (λ o. decides_le 1 o.1.0) objects) replies in
-    let fewer = Decides-and _ _ (decides_le (length kept) greatest_count) versions in
-    let few = Decides-and _ _ (decides_le (length objects) greatest_count) fewer in
+decides_state s =
+    let rise = Decides-and _ _ (decides_rising key_cmp nat_list_cmp_total s.objects) (decides_rising nat_cmp nat_cmp_total s.kept) in
+    let windows = Decides-and _ _ (decides_all is_client (λ (k : ℕ × Window). IsSpelledWindow k.1) (λ k. decides_window k.1) s.kept) rise in
+    let versions = Decides-and _ _ (decides_all is_stored (λ (o : List ℕ × (ℕ × List ℕ)). 1 ≤ o.1.0) (λ o. decides_le 1 o.1.0) s.objects) windows in
+    let fewer = Decides-and _ _ (decides_le (length s.kept) greatest_count) versions in
+    let few = Decides-and _ _ (decides_le (length s.objects) greatest_count) fewer in
     Decides-like _
-    (λ h. record { few_objects = h.0; few_kept = h.1.0; versions = h.1.1.0; replies = h.1.1.1.0; keys_rise = h.1.1.1.1.0; clients_rise = h.1.1.1.1.1 })
-    (λ s. (s.few_objects, (s.few_kept, (s.versions, (s.replies, (s.keys_rise, s.clients_rise)))))) few
+    (λ h. record { few_objects = h.0; few_kept = h.1.0; versions = h.1.1.0; windows = h.1.1.1.0; keys_rise = h.1.1.1.1.0; clients_rise = h.1.1.1.1.1 })
+    (λ s. (s.few_objects, (s.few_kept, (s.versions, (s.windows, (s.keys_rise, s.clients_rise)))))) few
+
+-- a test that has to hold where another does
+decides_where : (a b : Bool) (P Q : Type 0) → Decides a P → Decides b Q → Decides (not a || b) (P → Q)
+decides_where true b P Q da db = (λ t p. db.0 t, λ h. db.1 (h (da.0 refl)))
+decides_where false b P Q da db = (λ t p. let clash : false ≡ true = da.1 p in absurd cc, λ h. refl)
+
+decides_part : (p : StatePart) → Decides (is_part p) (IsSpelledPart p)
+unfolding is_part
+decides_part p =
+    let filled = decides_where (ltb p.number p.count) _ (p.number < p.count) _ (Decides-ltb p.number p.count) (Decides-eqb (item_count p.state) part_limit) in
+    let states = Decides-and _ _ filled (decides_state p.state) in
+    let few = Decides-and _ _ (decides_le (item_count p.state) part_limit) states in
+    let some = Decides-and _ _ (decides_le 1 (item_count p.state)) few in
+    let several = Decides-and _ _ (decides_le 2 p.count) some in
+    let to = Decides-and _ _ (decides_le p.number p.count) several in
+    let from = Decides-and _ _ (decides_le 1 p.number) to in
+    let positions = Decides-and _ _ (decides_le 1 p.position) from in
+    Decides-like _
+    (λ h. record { position = h.0; from = h.1.0; to = h.1.1.0; several = h.1.1.1.0; some = h.1.1.1.1.0; few = h.1.1.1.1.1.0; whole = h.1.1.1.1.1.1.0; state = h.1.1.1.1.1.1.1 })
+    (λ s. (s.position, (s.from, (s.to, (s.several, (s.some, (s.few, (s.whole, s.state)))))))) positions
+
+decides_consecutive : (es : List Entry) → Decides (are_consecutive es) (IsConsecutive es)
+decides_consecutive [] = decides_sure
+decides_consecutive (e ∷ []) = decides_sure
+decides_consecutive (e ∷ f ∷ es) = Decides-and _ _ (Decides-eqb f.position (e.position + 1)) (decides_consecutive (f ∷ es))
+
+decides_batch : (es : List Entry) → Decides (is_batch es) (IsSpelledBatch es)
+unfolding is_batch
+decides_batch es =
+    let entries = Decides-and _ _ (decides_all is_entry IsSpelledEntry decides_entry es) (decides_consecutive es) in
+    let few = Decides-and _ _ (decides_le (length es) batch_limit) entries in
+    let several = Decides-and _ _ (decides_le 2 (length es)) few in
+    Decides-like _ (λ h. record { several = h.0; few = h.1.0; entries = h.1.1.0; consecutive = h.1.1.1 }) (λ s. (s.several, (s.few, (s.entries, s.consecutive)))) several
 
 decides_membership : (members : List ℕ) → Decides (is_membership members) (IsMembership members)
 unfolding is_membership
@@ -150,8 +194,10 @@ decides_body (bodies.Ack position) = decides_sure
 decides_body (bodies.Query ticket k) = decides_le 1 ticket
 decides_body (bodies.VersionIs ticket version) = decides_le 1 ticket
 decides_body (bodies.Blank count) = decides_sure
-decides_body (bodies.Copy position objects kept) = Decides-and _ _ (decides_le 1 position) (decides_state objects kept)
+decides_body (bodies.Copy position s) = Decides-and _ _ (decides_le 1 position) (decides_state s)
 decides_body (bodies.Floor count) = decides_sure
+decides_body (bodies.Part p) = decides_part p
+decides_body (bodies.Batch es) = decides_batch es
 
 decides_sender : (sender : ℕ) (b : Body) → Decides (is_from_its_sender sender b) (IsFromItsSender sender b)
 decides_sender sender (bodies.Config members) = Decides-eqb sender 0
@@ -160,8 +206,10 @@ decides_sender sender (bodies.Ack position) = decides_le 1 sender
 decides_sender sender (bodies.Query ticket k) = decides_le 1 sender
 decides_sender sender (bodies.VersionIs ticket version) = decides_le 1 sender
 decides_sender sender (bodies.Blank count) = decides_le 1 sender
-decides_sender sender (bodies.Copy position objects kept) = decides_le 1 sender
+decides_sender sender (bodies.Copy position s) = decides_le 1 sender
 decides_sender sender (bodies.Floor count) = decides_le 1 sender
+decides_sender sender (bodies.Part p) = decides_le 1 sender
+decides_sender sender (bodies.Batch es) = decides_le 1 sender
 
 pub decides_spelled : (m : LinkMessage) → Decides (is_spelled m) (IsSpelled m)
 unfolding is_spelled

@@ -1,25 +1,29 @@
 -- Reading messages from left to right.
 use Rattle.std.specs.Prelude.{ℕ, List, length, Option, Some, None, ◌==◌, if◌then◌else◌}
 use Rattle.std.specs.Int.{w8, w16, w32, w64}
-use Rattle.craq_commands.specs.Kept.{Kept}
+use Rattle.craq_commands.specs.Kept.{Window}
+use Rattle.craq_commands.specs.declared.state.State.{State}
 use Rattle.craq_model.specs.declared.message.Body.{Body}
 use Rattle.craq_model.specs.declared.message.Body.TheVariants as bodies
 use Rattle.craq_model.specs.declared.message.LinkMessage.{LinkMessage}
+use Rattle.craq_model.specs.declared.message.StatePart.{StatePart}
 use Rattle.craq_codec.specs.NumberReading.{◌>>=◌, number_at}
-use Rattle.craq_codec.specs.PartReading.{key_at, value_at, request_at, pair_at, counted_at, mapped}
-use Rattle.craq_codec.specs.EntryReading.{reply_at, entry_at}
+use Rattle.craq_codec.specs.PartReading.{key_at, value_at, pair_at, counted_at, mapped}
+use Rattle.craq_codec.specs.EntryReading.{entry_at, window_at}
 use Rattle.craq_wire.specs.Spelling.{wire_version}
 
-abbrev pub CopyParts : Type 0
-CopyParts = ℕ × (List (List ℕ × (ℕ × List ℕ)) × List (ℕ × Kept))
+abbrev pub state_of : List (List ℕ × (ℕ × List ℕ)) × List (ℕ × Window) → State
+state_of x = record { objects = x.0; kept = x.1 }
 
-unfoldable pub copy_at : List ℕ → Option (CopyParts × List ℕ)
-copy_at =
-    pair_at (number_at w64) (pair_at (counted_at w32 (pair_at key_at (pair_at (number_at w64) value_at)))
-    (counted_at w32 (pair_at (number_at w64) (pair_at request_at reply_at))))
+unfoldable pub state_at : List ℕ → Option (State × List ℕ)
+state_at bytes =
+    mapped state_of (pair_at (counted_at w32 (pair_at key_at (pair_at (number_at w64) value_at))) (counted_at w32 (pair_at (number_at w64) window_at)) bytes)
 
-abbrev pub copy_of : CopyParts → Body
-copy_of x = bodies.Copy x.0 x.1.0 x.1.1
+abbrev pub part_of : ℕ × (ℕ × (ℕ × State)) → StatePart
+part_of x = record { position = x.0; number = x.1.0; count = x.1.1.0; state = x.1.1.1 }
+
+unfoldable pub part_at : List ℕ → Option (StatePart × List ℕ)
+part_at bytes = mapped part_of (pair_at (number_at w64) (pair_at (number_at w32) (pair_at (number_at w32) state_at)) bytes)
 
 unfoldable pub body_at : ℕ → List ℕ → Option (Body × List ℕ)
 body_at kind bytes =
@@ -29,8 +33,10 @@ body_at kind bytes =
     else if kind == 4 then mapped (λ (x : ℕ × List ℕ). bodies.Query x.0 x.1) (pair_at (number_at w64) key_at bytes)
     else if kind == 5 then mapped (λ (x : ℕ × ℕ). bodies.VersionIs x.0 x.1) (pair_at (number_at w64) (number_at w64) bytes)
     else if kind == 6 then mapped bodies.Blank (number_at w64 bytes)
-    else if kind == 7 then mapped copy_of (copy_at bytes)
+    else if kind == 7 then mapped (λ (x : ℕ × State). bodies.Copy x.0 x.1) (pair_at (number_at w64) state_at bytes)
     else if kind == 8 then mapped bodies.Floor (number_at w64 bytes)
+    else if kind == 9 then mapped bodies.Part (part_at bytes)
+    else if kind == 10 then mapped bodies.Batch (counted_at w8 entry_at bytes)
     else None
 
 -- what stands before what a message says

@@ -1,20 +1,22 @@
 -- How messages are spelled.
-use Rattle.std.specs.Prelude.{◌≡◌, ◌<◌, ◌≤◌, ◌^◌, ℕ, List, ◌++◌}
+use Rattle.std.specs.Prelude.{◌≡◌, ◌<◌, ◌^◌, ℕ, List, ◌++◌}
 use Rattle.std.specs.Int.{w8, w16, w32, w64}
-use Rattle.craq_commands.specs.Kept.{Kept}
+use Rattle.craq_commands.specs.Kept.{Window}
+use Rattle.craq_commands.specs.declared.state.State.{State}
 use Rattle.craq_model.specs.declared.message.Body.{Body}
 use Rattle.craq_model.specs.declared.message.Body.TheVariants as bodies
 use Rattle.craq_model.specs.declared.message.LinkMessage.{LinkMessage}
+use Rattle.craq_model.specs.declared.message.StatePart.{StatePart}
 use Rattle.craq_model.specs.Spelled.{IsSpelled}
 use Rattle.craq_codec.specs.NumberSpelling.{number}
 use Rattle.craq_codec.specs.PartSpelling.{key, value, pair, counted, IsKey, IsValue, IsPair, AreCounted}
-use Rattle.craq_codec.specs.EntrySpelling.{reply, entry, ReplyFits, EntryFits}
+use Rattle.craq_codec.specs.EntrySpelling.{entry, window, EntryFits, WindowFits}
 
 -- a message: the wire's version, the kind of the body, the header, and the body
 
 -- the version of the wire
 abbrev pub wire_version : ℕ
-wire_version = 1
+wire_version = 2
 
 abbrev pub kind_of : Body → ℕ
 kind_of (bodies.Config members) = 1
@@ -23,16 +25,26 @@ kind_of (bodies.Ack position) = 3
 kind_of (bodies.Query ticket k) = 4
 kind_of (bodies.VersionIs ticket version) = 5
 kind_of (bodies.Blank count) = 6
-kind_of (bodies.Copy position objects kept) = 7
+kind_of (bodies.Copy position s) = 7
 kind_of (bodies.Floor count) = 8
+kind_of (bodies.Part p) = 9
+kind_of (bodies.Batch es) = 10
 
--- an object of a copy: its key, version and value
+-- an object of a state: its key, version and value
 abbrev pub stored : List ℕ × (ℕ × List ℕ) → List ℕ
 stored = pair key (pair (number w64) value)
 
--- a client of a copy: its last number and the reply to it
-abbrev pub kept_reply : ℕ × Kept → List ℕ
-kept_reply = pair (number w64) (pair (number w64) reply)
+-- a client of a state, and what is kept for it
+abbrev pub kept_window : ℕ × Window → List ℕ
+kept_window = pair (number w64) window
+
+-- the objects of a state, then its clients
+abbrev pub state : State → List ℕ
+state s = counted w32 stored s.objects ++ counted w32 kept_window s.kept
+
+-- a part of a state: its position, its number, how many there are, and its items
+abbrev pub state_part : StatePart → List ℕ
+state_part p = number w64 p.position ++ (number w32 p.number ++ (number w32 p.count ++ state p.state))
 
 abbrev pub said : Body → List ℕ
 said (bodies.Config members) = counted w8 (number w32) members
@@ -41,8 +53,10 @@ said (bodies.Ack position) = number w64 position
 said (bodies.Query ticket k) = number w64 ticket ++ key k
 said (bodies.VersionIs ticket version) = number w64 ticket ++ number w64 version
 said (bodies.Blank count) = number w64 count
-said (bodies.Copy position objects kept) = number w64 position ++ (counted w32 stored objects ++ counted w32 kept_reply kept)
+said (bodies.Copy position s) = number w64 position ++ state s
 said (bodies.Floor count) = number w64 count
+said (bodies.Part p) = state_part p
+said (bodies.Batch es) = counted w8 entry es
 
 -- what stands before what a message says
 abbrev pub header : LinkMessage → List ℕ
@@ -56,8 +70,18 @@ spelling_of m = header m ++ said m.body
 abbrev pub StoredFits : List ℕ × (ℕ × List ℕ) → Type 0
 StoredFits = IsPair IsKey (IsPair (λ version. version < 2 ^ 64) IsValue)
 
-abbrev pub KeptFits : ℕ × Kept → Type 0
-KeptFits = IsPair (λ client. client < 2 ^ 64) (IsPair (λ number. (1 ≤ number) × (number < 2 ^ 64)) ReplyFits)
+abbrev pub KeptFits : ℕ × Window → Type 0
+KeptFits = IsPair (λ client. client < 2 ^ 64) WindowFits
+
+pub record StateFits (s : State) : Type 0 where
+  pub objects : AreCounted w32 StoredFits s.objects
+  pub kept : AreCounted w32 KeptFits s.kept
+
+pub record PartFits (p : StatePart) : Type 0 where
+  pub position : p.position < 2 ^ 64
+  pub number : p.number < 2 ^ 32
+  pub count : p.count < 2 ^ 32
+  pub state : StateFits p.state
 
 abbrev pub BodyFits : Body → Type 0
 BodyFits (bodies.Config members) = AreCounted w8 (λ id. id < 2 ^ 32) members
@@ -66,8 +90,10 @@ BodyFits (bodies.Ack position) = position < 2 ^ 64
 BodyFits (bodies.Query ticket k) = (ticket < 2 ^ 64) × IsKey k
 BodyFits (bodies.VersionIs ticket version) = (ticket < 2 ^ 64) × (version < 2 ^ 64)
 BodyFits (bodies.Blank count) = count < 2 ^ 64
-BodyFits (bodies.Copy position objects kept) = (position < 2 ^ 64) × AreCounted w32 StoredFits objects × AreCounted w32 KeptFits kept
+BodyFits (bodies.Copy position s) = (position < 2 ^ 64) × StateFits s
 BodyFits (bodies.Floor count) = count < 2 ^ 64
+BodyFits (bodies.Part p) = PartFits p
+BodyFits (bodies.Batch es) = AreCounted w8 EntryFits es
 
 pub record HeaderFits (m : LinkMessage) : Type 0 where
   pub chain : m.chain < 2 ^ 16

@@ -1,16 +1,19 @@
 -- The rules of messages as tests.
-use Rattle.std.specs.Prelude.{ℕ, ◌==◌, nat_le, nat_eq, Bool, true, false, not, ◌&&◌, ◌||◌, List, [], ◌∷◌, length}
+use Rattle.std.specs.Prelude.{ℕ, ◌+◌, ◌==◌, nat_le, nat_lt, nat_eq, Bool, true, false, not, ◌&&◌, ◌||◌, List, [], ◌∷◌, length}
 use Rattle.std.specs.List.{list_any, list_all}
 use Rattle.std.specs.Ordering.{is_lt, nat_cmp}
 use Rattle.std.specs.declared.cmp.Ordering.{Ordering}
-use Rattle.craq_names.specs.Limits.{greatest_count, item_limit, member_limit}
+use Rattle.craq_names.specs.Limits.{greatest_count, item_limit, member_limit, window_limit, part_limit, batch_limit}
 use Rattle.craq_names.specs.Maps.{same_bytes, key_cmp}
 use Rattle.craq_commands.specs.declared.entry.Entry.{Entry}
 use Rattle.craq_commands.specs.declared.entry.Write.{Write}
-use Rattle.craq_commands.specs.Kept.{Kept}
+use Rattle.craq_commands.specs.Kept.{Kept, Window}
+use Rattle.craq_commands.specs.declared.state.State.{State}
 use Rattle.craq_model.specs.declared.message.Body.{Body}
 use Rattle.craq_model.specs.declared.message.Body.TheVariants as bodies
 use Rattle.craq_model.specs.declared.message.LinkMessage.{LinkMessage}
+use Rattle.craq_model.specs.declared.message.StatePart.{StatePart}
+use Rattle.craq_model.specs.Parts.{item_count}
 use Rattle.craq_codec.specs.Tests.{is_reply, is_not_stale}
 
 -- one of them is the same as one after it
@@ -42,13 +45,36 @@ is_entry e =
 abbrev pub is_stored : List ℕ × (ℕ × List ℕ) → Bool
 is_stored o = nat_le 1 o.1.0
 
-abbrev pub is_kept : ℕ × Kept → Bool
-is_kept k = is_reply k.1.1 && is_not_stale k.1.1
+abbrev pub is_kept : Kept → Bool
+is_kept k = is_reply k.1 && is_not_stale k.1
 
-unfoldable pub is_state : List (List ℕ × (ℕ × List ℕ)) → List (ℕ × Kept) → Bool
-is_state objects kept =
-    nat_le (length objects) greatest_count && (nat_le (length kept) greatest_count && (list_all is_stored objects
-    && (list_all is_kept kept && (is_rising key_cmp objects && is_rising nat_cmp kept))))
+unfoldable pub is_window : Window → Bool
+is_window w = nat_le 1 (length w) && (nat_le (length w) window_limit && (list_all is_kept w && is_rising nat_cmp w))
+
+abbrev pub is_client : ℕ × Window → Bool
+is_client c = is_window c.1
+
+unfoldable pub is_state : State → Bool
+is_state s =
+    nat_le (length s.objects) greatest_count && (nat_le (length s.kept) greatest_count && (list_all is_stored s.objects
+    && (list_all is_client s.kept && (is_rising key_cmp s.objects && is_rising nat_cmp s.kept))))
+
+-- each part but the last has 64 items
+abbrev pub is_filled : StatePart → Bool
+is_filled p = not (nat_lt p.number p.count) || (item_count p.state == part_limit)
+
+unfoldable pub is_part : StatePart → Bool
+is_part p =
+    nat_le 1 p.position && (nat_le 1 p.number && (nat_le p.number p.count && (nat_le 2 p.count
+    && (nat_le 1 (item_count p.state) && (nat_le (item_count p.state) part_limit && (is_filled p && is_state p.state))))))
+
+abbrev pub are_consecutive : List Entry → Bool
+are_consecutive [] = true
+are_consecutive (e ∷ []) = true
+are_consecutive (e ∷ f ∷ es) = (f.position == e.position + 1) && are_consecutive (f ∷ es)
+
+unfoldable pub is_batch : List Entry → Bool
+is_batch es = nat_le 2 (length es) && (nat_le (length es) batch_limit && (list_all is_entry es && are_consecutive es))
 
 abbrev pub is_node : ℕ → Bool
 is_node id = nat_le 1 id && nat_le id greatest_count
@@ -64,8 +90,10 @@ is_body (bodies.Ack position) = true
 is_body (bodies.Query ticket k) = nat_le 1 ticket
 is_body (bodies.VersionIs ticket version) = nat_le 1 ticket
 is_body (bodies.Blank count) = true
-is_body (bodies.Copy position objects kept) = nat_le 1 position && is_state objects kept
+is_body (bodies.Copy position s) = nat_le 1 position && is_state s
 is_body (bodies.Floor count) = true
+is_body (bodies.Part p) = is_part p
+is_body (bodies.Batch es) = is_batch es
 
 -- the sender is 0 exactly under a membership
 abbrev pub is_from_its_sender : ℕ → Body → Bool
@@ -75,8 +103,10 @@ is_from_its_sender sender (bodies.Ack position) = nat_le 1 sender
 is_from_its_sender sender (bodies.Query ticket k) = nat_le 1 sender
 is_from_its_sender sender (bodies.VersionIs ticket version) = nat_le 1 sender
 is_from_its_sender sender (bodies.Blank count) = nat_le 1 sender
-is_from_its_sender sender (bodies.Copy position objects kept) = nat_le 1 sender
+is_from_its_sender sender (bodies.Copy position s) = nat_le 1 sender
 is_from_its_sender sender (bodies.Floor count) = nat_le 1 sender
+is_from_its_sender sender (bodies.Part p) = nat_le 1 sender
+is_from_its_sender sender (bodies.Batch es) = nat_le 1 sender
 
 unfoldable pub is_spelled : LinkMessage → Bool
 is_spelled m = is_from_its_sender m.sender m.body && (nat_le 1 m.receiver && (nat_le 1 m.stamp && (nat_le 1 m.epoch && is_body m.body)))

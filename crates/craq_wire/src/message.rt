@@ -1,41 +1,48 @@
 ghost use Rattle.std.specs.Prelude.{◌≡◌, ◌++◌, OnOk};
 ghost use Rattle.craq_codec.specs.NumberReading.{Gives};
-ghost use Rattle.craq_codec.specs.PartReading.{mapped};
-ghost use Rattle.std.specs.Int.{w32};
-ghost use Rattle.craq_codec.specs.PartSpelling.{counted, AreCounted};
-ghost use Rattle.craq_model.specs.Spelled.{IsSpelledBody, IsSpelledState, IsSpelled};
-ghost use Rattle.craq_wire.specs.Reading.{body_at, message_at, copy_at, copy_of};
-ghost use Rattle.craq_wire.specs.Spelling.{header, said, stored, kept_reply, kind_of, spelling_of, HeaderFits, StoredFits, KeptFits, BodyFits, MessageFits};
+ghost use Rattle.craq_model.specs.Spelled.{IsSpelledBody, IsSpelledPart, IsSpelledState, IsSpelled};
+ghost use Rattle.craq_wire.specs.Reading.{body_at, message_at, part_at, state_at};
+ghost use Rattle.craq_wire.specs.Spelling.{header, said, state, state_part, kind_of, spelling_of, HeaderFits, StateFits, PartFits, BodyFits, MessageFits};
 
 use bytes::BytesMut;
 use craq_codec::{
     Part, Unread, read_long_list, read_short_list, read_u8, read_u16, read_u32, read_u64,
     write_long_list, write_short_list, write_u8, write_u16, write_u32, write_u64,
 };
-use craq_commands::{Entry, Reply};
-use craq_model::{Body, LinkMessage};
-use craq_names::{
-    ChainId, ClientId, Epoch, Key, NodeId, RequestNo, Seq, Stamp, Ticket, Value, Version,
-};
+use craq_commands::{Entry, State};
+use craq_model::{Body, LinkMessage, StatePart};
+use craq_names::{ChainId, Epoch, Key, NodeId, Seq, Stamp, Ticket, Version};
 use std::alloc::{AllocError, Global};
 
 /// The version of the wire.
-const WIRE_VERSION: u8 = 1;
+const WIRE_VERSION: u8 = 2;
 
-/// The copy of a state at the front, and the bytes after it.
-#[tactic(auto, unfolding(crate::specs::Reading::copy_at, craq_codec::specs::PartReading::pair_at))]
-fn read_copy(alloc: Global, bytes: &[u8]) -> Result<(Body, &[u8]), Unread>
-    ensures { Gives (λ x. (x.0, x.1.now)) result (mapped copy_of (copy_at bytes.now)) }
+/// The state at the front, and the bytes after it.
+#[tactic(auto, unfolding(crate::specs::Reading::state_at, craq_codec::specs::PartReading::pair_at))]
+fn read_state(alloc: Global, bytes: &[u8]) -> Result<(State, &[u8]), Unread>
+    ensures { Gives (λ x. (x.0, x.1.now)) result (state_at bytes.now) }
+{
+    let (objects, rest) = read_long_list(alloc, bytes)?;
+    let (kept, rest) = read_long_list(alloc, rest)?;
+    Ok((State { objects, kept }, rest))
+}
+
+/// The part of a state at the front, and the bytes after it.
+#[tactic(auto, unfolding(crate::specs::Reading::part_at, craq_codec::specs::PartReading::pair_at))]
+fn read_part(alloc: Global, bytes: &[u8]) -> Result<(StatePart, &[u8]), Unread>
+    ensures { Gives (λ x. (x.0, x.1.now)) result (part_at bytes.now) }
 {
     let (position, rest) = read_u64(bytes)?;
-    let (objects, rest) = read_long_list(alloc, rest)?;
-    let (kept, rest) = read_long_list(alloc, rest)?;
-    let copy = Body::Copy {
+    let (number, rest) = read_u32(rest)?;
+    let (count, rest) = read_u32(rest)?;
+    let (state, rest) = read_state(alloc, rest)?;
+    let part = StatePart {
         position: Seq::new(position),
-        objects,
-        kept,
+        number,
+        count,
+        state,
     };
-    Ok((copy, rest))
+    Ok((part, rest))
 }
 
 /// What goes with the kind of a message, and the bytes after it.
@@ -73,10 +80,23 @@ fn read_body(alloc: Global, kind: u8, bytes: &[u8]) -> Result<(Body, &[u8]), Unr
             let (count, rest) = read_u64(bytes)?;
             Ok((Body::Blank(Seq::new(count)), rest))
         }
-        7 => read_copy(alloc, bytes),
+        7 => {
+            let (position, rest) = read_u64(bytes)?;
+            let (state, rest) = read_state(alloc, rest)?;
+            let position = Seq::new(position);
+            Ok((Body::Copy { position, state }, rest))
+        }
         8 => {
             let (count, rest) = read_u64(bytes)?;
             Ok((Body::Floor(Seq::new(count)), rest))
+        }
+        9 => {
+            let (part, rest) = read_part(alloc, bytes)?;
+            Ok((Body::Part(part), rest))
+        }
+        10 => {
+            let (entries, rest) = read_short_list(alloc, bytes)?;
+            Ok((Body::Batch(entries), rest))
         }
         _ => Err(Unread::BadFrame),
     }
@@ -124,23 +144,32 @@ fn kind(body: &Body) -> u8
         Body::Blank(_) => 6,
         Body::Copy { .. } => 7,
         Body::Floor(_) => 8,
+        Body::Part(_) => 9,
+        Body::Batch(_) => 10,
     }
 }
 
 /// Writes the objects and the kept replies of a state at the end.
 #[tactic(auto, using(craq_codec::proofs::Free::all_of_any))]
-fn write_state(
-    out: &mut BytesMut,
-    objects: &[(Key, (Version, Value))],
-    kept: &[(ClientId, (RequestNo, Reply))],
-) -> Result<(), AllocError>
-    requires { IsSpelledState objects.now kept.now }
-    ensures fits { OnOk result (AreCounted w32 StoredFits objects.now × AreCounted w32 KeptFits kept.now) }
-    ensures spelled { OnOk result (out.new.items
-        ≡ out.old.items ++ (counted w32 stored objects.now ++ counted w32 kept_reply kept.now)) }
+fn write_state(out: &mut BytesMut, s: &State) -> Result<(), AllocError>
+    requires { IsSpelledState s.now }
+    ensures fits { OnOk result (StateFits s.now) }
+    ensures spelled { OnOk result (out.new.items ≡ out.old.items ++ state s.now) }
 {
-    write_long_list(out, objects)?;
-    write_long_list(out, kept)
+    write_long_list(out, s.objects.as_slice())?;
+    write_long_list(out, s.kept.as_slice())
+}
+
+/// Writes a part of a state at the end.
+fn write_part(out: &mut BytesMut, part: &StatePart) -> Result<(), AllocError>
+    requires { IsSpelledPart part.now }
+    ensures fits { OnOk result (PartFits part.now) }
+    ensures spelled { OnOk result (out.new.items ≡ out.old.items ++ state_part part.now) }
+{
+    write_u64(out, part.position.get())?;
+    write_u32(out, part.number)?;
+    write_u32(out, part.count)?;
+    write_state(out, &part.state)
 }
 
 /// Writes what a message says at the end.
@@ -163,15 +192,13 @@ fn write_body(out: &mut BytesMut, body: &Body) -> Result<(), AllocError>
             version.write(out)
         }
         Body::Blank(count) => write_u64(out, count.get()),
-        Body::Copy {
-            position,
-            objects,
-            kept,
-        } => {
+        Body::Copy { position, state } => {
             write_u64(out, position.get())?;
-            write_state(out, objects.as_slice(), kept.as_slice())
+            write_state(out, state)
         }
         Body::Floor(count) => write_u64(out, count.get()),
+        Body::Part(part) => write_part(out, part),
+        Body::Batch(entries) => write_short_list(out, entries.as_slice()),
     }
 }
 

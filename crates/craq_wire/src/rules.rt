@@ -1,18 +1,25 @@
 ghost use Rattle.std.specs.Prelude.{◌≡◌};
+ghost use Rattle.craq_model.specs.Parts.{item_count};
 ghost use Rattle.std.specs.List.{list_all};
-ghost use Rattle.craq_wire.specs.Tests.{has_version, is_body, is_entry, is_from_its_sender, is_kept, is_membership, is_node, is_spelled, is_state, is_stored};
+ghost use Rattle.craq_wire.specs.Tests.{are_consecutive, has_version, is_batch, is_body, is_client, is_entry, is_filled, is_from_its_sender, is_kept, is_membership, is_node, is_part, is_spelled, is_state, is_stored, is_window};
 
 use crate::alike::{has_twice, rises};
 use craq_codec::{is_fresh_reply, is_spelled_reply};
-use craq_commands::{Entry, Mini, Reply, Write};
-use craq_model::{Body, LinkMessage};
-use craq_names::{ClientId, Key, NodeId, RequestNo, Value, Version};
+use craq_commands::{Entry, Kept, Mini, State, WINDOW_LIMIT, Window, Write};
+use craq_model::{Body, LinkMessage, StatePart};
+use craq_names::{ClientId, Key, NodeId, Value, Version};
 
 /// The most members of a chain.
 const MOST_MEMBERS: usize = 8;
 
-/// The most values that a count of a copy can tell.
+/// The most values that a count of a state can tell.
 const MOST_COPIED: usize = 0xffff_ffff;
+
+/// The most items of a part of a state.
+const PART_ITEMS: u128 = 64;
+
+/// The most entries of a batch.
+const MOST_ENTRIES: usize = 16;
 
 /// Whether each of them has a version.
 fn have_versions(writes: &[Write]) -> bool
@@ -44,23 +51,101 @@ fn are_stored(objects: &[(Key, (Version, Value))]) -> bool
 }
 
 /// Whether each reply may be kept.
-fn are_kept(kept: &[(ClientId, (RequestNo, Reply))]) -> bool
-    ensures { result ≡ list_all is_kept kept.now }
+fn are_kept(replies: &[Kept]) -> bool
+    ensures { result ≡ list_all is_kept replies.now }
 {
-    kept.iter().all(|client| is_spelled_reply(&client.1.1) && is_fresh_reply(&client.1.1))
+    replies.iter().all(|kept| is_spelled_reply(&kept.1) && is_fresh_reply(&kept.1))
+}
+
+/// The rules of what is kept for a client.
+#[tactic(auto, unfolding(crate::specs::Tests::is_window))]
+fn test_window(window: &Window) -> bool
+    ensures { result ≡ is_window window.now }
+{
+    let replies = window.as_slice();
+    !replies.is_empty() && replies.len() <= WINDOW_LIMIT && are_kept(replies) && rises(replies)
+}
+
+/// Whether each client has a window by the rules.
+fn are_clients(kept: &[(ClientId, Window)]) -> bool
+    ensures { result ≡ list_all is_client kept.now }
+{
+    kept.iter().all(|client| test_window(&client.1))
 }
 
 /// The rules of states.
 #[tactic(auto, unfolding(crate::specs::Tests::is_state))]
-fn test_state(objects: &[(Key, (Version, Value))], kept: &[(ClientId, (RequestNo, Reply))]) -> bool
-    ensures { result ≡ is_state objects.now kept.now }
+fn test_state(state: &State) -> bool
+    ensures { result ≡ is_state state.now }
 {
+    let objects = state.objects.as_slice();
+    let kept = state.kept.as_slice();
     objects.len() <= MOST_COPIED
         && kept.len() <= MOST_COPIED
         && are_stored(objects)
-        && are_kept(kept)
+        && are_clients(kept)
         && rises(objects)
         && rises(kept)
+}
+
+/// How many items a state has.
+fn items_in(state: &State) -> u128
+    ensures { result ≡ item_count state.now }
+{
+    state.objects.len() as u128 + state.kept.len() as u128
+}
+
+/// Whether the part has 64 items where it is not the last.
+fn is_filled_part(part: &StatePart) -> bool
+    ensures { result ≡ is_filled part.now }
+{
+    part.number >= part.count || items_in(&part.state) == PART_ITEMS
+}
+
+/// The rules of parts of a state.
+#[tactic(auto, unfolding(crate::specs::Tests::is_part))]
+fn test_part(part: &StatePart) -> bool
+    ensures { result ≡ is_part part.now }
+{
+    part.position.get() >= 1
+        && part.number >= 1
+        && part.number <= part.count
+        && part.count >= 2
+        && items_in(&part.state) >= 1
+        && items_in(&part.state) <= PART_ITEMS
+        && is_filled_part(part)
+        && test_state(&part.state)
+}
+
+/// Whether each of them keeps the rules of entries.
+fn are_entries(entries: &[Entry]) -> bool
+    ensures { result ≡ list_all is_entry entries.now }
+{
+    entries.iter().all(|entry| test_entry(entry))
+}
+
+/// Whether each position is the next after the one before.
+fn in_row(entries: &[Entry]) -> bool
+    ensures { result ≡ are_consecutive entries.now }
+{
+    let mut rest = entries;
+    while let [first, tail @ ..] = rest {
+        if let [second, ..] = tail {
+            if first.position.get().checked_add(1) != Some(second.position.get()) {
+                return false;
+            }
+        }
+        rest = tail;
+    }
+    true
+}
+
+/// The rules of batches.
+#[tactic(auto, unfolding(crate::specs::Tests::is_batch))]
+fn test_batch(entries: &[Entry]) -> bool
+    ensures { result ≡ is_batch entries.now }
+{
+    entries.len() >= 2 && entries.len() <= MOST_ENTRIES && are_entries(entries) && in_row(entries)
 }
 
 /// Whether each id is that of a node.
@@ -91,11 +176,9 @@ fn test_body(body: &Body) -> bool
         Body::Entry(entry) => test_entry(entry),
         Body::Query { ticket, .. } => ticket.get() >= 1,
         Body::VersionIs { ticket, .. } => ticket.get() >= 1,
-        Body::Copy {
-            position,
-            objects,
-            kept,
-        } => position.get() >= 1 && test_state(objects.as_slice(), kept.as_slice()),
+        Body::Copy { position, state } => position.get() >= 1 && test_state(state),
+        Body::Part(part) => test_part(part),
+        Body::Batch(entries) => test_batch(entries.as_slice()),
         Body::Ack(_) | Body::Blank(_) | Body::Floor(_) => true,
     }
 }

@@ -2,7 +2,8 @@
 use Rattle.std.proofs.Common.{◌≡◌, ◌↔◌, ℕ, zero, suc, ◌+◌, ◌-◌, ◌<◌, ◌≤◌, add-one, Bool, true, length, List, [], ◌∷◌, Option, Some, None, refl, sym, subst, arith}
 use Rattle.std.specs.Prelude.{◌==◌, nat_le, ◌&&◌, slice_index}
 use Rattle.std.specs.List.{list_all, AllZip}
-use Rattle.craq_commands.specs.SingleCopy.{State, opening_state}
+use Rattle.craq_commands.specs.declared.state.State.{State}
+use Rattle.craq_commands.specs.SingleCopy.{opening_state}
 use Rattle.craq_commands.specs.declared.command.Update.{Update}
 use Rattle.craq_runs.specs.declared.explanation.Explanation.{Explanation}
 use Rattle.craq_runs.specs.declared.explanation.Place.{Place}

@@ -7,7 +7,8 @@ use Rattle.std.specs.List.{list_all, sum_by}
 use Rattle.std.specs.List.Sorted.{IsPermutation, IsNonDecreasingBy}
 use Rattle.std.proofs.lemmas.List.Sums.{sum_by-cons}
 use Rattle.std.proofs.lemmas.List.Sorted.{sum_by-IsPermutation}
-use Rattle.craq_commands.specs.SingleCopy.{State, apply}
+use Rattle.craq_commands.specs.declared.state.State.{State}
+use Rattle.craq_commands.specs.SingleCopy.{apply}
 use Rattle.craq_commands.specs.declared.command.Update.{Update}
 use Rattle.craq_check.specs.Tests.{AskOf, Placed, is_said_to, is_said_here, said_first, are_said}
 use Rattle.craq_check.proofs.Bools.{both_and, first_met}

@@ -1,11 +1,13 @@
 -- What the tests of replies and of the single copy's answers decide.
-use Rattle.std.proofs.Common.{◌≡◌, ℕ, zero, suc, ◌+◌, ◌≤◌, true, length, take, List, [], ◌∷◌, Option, Some, None, refl, sym, ap, subst, ◌∙◌, arith}
-use Rattle.std.specs.Prelude.{◌==◌, ◌&&◌, if◌then◌else◌}
+use Rattle.std.proofs.Common.{◌≡◌, ℕ, zero, suc, ◌+◌, ◌≤◌, Bool, true, false, length, take, List, [], ◌∷◌, Option, Some, None, refl, sym, ap, subst, ◌∙◌, arith}
+use Rattle.std.specs.Prelude.{◌==◌, ◌&&◌, not, is_some, if◌then◌else◌}
 use Rattle.std.specs.List.{list_all}
 use Rattle.std.specs.Cmp.Lexicographic.{bytes_decides}
-use Rattle.craq_names.specs.Maps.{same_bytes}
+use Rattle.craq_names.specs.Maps.{same_bytes, at_number}
+use Rattle.craq_commands.specs.Kept.{Window, is_stale, is_new, said_of, largest}
 use Rattle.craq_commands.specs.Objects.{object_of}
-use Rattle.craq_commands.specs.SingleCopy.{State, said, apply, after_from}
+use Rattle.craq_commands.specs.declared.state.State.{State}
+use Rattle.craq_commands.specs.SingleCopy.{said, apply, after_from}
 use Rattle.craq_commands.specs.declared.command.Update.{Update}
 use Rattle.craq_commands.specs.declared.reply.Reply.{Reply}
 use Rattle.craq_commands.specs.declared.reply.Reply.TheVariants.{Written, Mismatch, TooLong, NotANumber, Overflow, Underflow, Done, CompareFailed, Stale}
@@ -130,3 +132,16 @@ at_said ask_at xs state count (u ∷ us) f =
     both_and (list_all (is_said_here ask_at state count) xs) (are_said ask_at xs (apply state u) (count + 1) us)
     (f 0 count (omega arith) (omega arith))
     (at_said ask_at xs (apply state u) (count + 1) us (λ n k low e. f (suc n) k (omega (arith, low)) (omega (arith, e))))
+
+-- ---- new numbers
+
+unsaid : (found : Option Reply) (old : Bool) (stale : Reply) → (not (is_some found) && not old) ≡ not (is_some (if old then Some stale else found))
+unsaid None true stale = refl
+unsaid None false stale = refl
+unsaid (Some x) true stale = refl
+unsaid (Some x) false stale = refl
+
+-- nothing is said of a new number alone
+pub new_is_unsaid : (w : Window) (number : ℕ) → is_new w number ≡ not (is_some (said_of w number))
+unfolding is_new said_of
+new_is_unsaid w number = unsaid (at_number w number) (is_stale w number) (Stale (largest w))

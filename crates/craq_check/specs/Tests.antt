@@ -7,10 +7,10 @@ use Rattle.std.specs.HashMap.{HashMap, get}
 use Rattle.craq_names.specs.Limits.{item_limit}
 use Rattle.craq_names.specs.Maps.{same_bytes}
 use Rattle.craq_commands.specs.Objects.{Objects, object_of, version_of}
-use Rattle.craq_commands.specs.Kept.{Kept}
 use Rattle.craq_commands.specs.declared.command.Command.{Command}
 use Rattle.craq_commands.specs.declared.command.Command.TheVariants.{Put, TestAndSet, Append, Prepend, Increment, Decrement, Mini}
-use Rattle.craq_commands.specs.SingleCopy.{State, opening_state, said, apply}
+use Rattle.craq_commands.specs.declared.state.State.{State}
+use Rattle.craq_commands.specs.SingleCopy.{opening_state, said, apply}
 use Rattle.craq_commands.specs.declared.command.Update.{Update}
 use Rattle.craq_commands.specs.declared.reply.Reply.{Reply}
 use Rattle.craq_commands.specs.declared.reply.Reply.TheVariants.{Written, Mismatch, TooLong, NotANumber, Overflow, Underflow, Done, CompareFailed, Stale}
@@ -170,10 +170,6 @@ HasFewWrites (Append object value) = ⊤
 HasFewWrites (Prepend object value) = ⊤
 HasFewWrites (Increment object by) = ⊤
 HasFewWrites (Decrement object by) = ⊤
-
--- what is lent of a kept number and reply
-abbrev pub kept_shown : Option (ℕ × Bor Reply) → Option Kept
-kept_shown kept = option_map (λ (k : ℕ × Bor Reply). (k.0, k.1.now)) kept
 
 -- as many places as answers, each reached in time
 unfoldable pub are_in_time : AskOf → List ℕ → List Answered → List Place → Bool

@@ -1,14 +1,17 @@
 //! The single copy: it takes the committed updates one after another.
-ghost use Rattle.std.specs.Prelude.{◌≡◌, ◌+◌, ◌<◌, ◌≤◌, length, OnOk, IfOk};
+ghost use Rattle.std.specs.Prelude.{◌≡◌, ◌+◌, ◌<◌, ◌≤◌, [], length, unwrap_or, OnOk, IfOk};
 ghost use Rattle.craq_names.specs.Limits.{greatest};
 ghost use Rattle.craq_names.specs.Maps.{at_number, put_key, put_number};
 ghost use Rattle.craq_commands.specs.Objects.{object_of, version_of, written, all_written};
 ghost use Rattle.craq_commands.specs.Evaluation.{eval};
-ghost use Rattle.craq_commands.specs.SingleCopy.{State, opening_state, apply, said, is_new_to};
-ghost use Rattle.craq_check.specs.Tests.{HasVersionsUpTo, HasFewWrites, kept_shown, is_reply, is_said};
+ghost use Rattle.craq_commands.specs.Kept.{keep, said_of};
+ghost use Rattle.craq_commands.specs.Told.{told};
+ghost use Rattle.craq_commands.specs.declared.state.State.{State};
+ghost use Rattle.craq_commands.specs.SingleCopy.{opening_state, apply, said, is_new_to};
+ghost use Rattle.craq_check.specs.Tests.{HasVersionsUpTo, HasFewWrites, is_reply, is_said};
 
 use crate::replies::are_same_replies;
-use craq_commands::{Command, Look, Reply, Update, Writes, evaluate};
+use craq_commands::{Command, Look, Reply, Said, Update, Window, Writes, evaluate};
 use craq_model::{Answer, Ask};
 use craq_names::{ClientId, Copied, Key, RequestNo, Value, Version};
 use std::alloc::{AllocError, Global};
@@ -18,8 +21,8 @@ use std::marker::Model;
 /// Objects by key, each with its version and value.
 type ObjectMap = BTreeMap<Key, (Version, Value)>;
 
-/// What is kept of each client, by its id.
-type KeptMap = BTreeMap<u64, (RequestNo, Reply)>;
+/// What is kept for each client, by its id.
+type KeptMap = BTreeMap<u64, Window>;
 
 /// The version and value of an object.
 #[tactic(auto, unfolding(craq_commands::specs::Objects::object_of))]
@@ -33,13 +36,13 @@ fn object_in<'a>(objects: &'a ObjectMap, key: &Key) -> (Version, &'a [u8])
     }
 }
 
-/// What is kept for a client.
-fn kept_in(kept: &KeptMap, client: ClientId) -> Option<(RequestNo, &Reply)>
-    ensures { kept_shown result ≡ at_number kept.now.entries client }
+/// What is known of a client's number.
+fn said_in(kept: &KeptMap, client: ClientId, number: RequestNo) -> Said<'_>
+    ensures { told result ≡ said_of (unwrap_or (at_number kept.now.entries client) []) number }
 {
     match kept.get(&client.get()) {
-        Some((number, reply)) => Some((*number, reply)),
-        None => None,
+        Some(window) => window.look(number),
+        None => Said::New,
     }
 }
 
@@ -113,16 +116,33 @@ fn put_writes(
     Ok(())
 }
 
-/// Keeps this for a client.
+/// Puts what is kept for a client at its place, and gives back what was there.
+fn swap_kept(
+    kept: &mut KeptMap,
+    client: ClientId,
+    window: Window,
+) -> Result<Option<Window>, AllocError>
+    ensures kept { OnOk result (kept.new.entries ≡ put_number kept.old.entries client window) }
+    ensures held { IfOk result (λ held. held ≡ at_number kept.old.entries client) }
+{
+    let held = kept.insert(client.get(), window)?;
+    Ok(held)
+}
+
+/// Keeps the reply to a client's new number.
 fn put_kept(
+    alloc: Global,
     kept: &mut KeptMap,
     client: ClientId,
     number: RequestNo,
     reply: Reply,
 ) -> Result<(), AllocError>
-    ensures { OnOk result (kept.new.entries ≡ put_number kept.old.entries client (number, reply)) }
+    ensures { OnOk result (kept.new.entries ≡ put_number kept.old.entries client (keep (unwrap_or (at_number kept.old.entries client) []) number reply)) }
 {
-    kept.insert(client.get(), (number, reply))?;
+    let held = swap_kept(kept, client, Window::new(alloc))?;
+    let mut window = held.unwrap_or(Window::new(alloc));
+    window.keep(number, reply)?;
+    swap_kept(kept, client, window)?;
     Ok(())
 }
 
@@ -168,13 +188,13 @@ impl Single {
     }
 
     /// Whether the client's number is new.
-    #[tactic(auto, unfolding(craq_commands::specs::Kept::is_new))]
+    #[tactic(auto, using(crate::proofs::Said::new_is_unsaid), unfolding(craq_commands::specs::SingleCopy::window_of))]
     fn is_new(&self, client: ClientId, number: RequestNo) -> bool
         ensures { result ≡ is_new_to self.now client number }
     {
-        match kept_in(&self.kept, client) {
-            None => true,
-            Some((last, _)) => last.get() < number.get(),
+        match said_in(&self.kept, client, number) {
+            Said::New => true,
+            Said::Kept(_) | Said::Stale(_) => false,
         }
     }
 
@@ -199,7 +219,7 @@ impl Single {
 
     /// Takes an update; one whose number is not new changes nothing. The caller knows that no version is
     /// above `highest`, and that there are 16 versions left.
-    #[tactic(auto, using(crate::proofs::Bounds::more_room), unfolding(craq_commands::specs::SingleCopy::apply, craq_commands::specs::SingleCopy::kept_with, craq_commands::specs::Kept::keep))]
+    #[tactic(auto, using(crate::proofs::Bounds::more_room), unfolding(craq_commands::specs::SingleCopy::apply, craq_commands::specs::SingleCopy::kept_with, craq_commands::specs::SingleCopy::window_of))]
     pub fn apply(&mut self, alloc: Global, update: &Update, highest: u64) -> Result<(), AllocError>
         requires bound { HasVersionsUpTo highest self.old.objects }
         requires room { highest + 16 < greatest }
@@ -211,27 +231,19 @@ impl Single {
         }
         let (writes, reply) = self.outcome(alloc, &update.command, highest)?;
         put_writes(alloc, &mut self.objects, writes.as_slice(), highest)?;
-        put_kept(&mut self.kept, update.client, update.number, reply)?;
+        put_kept(alloc, &mut self.kept, update.client, update.number, reply)?;
         Ok(())
     }
 
     /// Whether this is the reply to a client's number.
-    #[tactic(auto, unfolding(craq_commands::specs::Kept::said_of, crate::specs::Tests::is_reply))]
+    #[tactic(auto, unfolding(craq_commands::specs::SingleCopy::window_of, crate::specs::Tests::is_reply))]
     fn says(&self, client: ClientId, number: RequestNo, reply: &Reply) -> bool
         ensures { result ≡ is_reply (said self.now client number) reply.now }
     {
-        match kept_in(&self.kept, client) {
-            None => false,
-            Some((last, kept)) => {
-                if last == number {
-                    return are_same_replies(kept, reply);
-                }
-                if number.get() < last.get() {
-                    let stale = Reply::Stale(last);
-                    return are_same_replies(&stale, reply);
-                }
-                false
-            }
+        match said_in(&self.kept, client, number) {
+            Said::New => false,
+            Said::Kept(kept) => are_same_replies(kept, reply),
+            Said::Stale(last) => are_same_replies(&Reply::Stale(last), reply),
         }
     }
 

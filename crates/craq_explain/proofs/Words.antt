@@ -5,7 +5,7 @@ use Rattle.craq_names.specs.declared.refusal.Refusal.{Refusal}
 use Rattle.craq_names.specs.declared.refusal.Refusal.TheVariants.{Exhausted, Stopped, WrongNode}
 use Rattle.craq_commands.specs.declared.entry.Entry.{Entry}
 use Rattle.craq_commands.specs.Objects.{object_of}
-use Rattle.craq_commands.specs.SingleCopy.{State}
+use Rattle.craq_commands.specs.declared.state.State.{State}
 use Rattle.craq_model.specs.declared.ask.Event.TheVariants as events
 use Rattle.craq_model.specs.declared.message.Body.{Body}
 use Rattle.craq_model.specs.declared.message.Body.TheVariants as bodies
@@ -106,10 +106,12 @@ word_place : (entries : List Entry) (c : Chain) (number sent : ℕ) (key : List 
 word_place entries c number sent key m (bodies.VersionIs ticket version) e w = rw (sym (arrived_clean c number m key ticket version e w)) refl
 word_place entries c number sent key m (bodies.Config members) e w = refl
 word_place entries c number sent key m (bodies.Entry x) e w = refl
+word_place entries c number sent key m (bodies.Batch xs) e w = refl
 word_place entries c number sent key m (bodies.Ack position) e w = refl
 word_place entries c number sent key m (bodies.Query ticket k) e w = refl
 word_place entries c number sent key m (bodies.Blank count) e w = refl
-word_place entries c number sent key m (bodies.Copy position objects kept) e w = refl
+word_place entries c number sent key m (bodies.Copy position state) e w = refl
+word_place entries c number sent key m (bodies.Part part) e w = refl
 word_place entries c number sent key m (bodies.Floor count) e w = refl
 
 message_place : (entries : List Entry) (c : Chain) (number sent : ℕ) (key : List ℕ) (r : Option LinkMessage) → message_at c.messages number ≡ r → let node = receiver_of (map (λ (x : LinkMessage). x.receiver) c.messages) number in read_place entries (node_at (after_move c (moves.Deliver number)).nodes node) (word_in sent r) key ≡ read_place entries (node_at c.nodes node) (word_in sent r) key

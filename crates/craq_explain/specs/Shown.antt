@@ -3,9 +3,9 @@ use Rattle.std.specs.Prelude.{ℕ, true, List, [], ◌∷◌, Option, Some, None
 use Rattle.std.specs.Option.{option_map}
 use Rattle.std.specs.Borrow.{Bor}
 use Rattle.craq_model.specs.declared.ask.Ask.{Ask}
+use Rattle.craq_model.specs.Past.{Past}
 use Rattle.craq_model.specs.Plain.{Plain}
 use Rattle.craq_history.specs.declared.node.Node.{Node}
-use Rattle.craq_history.specs.Past.{Past}
 use Rattle.craq_history.specs.Nodes.{plain_of}
 use Rattle.craq_runs.specs.declared.explanation.Place.{Place}
 use Rattle.craq_runs.specs.Seen.{Asked}

@@ -37,11 +37,13 @@ stamped m stamp index = record m { stamp = stamp; index = index }
 same_body : (p : Plain) (m : LinkMessage) (stamp index : ℕ) (b : Body) → body_turn p (stamped m stamp index) b ≡ body_turn p m b
 same_body p m stamp index (bodies.Config members) = refl
 same_body p m stamp index (bodies.Entry e) = refl
+same_body p m stamp index (bodies.Batch es) = refl
 same_body p m stamp index (bodies.Ack position) = refl
 same_body p m stamp index (bodies.Query ticket key) = refl
 same_body p m stamp index (bodies.VersionIs ticket version) = refl
 same_body p m stamp index (bodies.Blank count) = refl
-same_body p m stamp index (bodies.Copy position objects kept) = refl
+same_body p m stamp index (bodies.Copy position state) = refl
+same_body p m stamp index (bodies.Part part) = refl
 same_body p m stamp index (bodies.Floor count) = refl
 
 unstamped : (p : Plain) (m : LinkMessage) (stamp index : ℕ) → node_step p (events.Deliver (stamped m stamp index)) ≡ node_step p (events.Deliver m)

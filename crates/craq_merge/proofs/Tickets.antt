@@ -7,7 +7,8 @@ use Rattle.craq_commands.specs.declared.entry.Entry.{Entry}
 use Rattle.craq_commands.specs.declared.reply.Reply.{Reply}
 use Rattle.craq_commands.specs.declared.read_mode.ReadMode.{ReadMode}
 use Rattle.craq_commands.specs.declared.read_mode.ReadMode.TheVariants.{Strong, Eventual, Bounded}
-use Rattle.craq_commands.specs.SingleCopy.{State, said}
+use Rattle.craq_commands.specs.declared.state.State.{State}
+use Rattle.craq_commands.specs.SingleCopy.{said}
 use Rattle.craq_model.specs.declared.message.Body.{Body}
 use Rattle.craq_model.specs.declared.message.Body.TheVariants as bodies
 use Rattle.craq_model.specs.declared.message.LinkMessage.{LinkMessage}
@@ -19,11 +20,14 @@ use Rattle.craq_model.specs.declared.step.Out.{Out}
 use Rattle.craq_model.specs.declared.step.Step.{Step}
 use Rattle.craq_commands.specs.Evaluation.{eval}
 use Rattle.craq_model.specs.declared.waiting.WaitingRead.{WaitingRead}
-use Rattle.craq_model.specs.Plain.{Plain, newest, successor, position_of}
+use Rattle.craq_model.specs.declared.gathering.Gathering.{Gathering}
+use Rattle.craq_model.specs.declared.message.StatePart.{StatePart}
+use Rattle.craq_model.specs.Parts.{gathering_for, with_part, joined_state}
+use Rattle.craq_model.specs.Plain.{Plain, length_of, newest, successor, position_of, with_entries}
 use Rattle.craq_model.specs.Sends.{to_neighbour, send_all, entry_bodies}
-use Rattle.craq_model.specs.Settle.{Turn, settling_turn, readiness_turn}
+use Rattle.craq_model.specs.Settle.{Turn, settling_turn, without_reached, readiness_turn}
 use Rattle.craq_model.specs.Asks.{with_entry, entry_of, committed_if_last, reply_turn, update_turn, waiting_read_turn, read_turn, accepted_ask_turn, ask_turn}
-use Rattle.craq_model.specs.Deliveries.{config_turn, forwarding_turn, taken_entry_turn, entry_turn, acknowledgement_turn, ack_turn, query_turn, told_version_turn, version_turn, blank_turn, copy_turn, with_copy, floor_turn, body_turn, read_with}
+use Rattle.craq_model.specs.Deliveries.{config_turn, forwarding_turn, taken_entries_turn, appending_turn, entries_above, entries_turn, acknowledgement_turn, ack_turn, query_turn, told_version_turn, version_turn, blank_turn, copy_turn, with_copy, gathered_turn, gathering_turn, part_turn, floor_turn, body_turn, read_with}
 use Rattle.craq_model.specs.Node.{event_turn, within_counts, node_step}
 
 -- a new ticket is above the last, and is the last from then on
@@ -43,23 +47,26 @@ unfolding settling_turn
 settling_turn-ticket p = grind (arith)
 
 readiness_turn-ticket : (p : Plain) → Fits p.last_ticket (readiness_turn p)
-unfolding readiness_turn
-readiness_turn-ticket p = grind (arith, settling_turn-ticket (record p { ready = true }))
+unfolding readiness_turn without_reached
+readiness_turn-ticket p = grind (arith, settling_turn-ticket (record p { ready = true; gathering = None }))
 
 config_turn-ticket : (p : Plain) (e : ℕ) (ms : List ℕ) → Fits p.last_ticket (config_turn p e ms)
 unfolding config_turn
-config_turn-ticket p e ms = grind (arith, settling_turn-ticket (record p { epoch = e; members = ms; floor = None }))
+config_turn-ticket p e ms = grind (arith, settling_turn-ticket (record p { epoch = e; members = ms; floor = None; gathering = None }))
 
-forwarding_turn-ticket : (p : Plain) (e : Entry) → Fits p.last_ticket (forwarding_turn p e)
+forwarding_turn-ticket : (p : Plain) (es : List Entry) → Fits p.last_ticket (forwarding_turn p es)
 unfolding forwarding_turn
-forwarding_turn-ticket p e = grind (arith)
+forwarding_turn-ticket p es = grind (arith)
 
-taken_entry_turn-ticket : (p : Plain) (e : Entry) → Fits p.last_ticket (taken_entry_turn p e)
-taken_entry_turn-ticket p e = grind (arith, forwarding_turn-ticket p e, readiness_turn-ticket p)
+taken_entries_turn-ticket : (p : Plain) (es : List Entry) → Fits p.last_ticket (taken_entries_turn p es)
+taken_entries_turn-ticket p es = grind (arith, forwarding_turn-ticket p es, readiness_turn-ticket p)
 
-entry_turn-ticket : (p : Plain) (sender : ℕ) (e : Entry) → Fits p.last_ticket (entry_turn p sender e)
-unfolding entry_turn
-entry_turn-ticket p sender e = grind (arith, taken_entry_turn-ticket (with_entry p e) e)
+appending_turn-ticket : (p : Plain) (es : List Entry) → Fits p.last_ticket (appending_turn p es)
+appending_turn-ticket p es = grind (arith, taken_entries_turn-ticket (with_entries p es) es)
+
+entries_turn-ticket : (p : Plain) (sender : ℕ) (es : List Entry) → Fits p.last_ticket (entries_turn p sender es)
+unfolding entries_turn
+entries_turn-ticket p sender es = grind (arith, appending_turn-ticket p (entries_above (length_of p) es))
 
 ack_turn-ticket : (p : Plain) (sender position : ℕ) → Fits p.last_ticket (ack_turn p sender position)
 unfolding ack_turn acknowledgement_turn
@@ -86,18 +93,30 @@ copy_turn-ticket : (p : Plain) (sender position : ℕ) (state : State) → Fits 
 unfolding copy_turn
 copy_turn-ticket p sender position state = grind (arith, readiness_turn-ticket (with_copy p position state))
 
+gathered_turn-ticket : (p : Plain) (g : Gathering) → Fits p.last_ticket (gathered_turn p g)
+gathered_turn-ticket p g = grind (arith, readiness_turn-ticket (with_copy p g.position (joined_state g.parts)))
+
+gathering_turn-ticket : (p : Plain) (g : Gathering) (part : StatePart) → Fits p.last_ticket (gathering_turn p g part)
+gathering_turn-ticket p g part = grind (arith, gathered_turn-ticket p (with_part g part))
+
+part_turn-ticket : (p : Plain) (sender : ℕ) (part : StatePart) → Fits p.last_ticket (part_turn p sender part)
+unfolding part_turn
+part_turn-ticket p sender part = grind (arith, gathering_turn-ticket p (gathering_for part p.gathering) part)
+
 floor_turn-ticket : (p : Plain) (sender count : ℕ) → Fits p.last_ticket (floor_turn p sender count)
 unfolding floor_turn
 floor_turn-ticket p sender count = grind (arith, readiness_turn-ticket (record p { floor = Some count }))
 
 body_turn-ticket : (p : Plain) (m : LinkMessage) (b : Body) → Fits p.last_ticket (body_turn p m b)
 body_turn-ticket p m (bodies.Config members) = config_turn-ticket p m.epoch members
-body_turn-ticket p m (bodies.Entry e) = grind (arith, entry_turn-ticket p m.sender e)
+body_turn-ticket p m (bodies.Entry e) = grind (arith, entries_turn-ticket p m.sender (e ∷ []))
+body_turn-ticket p m (bodies.Batch es) = grind (arith, entries_turn-ticket p m.sender es)
 body_turn-ticket p m (bodies.Ack position) = grind (arith, ack_turn-ticket p m.sender position)
 body_turn-ticket p m (bodies.Query ticket key) = grind (arith, query_turn-ticket p m.sender ticket key)
 body_turn-ticket p m (bodies.VersionIs ticket version) = grind (arith, version_turn-ticket p m.sender ticket version)
 body_turn-ticket p m (bodies.Blank count) = grind (arith, blank_turn-ticket p m.sender count)
-body_turn-ticket p m (bodies.Copy position objects kept) = grind (arith, copy_turn-ticket p m.sender position (record { objects = objects; kept = kept }))
+body_turn-ticket p m (bodies.Copy position state) = grind (arith, copy_turn-ticket p m.sender position state)
+body_turn-ticket p m (bodies.Part part) = grind (arith, part_turn-ticket p m.sender part)
 body_turn-ticket p m (bodies.Floor count) = grind (arith, floor_turn-ticket p m.sender count)
 
 commits-ticket : (p : Plain) → (committed_if_last p).last_ticket ≡ p.last_ticket

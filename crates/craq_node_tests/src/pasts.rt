@@ -1,5 +1,5 @@
 //! A past with three writes: the object a, then b, then a again.
-use craq_commands::{Entry, Reply, Write};
+use craq_commands::{Entry, Reply, Said, Write};
 use craq_history::History;
 use craq_names::{ClientId, Items, Key, NodeId, Refusal, RequestNo, Seq, Ticket, Value, Version};
 use craq_plain::PlainHistory;
@@ -41,13 +41,24 @@ static WRITES: [(&[u8], u64, &[u8]); 3] = [
     (b"a", 2, b"three"),
 ];
 
+/// Entries of writes of `a` at these positions, each with its version.
+fn entries_at(alloc: Global, writes: &[(u64, u64)]) -> Result<Items<Entry>, Refusal> {
+    let mut entries = Items::new(alloc);
+    for (position, version) in writes {
+        entries.push(write_at(alloc, *position, b"a", *version, b"four")?)?;
+    }
+    Ok(entries)
+}
+
 /// A past of the three writes.
 fn three_writes(alloc: Global) -> Result<PlainHistory, Refusal> {
     let mut history = PlainHistory::new(alloc);
     for (key, version, value) in &WRITES {
         let position = history.len();
         if position < WRITES.len() as u64 {
-            history.append(write_at(alloc, position + 1, key, *version, value)?)?;
+            let mut entries = Items::new(alloc);
+            entries.push(write_at(alloc, position + 1, key, *version, value)?)?;
+            history.append(entries)?;
         }
     }
     Ok(history)
@@ -74,23 +85,37 @@ fn keeps_bounds(history: &PlainHistory, a: &Key) -> bool {
         && is(history.within(a, u64::MAX, u64::MAX), 2, b"three")
 }
 
-/// A reply is kept for a client that asked, and its entries have a last position.
-fn keeps_replies(history: &PlainHistory) -> bool {
-    let (seven, eight) = (ClientId::new(7), ClientId::new(8));
-    history.kept(seven).is_some()
-        && history.kept(eight).is_none()
-        && history.position_of(seven) == 3
-        && history.position_of(eight) == 0
+/// Whether a reply is kept for the client's number.
+fn is_kept(history: &PlainHistory, client: ClientId, number: u64) -> Result<bool, Refusal> {
+    Ok(match history.said(client, RequestNo::new(number)?) {
+        Said::Kept(_) => true,
+        Said::New | Said::Stale(_) => false,
+    })
 }
 
-/// Entries of more writes of a, each the position and the version, and whether it is the next.
-static LATER: [(u64, u64, bool); 3] = [(4, 3, true), (4, 2, false), (3, 3, false)];
+/// Replies are kept for a client that asked, and its entries have a last position.
+fn keeps_replies(history: &PlainHistory) -> Result<bool, Refusal> {
+    let (seven, eight) = (ClientId::new(7), ClientId::new(8));
+    let kept = is_kept(history, seven, 1)? && is_kept(history, seven, 3)?;
+    let others = is_kept(history, seven, 4)? || is_kept(history, eight, 3)?;
+    Ok(kept && !others && history.position_of(seven) == 3 && history.position_of(eight) == 0)
+}
 
-/// The next entry has the next version and a new number. Nothing is acknowledged.
+/// Further writes of `a`, each the position and the version, and whether they come next.
+static LATER: [(&[(u64, u64)], bool); 6] = [
+    (&[(4, 3)], true),
+    (&[(4, 2)], false),
+    (&[(3, 3)], false),
+    (&[(4, 3), (5, 4)], true),
+    (&[(4, 3), (5, 3)], false),
+    (&[(4, 3), (4, 4)], false),
+];
+
+/// Entries that come next have the next versions and new numbers. Nothing is acknowledged.
 fn knows_next_entries(alloc: Global, history: &PlainHistory) -> Result<bool, Refusal> {
-    for (position, version, is_next) in &LATER {
-        let entry = write_at(alloc, *position, b"a", *version, b"four")?;
-        if history.is_next(&entry) != *is_next {
+    for (writes, are_next) in &LATER {
+        let entries = entries_at(alloc, writes)?;
+        if history.are_next(entries.as_slice()) != *are_next {
             return Ok(false);
         }
     }
@@ -122,7 +147,7 @@ pub fn told(alloc: Global) -> Result<[bool; 5], Refusal> {
     let a = Key::new(alloc, b"a")?;
     let c = Key::new(alloc, b"c")?;
     let next = knows_next_entries(alloc, &history)?;
-    let replies = keeps_replies(&history);
+    let replies = keeps_replies(&history)?;
     history.acknowledge(Seq::new(1));
     let bounds = keeps_bounds(&history, &a);
     history.acknowledge(Seq::new(2));

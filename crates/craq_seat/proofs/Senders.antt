@@ -8,7 +8,8 @@ use Rattle.craq_commands.specs.declared.entry.Entry.{Entry}
 use Rattle.craq_commands.specs.declared.reply.Reply.{Reply}
 use Rattle.craq_commands.specs.declared.read_mode.ReadMode.{ReadMode}
 use Rattle.craq_commands.specs.declared.read_mode.ReadMode.TheVariants.{Strong, Eventual, Bounded}
-use Rattle.craq_commands.specs.SingleCopy.{State, said}
+use Rattle.craq_commands.specs.declared.state.State.{State}
+use Rattle.craq_commands.specs.SingleCopy.{said}
 use Rattle.craq_commands.specs.Evaluation.{eval}
 use Rattle.craq_model.specs.declared.message.Body.{Body}
 use Rattle.craq_model.specs.declared.message.Body.TheVariants as bodies
@@ -22,11 +23,14 @@ use Rattle.craq_model.specs.declared.step.Out.TheVariants as outs
 use Rattle.craq_model.specs.declared.step.Step.{Step}
 use Rattle.craq_model.specs.declared.waiting.WaitingRead.{WaitingRead}
 use Rattle.craq_model.specs.Members.{last_of}
-use Rattle.craq_model.specs.Plain.{Plain, id_of, successor, predecessor, is_last, is_tail, length_of, newest, position_of}
+use Rattle.craq_model.specs.declared.gathering.Gathering.{Gathering}
+use Rattle.craq_model.specs.declared.message.StatePart.{StatePart}
+use Rattle.craq_model.specs.Parts.{gathering_for, with_part, joined_state}
+use Rattle.craq_model.specs.Plain.{Plain, id_of, successor, predecessor, is_last, is_tail, length_of, newest, position_of, with_entries, acknowledging}
 use Rattle.craq_model.specs.Sends.{send, send_all, to_neighbour, entry_bodies, catch_up, queries, ready_sends, unready_sends, tick_sends}
-use Rattle.craq_model.specs.Settle.{Turn, Given, turn_with, all_committed, all_given, answer_outs, update_given, settling_turn, readiness_turn}
+use Rattle.craq_model.specs.Settle.{Turn, Given, turn_with, all_committed, all_given, answer_outs, update_given, settling_turn, without_reached, readiness_turn}
 use Rattle.craq_model.specs.Asks.{committed_if_last, with_entry, entry_of, reply_turn, update_turn, waiting_read_turn, read_turn, accepted_ask_turn, ask_turn}
-use Rattle.craq_model.specs.Deliveries.{config_turn, forwarding_turn, taken_entry_turn, entry_turn, due_updates, acknowledgement_turn, ack_turn, query_turn, told_version_turn, version_turn, read_with, fill_bodies, blank_turn, with_copy, copy_turn, floor_turn, body_turn}
+use Rattle.craq_model.specs.Deliveries.{config_turn, forwarding_turn, taken_entries_turn, appending_turn, entries_above, entries_turn, due_updates, acknowledgement_turn, ack_turn, query_turn, told_version_turn, version_turn, read_with, fill_bodies, blank_turn, with_copy, copy_turn, gathered_turn, gathering_turn, part_turn, floor_turn, body_turn}
 use Rattle.craq_model.specs.Node.{event_turn, within_counts, node_step}
 use Rattle.craq_seat.specs.Numbered.{AreFrom}
 
@@ -55,12 +59,12 @@ ready_from : (p : Plain) → AreFrom (id_of p) (ready_sends p)
 unfolding ready_sends
 ready_from p =
     let id : ℕ = id_of p in
-    let first : List Out = to_neighbour (successor p) (λ to. send_all p to (catch_up p p.acknowledged)) in
-    let second : List Out = to_neighbour (predecessor p) (λ to. send p to (bodies.Ack p.acknowledged) ∷ []) in
+    let first : List Out = to_neighbour (successor p) (λ to. send_all p to (catch_up p p.past.acknowledged)) in
+    let second : List Out = to_neighbour (predecessor p) (λ to. send p to (bodies.Ack p.past.acknowledged) ∷ []) in
     both id (first ++ second) (cond (is_last p) [] (queries p))
     (both id first second
-    (neighbour id (successor p) (λ to. send_all p to (catch_up p p.acknowledged)) (λ to. all_from p to (catch_up p p.acknowledged)))
-    (neighbour id (predecessor p) (λ to. send p to (bodies.Ack p.acknowledged) ∷ []) (λ to. (refl, refl, tt))))
+    (neighbour id (successor p) (λ to. send_all p to (catch_up p p.past.acknowledged)) (λ to. all_from p to (catch_up p p.past.acknowledged)))
+    (neighbour id (predecessor p) (λ to. send p to (bodies.Ack p.past.acknowledged) ∷ []) (λ to. (refl, refl, tt))))
     (cond_both (is_last p) [] (queries p) (λ (os : List Out). AreFrom id os) (λ e. tt) (λ e. queries_from p p.waiting_reads))
 
 unready_from : (p : Plain) → AreFrom (id_of p) (unready_sends p)
@@ -88,29 +92,32 @@ settles p =
     (λ e. tick_from p)
 
 becomes : (p : Plain) → Says (id_of p) (readiness_turn p)
-unfolding readiness_turn
-becomes p = grind (arith, settles (record p { ready = true }))
+unfolding readiness_turn without_reached
+becomes p = grind (arith, settles (record p { ready = true; gathering = None }))
 
 config_says : (p : Plain) (epoch : ℕ) (members : List ℕ) → Says (id_of p) (config_turn p epoch members)
 unfolding config_turn
-config_says p epoch members = grind (arith, settles (record p { epoch = epoch; members = members; floor = None }))
+config_says p epoch members = grind (arith, settles (record p { epoch = epoch; members = members; floor = None; gathering = None }))
 
-forwards : (p : Plain) (e : Entry) → Says (id_of p) (forwarding_turn p e)
+forwards : (p : Plain) (es : List Entry) → Says (id_of p) (forwarding_turn p es)
 unfolding forwarding_turn
-forwards p e =
+forwards p es =
     let id : ℕ = id_of p in
     let acks : ℕ → List Out = λ to. send p to (bodies.Ack (length_of p)) ∷ [] in
-    let entries : ℕ → List Out = λ to. send_all p to (entry_bodies (e ∷ [])) in
-    cond_both (is_tail p) (turn_with (record p { acknowledged = length_of p }) (to_neighbour (predecessor p) acks)) (turn_with p (to_neighbour (successor p) entries)) (Says id)
+    let entries : ℕ → List Out = λ to. send_all p to (entry_bodies es) in
+    cond_both (is_tail p) (turn_with (acknowledging p (length_of p)) (to_neighbour (predecessor p) acks)) (turn_with p (to_neighbour (successor p) entries)) (Says id)
     (λ t. neighbour id (predecessor p) acks (λ to. (refl, refl, tt)))
-    (λ t. neighbour id (successor p) entries (λ to. all_from p to (entry_bodies (e ∷ []))))
+    (λ t. neighbour id (successor p) entries (λ to. all_from p to (entry_bodies es)))
 
-taken_says : (p : Plain) (e : Entry) → Says (id_of p) (taken_entry_turn p e)
-taken_says p e = grind (arith, forwards p e, becomes p)
+taken_says : (p : Plain) (es : List Entry) → Says (id_of p) (taken_entries_turn p es)
+taken_says p es = grind (arith, forwards p es, becomes p)
 
-entry_says : (p : Plain) (sender : ℕ) (e : Entry) → Says (id_of p) (entry_turn p sender e)
-unfolding entry_turn
-entry_says p sender e = grind (arith, taken_says (with_entry p e) e)
+appending_says : (p : Plain) (es : List Entry) → Says (id_of p) (appending_turn p es)
+appending_says p es = grind (arith, taken_says (with_entries p es) es)
+
+entries_say : (p : Plain) (sender : ℕ) (es : List Entry) → Says (id_of p) (entries_turn p sender es)
+unfolding entries_turn
+entries_say p sender es = grind (arith, appending_says p (entries_above (length_of p) es))
 
 acknowledges : (p : Plain) (position : ℕ) → Says (id_of p) (acknowledgement_turn p position)
 unfolding acknowledgement_turn
@@ -145,18 +152,30 @@ copy_says : (p : Plain) (sender position : ℕ) (state : State) → Says (id_of 
 unfolding copy_turn
 copy_says p sender position state = grind (arith, becomes (with_copy p position state))
 
+gathered_says : (p : Plain) (g : Gathering) → Says (id_of p) (gathered_turn p g)
+gathered_says p g = grind (arith, becomes (with_copy p g.position (joined_state g.parts)))
+
+gathering_says : (p : Plain) (g : Gathering) (part : StatePart) → Says (id_of p) (gathering_turn p g part)
+gathering_says p g part = grind (arith, gathered_says p (with_part g part))
+
+part_says : (p : Plain) (sender : ℕ) (part : StatePart) → Says (id_of p) (part_turn p sender part)
+unfolding part_turn
+part_says p sender part = grind (arith, gathering_says p (gathering_for part p.gathering) part)
+
 floor_says : (p : Plain) (sender count : ℕ) → Says (id_of p) (floor_turn p sender count)
 unfolding floor_turn
 floor_says p sender count = grind (arith, becomes (record p { floor = Some count }))
 
 body_says : (p : Plain) (m : LinkMessage) (b : Body) → Says (id_of p) (body_turn p m b)
 body_says p m (bodies.Config members) = config_says p m.epoch members
-body_says p m (bodies.Entry e) = grind (arith, entry_says p m.sender e)
+body_says p m (bodies.Entry e) = grind (arith, entries_say p m.sender (e ∷ []))
+body_says p m (bodies.Batch es) = grind (arith, entries_say p m.sender es)
 body_says p m (bodies.Ack position) = grind (arith, ack_says p m.sender position)
 body_says p m (bodies.Query ticket key) = grind (arith, query_says p m.sender ticket key)
 body_says p m (bodies.VersionIs ticket version) = grind (arith, version_says p m.sender ticket version)
 body_says p m (bodies.Blank count) = grind (arith, blank_says p m.sender count)
-body_says p m (bodies.Copy position objects kept) = grind (arith, copy_says p m.sender position (record { objects = objects; kept = kept }))
+body_says p m (bodies.Copy position state) = grind (arith, copy_says p m.sender position state)
+body_says p m (bodies.Part part) = grind (arith, part_says p m.sender part)
 body_says p m (bodies.Floor count) = grind (arith, floor_says p m.sender count)
 
 -- ---- asks
@@ -171,8 +190,8 @@ reply_says p position reply sends a = grind (arith, a)
 
 replies_say : (p : Plain) (position : ℕ) (reply : Reply) (sends : List Out) → AreFrom (id_of p) sends → Gives (id_of p) (reply_turn (committed_if_last p) position reply sends)
 replies_say p position reply sends a =
-    cond_both (is_last p) (record p { acknowledged = length_of p }) p (λ (x : Plain). Gives (id_of p) (reply_turn x position reply sends))
-    (λ e. reply_says (record p { acknowledged = length_of p }) position reply sends a)
+    cond_both (is_last p) (acknowledging p (length_of p)) p (λ (x : Plain). Gives (id_of p) (reply_turn x position reply sends))
+    (λ e. reply_says (acknowledging p (length_of p)) position reply sends a)
     (λ e. reply_says p position reply sends a)
 
 update_says : (p : Plain) (u : Update) (r : Option Reply) → Gives (id_of p) (update_turn p u r)

@@ -1,5 +1,6 @@
 use Rattle.std.proofs.Common.{◌≡◌, ◌+◌, List, drop, refl, sym, ap, subst, ◌∙◌, arith}
-use Rattle.craq_commands.specs.SingleCopy.{State, apply}
+use Rattle.craq_commands.specs.declared.state.State.{State}
+use Rattle.craq_commands.specs.SingleCopy.{apply}
 use Rattle.craq_commands.specs.declared.command.Update.{Update}
 use Rattle.std.specs.Prelude.{is_some}
 use Rattle.std.proofs.lemmas.List.{drop_all}

@@ -76,8 +76,8 @@ const HELP: &str = "COMMAND and its words:
   read MODE OBJECT                         MODE is strong, eventual, or bounded:K versions ahead
   status                                   the chains, their epochs and members, as JSON
 OBJECT is KEY, on chain 0, or CHAIN/KEY. NUMBER counts the updates of a client on a chain from 1:
-asked again under its number, an update is not made again but answered again. A VALUE is text, or
-0x and hexadecimal digits. Updates are asked at the first node of a chain, its head.
+asked again under one of its 8 largest numbers, an update is not made again but answered again. A
+VALUE is text, or 0x and hexadecimal digits. Updates are asked at the first node of a chain, its head.
 
 Printed:
   written V          the update wrote version V
@@ -85,7 +85,7 @@ Printed:
   toolong, notanumber, overflow, underflow    nothing was written
   done V:VALUE ..    the transaction was made; what it read
   comparefailed I    compare I (from 0) failed, and nothing was written
-  stale N            update N of the client was the last one answered
+  stale N            nothing was done: NUMBER is below the 8 largest that were, and N is the largest
   read V VALUE       the object's version, 0 where it is absent, and its value
   refused N          nothing was done; after 9 the head of the chain. 1 a key of more than 128
                      bytes, 2 a value of more than 4096, 3 more than 16 items in a list, 4 no

@@ -31,8 +31,8 @@ abbrev pub IsCalled : Bool → List Called → ClientMessage → ClientReply →
 IsCalled keeps old message reply new = (c : Called) × (IsReplyOf message reply c × (IsTrue keeps → new ≡ old ++ c ∷ []))
 
 -- a reply with an answer is that of a call; a status is told where it is asked for
-abbrev pub Turns : Bool → List Called → ClientMessage → ClientReply → List Called → Type 0
-Turns keeps old message (replies.Update pass reply) new = IsCalled keeps old message (replies.Update pass reply) new
-Turns keeps old message (replies.Read pass version value) new = IsCalled keeps old message (replies.Read pass version value) new
-Turns keeps old message (replies.Refused refusal) new = ⊤
-Turns keeps old message (replies.Status text) new = message ≡ messages.Status
+abbrev pub IsTurn : Bool → List Called → ClientMessage → ClientReply → List Called → Type 0
+IsTurn keeps old message (replies.Update pass reply) new = IsCalled keeps old message (replies.Update pass reply) new
+IsTurn keeps old message (replies.Read pass version value) new = IsCalled keeps old message (replies.Read pass version value) new
+IsTurn keeps old message (replies.Refused refusal) new = ⊤
+IsTurn keeps old message (replies.Status text) new = message ≡ messages.Status

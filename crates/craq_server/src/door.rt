@@ -1,6 +1,6 @@
 ghost use Rattle.std.specs.Prelude.{◌≡◌, ◌⊎◌, IfOk, IsTrue, max};
 ghost use Rattle.craq_front.specs.Door.{IsAllowed};
-ghost use Rattle.craq_server.specs.Turns.{message_of, reply_of, IsCalled, Turns};
+ghost use Rattle.craq_server.specs.Turns.{message_of, reply_of, IsCalled, IsTurn};
 
 use crate::status::status_text;
 use craq_frames::{ClientMessage, ClientReply, Text};
@@ -109,7 +109,7 @@ where
 
     /// What is replied to a message.
     fn reply(&mut self, message: ClientMessage) -> Result<ClientReply, Refusal>
-        ensures { IfOk result (λ reply. Turns self.old.keeps self.old.receipts.items message reply
+        ensures { IfOk result (λ reply. IsTurn self.old.keeps self.old.receipts.items message reply
             self.new.receipts.items) }
     {
         match message {
@@ -134,7 +134,7 @@ where
     G: Gate,
 {
     ghost turn = { λ old message reply new.
-        Turns old.keeps old.receipts.items message reply new.receipts.items };
+        IsTurn old.keeps old.receipts.items message reply new.receipts.items };
 
     fn ask(&mut self, message: ClientMessage) -> ClientReply {
         match self.reply(message) {

@@ -16,13 +16,15 @@ pub struct Group {
     pub names: &'static [&'static str],
 }
 
-pub static ROWS: [Group; 6] = [
+pub static ROWS: [Group; 7] = [
     Group {
         nodes: 1,
         way: Way::Play,
         names: &[
             "append-to-the-limit",
+            "copy-in-parts",
             "counters",
+            "eight-kept-replies",
             "mini-transactions",
             "one-put-explained",
             "prepend",
@@ -30,6 +32,11 @@ pub static ROWS: [Group; 6] = [
             "refused-test-and-set-is-an-entry",
             "whole-join",
         ],
+    },
+    Group {
+        nodes: 2,
+        way: Way::Play,
+        names: &["batch-on-a-tick"],
     },
     Group {
         nodes: 3,

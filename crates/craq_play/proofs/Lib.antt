@@ -1,2 +1,3 @@
+mod Batches
 mod Floats
 mod Lines

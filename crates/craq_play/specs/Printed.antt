@@ -5,12 +5,15 @@ use Rattle.std.specs.List.{flat_map}
 use Rattle.craq_names.specs.declared.refusal.Refusal.{Refusal}
 use Rattle.craq_names.specs.declared.refusal.Refusal.TheVariants as refusals
 use Rattle.craq_names.specs.Refused.{number_of}
+use Rattle.craq_commands.specs.declared.entry.Entry.{Entry}
 use Rattle.craq_commands.specs.declared.reply.Reply.{Reply}
 use Rattle.craq_commands.specs.declared.reply.Reply.TheVariants as replies
 use Rattle.craq_model.specs.declared.ask.Answer.{Answer}
 use Rattle.craq_model.specs.declared.ask.Answer.TheVariants as answers
 use Rattle.craq_model.specs.declared.message.Body.{Body}
 use Rattle.craq_model.specs.declared.message.Body.TheVariants as bodies
+use Rattle.craq_model.specs.declared.message.StatePart.{StatePart}
+use Rattle.craq_model.specs.Deliveries.{first_position, final_position}
 use Rattle.craq_model.specs.declared.step.Out.{Out}
 use Rattle.craq_model.specs.declared.step.Out.TheVariants as outs
 use Rattle.craq_model.specs.declared.step.Step.{Step}
@@ -46,15 +49,25 @@ unfoldable pub answer_text : Answer → List ℕ
 answer_text (answers.Update reply) = reply_text reply
 answer_text (answers.Read version value) = codes "read " ++ decimal version ++ codes " " ++ value_text value
 
+-- entries in one message, by the positions of the first and the last
+unfoldable pub batch_text : List Entry → List ℕ
+batch_text entries = codes "batch " ++ decimal (first_position entries) ++ codes "-" ++ decimal (final_position entries)
+
+-- a part of a state, by the state's position, its own number and how many there are
+unfoldable pub part_text : StatePart → List ℕ
+part_text part = codes "part " ++ decimal part.position ++ codes " " ++ decimal part.number ++ codes "/" ++ decimal part.count
+
 -- a message by its kind and its numbers
 unfoldable pub message_text : ℕ → Body → List ℕ
 message_text epoch (bodies.Config members) = codes "config " ++ decimal epoch
 message_text epoch (bodies.Entry entry) = codes "entry " ++ decimal entry.position
+message_text epoch (bodies.Batch entries) = batch_text entries
 message_text epoch (bodies.Ack position) = codes "ack " ++ decimal position
 message_text epoch (bodies.Query ticket key) = codes "query " ++ decimal ticket
 message_text epoch (bodies.VersionIs ticket version) = codes "version " ++ decimal ticket ++ codes " " ++ decimal version
 message_text epoch (bodies.Blank count) = codes "blank " ++ decimal count
-message_text epoch (bodies.Copy position objects kept) = codes "copy " ++ decimal position
+message_text epoch (bodies.Copy position state) = codes "copy " ++ decimal position
+message_text epoch (bodies.Part part) = part_text part
 message_text epoch (bodies.Floor count) = codes "floor " ++ decimal count
 
 -- an out of a step of a node: a message that is sent has this number

@@ -1,9 +1,10 @@
 ghost use Rattle.std.specs.Prelude.{◌≡◌, ◌+◌, ◌<◌, ◌^◌, ◌++◌, length, OnOk, string_bytes};
 ghost use Rattle.std.specs.List.{flat_map};
-ghost use Rattle.craq_play.specs.Printed.{byte_text, value_text, object_text, reply_text, answer_text, message_text, out_text, sent_after, outs_text, why_text, step_text, refusal_text};
+ghost use Rattle.craq_model.specs.Deliveries.{final_position, first_position};
+ghost use Rattle.craq_play.specs.Printed.{byte_text, value_text, object_text, reply_text, answer_text, batch_text, part_text, message_text, out_text, sent_after, outs_text, why_text, step_text, refusal_text};
 
-use craq_commands::Reply;
-use craq_model::{Answer, Body, LinkMessage, Out, Step, Why};
+use craq_commands::{Entry, Reply};
+use craq_model::{Answer, Body, LinkMessage, Out, StatePart, Step, Why};
 use craq_names::{NodeId, Refusal, Value, Version};
 use std::alloc::AllocError;
 
@@ -94,6 +95,48 @@ pub fn print_answer(text: &mut String, answer: &Answer) -> Result<(), AllocError
     }
 }
 
+/// The position of the first entry; 0 where there is none.
+fn first_position(entries: &[Entry]) -> u64
+    ensures { result ≡ first_position entries.now }
+{
+    match entries.first() {
+        Some(entry) => entry.position.get(),
+        None => 0,
+    }
+}
+
+/// The position of the last entry; 0 where there is none.
+#[tactic(auto, using(crate::proofs::Batches::final_last))]
+fn final_position(entries: &[Entry]) -> u64
+    ensures { result ≡ final_position entries.now }
+{
+    match entries.last() {
+        Some(entry) => entry.position.get(),
+        None => 0,
+    }
+}
+
+/// Prints `batch` and the positions of the first and the last of the entries.
+#[tactic(auto, unfolding(crate::specs::Printed::batch_text))]
+fn print_batch(text: &mut String, entries: &[Entry]) -> Result<(), AllocError>
+    ensures { OnOk result (string_bytes text.new ≡ string_bytes text.old ++ batch_text entries.now) }
+{
+    let first = first_position(entries);
+    let last = final_position(entries);
+    write!(text, "batch {first}-{last}")
+}
+
+/// Prints `part`, the position, the part's number and how many parts there are.
+#[tactic(auto, unfolding(crate::specs::Printed::part_text))]
+fn print_part(text: &mut String, part: &StatePart) -> Result<(), AllocError>
+    ensures { OnOk result (string_bytes text.new ≡ string_bytes text.old ++ part_text part.now) }
+{
+    let position = part.position.get();
+    let number = part.number;
+    let count = part.count;
+    write!(text, "part {position} {number}/{count}")
+}
+
 /// Prints what a message says, in short: its kind and its numbers.
 #[tactic(auto, unfolding(crate::specs::Printed::message_text))]
 fn print_message(text: &mut String, message: &LinkMessage) -> Result<(), AllocError>
@@ -108,6 +151,7 @@ fn print_message(text: &mut String, message: &LinkMessage) -> Result<(), AllocEr
             let position = entry.position.get();
             write!(text, "entry {position}")
         }
+        Body::Batch(entries) => print_batch(text, entries.as_slice()),
         Body::Ack(position) => {
             let position = position.get();
             write!(text, "ack {position}")
@@ -125,14 +169,11 @@ fn print_message(text: &mut String, message: &LinkMessage) -> Result<(), AllocEr
             let count = count.get();
             write!(text, "blank {count}")
         }
-        Body::Copy {
-            position,
-            objects: _,
-            kept: _,
-        } => {
+        Body::Copy { position, state: _ } => {
             let position = position.get();
             write!(text, "copy {position}")
         }
+        Body::Part(part) => print_part(text, part),
         Body::Floor(count) => {
             let count = count.get();
             write!(text, "floor {count}")

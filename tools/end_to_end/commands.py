@@ -56,7 +56,7 @@ ROWS = [
     # all words after the command are its own
     (1, "put 1 18 -k --pass", "written 1"),
     (3, "read strong -k", "read 1 0x2d2d70617373"),
-    # a number far below the client's last one
+    # a number below all 8 whose replies are kept
     (1, "put 1 1 k z", "stale 18"),
     # refused before a connection is made: the lowest number of the whole line
     (1, f"put 1 19 {LONG_KEY} a", "refused 1"),
@@ -82,6 +82,12 @@ ROWS = [
     (2, "mini 1 19 r:k r:1/k", "refused 8"),
     # and nothing of that changed anything
     (1, "put 1 19 k f", "written 8"),
+    # the replies to 8 numbers are kept; one between them that was never asked is new
+    (1, "put 1 22 k g", "written 9"),
+    (1, "put 1 14 k z", "comparefailed 1"),
+    (1, "put 1 20 k h", "written 10"),
+    (1, "put 1 22 k z", "written 9"),
+    (1, "put 1 13 k z", "stale 22"),
 ]
 
 # Words that fit no line of a script.
@@ -145,7 +151,7 @@ def rows(checks, server, craq):
     for row in ROWS:
         shown = check_row(checks, server, craq, row, shown)
     # a pass of another client, far above what the node has seen, is covered by its answer
-    check_row(checks, server, craq, (3, "read strong k", "read 8 0x66"), shown + 1_000_000)
+    check_row(checks, server, craq, (3, "read strong k", "read 10 0x68"), shown + 1_000_000)
     for node in 1, 2:
         found = asked(craq, server.address, node, "put 1 20 k g", MAX)
         server.counts()

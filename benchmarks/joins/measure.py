@@ -1,0 +1,66 @@
+#!/usr/bin/env python3
+"""What each step of a join takes and allocates.
+
+    benchmarks/joins/measure.py PROGRAM
+
+PROGRAM is built of join_main.txt (README.md). It runs three times with allocated.rs loaded before the C library, which
+rustc builds here. For each step the least time counts; the bytes are those that the step asked of the allocator, the
+same in each run."""
+
+import os
+import re
+import subprocess
+import sys
+import tempfile
+
+HERE = os.path.dirname(os.path.realpath(__file__))
+TIMES = 3
+
+
+def counted(program, library):
+    """The steps in order: by whom the objects were put, name, nanoseconds, bytes."""
+    ran = subprocess.run([program], env={**os.environ, "LD_PRELOAD": library}, check=True, capture_output=True, text=True)
+    steps, start, end, whose = [], 0, 0, ""
+    for line, total in zip(ran.stdout.splitlines(), map(int, ran.stderr.split()), strict=True):
+        if line == "begin":
+            start = total
+        elif line == "end":
+            end = total
+        elif found := re.fullmatch(r"(.*): (\d+) ns, (\d+) outs", line):
+            steps.append((whose, found[1], int(found[2]), end - start))
+        else:
+            whose = line
+    return steps
+
+
+def grouped(steps):
+    """Name, nanoseconds and bytes of the steps, with all parts before the last one in two lines."""
+    parts = [it for it in steps if it[1] == "node 2, part"]
+    before = parts[:-1]
+    for step in steps:
+        if step[1] != "node 2, part":
+            yield step[1:]
+        elif step is parts[0]:
+            yield f"node 2, the first {len(before)} parts", sum(it[2] for it in before), sum(it[3] for it in before)
+            yield "  the dearest of them", max(it[2] for it in before), max(it[3] for it in before)
+            yield "node 2, the last part", *parts[-1][2:]
+
+
+def main():
+    if len(sys.argv) != 2:
+        sys.exit(__doc__)
+    with tempfile.TemporaryDirectory() as folder:
+        library = f"{folder}/allocated.so"
+        source = f"{HERE}/allocated.rs"
+        subprocess.run(["rustc", "--edition", "2021", "-O", "--crate-type", "cdylib", "-o", library, source], check=True)
+        runs = [counted(os.path.realpath(sys.argv[1]), library) for _ in range(TIMES)]
+    if any([it[:2] + it[3:] for it in run] != [it[:2] + it[3:] for it in runs[0]] for run in runs):
+        sys.exit("the runs allocate differently")
+    steps = [(*now[0][:2], min(it[2] for it in now), now[0][3]) for now in zip(*runs, strict=True)]
+    for whose in dict.fromkeys(it[0] for it in steps):
+        print(f"{whose:32} microseconds        bytes")
+        for name, time, size in grouped([it for it in steps if it[0] == whose]):
+            print(f"{name:32} {time / 1000:12.1f} {size:12,}")
+
+
+main()

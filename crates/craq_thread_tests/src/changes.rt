@@ -1,0 +1,257 @@
+use crate::asker::{Asker, Tested};
+use crate::calls::confirm;
+use crate::case::{Fact, Fault, expect};
+use crate::gate::{Signs, rest};
+use craq_names::{ChainId, NodeId, Refusal};
+use std::sync::atomic::{AtomicU32, AtomicU64, Ordering};
+use std::sync::{Arc, Wait};
+use std::thread;
+use std::thread::{JoinHandle, Threads};
+
+/// How many clients ask at once.
+const CLIENTS: u64 = 4;
+
+/// How many calls each of them makes, every second one a put.
+const CALLS: u64 = 2500;
+
+/// How many calls all of them make.
+const TOTAL: u64 = CLIENTS * CALLS;
+
+/// The most turns of a wait for calls.
+const MOST_TURNS: u32 = 3000;
+
+/// For how many turns no call has to come back so that all wait.
+const A_WHILE: u32 = 10;
+
+/// What the clients and whoever changes the members tell each other.
+#[derive(Drop)]
+struct Course {
+    /// Where puts go.
+    head: AtomicU32,
+    /// Where reads go.
+    tail: AtomicU32,
+    /// How many puts wait for their answers.
+    waiting: AtomicU64,
+    /// How many calls came back.
+    made: AtomicU64,
+    /// How many of them were puts.
+    puts: AtomicU64,
+    /// How many of them were refused.
+    refused: AtomicU64,
+}
+
+impl Course {
+    fn new() -> Course {
+        Course {
+            head: AtomicU32::new(1),
+            tail: AtomicU32::new(3),
+            waiting: AtomicU64::new(0),
+            made: AtomicU64::new(0),
+            puts: AtomicU64::new(0),
+            refused: AtomicU64::new(0),
+        }
+    }
+
+    /// A put at the head.
+    fn put<R: Wait>(&self, rt: &R, asker: &mut Asker) -> Result<(), Refusal> {
+        self.waiting.fetch_add(1, Ordering::SeqCst);
+        let put = asker.put(rt, self.head.load(Ordering::SeqCst));
+        self.waiting.fetch_sub(1, Ordering::SeqCst);
+        self.puts.fetch_add(1, Ordering::SeqCst);
+        put
+    }
+
+    /// A put, or by turns a read. After a refusal the client rests.
+    fn call<R: Wait>(&self, rt: &R, host: HostRuntime, asker: &mut Asker, turn: u64) {
+        let called = if turn % 2 == 0 {
+            self.put(rt, asker)
+        } else {
+            asker.read(rt, self.tail.load(Ordering::SeqCst))
+        };
+        self.made.fetch_add(1, Ordering::SeqCst);
+        if called.is_err() {
+            self.refused.fetch_add(1, Ordering::SeqCst);
+            rest(host);
+        }
+    }
+}
+
+/// All calls of a client.
+fn ask_on<R: Wait>(rt: &R, host: HostRuntime, mut asker: Asker, course: &Course) -> Asker {
+    for turn in 0..CALLS {
+        course.call(rt, host, &mut asker, turn);
+    }
+    asker
+}
+
+/// Ticks until a counter has come to a number, or for as long as may be.
+fn tick_until<R: Wait>(
+    rt: &R,
+    host: HostRuntime,
+    store: &Tested,
+    counter: &AtomicU64,
+    wanted: u64,
+) {
+    for _ in 0..MOST_TURNS {
+        if counter.load(Ordering::SeqCst) >= wanted {
+            return;
+        }
+        store.tick(rt);
+        rest(host);
+    }
+}
+
+/// Ticks until no call came back for a while, or for as long as may be.
+fn tick_until_stuck<R: Wait>(rt: &R, host: HostRuntime, store: &Tested, made: &AtomicU64) {
+    let mut before = TOTAL;
+    for turn in 0..MOST_TURNS {
+        store.tick(rt);
+        rest(host);
+        if turn % A_WHILE == 0 {
+            let now = made.load(Ordering::SeqCst);
+            if now == before {
+                return;
+            }
+            before = now;
+        }
+    }
+}
+
+/// The last node stops, so that puts wait; another joins, and the one that stopped is removed. How many puts waited.
+fn change_tail<R>(rt: R, host: HostRuntime, store: &Tested, course: &Course) -> Result<u64, Refusal>
+where
+    R: Threads + Wait + Copy + Send + 'static,
+{
+    let chain = ChainId::new(0);
+    store.stop(&rt, chain, NodeId::new(3))?;
+    course.tail.store(2, Ordering::SeqCst);
+    tick_until_stuck(&rt, host, store, &course.made);
+    store.join(rt, chain, NodeId::new(4))?;
+    let waiting = course.waiting.load(Ordering::SeqCst);
+    store.remove(&rt, chain, NodeId::new(3))?;
+    Ok(waiting)
+}
+
+/// The first node stops and is removed.
+fn change_head<R: Wait>(rt: &R, store: &Tested, course: &Course) -> Result<(), Refusal> {
+    let chain = ChainId::new(0);
+    store.stop(rt, chain, NodeId::new(1))?;
+    store.remove(rt, chain, NodeId::new(1))?;
+    course.head.store(2, Ordering::SeqCst);
+    course.tail.store(4, Ordering::SeqCst);
+    Ok(())
+}
+
+/// The tail changes after a quarter of the calls, and the head after half of them. How many puts waited as the tail did.
+fn change_members<R>(
+    rt: R,
+    host: HostRuntime,
+    store: &Tested,
+    course: &Course,
+) -> Result<u64, Refusal>
+where
+    R: Threads + Wait + Copy + Send + 'static,
+{
+    tick_until(&rt, host, store, &course.made, TOTAL / 4);
+    let waiting = change_tail(rt, host, store, course)?;
+    tick_until(&rt, host, store, &course.made, TOTAL / 2);
+    change_head(&rt, store, course)?;
+    tick_until(&rt, host, store, &course.made, TOTAL);
+    Ok(waiting)
+}
+
+/// A client begins to ask, on a thread of its own.
+fn start_asker<R>(
+    rt: R,
+    host: HostRuntime,
+    store: &Tested,
+    course: &Arc<Course>,
+    id: u64,
+) -> Result<JoinHandle<Asker>, Refusal>
+where
+    R: Threads + Wait + Copy + Send + 'static,
+{
+    let theirs = Arc::try_clone(course)?;
+    let asker = Asker::new(host.alloc(), store, id)?;
+    match thread::spawn(&rt, move || ask_on(&rt, host, asker, &theirs)) {
+        Ok(caller) => Ok(caller),
+        Err(_) => Err(Refusal::Memory),
+    }
+}
+
+/// All clients begin to ask.
+fn start_askers<R>(
+    rt: R,
+    host: HostRuntime,
+    store: &Tested,
+    course: &Arc<Course>,
+) -> Result<Vec<JoinHandle<Asker>>, Refusal>
+where
+    R: Threads + Wait + Copy + Send + 'static,
+{
+    let mut callers = Vec::new(host.alloc());
+    for id in 1..=CLIENTS {
+        callers.push(start_asker(rt, host, store, course, id)?)?;
+    }
+    Ok(callers)
+}
+
+/// A client with the receipts of all calls.
+fn join_all<R: Threads>(
+    rt: &R,
+    mut all: Asker,
+    callers: Vec<JoinHandle<Asker>>,
+) -> Result<Asker, Refusal> {
+    for caller in callers {
+        all.take_receipts(caller.join(rt))?;
+    }
+    Ok(all)
+}
+
+/// Prints how many calls came back.
+fn print_counts(host: HostRuntime, course: &Course) {
+    let made = course.made.load(Ordering::SeqCst);
+    let puts = course.puts.load(Ordering::SeqCst);
+    let _ = println!(host; "{made} calls come back, {puts} of them puts");
+}
+
+/// Whether all calls came back, half of them puts.
+fn came_back(course: &Course) -> bool {
+    course.made.load(Ordering::SeqCst) == TOTAL && course.puts.load(Ordering::SeqCst) == TOTAL / 2
+}
+
+/// Whether nine of ten calls were answered and not refused.
+fn were_answered(course: &Course) -> bool {
+    course.refused.load(Ordering::SeqCst) <= TOTAL / 10
+}
+
+/// A client with the receipts of all calls, which were made while members changed, and how many puts waited meanwhile.
+fn ask_all<R>(
+    rt: R,
+    host: HostRuntime,
+    store: &Tested,
+    course: &Arc<Course>,
+) -> Result<(Asker, u64), Refusal>
+where
+    R: Threads + Wait + Copy + Send + 'static,
+{
+    let callers = start_askers(rt, host, store, course)?;
+    let waiting = change_members(rt, host, store, course)?;
+    let all = join_all(&rt, Asker::new(host.alloc(), store, 0)?, callers)?;
+    Ok((all, waiting))
+}
+
+/// Nodes stop, are removed and join, and messages are lost, while clients go on asking.
+pub fn changes<R>(rt: R, host: HostRuntime, store: &Tested, signs: &Signs) -> Result<(), Fault>
+where
+    R: Threads + Wait + Copy + Send + 'static,
+{
+    let course = Arc::new(host.alloc(), Course::new())?;
+    let (all, waiting) = ask_all(rt, host, store, &course)?;
+    print_counts(host, &course);
+    expect(came_back(&course), Fact::ComesBack)?;
+    expect(were_answered(&course), Fact::NineOfTen)?;
+    expect(waiting > 0, Fact::PutsWait)?;
+    expect(signs.are_orderly(), Fact::InTurn)?;
+    confirm(&rt, store, all.receipts.as_slice())
+}

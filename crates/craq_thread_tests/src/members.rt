@@ -1,0 +1,86 @@
+use crate::asker::Tested;
+use crate::case::{Fact, Fault, expect, expect_refusal};
+use crate::gate::{LIMIT, rest};
+use craq_names::{ChainId, NodeId, Refusal};
+use craq_workers::ChainStatus;
+use std::fs;
+use std::sync::Wait;
+use std::thread::Threads;
+
+/// What the system tells of this process with two threads: its own and that of a case.
+pub const ALONE: &str = "\nThreads:\t2\n";
+
+/// The same with a store: two threads more for each of three nodes, and one for the master.
+const WITH_STORE: &str = "\nThreads:\t9\n";
+
+/// The same once a node was removed.
+const WITH_TWO_NODES: &str = "\nThreads:\t7\n";
+
+/// Whether the system tells this of the process.
+fn is_told(host: HostRuntime, threads: &str) -> bool {
+    match fs::read_to_string(&host, "/proc/self/status") {
+        Ok(status) => status.as_str().contains(threads),
+        Err(_) => false,
+    }
+}
+
+/// This process is to come to have so many threads.
+pub fn expect_threads(host: HostRuntime, threads: &str) -> Result<(), Fault> {
+    for _ in 0..LIMIT {
+        if is_told(host, threads) {
+            return Ok(());
+        }
+        rest(host);
+    }
+    Err(Fault::Unmet(Fact::HasItsThreads))
+}
+
+/// Whether the one chain has this epoch and three members.
+fn has_members(statuses: &[ChainStatus], epoch: u64) -> bool {
+    match statuses {
+        [status] => status.config.epoch.get() == epoch && status.config.members.len() == 3,
+        _ => false,
+    }
+}
+
+/// The chain is to have this epoch and three members.
+fn expect_members<R: Wait>(rt: &R, store: &Tested, epoch: u64) -> Result<(), Fault> {
+    let statuses = store.status(rt)?;
+    expect(has_members(statuses.as_slice(), epoch), Fact::HasItsMembers)
+}
+
+/// A member that runs is not removed, and an id that was used does not join.
+fn refuse<R>(rt: R, store: &Tested) -> Result<(), Fault>
+where
+    R: Threads + Wait + Copy + Send + 'static,
+{
+    let removed = store.remove(&rt, ChainId::new(0), NodeId::new(1));
+    expect_refusal(removed.err(), Refusal::NotStopped, Fact::IsRefused)?;
+    let joined = store.join(rt, ChainId::new(0), NodeId::new(1));
+    expect_refusal(joined.err(), Refusal::UsedId, Fact::IsRefused)
+}
+
+/// The head goes, and another node joins.
+fn change<R>(rt: R, host: HostRuntime, store: &Tested) -> Result<(), Fault>
+where
+    R: Threads + Wait + Copy + Send + 'static,
+{
+    store.stop(&rt, ChainId::new(0), NodeId::new(1))?;
+    store.remove(&rt, ChainId::new(0), NodeId::new(1))?;
+    expect_threads(host, WITH_TWO_NODES)?;
+    store.join(rt, ChainId::new(0), NodeId::new(4))?;
+    expect_threads(host, WITH_STORE)
+}
+
+/// Moves that are refused leave members and threads as they are; two threads go with a node that is removed, and two come
+/// with one that joins.
+pub fn members<R>(rt: R, host: HostRuntime, store: &Tested) -> Result<(), Fault>
+where
+    R: Threads + Wait + Copy + Send + 'static,
+{
+    refuse(rt, store)?;
+    expect_threads(host, WITH_STORE)?;
+    expect_members(&rt, store, 1)?;
+    change(rt, host, store)?;
+    expect_members(&rt, store, 3)
+}

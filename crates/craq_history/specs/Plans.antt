@@ -11,6 +11,7 @@ use Rattle.craq_history.specs.declared.change.HistoryChange.{HistoryChange}
 use Rattle.craq_history.specs.declared.change.HistoryChange.TheVariants as histories
 use Rattle.craq_history.specs.declared.change.GatheringChange.{GatheringChange}
 use Rattle.craq_history.specs.declared.change.GatheringChange.TheVariants as gatherings
+use Rattle.craq_node_invariant.specs.Sound.{AreInRow, IsSoundState}
 use Rattle.craq_history.specs.Change.{changed, no_change}
 
 -- a history of this length has positions for what it is to grow by
@@ -18,6 +19,18 @@ abbrev pub CanGrow : ℕ → HistoryChange → Type 0
 CanGrow count histories.Stays = ⊤
 CanGrow count (histories.Grows entries) = count + length entries ≤ greatest
 CanGrow count (histories.IsCopied position state) = ⊤
+
+-- the entries that a history of this length is to grow by follow it in a row
+abbrev pub FollowsInRow : ℕ → HistoryChange → Type 0
+FollowsInRow count histories.Stays = ⊤
+FollowsInRow count (histories.Grows entries) = AreInRow (count + 1) entries
+FollowsInRow count (histories.IsCopied position state) = ⊤
+
+-- a state that takes the place of the history is sound
+abbrev pub IsSoundCopy : HistoryChange → Type 0
+IsSoundCopy histories.Stays = ⊤
+IsSoundCopy (histories.Grows entries) = ⊤
+IsSoundCopy (histories.IsCopied position state) = IsSoundState state
 
 -- a part is gained only where the history stays
 abbrev pub IsApart : GatheringChange → HistoryChange → Type 0

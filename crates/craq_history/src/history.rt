@@ -1,8 +1,10 @@
-ghost use Rattle.std.specs.Prelude.{◌≡◌, ◌≤◌, ◌+◌, ◌-◌, ◌<◌, ◌^◌, length, IfOk, OnOk, OnErr};
+ghost use Rattle.std.specs.Prelude.{Bool, ◌≡◌, ◌≤◌, ◌+◌, ◌-◌, ◌<◌, ◌^◌, length, IfOk, OnOk, OnErr};
 ghost use Rattle.craq_commands.specs.Objects.{object_of};
 ghost use Rattle.craq_commands.specs.SingleCopy.{said};
 ghost use Rattle.craq_commands.specs.Told.{told};
 ghost use Rattle.craq_model.specs.Deliveries.{are_applicable};
+ghost use Rattle.craq_node_invariant.specs.Sound.{AreInRow, IsSoundState};
+ghost use Rattle.craq_compaction.specs.Compacted.{HoldsCommitted, remembered_in};
 ghost use Rattle.craq_model.specs.Past.{Past, no_past, length_in, newest_in, clean_in, entries_in, object_within_in, last_position, with_entries_in, acknowledged_in, installed_in};
 
 use craq_commands::{Entry, Said, State};
@@ -13,6 +15,9 @@ use std::alloc::{AllocError, Global};
 pub trait History: Drop {
     /// The past that it stands for.
     ghost past: { Self → Past };
+
+    /// Whether it forgets settled entries: then the past that it stands for is compacted.
+    ghost forgets: { Bool };
 
     /// Nothing yet. It takes no memory.
     fn new(alloc: Global) -> Self
@@ -60,21 +65,29 @@ pub trait History: Drop {
         requires from { (past self.now).acknowledged ≤ position }
         ensures { result.now ≡ entries_in (past self.now) position };
 
-    /// More entries, all of them. Where memory is refused the past stays.
+    /// More entries, all of them, at the positions that come next. Where memory is refused the past stays.
     fn append(&mut self, entries: Items<Entry>) -> Result<(), AllocError>
-        requires { length_in (past self.old) + length entries < 2 ^ 64 }
+        requires fits { length_in (past self.old) + length entries < 2 ^ 64 }
+        requires in_row { AreInRow (length_in (past self.old) + 1) entries }
         ensures ok { OnOk result (past self.new ≡ with_entries_in (past self.old) entries) }
         ensures err { OnErr result (past self.new ≡ past self.old) };
 
-    /// The entries up to the position are committed. It takes no memory.
+    /// The entries up to the position are committed; one that forgets settled entries forgets them now.
+    /// It is never refused.
     fn acknowledge(&mut self, position: Seq)
-        ensures { past self.new ≡ acknowledged_in (past self.old) position };
+        requires { HoldsCommitted (acknowledged_in (past self.old) position) }
+        ensures { past self.new ≡ remembered_in forgets (acknowledged_in (past self.old) position) };
 
     /// The state after the committed entries.
     fn snapshot(&self, alloc: Global) -> Result<State, AllocError>
         ensures { IfOk result (λ s. s ≡ clean_in (past self.now)) };
 
-    /// A state takes the place of the history. It takes no memory.
-    fn install(&mut self, position: Seq, state: State)
-        ensures { past self.new ≡ installed_in position state };
+    /// A state takes the place of the history. Where memory is refused the past stays.
+    fn install(&mut self, position: Seq, state: State) -> Result<(), AllocError>
+        requires { IsSoundState state }
+        ensures ok { OnOk result (past self.new ≡ installed_in position state) }
+        ensures err { OnErr result (past self.new ≡ past self.old) };
+
+    /// Settled entries are not remembered where they are forgotten.
+    ghost is_remembered: { (h : Self) → remembered_in forgets (past h) ≡ past h };
 }

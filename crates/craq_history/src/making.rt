@@ -3,9 +3,11 @@ ghost use Rattle.std.specs.Prelude.{◌≡◌, ◌<◌, ◌-◌, ◌^◌, ◌++�
 ghost use Rattle.craq_model.specs.Deliveries.{later_updates, reads_without};
 ghost use Rattle.craq_history.specs.Change.{changed, no_change, past_by, gathering_by, IsGain, commits_by, updates_by, reads_by, epoch_by, members_by, floor_by, ticket_by};
 ghost use Rattle.craq_history.specs.Nodes.{plain_of};
+ghost use Rattle.craq_node_invariant.specs.Sound.{IsSound};
+ghost use Rattle.craq_compaction.specs.Compacted.{HoldsCommitted, remembered, remembered_in};
 ghost use Rattle.craq_model.specs.Past.{length_in};
 ghost use Rattle.craq_model.specs.Parts.{gathering_for, with_part};
-ghost use Rattle.craq_history.specs.Plans.{CanGrow, CanMake, IsApart};
+ghost use Rattle.craq_history.specs.Plans.{CanGrow, CanMake, FollowsInRow, IsApart, IsSoundCopy};
 ghost use Rattle.craq_history.specs.Room.{HasRoomFor};
 
 use crate::{Change, GatheringChange, History, HistoryChange, Node, WaitingChange};
@@ -78,7 +80,9 @@ fn change_waiting(
 
 /// Changes the history, but for what is committed.
 fn change_history<H: History>(history: &mut H, change: HistoryChange) -> Result<(), AllocError>
-    requires { CanGrow (length_in (H.past history.old)) change }
+    requires grows { CanGrow (length_in (H.past history.old)) change }
+    requires in_row { FollowsInRow (length_in (H.past history.old)) change }
+    requires copy { IsSoundCopy change }
     ensures ok { OnOk result (H.past history.new ≡ past_by change (H.past history.old)) }
     ensures err { OnErr result (H.past history.new ≡ H.past history.old) }
     ensures free { change ≡ HistoryChange.Stays → IsOk result }
@@ -86,10 +90,7 @@ fn change_history<H: History>(history: &mut H, change: HistoryChange) -> Result<
     match change {
         HistoryChange::Stays => Ok(()),
         HistoryChange::Grows(entries) => history.append(entries),
-        HistoryChange::IsCopied { position, state } => {
-            history.install(position, state);
-            Ok(())
-        }
+        HistoryChange::IsCopied { position, state } => history.install(position, state),
     }
 }
 
@@ -139,7 +140,8 @@ fn change_gathering(
 
 /// Commits the entries up to a position, if there is one.
 fn commit<H: History>(history: &mut H, acknowledged: Option<Seq>)
-    ensures { H.past history.new ≡ commits_by acknowledged (H.past history.old) }
+    requires { HoldsCommitted (commits_by acknowledged (H.past history.old)) }
+    ensures { H.past history.new ≡ remembered_in H.forgets (commits_by acknowledged (H.past history.old)) }
 {
     if let Some(position) = acknowledged {
         history.acknowledge(position);
@@ -185,12 +187,14 @@ fn ticket_after(accepted: bool, last: Ticket) -> Ticket
 }
 
 impl<H: History> Node<H> {
-    /// Makes the change. Where memory is refused the node stands for the plain node that it stood
-    /// for before. A change of nothing takes no memory.
-    #[tactic(auto, using(crate::proofs::Apart::past_stays))]
+    /// Makes the change, after which the node has to be sound; where the history forgets settled entries, the
+    /// node then stands for one that forgot them. Where memory is refused the node stands for the plain node that
+    /// it stood for before. A change of nothing takes no memory.
+    #[tactic(auto, using(crate::proofs::Apart::past_stays, crate::proofs::Sound::holds_after, crate::proofs::Sound::copy_is_sound))]
     pub fn apply(&mut self, alloc: Global, change: Change) -> Result<(), AllocError>
-        requires { CanMake (plain_of H.past self.old) change }
-        ensures ok { OnOk result (plain_of H.past self.new ≡ changed (plain_of H.past self.old) change) }
+        requires can { CanMake (plain_of H.past self.old) change }
+        requires sound { IsSound (changed (plain_of H.past self.old) change) }
+        ensures ok { OnOk result (plain_of H.past self.new ≡ remembered H.forgets (changed (plain_of H.past self.old) change)) }
         ensures err { OnErr result (plain_of H.past self.new ≡ plain_of H.past self.old) }
         ensures free { change ≡ no_change → IsOk result }
     {

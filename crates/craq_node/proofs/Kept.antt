@@ -1,25 +1,68 @@
 -- A step keeps the node's invariant, and all that it sends can be encoded as bytes.
-use Rattle.std.proofs.Common.{◌≡◌, ◌≤◌, true, false, Ok, Err, [], sym, ap, ◌∙◌, subst}
-use Rattle.std.specs.Prelude.{Result, IfOk}
+use Rattle.std.proofs.Common.{◌≡◌, ◌≤◌, true, false, Ok, Err, [], refl, sym, ap, ◌∙◌, subst}
+use Rattle.std.proofs.Math.Bool.{or-false}
+use Rattle.std.specs.Prelude.{Bool, Result, IfOk}
 use Rattle.craq_names.specs.declared.name.NodeName.{NodeName}
 use Rattle.craq_names.specs.declared.refusal.Refusal.{Refusal}
 use Rattle.craq_model.specs.declared.ask.Event.{Event}
 use Rattle.craq_model.specs.declared.config.Config.{Config}
 use Rattle.craq_model.specs.declared.step.Step.{Step}
-use Rattle.craq_model.specs.Node.{event_turn}
+use Rattle.craq_model.specs.declared.ask.Ask.{Ask}
+use Rattle.craq_model.specs.declared.ask.Event.TheVariants as events
+use Rattle.craq_model.specs.declared.message.LinkMessage.{LinkMessage}
+use Rattle.craq_model.specs.Asks.{ask_turn}
+use Rattle.craq_model.specs.Deliveries.{delivery_turn}
+use Rattle.craq_model.specs.Node.{event_turn, is_for, outs_fit, within_counts}
+use Rattle.craq_model.specs.Settle.{Turn}
+use Rattle.craq_model.specs.Spelled.{IsSpelled}
+use Rattle.craq_history.specs.declared.change.Change.{Change}
+use Rattle.craq_history.specs.Change.{changed, no_change}
+use Rattle.craq_compaction.specs.Compacted.{remembered, remembered_turn}
+use Rattle.craq_compaction.proofs.Soundness.{remembered_is}
+use Rattle.craq_node.proofs.Turns.{turn_in}
 use Rattle.craq_model.specs.Plain.{Plain, opening_member}
 use Rattle.craq_node_invariant.specs.Sound.{AreSpelled, IsSound, IsSpelledEvent}
 use Rattle.craq_node_invariant.proofs.Openings.{member_is_sound, joined_is_sound}
 use Rattle.craq_node_invariant.proofs.Steps.{turn_is_sound}
 use Rattle.craq_node.specs.Represented.{Gives, IsFirstWith}
 
-pub sound_after : (p q : Plain) (e : Event) (r : Result Step Refusal) → Gives p q r (event_turn p e) → IsSound p → IsSpelledEvent e → IsSound q
-sound_after p q e (Ok s) given h a = (turn_is_sound p q e s h a given).0
-sound_after p q e (Err refusal) given h a = subst IsSound (sym given.1) h
+-- a turn of whose node this much is remembered
+pub taken : (forgets : Bool) (r : Result Turn Refusal) (n : Plain) (s : Step) → remembered_turn forgets r ≡ Ok (n, s) → (q : Plain) × (r ≡ Ok (q, s)) × (remembered forgets q ≡ n)
+taken forgets (Ok t) n s e =
+    let same : (remembered forgets t.0, t.1) ≡ (n, s) = ap (turn_in t) e in
+    (t.0, ap (λ (x : Step). Ok (t.0, x)) (ap (λ (x : Turn). x.1) same), ap (λ (x : Turn). x.0) same)
+taken forgets (Err x) n s e = absurd (let w : Err x ≡ Ok (n, s) = e in cc)
 
-pub said_spelled : (p q : Plain) (e : Event) (r : Result Step Refusal) → Gives p q r (event_turn p e) → IsSound p → IsSpelledEvent e → IfOk r (λ s. AreSpelled s.outs)
-said_spelled p q e (Ok s) given h a = (turn_is_sound p q e s h a given).1
-said_spelled p q e (Err refusal) given h a = tt
+pub sound_after : (forgets : Bool) (p q : Plain) (e : Event) (r : Result Step Refusal) → Gives forgets p q r (event_turn p e) → IsSound p → IsSpelledEvent e → IsSound q
+sound_after forgets p q e (Ok s) given h a =
+    let t = taken forgets (within_counts (event_turn p e)) q s given in
+    subst IsSound t.2 (remembered_is forgets t.0 (turn_is_sound p t.0 e s h a t.1).0)
+sound_after forgets p q e (Err refusal) given h a = subst IsSound (sym given.1) h
+
+pub said_spelled : (forgets : Bool) (p q : Plain) (e : Event) (r : Result Step Refusal) → Gives forgets p q r (event_turn p e) → IsSound p → IsSpelledEvent e → IfOk r (λ s. AreSpelled s.outs)
+said_spelled forgets p q e (Ok s) given h a =
+    let t = taken forgets (within_counts (event_turn p e)) q s given in
+    (turn_is_sound p t.0 e s h a t.1).1
+said_spelled forgets p q e (Err refusal) given h a = tt
+
+-- a turn whose counts fit leads to a sound node
+sound_turn : (p q : Plain) (e : Event) (s : Step) → IsSound p → IsSpelledEvent e → event_turn p e ≡ Ok (q, s) → outs_fit s.outs ≡ true → IsSound q
+sound_turn p q e s h a is fits =
+    let turn : Result Turn Refusal = Ok (q, s) in
+    let fitting : within_counts turn ≡ turn = rw fits refl in
+    (turn_is_sound p q e s h a (ap (λ (r : Result Turn Refusal). within_counts r) is ∙ fitting)).0
+
+pub sound_after_ask : (p : Plain) (ask : Ask) (c : Change) (s : Step) → IsSound p → IsSpelledEvent (events.Ask ask) → ask_turn p ask ≡ Ok (changed p c, s) → outs_fit s.outs ≡ true → IsSound (changed p c)
+sound_after_ask p ask c s h a is fits = sound_turn p (changed p c) (events.Ask ask) s h a is fits
+
+pub sound_after_delivery : (p : Plain) (m : LinkMessage) (c : Change) (s : Step) → IsSound p → IsSpelled m → is_for p m ≡ true → delivery_turn p m ≡ (changed p c, s) → outs_fit s.outs ≡ true → IsSound (changed p c)
+sound_after_delivery p m c s h a here is fits = sound_turn p (changed p c) (events.Deliver m) s h a (rw (here, is) refl) fits
+
+-- a change of nothing leaves a sound node
+pub still_sound : (p : Plain) (c : Change) → c ≡ no_change → IsSound p → IsSound (changed p c)
+still_sound p c is s =
+    let same : changed p no_change ≡ p = ap (λ (b : Bool). record p { ready = b }) (or-false p.ready) in
+    subst IsSound (sym (ap (λ (x : Change). changed p x) is ∙ same)) s
 
 pub sound_member : (p : Plain) (name : NodeName) (config : Config) → p ≡ record (opening_member name config.members) { epoch = config.epoch; ready = true } → (1 ≤ name.node) × IsFirstWith name config → IsSound p
 sound_member p name config is h =

@@ -28,6 +28,6 @@ unfolding outs_fit
 nothing_fits os e = rw e refl
 
 -- a delivery that is refused: memory ran out, or what would be sent cannot be counted
-pub delivery_refused : (p q : Plain) (m : LinkMessage) (e : Refusal) → is_for p m ≡ true → LacksOrOutgrows (delivery_turn p m) e → q ≡ p → Gives p q (Err e) (event_turn p (Deliver m))
-delivery_refused p q m e here (inl lacks) same = rw here (inl (lacks, refl), same)
-delivery_refused p q m e here (inr grown) same = rw (here, grown.1) (inr (ap Err (sym grown.0)), same)
+pub delivery_refused : (forgets : Bool) (p q : Plain) (m : LinkMessage) (e : Refusal) → is_for p m ≡ true → LacksOrOutgrows (delivery_turn p m) e → q ≡ p → Gives forgets p q (Err e) (event_turn p (Deliver m))
+delivery_refused forgets p q m e here (inl lacks) same = rw here (inl (lacks, refl), same)
+delivery_refused forgets p q m e here (inr grown) same = rw (here, grown.1) (inr (ap Err (sym grown.0)), same)

@@ -17,6 +17,8 @@ use Rattle.craq_model.specs.Spelled.{IsSpelled}
 use Rattle.craq_history.specs.declared.node.Node.{Node}
 use Rattle.craq_model.specs.Past.{Past}
 use Rattle.craq_history.specs.Nodes.{plain_of}
+use Rattle.craq_node_invariant.specs.Sound.{IsSound}
+use Rattle.craq_compaction.specs.Compacted.{remembered, remembered_turn}
 
 -- the plain node of a node that runs or has stopped
 abbrev pub plain_at : {H : Type 0} → (H → Past) → Node H → Bool → Plain
@@ -56,11 +58,17 @@ IsFree p Stop = p.running ≡ true
 abbrev pub uncounted_step : Plain → Event → Result Turn Refusal
 uncounted_step p e = if p.running then event_turn p e else Err Stopped
 
--- a node was seen as one plain node and is seen as another: it took this turn, within its counts; or it is as it
--- was, and was refused as the turn was, or for its counts, or for want of memory where there was a turn
-abbrev pub Gives : Plain → Plain → Result Step Refusal → Result Turn Refusal → Type 0
-Gives old new (Ok step) turn = within_counts turn ≡ Ok (new, step)
-Gives old new (Err e) turn = RefusesWhere (IsOk turn) e (within_counts turn) × (new ≡ old)
+-- a node was seen as one plain node and is seen as another: it took this turn, within its counts, and is seen as what
+-- it remembers of it; or it is as it was, and was refused as the turn was, or for its counts, or for want of memory
+-- where there was a turn
+abbrev pub Gives : Bool → Plain → Plain → Result Step Refusal → Result Turn Refusal → Type 0
+Gives forgets old new (Ok step) turn = remembered_turn forgets (within_counts turn) ≡ Ok (new, step)
+Gives forgets old new (Err e) turn = RefusesWhere (IsOk turn) e (within_counts turn) × (new ≡ old)
+
+-- a plain node of which a node remembers what it is seen as
+pub record IsRemembered (forgets : Bool) (p seen : Plain) : Type 0 where
+  pub sound : IsSound p
+  pub same : remembered forgets p ≡ seen
 
 -- a core that stood for a plain node, and stands for those of `now`, took its step at an event; or it was refused as
 -- the node is, or for want of memory, where no refusal but that of counts is wanted

@@ -1,14 +1,15 @@
 ghost use Rattle.std.specs.Prelude.{◌≡◌, ◌≢◌, true, [], IfOk, IsOk, IsSome, Ok};
 ghost use Rattle.craq_model.specs.Deliveries.{delivery_turn};
 ghost use Rattle.craq_model.specs.Plain.{Plain, opening_member};
-ghost use Rattle.craq_model.specs.Node.{event_turn, is_for};
+ghost use Rattle.craq_model.specs.Node.{event_turn, is_for, outs_fit};
 ghost use Rattle.craq_model.specs.Spelled.{IsSpelled};
 ghost use Rattle.craq_node_invariant.specs.Sound.{AreSpelled, IsSound, IsSpelledAsk, IsSpelledEvent};
 ghost use Rattle.craq_node_invariant.proofs.Props.{IsSound-prop};
+ghost use Rattle.craq_compaction.specs.Compacted.{remembered};
 ghost use Rattle.craq_history.specs.Change.{changed, no_change};
 ghost use Rattle.craq_history.specs.Nodes.{plain_of};
 ghost use Rattle.craq_history.specs.Plans.{CanMake};
-ghost use Rattle.craq_node.specs.Represented.{Answers, CanArrive, Gives, IsFree, plain_at};
+ghost use Rattle.craq_node.specs.Represented.{Answers, CanArrive, Gives, IsFree, IsRemembered, plain_at};
 
 use crate::Core;
 use crate::fitting::are_fitting;
@@ -44,15 +45,16 @@ fn keep_limits(event: &Event)
 }
 
 /// Makes a change that was planned, unless the sends do not fit messages.
-#[tactic(auto, using(crate::proofs::Stops::nothing_fits))]
+#[tactic(auto, using(crate::proofs::Stops::nothing_fits, crate::proofs::Remembered::made_given))]
 fn made<H: History>(
     alloc: Global,
     node: &mut Node<H>,
     change: Change,
     step: Step,
 ) -> Result<Step, Refusal>
-    requires { CanMake (plain_of H.past node.old) change }
-    ensures gives { Gives (plain_of H.past node.old) (plain_of H.past node.new) result (Ok (changed (plain_of H.past node.old) change, step)) }
+    requires can { CanMake (plain_of H.past node.old) change }
+    requires sound { outs_fit step.outs ≡ true → IsSound (changed (plain_of H.past node.old) change) }
+    ensures gives { Gives H.forgets (plain_of H.past node.old) (plain_of H.past node.new) result (Ok (changed (plain_of H.past node.old) change, step)) }
     ensures name { (plain_of H.past node.new).name ≡ (plain_of H.past node.old).name }
     ensures free { change ≡ no_change → step.outs ≡ [] → IsOk result }
 {
@@ -68,13 +70,13 @@ fn made<H: History>(
 fn hear<H: History>(
     alloc: Global,
     node: &mut Node<H>,
-    message: &LinkMessage,
+    message: LinkMessage,
 ) -> Result<Step, Refusal>
     requires sound { IsSound (plain_of H.past node.old) }
-    requires spelled { IsSpelled message.now }
-    ensures gives { Gives (plain_of H.past node.old) (plain_of H.past node.new) result (event_turn (plain_of H.past node.old) (Event.Deliver message.now)) }
+    requires spelled { IsSpelled message }
+    ensures gives { Gives H.forgets (plain_of H.past node.old) (plain_of H.past node.new) result (event_turn (plain_of H.past node.old) (Event.Deliver message)) }
     ensures name { (plain_of H.past node.new).name ≡ (plain_of H.past node.old).name }
-    ensures free { is_for (plain_of H.past node.old) message.now ≡ true → IsSome (delivery_turn (plain_of H.past node.old) message.now).1.ignored → IsOk result }
+    ensures free { is_for (plain_of H.past node.old) message ≡ true → IsSome (delivery_turn (plain_of H.past node.old) message).1.ignored → IsOk result }
 {
     if message.chain != node.name.chain || message.receiver != node.name.node {
         return Err(Refusal::WrongNode);
@@ -84,14 +86,15 @@ fn hear<H: History>(
 }
 
 /// An event but a stop at a running node.
-#[tactic(auto, unfolding(craq_model::specs::Sends::tick_sends))]
-fn meet<H: History>(alloc: Global, node: &mut Node<H>, event: &Event) -> Result<Step, Refusal>
+#[tactic(auto, using(crate::proofs::Kept::still_sound), unfolding(craq_model::specs::Sends::tick_sends))]
+fn meet<H: History>(alloc: Global, node: &mut Node<H>, event: Event) -> Result<Step, Refusal>
     requires sound { IsSound (plain_of H.past node.old) }
-    requires arrives { CanArrive event.now }
-    requires goes_on { event.now ≢ Event.Stop }
-    ensures gives { Gives (plain_of H.past node.old) (plain_of H.past node.new) result (event_turn (plain_of H.past node.old) event.now) }
+    requires arrives { CanArrive event }
+    requires spelled { IsSpelledEvent event }
+    requires goes_on { event ≢ Event.Stop }
+    ensures gives { Gives H.forgets (plain_of H.past node.old) (plain_of H.past node.new) result (event_turn (plain_of H.past node.old) event) }
     ensures name { (plain_of H.past node.new).name ≡ (plain_of H.past node.old).name }
-    ensures free { IsFree (plain_of H.past node.old) event.now → IsOk result }
+    ensures free { IsFree (plain_of H.past node.old) event → IsOk result }
 {
     match event {
         Event::Ask(ask) => {
@@ -110,29 +113,31 @@ fn meet<H: History>(alloc: Global, node: &mut Node<H>, event: &Event) -> Result<
 
 /// The same, which leaves the node sound and says what can be spelled.
 #[tactic(auto, using(crate::proofs::Kept::sound_after, crate::proofs::Kept::said_spelled))]
-fn happen<H: History>(alloc: Global, node: &mut Node<H>, event: &Event) -> Result<Step, Refusal>
+fn happen<H: History>(alloc: Global, node: &mut Node<H>, event: Event) -> Result<Step, Refusal>
     requires sound { IsSound (plain_of H.past node.old) }
-    requires arrives { CanArrive event.now }
-    requires goes_on { event.now ≢ Event.Stop }
-    ensures gives { Gives (plain_of H.past node.old) (plain_of H.past node.new) result (event_turn (plain_of H.past node.old) event.now) }
-    ensures free { IsFree (plain_of H.past node.old) event.now → IsOk result }
+    requires arrives { CanArrive event }
+    requires spelled_event { IsSpelledEvent event }
+    requires goes_on { event ≢ Event.Stop }
+    ensures gives { Gives H.forgets (plain_of H.past node.old) (plain_of H.past node.new) result (event_turn (plain_of H.past node.old) event) }
+    ensures free { IsFree (plain_of H.past node.old) event → IsOk result }
     ensures sound { IsSound (plain_of H.past node.new) }
     ensures spelled { IfOk result (λ step. AreSpelled step.outs) }
     ensures name { (plain_of H.past node.new).name ≡ (plain_of H.past node.old).name }
 {
-    keep_limits(event);
     meet(alloc, node, event)
 }
 
 impl<H: History> NodeCore<H> {
-    /// The node that is seen, but for whether it runs. It takes no memory.
+    /// The node that is seen, but for whether it runs: what is remembered of it. It takes no memory.
+    #[tactic(auto, using(crate::proofs::Remembered::seen_node))]
     pub fn node(&self) -> &Node<H>
-        ensures { (p : Plain) → ⟦<NodeCore<H> as Core>⟧.represents self.now p → plain_of H.past result.now ≡ record p { running = true } }
+        ensures { (p : Plain) → ⟦<NodeCore<H> as Core>⟧.represents self.now p → plain_of H.past result.now ≡ remembered H.forgets (record p { running = true }) }
     {
         &self.node
     }
 
     /// A node before its first step.
+    #[tactic(auto, using(crate::proofs::Remembered::opening_seen))]
     fn unmoved(
         alloc: Global,
         name: NodeName,
@@ -141,7 +146,7 @@ impl<H: History> NodeCore<H> {
         ready: bool,
     ) -> Self
         requires { IsSound (record (opening_member name members) { epoch = epoch; ready = ready }) }
-        ensures { plain_at H.past result.node result.switch.running ≡ record (opening_member name members) { epoch = epoch; ready = ready } }
+        ensures { IsRemembered H.forgets (record (opening_member name members) { epoch = epoch; ready = ready }) (plain_at H.past result.node result.switch.running) }
     {
         let switch = Switch::on(name);
         NodeCore {
@@ -163,16 +168,17 @@ impl<H: History> NodeCore<H> {
 
     /// One step.
     #[tactic(auto, unfolding(craq_model::specs::Node::node_step))]
-    fn take(&mut self, alloc: Global, event: &Event) -> Result<Step, Refusal>
-        requires { CanArrive event.now }
-        ensures gives { Answers (λ p. p ≡ plain_at H.past self.new.node self.new.switch.running) (plain_at H.past self.old.node self.old.switch.running) event.now result }
+    fn take(&mut self, alloc: Global, event: Event) -> Result<Step, Refusal>
+        requires arrives { CanArrive event }
+        requires spelled_event { IsSpelledEvent event }
+        ensures gives { Answers (λ p. remembered H.forgets p ≡ plain_at H.past self.new.node self.new.switch.running) (plain_at H.past self.old.node self.old.switch.running) event result }
         ensures spelled { IfOk result (λ step. AreSpelled step.outs) }
-        ensures free { IsFree (plain_at H.past self.old.node self.old.switch.running) event.now → IsOk result }
+        ensures free { IsFree (plain_at H.past self.old.node self.old.switch.running) event → IsOk result }
     {
         if self.switch.receipt().is_some() {
             return Err(Refusal::Stopped);
         }
-        if let Event::Stop = event {
+        if let Event::Stop = &event {
             self.switch.stop()?;
             return Ok(done(Vec::new(alloc)));
         }
@@ -181,7 +187,7 @@ impl<H: History> NodeCore<H> {
 }
 
 impl<H: History> Core for NodeCore<H> {
-    ghost represents = { λ c p. p ≡ plain_at H.past c.node c.switch.running };
+    ghost represents = { λ c p. IsRemembered H.forgets p (plain_at H.past c.node c.switch.running) };
 
     #[tactic(auto, using(crate::proofs::Kept::sound_member, crate::proofs::Kept::sound_joined))]
     fn open(alloc: Global, name: NodeName, config: Option<&Config>) -> Result<Self, Refusal> {
@@ -194,10 +200,13 @@ impl<H: History> Core for NodeCore<H> {
         }
     }
 
+    #[tactic(auto, using(crate::proofs::Remembered::seen_free))]
     fn step(&mut self, alloc: Global, event: Event) -> Result<Step, Refusal> {
-        self.take(alloc, &event)
+        keep_limits(&event);
+        self.take(alloc, event)
     }
 
+    #[tactic(auto, using(crate::proofs::Remembered::seen_name, crate::proofs::Remembered::seen_running))]
     fn switch(&self) -> &Switch {
         &self.switch
     }

@@ -1,4 +1,4 @@
-mod Batches
+pub mod Batches
 mod Ends
 pub mod Scans
-mod Windows
+pub mod Windows

@@ -1,10 +1,10 @@
-ghost use Rattle.std.specs.Prelude.{◌≡◌, ◌==◌, ◌+◌, ◌-◌, ◌<◌, ◌^◌, length, take, drop};
+ghost use Rattle.std.specs.Prelude.{◌≡◌, ◌+◌, ◌-◌, ◌<◌, ◌^◌, false, length, take, drop, refl};
 ghost use Rattle.craq_commands.specs.SingleCopy.{after_entries};
 ghost use Rattle.craq_model.specs.Deliveries.{is_applicable};
 ghost use Rattle.craq_model.specs.Past.{entries_in, newest_in};
 
 use crate::lookups::{
-    is_new_after, last_position_of, object_after, object_within, said_after, version_later,
+    follows, is_new_after, last_position_of, object_after, object_within, said_after, version_later,
 };
 use crate::states::state_after;
 use craq_commands::{Entry, Said, State};
@@ -71,15 +71,12 @@ impl PlainHistory {
     }
 }
 
-/// Whether a version is the next one after another.
-fn follows(version: Version, last: Version) -> bool
-    ensures { result ≡ (version == last + 1) }
-{
-    last.get().checked_add(1) == Some(version.get())
-}
-
 impl History for PlainHistory {
     ghost past = { λ h. record { base = h.base; base_state = h.base_state; entries = h.entries.items; acknowledged = h.acknowledged } };
+
+    ghost forgets = { false };
+
+    ghost is_remembered = { λ h. refl };
 
     fn new(alloc: Global) -> Self {
         PlainHistory {
@@ -148,10 +145,11 @@ impl History for PlainHistory {
         state_after(alloc, &self.base_state, committed)
     }
 
-    fn install(&mut self, position: Seq, state: State) {
+    fn install(&mut self, position: Seq, state: State) -> Result<(), AllocError> {
         self.base = position;
         self.base_state = state;
         self.entries.clear();
         self.acknowledged = position;
+        Ok(())
     }
 }

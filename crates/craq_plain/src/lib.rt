@@ -3,8 +3,8 @@
 #![tactic(auto)]
 
 mod history;
-mod lookups;
+pub mod lookups;
 mod slots;
-mod states;
+pub mod states;
 
 pub use history::PlainHistory;

@@ -1,12 +1,13 @@
 //! What stands for a key or a client in a state and in the entries after it. Each call looks at all of
 //! them in turn.
-ghost use Rattle.std.specs.Prelude.{◌≡◌, ◌+◌, ◌≤◌, [], length, unwrap_or};
+ghost use Rattle.std.specs.Prelude.{◌≡◌, ◌==◌, ◌+◌, ◌≤◌, [], length, unwrap_or};
 ghost use Rattle.craq_names.specs.Maps.{at_number};
 ghost use Rattle.craq_commands.specs.Objects.{object_of, version_of};
 ghost use Rattle.craq_commands.specs.SingleCopy.{after_entries, said, is_new_to, window_of};
 ghost use Rattle.craq_commands.specs.Told.{told};
 ghost use Rattle.craq_model.specs.Past.{last_position, newest_within, values_after};
 ghost use Rattle.craq_plain.specs.Scans.{last_value};
+ghost use Rattle.craq_plain.specs.Slots.{is_new_in, reply_at, said_in, slots_after, slots_from};
 
 use crate::slots::{is_new, said_in, slots_after, slots_later};
 use craq_commands::{Entry, Kept, Said, State, Window};
@@ -28,7 +29,7 @@ fn object_in<'a>(objects: &'a [(Key, (Version, Value))], key: &Key) -> (Version,
 
 /// The version and value that these entries leave to an object, which has this version and value before them.
 #[tactic(auto, unfolding(craq_model::specs::Past::values_in, craq_model::specs::Past::values_after, crate::specs::Scans::last_value))]
-fn object_past<'a>(
+pub fn object_past<'a>(
     version: Version,
     value: &'a [u8],
     entries: &'a [Entry],
@@ -69,9 +70,45 @@ pub fn version_later(state: &State, entries: &[Entry], later: &[Entry], key: &Ke
     object_past(version, value, later, key).0
 }
 
+/// Whether a version is the next one after another.
+pub fn follows(version: Version, last: Version) -> bool
+    ensures { result ≡ (version == last + 1) }
+{
+    last.get().checked_add(1) == Some(version.get())
+}
+
+/// The last version and value of an object that is at most so many above a version, from the one before
+/// these entries on.
+#[tactic(auto, unfolding(craq_model::specs::Past::values_in, craq_model::specs::Past::values_after, craq_model::specs::Past::newest_within))]
+pub fn object_up_to<'a>(
+    version: Version,
+    value: &'a [u8],
+    later: &'a [Entry],
+    key: &Key,
+    base: u64,
+    above: u64,
+) -> (Version, &'a [u8])
+    requires { length value.now ≤ 4096 }
+    ensures object { (result.0, result.1.now) ≡ newest_within (base + above) (version, value.now) (values_after later.now key.now) }
+    ensures short { length result.1.now ≤ 4096 }
+{
+    let (mut last, mut bytes) = (version, value);
+    for entry in later {
+        for write in entry.writes.as_slice() {
+            if write.key == *key {
+                if write.version.get().saturating_sub(base) > above {
+                    return (last, bytes);
+                }
+                last = write.version;
+                bytes = write.value.as_slice();
+            }
+        }
+    }
+    (last, bytes)
+}
+
 /// The last version and value of an object that is at most so many above a version, from the one after
 /// the first entries on.
-#[tactic(auto, unfolding(craq_model::specs::Past::values_in, craq_model::specs::Past::values_after, craq_model::specs::Past::newest_within))]
 pub fn object_within<'a>(
     state: &'a State,
     first: &'a [Entry],
@@ -83,19 +120,8 @@ pub fn object_within<'a>(
     ensures object { (result.0, result.1.now) ≡ newest_within (base + above) (object_of (after_entries state.now first.now).objects key.now) (values_after later.now key.now) }
     ensures short { length result.1.now ≤ 4096 }
 {
-    let (mut version, mut value) = object_after(state, first, key);
-    for entry in later {
-        for write in entry.writes.as_slice() {
-            if write.key == *key {
-                if write.version.get().saturating_sub(base) > above {
-                    return (version, value);
-                }
-                version = write.version;
-                value = write.value.as_slice();
-            }
-        }
-    }
-    (version, value)
+    let (version, value) = object_after(state, first, key);
+    object_up_to(version, value, later, key, base, above)
 }
 
 /// The position of a client's last entry, or the one given where there is none.
@@ -126,6 +152,20 @@ fn window_in(state: &State, client: ClientId) -> &[Kept]
     &[]
 }
 
+/// What is known of a client's number after these entries, where this is kept for the client before them.
+pub fn said_past<'a>(
+    window: &'a [Kept],
+    entries: &'a [Entry],
+    client: ClientId,
+    number: RequestNo,
+) -> Said<'a>
+    requires { length window.now ≤ 8 }
+    ensures { told result ≡ said_in (reply_at window.now entries.now) (slots_after client (length window.now) entries.now (slots_from 0 window.now)) number }
+{
+    let slots = slots_after(window, entries, client);
+    said_in(slots.as_slice(), window, entries, number)
+}
+
 /// What is known of a client's number after these entries.
 #[tactic(auto, using(crate::proofs::Windows::said_after))]
 pub fn said_after<'a>(
@@ -136,9 +176,23 @@ pub fn said_after<'a>(
 ) -> Said<'a>
     ensures { told result ≡ said (after_entries state.now entries.now) client number }
 {
-    let window = window_in(state, client);
-    let slots = slots_after(window, entries, client);
-    said_in(slots.as_slice(), window, entries, number)
+    said_past(window_in(state, client), entries, client, number)
+}
+
+/// Whether a client's number is new after these entries and further ones, where this is kept for the client
+/// before them.
+pub fn is_new_past(
+    window: &[Kept],
+    entries: &[Entry],
+    later: &[Entry],
+    client: ClientId,
+    number: RequestNo,
+) -> bool
+    requires { length window.now ≤ 8 }
+    ensures { result ≡ is_new_in (slots_after client (length window.now + length entries.now) later.now (slots_after client (length window.now) entries.now (slots_from 0 window.now))) number }
+{
+    let slots = slots_later(window, entries, later, client);
+    is_new(slots.as_slice(), number)
 }
 
 /// Whether a client's number is new after these entries and further ones.
@@ -152,7 +206,5 @@ pub fn is_new_after(
 ) -> bool
     ensures { result ≡ is_new_to (after_entries (after_entries state.now entries.now) later.now) client number }
 {
-    let window = window_in(state, client);
-    let slots = slots_later(window, entries, later, client);
-    is_new(slots.as_slice(), number)
+    is_new_past(window_in(state, client), entries, later, client, number)
 }

@@ -1,11 +1,13 @@
-ghost use Rattle.std.specs.Prelude.{◌≡◌, ◌<◌, ◌≤◌, ◌+◌, ◌-◌, ◌^◌, length, IfOk, IfErr};
+ghost use Rattle.std.specs.Prelude.{◌≡◌, ◌==◌, ◌<◌, ◌≤◌, ◌+◌, ◌-◌, ◌^◌, [], false, length, IfOk, IfErr};
+ghost use Rattle.craq_commands.specs.Objects.{object_of};
 ghost use Rattle.craq_model.specs.Asks.{read_turn, waiting_read_turn};
+ghost use Rattle.craq_model.specs.Past.{clean_in, newest_in, values_after};
 ghost use Rattle.craq_history.specs.Change.{accepted_change};
 ghost use Rattle.craq_history.specs.Nodes.{plain_of};
 ghost use Rattle.craq_history.specs.Plans.{Plans};
 ghost use Rattle.craq_read.specs.Answers.{read_step};
 
-use craq_commands::ReadMode;
+use craq_commands::{Entry, ReadMode};
 use craq_history::members::last_member;
 use craq_history::outs::message;
 use craq_history::steps::accepted;
@@ -40,12 +42,40 @@ pub fn plan_read<H: History>(
         }
         ReadMode::Strong => {
             let (version, value) = node.history.newest(key);
-            if version == node.history.clean(key).0 {
+            if is_clean(&node.history, key, version) {
                 answered(alloc, node.last_ticket, version, value)
             } else {
                 waits(alloc, node, key)
             }
         }
+    }
+}
+
+/// Whether some of these entries writes the object.
+#[tactic(auto, unfolding(craq_model::specs::Past::values_in, craq_model::specs::Past::values_after))]
+fn is_written(entries: &[Entry], key: &Key) -> bool
+    ensures { result ≡ false → values_after entries.now key.now ≡ [] }
+{
+    for entry in entries {
+        for write in entry.writes.as_slice() {
+            if write.key == *key {
+                return true;
+            }
+        }
+    }
+    false
+}
+
+/// Whether the newest version of an object is the clean one. It is where no entry that is not committed writes the
+/// object, which is then not looked up again.
+fn is_clean<H: History>(history: &H, key: &Key, newest: Version) -> bool
+    requires { newest ≡ (object_of (newest_in (H.past history.now)).objects key.now).0 }
+    ensures { result ≡ (newest == (object_of (clean_in (H.past history.now)).objects key.now).0) }
+{
+    if is_written(history.after(history.acknowledged()), key) {
+        newest == history.clean(key).0
+    } else {
+        true
     }
 }
 

@@ -3,6 +3,8 @@ pub mod Ends
 pub mod Copies
 pub mod Places
 pub mod Gathers
+pub mod Versions
+pub mod Arriving
 pub mod Rows
 pub mod Orderings
 pub mod Cuts

@@ -82,6 +82,10 @@ pub update_refused : (p : Plain) (u : Update) → (length_of p ≡ greatest → 
 unfolding update_turn
 update_refused p u room versions h = rw (differs (length_of p) greatest room, versions) (new_refused p (entry_of p u (eval (newest p).objects u.command)) h)
 
+pub update_entered : (p : Plain) (u : Update) → (length_of p ≡ greatest → ⊥) → some_used_up (newest p).objects (objects_named u.command) ≡ false → update_turn p u None ≡ new_update_turn p (entry_of p u (eval (newest p).objects u.command))
+unfolding update_turn
+update_entered p u room versions = rw (differs (length_of p) greatest room, versions) refl
+
 -- the node after a new update is the one that the definitions name
 no_other : (b : Bool) → (b || false) ≡ b
 no_other true = refl

@@ -1,8 +1,7 @@
 -- Entries in a row, of which a node has the first.
-use Rattle.std.proofs.Common.{◌≡◌, ◌≤◌, ◌<◌, ℕ, zero, suc, ◌+◌, ◌-◌, nat_lt, true, false, List, [], ◌∷◌, length, get_or, drop, drop-cons, add-one, Some, refl, sym, ap, subst, ◌∙◌, arith}
-use Rattle.std.proofs.Math.ListN.{drop_of_length-le}
+use Rattle.std.proofs.Common.{◌≡◌, ◌≤◌, ◌<◌, ℕ, suc, ◌+◌, ◌-◌, nat_lt, List, [], ◌∷◌, length, Some, refl, sym, ap, subst, ◌∙◌, arith}
 use Rattle.std.specs.Prelude.{slice_get}
-use Rattle.std.proofs.lemmas.Bool.{cond_both, cond-true, cond-false, ltb-true, ltb-false, lt-ltb, le-ltb}
+use Rattle.std.proofs.lemmas.Bool.{cond_both, cond-true, ltb-true, ltb-false, lt-ltb}
 use Rattle.craq_commands.specs.declared.entry.Entry.{Entry}
 use Rattle.craq_model.specs.Deliveries.{first_position, final_position, entries_above}
 use Rattle.craq_model.specs.Spelled.{IsConsecutive}
@@ -26,40 +25,18 @@ final_last (x ∷ es) e h =
     let l : length (x ∷ es) - 1 ≡ length es = omega arith in
     last_is_final (x ∷ es) (length es) e refl (subst (λ (i : ℕ). slice_get (x ∷ es) i ≡ Some e) l h)
 
-tail_consecutive : (e : Entry) (es : List Entry) → IsConsecutive (e ∷ es) → IsConsecutive es
-tail_consecutive e [] c = tt
-tail_consecutive e (f ∷ es) c = c.1
-
-pub later_consecutive : (i : ℕ) (es : List Entry) → IsConsecutive es → IsConsecutive (drop i es)
-later_consecutive zero es c = c
-later_consecutive (suc i) [] c = tt
-later_consecutive (suc i) (e ∷ es) c = later_consecutive i es (tail_consecutive e es c)
+-- one entry that is above a position
+pub one_above : (n : ℕ) (e : Entry) → n < e.position → entries_above n (e ∷ []) ≡ e ∷ []
+unfolding entries_above
+one_above n e h = cond-true (nat_lt n e.position) (e ∷ []) [] (lt-ltb n e.position h)
 
 -- where the first of entries in a row is above a position, all are
-pub all_above : (n : ℕ) (e : Entry) (es : List Entry) → IsConsecutive (e ∷ es) → n < e.position → entries_above n (e ∷ es) ≡ e ∷ es
+all_above : (n : ℕ) (e : Entry) (es : List Entry) → IsConsecutive (e ∷ es) → n < e.position → entries_above n (e ∷ es) ≡ e ∷ es
 unfolding entries_above
-all_above n e [] c h = cond-true (nat_lt n e.position) (e ∷ []) [] (lt-ltb n e.position h)
+all_above n e [] c h = one_above n e h
 all_above n e (f ∷ es) c h =
     cond-true (nat_lt n e.position) (e ∷ entries_above n (f ∷ es)) (entries_above n (f ∷ es)) (lt-ltb n e.position h)
     ∙ ap (λ (l : List Entry). e ∷ l) (all_above n f es c.1 (omega (arith, c.0, h)))
-
--- what is above a position, from a place on
-pub from_here : (n i : ℕ) (es : List Entry) (e : Entry) → IsConsecutive es → i < length es → e ≡ get_or es i e → n < e.position → entries_above n (drop i es) ≡ drop i es
-from_here n i es e c lt is h =
-    let at : drop i es ≡ e ∷ drop (suc i) es = drop-cons es i e lt ∙ ap (λ (x : Entry). x ∷ drop (suc i) es) (sym is) in
-    ap (entries_above n) at ∙ all_above n e (drop (suc i) es) (subst IsConsecutive at (later_consecutive i es c)) h ∙ sym at
-
-pub skipped : (n i : ℕ) (es : List Entry) (e : Entry) → i < length es → e ≡ get_or es i e → e.position ≤ n → entries_above n (drop i es) ≡ entries_above n (drop (i + 1) es)
-unfolding entries_above
-skipped n i es e lt is h =
-    let at : drop i es ≡ e ∷ drop (suc i) es = drop-cons es i e lt ∙ ap (λ (x : Entry). x ∷ drop (suc i) es) (sym is) in
-    ap (entries_above n) at
-    ∙ cond-false (nat_lt n e.position) (e ∷ entries_above n (drop (suc i) es)) (entries_above n (drop (suc i) es)) (le-ltb n e.position h)
-    ∙ ap (λ k. entries_above n (drop k es)) (sym (add-one i))
-
-pub none_left : (n i : ℕ) (es : List Entry) → length es ≤ i → entries_above n (drop i es) ≡ []
-unfolding entries_above
-none_left n i es h = ap (entries_above n) (drop_of_length-le es h)
 
 -- the last position of entries in a row
 end_of_row : (e : Entry) (es : List Entry) → IsConsecutive (e ∷ es) → final_position (e ∷ es) ≡ e.position + length es

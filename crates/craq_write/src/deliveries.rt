@@ -1,4 +1,4 @@
-ghost use Rattle.std.specs.Prelude.{◌≡◌, ◌≤◌, ◌<◌, ◌+◌, ◌++◌, [], length, true, false, nat_lt, if◌then◌else◌, Some, None, Ok, IfOk, IfErr, OnOk, IsOk, IsSome, map};
+ghost use Rattle.std.specs.Prelude.{◌≡◌, ◌≤◌, ◌<◌, ◌+◌, ◌++◌, ◌∷◌, [], length, true, false, nat_lt, if◌then◌else◌, Some, None, Ok, IfOk, IfErr, OnOk, IsOk, IsSome, map};
 ghost use Rattle.craq_model.specs.Deliveries.{ack_turn, blank_turn, due_updates, entries_above, entries_turn, fill_bodies, final_position, first_position, forwarding_turn, taken_entries_turn};
 ghost use Rattle.craq_model.specs.Past.{length_in, entries_in, clean_in};
 ghost use Rattle.craq_model.specs.Plain.{length_of, with_entries};
@@ -9,10 +9,11 @@ ghost use Rattle.craq_history.specs.Change.{no_change};
 ghost use Rattle.craq_history.specs.Nodes.{plain_of};
 ghost use Rattle.craq_history.specs.Plans.{IsPlanOf};
 ghost use Rattle.craq_history.specs.Standing.{sent_from, caught_up};
+ghost use Rattle.craq_write.specs.Rows.{why_ignored};
 ghost use Rattle.craq_write.specs.Sent.{CannotFill, CannotSend, LacksOrOutgrows};
 ghost use Rattle.craq_write.specs.Settling.{IsIdle};
 
-use crate::making_entries::forward;
+use crate::making_entries::{forward, only};
 use crate::readiness::{growing, taken_unready};
 use crate::sending_states::send_state;
 use craq_commands::Entry;
@@ -21,8 +22,9 @@ use craq_history::outs::{message, send_entries, tell_predecessor};
 use craq_history::steps::{done, ignoring};
 use craq_history::{Change, History, Node, WaitingChange};
 use craq_model::{Answer, Body, Out, Step, WaitingUpdate, Why};
-use craq_names::{Copied, Items, NodeId, Refusal, Seq, copies_of};
+use craq_names::{Copied, Items, NodeId, Refusal, Seq};
 use std::alloc::{AllocError, Global};
+use std::slice;
 
 /// A step that ignores its message.
 fn ignored(alloc: Global, why: Why) -> Result<(Change, Step), AllocError>
@@ -186,12 +188,12 @@ pub fn plan_blank<H: History>(
 fn passed_on<H: History>(
     alloc: Global,
     node: &Node<H>,
-    entries: &[Entry],
+    entries: Items<Entry>,
     end: Seq,
 ) -> Result<(Change, Step), AllocError>
-    requires end { end ≡ length_of (plain_of H.past node.now) + length entries.now }
+    requires end { end ≡ length_of (plain_of H.past node.now) + length entries }
     requires ready { node.now.ready ≡ true }
-    ensures { IfOk result (λ r. IsPlanOf (plain_of H.past node.now) r (forwarding_turn (with_entries (plain_of H.past node.now) entries.now) entries.now)) }
+    ensures { IfOk result (λ r. IsPlanOf (plain_of H.past node.now) r (forwarding_turn (with_entries (plain_of H.past node.now) entries) entries)) }
 {
     let members = node.members.as_slice();
     let is_tail = last_member(members) == node.name.node;
@@ -199,11 +201,16 @@ fn passed_on<H: History>(
     if is_tail {
         tell_predecessor(&mut outs, &node.sender(), members, Body::Ack(end))?;
     } else {
-        forward(&mut outs, alloc, &node.sender(), members, entries)?;
+        forward(
+            &mut outs,
+            alloc,
+            &node.sender(),
+            members,
+            entries.as_slice(),
+        )?;
     }
     let acknowledged = if is_tail { Some(end) } else { None };
-    let taken = Items::of(copies_of(alloc, entries)?);
-    Ok((growing(taken, acknowledged), done(outs)))
+    Ok((growing(entries, acknowledged), done(outs)))
 }
 
 /// The position of the first of some entries; 0 where there is none.
@@ -227,30 +234,43 @@ fn end_of(entries: &[Entry]) -> Seq
     }
 }
 
-/// Those of some entries in a row whose positions are above this one.
-fn entries_above(entries: &[Entry], position: u64) -> &[Entry]
-    requires { IsConsecutive entries.now }
-    ensures { result.now ≡ entries_above position entries.now }
+/// Those of some entries whose positions are above this one; the others are let go.
+fn entries_above(entries: Items<Entry>, position: u64) -> Items<Entry>
+    ensures { result ≡ entries_above position entries }
 {
-    for place in 0..entries.len() {
-        if entries[place].position.get() > position {
-            return &entries[place..];
-        }
+    let mut above = entries.into_vec();
+    above.retain(|entry| position < entry.position.get());
+    Items::of(above)
+}
+
+/// Why entries that start and end at these positions are ignored, whatever they write.
+fn why_ignored<H: History>(node: &Node<H>, sender: NodeId, start: Seq, end: Seq) -> Option<Why>
+    ensures { result ≡ why_ignored (plain_of H.past node.now) sender start end }
+{
+    if predecessor_of(node.members.as_slice(), node.name.node) != Some(sender) {
+        return Some(Why::NotNeighbour);
     }
-    &[]
+    let length = node.history.len();
+    if end.get() <= length {
+        return Some(Why::AlreadyHave);
+    }
+    if start.get().saturating_sub(1) > length {
+        return Some(Why::OutOfOrder);
+    }
+    None
 }
 
 /// Entries that follow the node's own, and that the node takes: all of them.
 fn taken<H: History>(
     alloc: Global,
     node: &Node<H>,
-    entries: &[Entry],
+    entries: Items<Entry>,
     end: Seq,
 ) -> Result<(Change, Step), AllocError>
-    requires end { end ≡ length_of (plain_of H.past node.now) + length entries.now }
+    requires end { end ≡ length_of (plain_of H.past node.now) + length entries }
     requires idle { node.now.ready ≡ false → IsIdle (plain_of H.past node.now) }
     requires within { (H.past node.now.history).acknowledged ≤ length_of (plain_of H.past node.now) }
-    ensures { IfOk result (λ r. IsPlanOf (plain_of H.past node.now) r (taken_entries_turn (with_entries (plain_of H.past node.now) entries.now) entries.now)) }
+    ensures { IfOk result (λ r. IsPlanOf (plain_of H.past node.now) r (taken_entries_turn (with_entries (plain_of H.past node.now) entries) entries)) }
 {
     if node.ready {
         return passed_on(alloc, node, entries, end);
@@ -258,38 +278,60 @@ fn taken<H: History>(
     taken_unready(alloc, node, entries, end)
 }
 
+/// One entry from the predecessor, a row of one: it is ignored, appended and sent on as `plan_entries` says of
+/// entries in a row. It is moved into the history, and copied only for the successor; where it is ignored this takes
+/// no memory.
+#[tactic(auto, using(crate::proofs::Rows::one_above, crate::proofs::Heard::taken_heard), unfolding(craq_model::specs::Deliveries::entries_turn, craq_model::specs::Plain::newest))]
+pub fn plan_entry<H: History>(
+    alloc: Global,
+    node: &Node<H>,
+    sender: NodeId,
+    entry: Entry,
+) -> Result<(Change, Step), AllocError>
+    requires idle { node.now.ready ≡ false → IsIdle (plain_of H.past node.now) }
+    requires within { (H.past node.now.history).acknowledged ≤ length_of (plain_of H.past node.now) }
+    ensures turn { IfOk result (λ r. IsPlanOf (plain_of H.past node.now) r (entries_turn (plain_of H.past node.now) sender (entry ∷ []))) }
+    ensures free { IsSome (entries_turn (plain_of H.past node.now) sender (entry ∷ [])).1.ignored → IsOk result }
+{
+    let position = entry.position;
+    if let Some(why) = why_ignored(node, sender, position, position) {
+        return ignored(alloc, why);
+    }
+    if !node.history.are_next(slice::from_ref(&entry)) {
+        return ignored(alloc, Why::TooFar);
+    }
+    let next = only(alloc, entry)?;
+    taken(alloc, node, next, position)
+}
+
 /// Entries in a row from the predecessor. Those that the node has already are left out; the others are
 /// appended, all of them or none. The tail commits them, any other ready node sends them on (OSDI 2004), and a
 /// node that is not ready may become so by them. Ignored where the sender is not the
 /// predecessor (`NotNeighbour`), where the node has all of them (`AlreadyHave`), where the first is further on
 /// than the next (`OutOfOrder`), or where one does not fit after those before it: a write whose version is not
-/// the next of its object, or a number that is not new (`TooFar`). Batches are this project's profile.
+/// the next of its object, or a number that is not new (`TooFar`). Batches are this project's profile. The
+/// entries are moved into the history, and copied only for the successor; where they are ignored this takes no
+/// memory.
 #[tactic(auto, using(crate::proofs::Rows::row_end, crate::proofs::Heard::taken_heard), unfolding(craq_model::specs::Deliveries::entries_turn, craq_model::specs::Plain::newest))]
 pub fn plan_entries<H: History>(
     alloc: Global,
     node: &Node<H>,
     sender: NodeId,
-    entries: &[Entry],
+    entries: Items<Entry>,
 ) -> Result<(Change, Step), AllocError>
-    requires row { IsConsecutive entries.now }
+    requires row { IsConsecutive entries }
     requires idle { node.now.ready ≡ false → IsIdle (plain_of H.past node.now) }
     requires within { (H.past node.now.history).acknowledged ≤ length_of (plain_of H.past node.now) }
-    ensures turn { IfOk result (λ r. IsPlanOf (plain_of H.past node.now) r (entries_turn (plain_of H.past node.now) sender entries.now)) }
-    ensures free { IsSome (entries_turn (plain_of H.past node.now) sender entries.now).1.ignored → IsOk result }
+    ensures turn { IfOk result (λ r. IsPlanOf (plain_of H.past node.now) r (entries_turn (plain_of H.past node.now) sender entries)) }
+    ensures free { IsSome (entries_turn (plain_of H.past node.now) sender entries).1.ignored → IsOk result }
 {
-    if predecessor_of(node.members.as_slice(), node.name.node) != Some(sender) {
-        return ignored(alloc, Why::NotNeighbour);
+    let start = start_of(entries.as_slice());
+    let end = end_of(entries.as_slice());
+    if let Some(why) = why_ignored(node, sender, start, end) {
+        return ignored(alloc, why);
     }
-    let length = node.history.len();
-    let end = end_of(entries);
-    if end.get() <= length {
-        return ignored(alloc, Why::AlreadyHave);
-    }
-    if start_of(entries).get().saturating_sub(1) > length {
-        return ignored(alloc, Why::OutOfOrder);
-    }
-    let next = entries_above(entries, length);
-    if !node.history.are_next(next) {
+    let next = entries_above(entries, node.history.len());
+    if !node.history.are_next(next.as_slice()) {
         return ignored(alloc, Why::TooFar);
     }
     taken(alloc, node, next, end)

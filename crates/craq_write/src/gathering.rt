@@ -135,12 +135,12 @@ fn joined(alloc: Global, parts: Items<(u32, State)>) -> Result<State, AllocError
     })
 }
 
-/// A copy of the state that the parts held are with one more part.
-fn joined_with(alloc: Global, parts: &[(u32, State)], part: &StatePart) -> Result<State, AllocError>
-    ensures { IfOk result (λ state. state ≡ joined_state (put_number parts.now part.now.number part.now.state)) }
+/// The state that copies of the parts held are with one more part.
+fn joined_with(alloc: Global, parts: &[(u32, State)], part: StatePart) -> Result<State, AllocError>
+    ensures { IfOk result (λ state. state ≡ joined_state (put_number parts.now part.number part.state)) }
 {
     let mut all = Items::of(parts_copied(alloc, parts)?);
-    all.put(part.number, part.state.copied(alloc)?)?;
+    all.put(part.number, part.state)?;
     joined(alloc, all)
 }
 
@@ -151,23 +151,24 @@ fn part_kept<H: History>(
     node: &Node<H>,
     parts: &[(u32, State)],
     count: u32,
-    part: &StatePart,
+    part: StatePart,
 ) -> Result<(Change, Step), AllocError>
-    requires parts { parts.now ≡ (gathering_for part.now node.now.gathering).parts }
-    requires count { count ≡ (gathering_for part.now node.now.gathering).count }
-    requires position { (gathering_for part.now node.now.gathering).position ≡ part.now.position }
+    requires parts { parts.now ≡ (gathering_for part node.now.gathering).parts }
+    requires count { count ≡ (gathering_for part node.now.gathering).count }
+    requires position { (gathering_for part node.now.gathering).position ≡ part.position }
     requires rising { T (is_sorted nat_cmp parts.now) }
-    requires absent { is_some (at_number parts.now part.now.number) ≡ false }
+    requires absent { is_some (at_number parts.now part.number) ≡ false }
     requires unready { node.now.ready ≡ false }
     requires idle { IsIdle (plain_of H.past node.now) }
-    ensures { IfOk result (λ r. IsPlanOf (plain_of H.past node.now) r (gathered_turn (plain_of H.past node.now) (with_part (gathering_for part.now node.now.gathering) part.now))) }
+    ensures { IfOk result (λ r. IsPlanOf (plain_of H.past node.now) r (gathered_turn (plain_of H.past node.now) (with_part (gathering_for part node.now.gathering) part))) }
 {
     if is_last_missing(parts, count) {
+        let position = part.position;
         let state = joined_with(alloc, parts, part)?;
-        return state_taken(alloc, node, part.position, state);
+        return state_taken(alloc, node, position, state);
     }
     let mut change = Change::none();
-    change.gathering = GatheringChange::Gains(part.copied(alloc)?);
+    change.gathering = GatheringChange::Gains(part);
     Ok((change, done(Vec::new(alloc))))
 }
 
@@ -178,24 +179,24 @@ fn part_kept<H: History>(
 fn part_fitted<H: History>(
     alloc: Global,
     node: &Node<H>,
-    part: &StatePart,
+    part: StatePart,
 ) -> Result<(Change, Step), AllocError>
     requires unready { node.now.ready ≡ false }
     requires idle { IsIdle (plain_of H.past node.now) }
     requires held { IsOrdered node.now.gathering }
-    requires part { IsInOrder part.now.state }
-    requires current { is_outdated (plain_of H.past node.now) part.now ≡ false }
-    ensures turn { IfOk result (λ r. IsPlanOf (plain_of H.past node.now) r (gathering_turn (plain_of H.past node.now) (gathering_for part.now node.now.gathering) part.now)) }
-    ensures free { IsSome (gathering_turn (plain_of H.past node.now) (gathering_for part.now node.now.gathering) part.now).1.ignored → IsOk result }
+    requires part { IsInOrder part.state }
+    requires current { is_outdated (plain_of H.past node.now) part ≡ false }
+    ensures turn { IfOk result (λ r. IsPlanOf (plain_of H.past node.now) r (gathering_turn (plain_of H.past node.now) (gathering_for part node.now.gathering) part)) }
+    ensures free { IsSome (gathering_turn (plain_of H.past node.now) (gathering_for part node.now.gathering) part).1.ignored → IsOk result }
 {
-    let (parts, count) = held_with(&node.gathering, part);
+    let (parts, count) = held_with(&node.gathering, &part);
     if part.count != count {
         return Ok((Change::none(), ignoring(alloc, Why::TooFar)));
     }
     if is_held(parts, part.number) {
         return Ok((Change::none(), ignoring(alloc, Why::AlreadyHave)));
     }
-    if stands_between(parts, part) {
+    if stands_between(parts, &part) {
         return part_kept(alloc, node, parts, count, part);
     }
     Ok((Change::none(), ignoring(alloc, Why::TooFar)))
@@ -212,18 +213,18 @@ pub fn plan_part<H: History>(
     alloc: Global,
     node: &Node<H>,
     sender: NodeId,
-    part: &StatePart,
+    part: StatePart,
 ) -> Result<(Change, Step), AllocError>
     requires idle { node.now.ready ≡ false → IsIdle (plain_of H.past node.now) }
     requires held { IsOrdered node.now.gathering }
-    requires part { IsInOrder part.now.state }
-    ensures turn { IfOk result (λ r. IsPlanOf (plain_of H.past node.now) r (part_turn (plain_of H.past node.now) sender part.now)) }
-    ensures free { IsSome (part_turn (plain_of H.past node.now) sender part.now).1.ignored → IsOk result }
+    requires part { IsInOrder part.state }
+    ensures turn { IfOk result (λ r. IsPlanOf (plain_of H.past node.now) r (part_turn (plain_of H.past node.now) sender part)) }
+    ensures free { IsSome (part_turn (plain_of H.past node.now) sender part).1.ignored → IsOk result }
 {
     if predecessor_of(node.members.as_slice(), node.name.node) != Some(sender) {
         return Ok((Change::none(), ignoring(alloc, Why::NotNeighbour)));
     }
-    if node.ready || is_outdated(node, part) {
+    if node.ready || is_outdated(node, &part) {
         return Ok((Change::none(), ignoring(alloc, Why::AlreadyHave)));
     }
     part_fitted(alloc, node, part)

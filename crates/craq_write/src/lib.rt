@@ -11,7 +11,7 @@ mod sending_states;
 mod settling;
 mod updates;
 
-pub use deliveries::{plan_ack, plan_blank, plan_entries};
+pub use deliveries::{plan_ack, plan_blank, plan_entries, plan_entry};
 pub use gathering::plan_part;
 pub use readiness::{plan_copy, plan_floor};
 pub use settling::{add_tick_outs, plan_config};

@@ -1,16 +1,18 @@
-ghost use Rattle.std.specs.Prelude.{◌≡◌, ◌≢◌, ℕ, List, All, map, ◌++◌, IfOk, OnOk};
+ghost use Rattle.std.specs.Prelude.{◌≡◌, ◌≢◌, ◌∷◌, [], ℕ, List, All, map, is_none, ◌++◌, IfOk, IfSome, OnOk};
 ghost use Rattle.craq_names.specs.Limits.{greatest};
+ghost use Rattle.craq_commands.specs.Evaluation.{objects_named, some_used_up};
 ghost use Rattle.craq_commands.specs.Objects.{version_of};
 ghost use Rattle.craq_model.specs.Asks.{versioned_write};
 ghost use Rattle.craq_model.specs.Past.{newest_in};
 ghost use Rattle.craq_write.specs.Forward.{forwarded};
+ghost use Rattle.craq_write.specs.Outcomes.{HaveNext, outcome_of, outcome_in};
 
-use craq_commands::{Entry, Look, Write};
+use craq_commands::{Command, Entry, Look, Reply, Write, evaluate};
 use craq_history::History;
 use craq_history::members::successor_of;
 use craq_history::outs::{Sender, send_entries};
 use craq_model::Out;
-use craq_names::{Copied, Key, NodeId, Value, Version};
+use craq_names::{Items, Key, NodeId, ObjectId, Value, Version};
 use std::alloc::{AllocError, Global};
 
 /// The newest objects of a history.
@@ -25,25 +27,99 @@ impl<H: History> Look for Newest<'_, H> {
     }
 }
 
-/// The writes with their versions, each the next one of its object.
-pub(crate) fn versioned<H: History>(
+/// A command of which each object that it names has a next version.
+#[derive(Drop)]
+pub(crate) enum Checked {
+    /// A put, by the write that it makes.
+    Put(Write),
+    /// Another command, which is still to be evaluated.
+    Other(Command),
+}
+
+/// A put as its write, where the object has a next version. The object is looked up once.
+#[tactic(auto, unfolding(craq_commands::specs::Evaluation::some_used_up))]
+fn check_put<H: History>(history: &H, object: ObjectId, value: Value) -> Option<Checked>
+    ensures found { some_used_up (newest_in (H.past history.now)).objects (object ∷ []) ≡ is_none result }
+    ensures same { IfSome result (λ c. outcome_in (newest_in (H.past history.now)).objects c ≡ outcome_of (newest_in (H.past history.now)).objects (Command.Put object value)) }
+    ensures next { IfSome result (HaveNext (newest_in (H.past history.now)).objects) }
+{
+    let (version, _) = history.newest(&object.key);
+    let next = version.get().checked_add(1)?;
+    Some(Checked::Put(Write {
+        key: object.key,
+        version: Version::new(next),
+        value,
+    }))
+}
+
+/// The command, where each object that it names has a next version.
+pub(crate) fn check<H: History>(history: &H, command: Command) -> Option<Checked>
+    ensures found { some_used_up (newest_in (H.past history.now)).objects (objects_named command) ≡ is_none result }
+    ensures same { IfSome result (λ c. outcome_in (newest_in (H.past history.now)).objects c ≡ outcome_of (newest_in (H.past history.now)).objects command) }
+    ensures next { IfSome result (HaveNext (newest_in (H.past history.now)).objects) }
+{
+    match command {
+        Command::Put { object, value } => check_put(history, object, value),
+        command => {
+            if command.names_used_up(&Newest(history)) {
+                return None;
+            }
+            Some(Checked::Other(command))
+        }
+    }
+}
+
+/// The writes with their versions, each the next one of its object. Keys and values are moved.
+fn versioned<H: History>(
     alloc: Global,
     history: &H,
-    writes: &[(Key, Value)],
+    writes: Vec<(Key, Value)>,
 ) -> Result<Vec<Write>, AllocError>
-    requires { All (λ (w : List ℕ × List ℕ). version_of (newest_in (H.past history.now)).objects w.0 ≢ greatest) writes.now }
-    ensures { IfOk result (λ made. made.items ≡ map (versioned_write (newest_in (H.past history.now)).objects) writes.now) }
+    requires { All (λ (w : List ℕ × List ℕ). version_of (newest_in (H.past history.now)).objects w.0 ≢ greatest) writes.items }
+    ensures { IfOk result (λ made. made.items ≡ map (versioned_write (newest_in (H.past history.now)).objects) writes.items) }
 {
     let mut made = Vec::new(alloc);
     for (key, value) in writes {
-        let (version, _) = history.newest(key);
+        let (version, _) = history.newest(&key);
+        let version = Version::new(version.get() + 1);
         made.push(Write {
-            key: key.copied(alloc)?,
-            version: Version::new(version.get() + 1),
-            value: value.copied(alloc)?,
+            key,
+            version,
+            value,
         })?;
     }
     Ok(made)
+}
+
+/// What a command writes, with the versions, and its reply. The key and the value of a put are moved.
+pub(crate) fn outcome<H: History>(
+    alloc: Global,
+    history: &H,
+    command: Checked,
+) -> Result<(Items<Write>, Reply), AllocError>
+    requires { HaveNext (newest_in (H.past history.now)).objects command }
+    ensures { IfOk result (λ r. (r.0, r.1) ≡ outcome_in (newest_in (H.past history.now)).objects command) }
+{
+    match command {
+        Checked::Put(write) => {
+            let reply = Reply::Written(write.version);
+            Ok((only(alloc, write)?, reply))
+        }
+        Checked::Other(command) => {
+            let (writes, reply) = evaluate(alloc, &Newest(history), &command)?;
+            let writes = versioned(alloc, history, writes.into_vec())?;
+            Ok((Items::of(writes), reply))
+        }
+    }
+}
+
+/// A list of one item.
+pub(crate) fn only<T: Drop>(alloc: Global, item: T) -> Result<Items<T>, AllocError>
+    ensures { IfOk result (λ items. items ≡ item ∷ []) }
+{
+    let mut items = Items::new(alloc);
+    items.push(item)?;
+    Ok(items)
 }
 
 /// Adds entries in a row as they are sent to the successor, if there is one.

@@ -16,7 +16,7 @@ use craq_history::outs::add_ready_outs;
 use craq_history::steps::{done, ignoring};
 use craq_history::{Change, GatheringChange, History, HistoryChange, Node};
 use craq_model::{Out, Step, Why};
-use craq_names::{Copied, Items, NodeId, Seq, copies_of};
+use craq_names::{Items, NodeId, Seq};
 use std::alloc::{AllocError, Global};
 
 /// Whether the floor is known and reached.
@@ -94,25 +94,31 @@ fn growing_ready(entries: Items<Entry>, acknowledged: Option<Seq>) -> Change
 fn ready_by_entries<H: History>(
     alloc: Global,
     node: &Node<H>,
-    entries: &[Entry],
+    entries: Items<Entry>,
     end: Seq,
 ) -> Result<(Change, Step), AllocError>
-    requires end { end ≡ length_of (plain_of H.past node.now) + length entries.now }
+    requires end { end ≡ length_of (plain_of H.past node.now) + length entries }
     requires unready { node.now.ready ≡ false }
     requires idle { IsIdle (plain_of H.past node.now) }
     requires within { (H.past node.now.history).acknowledged ≤ length_of (plain_of H.past node.now) }
     requires reached { is_reached node.now.floor end ≡ true }
-    ensures { IfOk result (λ r. IsPlanOf (plain_of H.past node.now) r (readiness_turn (with_entries (plain_of H.past node.now) entries.now))) }
+    ensures { IfOk result (λ r. IsPlanOf (plain_of H.past node.now) r (readiness_turn (with_entries (plain_of H.past node.now) entries))) }
 {
-    let taken = Items::of(copies_of(alloc, entries)?);
     if last_member(node.members.as_slice()) == node.name.node {
         let outs = outs_when_ready(alloc, node, &[], &[], end, end)?;
-        return Ok((growing_ready(taken, Some(end)), done(outs)));
+        return Ok((growing_ready(entries, Some(end)), done(outs)));
     }
     let acknowledged = node.history.acknowledged();
     let held = node.history.after(acknowledged);
-    let outs = outs_when_ready(alloc, node, held, entries, end, Seq::new(acknowledged))?;
-    Ok((growing_ready(taken, None), done(outs)))
+    let outs = outs_when_ready(
+        alloc,
+        node,
+        held,
+        entries.as_slice(),
+        end,
+        Seq::new(acknowledged),
+    )?;
+    Ok((growing_ready(entries, None), done(outs)))
 }
 
 /// The next entries of the predecessor, at a node that is not ready: they are appended, and the node becomes
@@ -120,19 +126,19 @@ fn ready_by_entries<H: History>(
 pub(crate) fn taken_unready<H: History>(
     alloc: Global,
     node: &Node<H>,
-    entries: &[Entry],
+    entries: Items<Entry>,
     end: Seq,
 ) -> Result<(Change, Step), AllocError>
-    requires end { end ≡ length_of (plain_of H.past node.now) + length entries.now }
+    requires end { end ≡ length_of (plain_of H.past node.now) + length entries }
     requires unready { node.now.ready ≡ false }
     requires idle { IsIdle (plain_of H.past node.now) }
     requires within { (H.past node.now.history).acknowledged ≤ length_of (plain_of H.past node.now) }
-    ensures { IfOk result (λ r. IsPlanOf (plain_of H.past node.now) r (readiness_turn (with_entries (plain_of H.past node.now) entries.now))) }
+    ensures { IfOk result (λ r. IsPlanOf (plain_of H.past node.now) r (readiness_turn (with_entries (plain_of H.past node.now) entries))) }
 {
     if is_floor_reached(node.floor, end) {
         return ready_by_entries(alloc, node, entries, end);
     }
-    let mut change = growing(Items::of(copies_of(alloc, entries)?), None);
+    let mut change = growing(entries, None);
     change.gathering = gathering_at(node, end);
     Ok((change, done(Vec::new(alloc))))
 }
@@ -200,11 +206,11 @@ pub fn plan_copy<H: History>(
     node: &Node<H>,
     sender: NodeId,
     position: Seq,
-    state: &State,
+    state: State,
 ) -> Result<(Change, Step), AllocError>
     requires idle { node.now.ready ≡ false → IsIdle (plain_of H.past node.now) }
-    ensures turn { IfOk result (λ r. IsPlanOf (plain_of H.past node.now) r (copy_turn (plain_of H.past node.now) sender position state.now)) }
-    ensures free { IsSome (copy_turn (plain_of H.past node.now) sender position state.now).1.ignored → IsOk result }
+    ensures turn { IfOk result (λ r. IsPlanOf (plain_of H.past node.now) r (copy_turn (plain_of H.past node.now) sender position state)) }
+    ensures free { IsSome (copy_turn (plain_of H.past node.now) sender position state).1.ignored → IsOk result }
 {
     if predecessor_of(node.members.as_slice(), node.name.node) != Some(sender) {
         return Ok((Change::none(), ignoring(alloc, Why::NotNeighbour)));
@@ -212,7 +218,6 @@ pub fn plan_copy<H: History>(
     if node.ready || position.get() <= node.history.len() {
         return Ok((Change::none(), ignoring(alloc, Why::AlreadyHave)));
     }
-    let state = state.copied(alloc)?;
     state_taken(alloc, node, position, state)
 }
 

@@ -14,7 +14,7 @@ use craq_history::outs::{Sender, add_ready_outs, add_unready_outs};
 use craq_history::steps::{done, ignoring};
 use craq_history::{Change, GatheringChange, History, Node, WaitingChange};
 use craq_model::{Config, Out, Step, Why};
-use craq_names::{Copied, Epoch, Items, NodeId, Seq};
+use craq_names::{Epoch, Items, NodeId, Seq};
 use std::alloc::{AllocError, Global};
 
 /// What a node repeats in this membership, added to the outs. Where it fails, the outs are as before.
@@ -161,10 +161,10 @@ pub fn plan_config<H: History>(
     alloc: Global,
     node: &Node<H>,
     epoch: Epoch,
-    members: &Items<NodeId>,
+    members: Items<NodeId>,
 ) -> Result<(Change, Step), AllocError>
-    ensures turn { IfOk result (λ r. IsPlanOf (plain_of H.past node.now) r (config_turn (plain_of H.past node.now) epoch members.now)) }
-    ensures free { IsSome (config_turn (plain_of H.past node.now) epoch members.now).1.ignored → IsOk result }
+    ensures turn { IfOk result (λ r. IsPlanOf (plain_of H.past node.now) r (config_turn (plain_of H.past node.now) epoch members)) }
+    ensures free { IsSome (config_turn (plain_of H.past node.now) epoch members).1.ignored → IsOk result }
 {
     if epoch <= node.epoch {
         return Ok((Change::none(), ignoring(alloc, Why::OtherEpoch)));
@@ -173,10 +173,7 @@ pub fn plan_config<H: History>(
         return Ok((Change::none(), ignoring(alloc, Why::NotNeighbour)));
     }
     let is_last = last_member(members.as_slice()) == node.name.node;
-    let config = Config {
-        epoch,
-        members: members.copied(alloc)?,
-    };
+    let config = Config { epoch, members };
     if node.ready && is_last {
         settled_as_tail(alloc, node, config)
     } else {

@@ -1,5 +1,4 @@
 ghost use Rattle.std.specs.Prelude.{◌≡◌, ◌<◌, ◌+◌, ◌-◌, ◌^◌, ◌∷◌, [], true, false, Some, None, ◌||◌, if◌then◌else◌, not, nat_le, IfOk};
-ghost use Rattle.craq_commands.specs.Evaluation.{some_used_up, objects_named};
 ghost use Rattle.craq_commands.specs.SingleCopy.{said};
 ghost use Rattle.craq_model.specs.Asks.{reply_turn, update_turn, new_update_turn, committed_if_last, is_full};
 ghost use Rattle.craq_model.specs.Plain.{newest, length_of, is_last, position_of};
@@ -8,16 +7,17 @@ ghost use Rattle.craq_history.specs.Change.{changed};
 ghost use Rattle.craq_history.specs.Nodes.{plain_of};
 ghost use Rattle.craq_model.specs.Past.{newest_in};
 ghost use Rattle.craq_history.specs.Plans.{CanGrow, IsPlanned, Plans};
-ghost use Rattle.craq_write.specs.Forward.{entry_in};
+ghost use Rattle.craq_write.specs.Forward.{entry_with};
+ghost use Rattle.craq_write.specs.Outcomes.{HaveNext, outcome_in};
 ghost use Rattle.craq_write.specs.Places.{committed_then, has_place};
 
-use crate::making_entries::{Newest, forward, versioned};
-use craq_commands::{Entry, Reply, Said, Update, evaluate};
+use crate::making_entries::{Checked, check, forward, only, outcome};
+use craq_commands::{Entry, Reply, Said, Update};
 use craq_history::members::last_member;
 use craq_history::steps::accepted;
 use craq_history::{Change, History, HistoryChange, Node, WaitingChange};
 use craq_model::{Answer, Out, Step, WaitingUpdate};
-use craq_names::{ClientId, Copied, Items, Refusal, Seq, Ticket};
+use craq_names::{ClientId, Copied, Refusal, RequestNo, Seq, Ticket};
 use std::alloc::{AllocError, Global};
 
 /// The change, with an accepted ask and what it does to the asks that wait.
@@ -174,8 +174,7 @@ fn entered<H: History>(
     let reply = entry.reply.copied(alloc)?;
     let mut sends = Vec::new(alloc);
     let sender = node.sender();
-    let mut entries = Items::new(alloc);
-    entries.push(entry)?;
+    let entries = only(alloc, entry)?;
     forward(
         &mut sends,
         alloc,
@@ -193,23 +192,24 @@ fn entered<H: History>(
 fn entry_made<H: History>(
     alloc: Global,
     node: &Node<H>,
-    update: &Update,
+    client: ClientId,
+    number: RequestNo,
+    command: Checked,
 ) -> Result<Entry, AllocError>
     requires room { node.now.last_ticket < 2 ^ 64 - 1 }
     requires next { length_of (plain_of H.past node.now) < 2 ^ 64 - 1 }
-    requires versions { some_used_up (newest_in (H.past node.now.history)).objects (objects_named update.now.command) ≡ false }
-    ensures { IfOk result (λ e. e ≡ entry_in (plain_of H.past node.now) update.now (newest_in (H.past node.now.history)).objects) }
+    requires versions { HaveNext (newest_in (H.past node.now.history)).objects command }
+    ensures { IfOk result (λ e. e ≡ entry_with (plain_of H.past node.now) client number (outcome_in (newest_in (H.past node.now.history)).objects command)) }
 {
-    let (writes, reply) = evaluate(alloc, &Newest(&node.history), &update.command)?;
-    let writes = versioned(alloc, &node.history, writes.as_slice())?;
+    let (writes, reply) = outcome(alloc, &node.history, command)?;
     Ok(Entry {
         position: Seq::new(node.history.len() + 1),
         origin_node: node.name.node,
         origin_ticket: Ticket::new(node.last_ticket.get() + 1),
-        client: update.client,
-        number: update.number,
+        client,
+        number,
         reply,
-        writes: Items::of(writes),
+        writes,
     })
 }
 
@@ -219,22 +219,22 @@ fn entry_made<H: History>(
 fn plan_new<H: History>(
     alloc: Global,
     node: &Node<H>,
-    update: &Update,
+    update: Update,
 ) -> Result<(Change, Step), Refusal>
     requires { node.now.last_ticket < 2 ^ 64 - 1 }
-    ensures { Plans (plain_of H.past node.now) result (update_turn (plain_of H.past node.now) update.now None) }
+    ensures { Plans (plain_of H.past node.now) result (update_turn (plain_of H.past node.now) update None) }
 {
     let length = node.history.len();
     if length == u64::MAX {
         return Err(Refusal::Exhausted);
     }
-    if update.command.names_used_up(&Newest(&node.history)) {
+    let Some(command) = check(&node.history, update.command) else {
         return Err(Refusal::Exhausted);
-    }
+    };
     if !has_place(node, length + 1, length + 1) {
         return Err(Refusal::PendingFull);
     }
-    let entry = entry_made(alloc, node, update)?;
+    let entry = entry_made(alloc, node, update.client, update.number, command)?;
     let plan = entered(alloc, node, entry)?;
     Ok(plan)
 }
@@ -247,15 +247,16 @@ fn plan_new<H: History>(
 ///
 /// The refusals, in order: `Exhausted` where a new one finds no next position, or names an object without
 /// a next version; `PendingFull` where it would have to wait and 1,024 asks wait; `Memory` only where none
-/// of these applies. They are found before anything is evaluated or copied.
+/// of these applies. They are found before anything is evaluated or copied. The value of a put is moved into
+/// the entry, and copied only for the successor.
 #[tactic(auto, unfolding(craq_model::specs::Asks::update_turn, craq_model::specs::Plain::newest))]
 pub fn plan_update<H: History>(
     alloc: Global,
     node: &Node<H>,
-    update: &Update,
+    update: Update,
 ) -> Result<(Change, Step), Refusal>
     requires { node.now.last_ticket < 2 ^ 64 - 1 }
-    ensures { Plans (plain_of H.past node.now) result (update_turn (plain_of H.past node.now) update.now (said (newest (plain_of H.past node.now)) update.now.client update.now.number)) }
+    ensures { Plans (plain_of H.past node.now) result (update_turn (plain_of H.past node.now) update (said (newest (plain_of H.past node.now)) update.client update.number)) }
 {
     match node.history.said(update.client, update.number) {
         Said::New => plan_new(alloc, node, update),

@@ -1,10 +1,6 @@
-use Rattle.std.proofs.Common.{◌≡◌, ◌≤◌, true, false, List, Some, None, ap, ◌∙◌, arith, rules}
+use Rattle.std.proofs.Common.{◌≡◌, ◌≤◌, true, false, arith, rules}
 use Rattle.craq_names.specs.Limits.{greatest}
-use Rattle.craq_commands.specs.declared.entry.Entry.{Entry}
 use Rattle.craq_model.specs.Plain.{is_last}
-use Rattle.craq_history.specs.declared.change.GatheringChange.TheVariants.{Dropped}
-use Rattle.craq_history.specs.declared.change.HistoryChange.TheVariants as histories
-use Rattle.craq_history.specs.Change.{no_change}
 use Rattle.craq_history.specs.Nodes.{plain_of}
 use Rattle.craq_write.proofs.Readying.{ready_by_last, ready_by_others}
 use Rattle.craq_write.proofs.readiness.ready_by_entries.Goals as goal
@@ -14,8 +10,8 @@ returns-then-eq g c =
     let p = plain_of g.H.History.past c.args.node.now in
     let last : is_last p ≡ true = cc in
     let few : c.args.end ≤ greatest = first_of (omega arith, search rules) in
-    ready_by_last p c.args.entries.now c.args.end c.growing_ready.result c.done.result c.in_ok-outs.outs.items last c.requires.end few c.requires.unready c.requires.idle c.requires.reached
-    (c.growing_ready.ensures ∙ ap (λ (l : List Entry). record no_change { history = histories.Grows l; acknowledged = Some c.args.end; becomes_ready = true; gathering = Dropped }) (c.of-taken.ensures ∙ c.in_ok-copies_of.ensures))
+    ready_by_last p c.args.entries c.args.end c.growing_ready.result c.done.result c.in_ok-outs.outs.items last c.requires.end few c.requires.unready c.requires.idle c.requires.reached
+    c.growing_ready.ensures
     c.in_ok-outs.ensures c.done.ensures
 
 pub returns : goal.returns
@@ -23,6 +19,6 @@ returns g c =
     let p = plain_of g.H.History.past c.args.node.now in
     let last : is_last p ≡ false = cc in
     let few : c.args.end ≤ greatest = first_of (omega arith, search rules) in
-    ready_by_others p c.args.entries.now c.args.end c.growing_ready-2.result c.done-2.result c.in_ok-outs-2.outs.items last c.requires.end few c.requires.unready c.requires.idle c.requires.reached c.requires.within
-    (c.growing_ready-2.ensures ∙ ap (λ (l : List Entry). record no_change { history = histories.Grows l; acknowledged = None; becomes_ready = true; gathering = Dropped }) (c.of-taken.ensures ∙ c.in_ok-copies_of.ensures))
-    (rw (c.after-held.ensures, c.new.ensures, c.acknowledged-acknowledged.ensures) at c.in_ok-outs-2.ensures) c.done-2.ensures
+    ready_by_others p c.args.entries c.args.end c.growing_ready-2.result c.done-2.result c.in_ok-outs-2.outs.items last c.requires.end few c.requires.unready c.requires.idle c.requires.reached c.requires.within
+    c.growing_ready-2.ensures
+    (rw (c.after-held.ensures, c.as_slice-2.ensures, c.new.ensures, c.acknowledged-acknowledged.ensures) at c.in_ok-outs-2.ensures) c.done-2.ensures

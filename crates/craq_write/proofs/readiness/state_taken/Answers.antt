@@ -1,4 +1,4 @@
-use Rattle.std.proofs.Common.{◌≡◌, List, None, sym, ap, ◌∙◌}
+use Rattle.std.proofs.Common.{List, None, sym, ap, ◌∙◌}
 use Rattle.craq_model.specs.declared.step.Out.{Out}
 use Rattle.craq_history.specs.declared.change.GatheringChange.{GatheringChange}
 use Rattle.craq_history.specs.declared.change.HistoryChange.TheVariants as histories

@@ -1,6 +1,6 @@
-use Rattle.std.proofs.Common.{◌≡◌, ℕ, ◌+◌, ◌-◌, ◌*◌, ◌≤◌, [], length, map, take, drop, sym, ap, ◌∙◌, arith}
+use Rattle.std.proofs.Common.{◌≡◌, ℕ, ◌+◌, ◌-◌, ◌*◌, ◌≤◌, length, map, take, drop, sym, ap, ◌∙◌, arith}
 use Rattle.std.specs.List.{range_with_len}
-use Rattle.craq_model.specs.Parts.{part_of, parts_of}
+use Rattle.craq_model.specs.Parts.{part_of}
 use Rattle.craq_write.proofs.Ends.{take_fewer}
 use Rattle.craq_write.proofs.Cuts.{all_objects, all_kept, part_is, one_more}
 use Rattle.craq_write.proofs.sending_states.cut_into_parts.Goals as goal

@@ -1,5 +1,4 @@
-use Rattle.std.proofs.Common.{◌≡◌, List, [], ◌∷◌, ◌++◌, ap, subst, ◌∙◌}
-use Rattle.craq_commands.specs.declared.entry.Entry.{Entry}
+use Rattle.std.proofs.Common.{◌≡◌, [], ◌∷◌, subst}
 use Rattle.std.specs.Prelude.{IfOk, Result}
 use Rattle.craq_names.specs.declared.refusal.Refusal.{Refusal}
 use Rattle.craq_model.specs.Settle.{Turn}
@@ -11,7 +10,7 @@ use Rattle.craq_write.proofs.updates.entered.Goals as goal
 pub returns : goal.returns
 returns g c =
     let p = plain_of g.H.History.past c.args.node.now in
-    let one : c.push.new.self ≡ c.args.entry ∷ [] = c.in_ok-push.ensures.ok ∙ ap (λ (l : List Entry). l ++ c.args.entry ∷ []) c.new-entries.ensures in
+    let one : c.in_ok-entries.entries ≡ c.args.entry ∷ [] = c.in_ok-entries.ensures in
     let sent = rw (c.sender-sender.ensures.name, c.sender-sender.ensures.epoch, c.as_slice.ensures, c.as_slice-2.ensures, c.new-sends.ensures.items) at c.in_ok-forward.ensures in
-    let same = new_plan p c.args.entry c.push.new.self c.none-change.result c.committing-change.result.0 c.get-length.result c.in_ok-reply.reply _ one c.none-change.ensures c.committing-change.ensures.change c.get-length.ensures c.requires.next c.in_ok-reply.ensures sent in
+    let same = new_plan p c.args.entry c.in_ok-entries.entries c.none-change.result c.committing-change.result.0 c.get-length.result c.in_ok-reply.reply _ one c.none-change.ensures c.committing-change.ensures.change c.get-length.ensures c.requires.next c.in_ok-reply.ensures sent in
     subst (λ (w : Result Turn Refusal). IfOk c.replied.result (λ r. IsPlanned p r w)) same c.replied.ensures

@@ -1,1 +1,1 @@
-pub mod Consecutive
+pub mod Stored

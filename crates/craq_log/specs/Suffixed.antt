@@ -1,6 +1,7 @@
 -- The entries of a history after a base position.
-use Rattle.std.specs.Prelude.{◌≡◌, ℕ, ◌+◌, ◌-◌, ◌<◌, ◌≤◌, ◌^◌, List, [], ◌∷◌, length, drop}
+use Rattle.std.specs.Prelude.{◌≡◌, ℕ, ◌+◌, ◌-◌, ◌<◌, ◌≤◌, ◌^◌, List, ◌∷◌, length, drop}
 use Rattle.craq_commands.specs.declared.entry.Entry.{Entry}
+use Rattle.craq_node_invariant.specs.Sound.{AreInRow}
 
 pub record Suffixed : Type 0 where
   pub base : ℕ  -- how many entries stand before them
@@ -15,13 +16,13 @@ length_of s = s.base + length s.entries
 abbrev pub entries_after : Suffixed → ℕ → List Entry
 entries_after s position = drop (position - s.base) s.entries
 
--- the entries stand one after another, from the next position on
-abbrev pub AreConsecutive : ℕ → List Entry → Type 0
-AreConsecutive before [] = Unit {0}
-AreConsecutive before (e ∷ es) = (e.position ≡ before + 1) × AreConsecutive (before + 1) es
+-- the entry is the first of some; what is left stands after it
+pub record IsFirstOf (e : Entry) (s left : Suffixed) : Type 0 where
+  pub entries : s.entries ≡ e ∷ left.entries
+  pub base : left.base ≡ s.base + 1
 
--- entries from the first that is stored on, one after another; so many of them are let go already
+-- entries from the first that is stored on; so many of them are let go already, and the others come in a row
 pub record IsStored (start settled : ℕ) (entries : List Entry) : Type 0 where
   pub within : settled ≤ length entries
   pub numbered : start + length entries < 2 ^ 64
-  pub consecutive : AreConsecutive start entries
+  pub in_row : AreInRow (start + settled + 1) (drop settled entries)

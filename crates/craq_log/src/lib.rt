@@ -1,5 +1,5 @@
 //! The entries of a node after a base position of its history.
-//! Code that runs in tests alone.
+//! Code that runs in the program.
 #![tactic(auto)]
 
 mod suffix;

@@ -1,16 +1,18 @@
-ghost use Rattle.std.specs.Prelude.{◌≡◌, ◌+◌, ◌-◌, ◌<◌, ◌≤◌, [], ◌∷◌, ◌++◌, drop, vec_len, vec_capacity, IsOk, OnOk, OnErr};
-ghost use Rattle.craq_log.specs.Suffixed.{length_of, entries_after, AreConsecutive};
+ghost use Rattle.std.specs.Prelude.{◌≡◌, ◌+◌, ◌-◌, ◌<◌, ◌≤◌, ◌^◌, [], ◌∷◌, ◌++◌, drop, length, vec_len, vec_capacity, IsOk, OnOk, OnErr, MatchOption};
+ghost use Rattle.craq_node_invariant.specs.Sound.{AreInRow};
+ghost use Rattle.craq_log.specs.Suffixed.{length_of, entries_after, IsFirstOf};
 
-use craq_commands::Entry;
-use craq_names::Seq;
+use craq_commands::{Entry, Reply};
+use craq_names::{Items, Seq};
 use std::alloc::{AllocError, Global};
 use std::marker::Model;
+use std::mem;
 
 /// The entries of a history after a base position, one after another.
 ///
 /// What is acknowledged is let go (a node remembers what it forwarded until it is acknowledged: the list of
 /// sent updates of the OSDI 2004 paper). Letting go costs on average what the entries let go have cost,
-/// however many stay.
+/// however many stay: entries that are settled stay in place until at least half of all are.
 #[derive(Drop)]
 pub struct Suffix {
     start: u64,
@@ -88,6 +90,32 @@ impl Suffix {
         Ok(())
     }
 
+    /// The entries that come next, all of them. Where memory is refused the entries stay.
+    pub fn append_all(&mut self, entries: Items<Entry>) -> Result<(), AllocError>
+        requires fits { length_of self.old + length entries < 2 ^ 64 }
+        requires in_row { AreInRow (length_of self.old + 1) entries }
+        ensures base { self.new.base ≡ self.old.base }
+        ensures ok { OnOk result (self.new.entries ≡ self.old.entries ++ entries) }
+        ensures err { OnErr result (self.new.entries ≡ self.old.entries) }
+    {
+        let mut more = entries.into_vec();
+        self.entries.append(&mut more)?;
+        Ok(())
+    }
+
+    /// Takes the first entry out, where there is one; its position is then the base. It takes no memory.
+    pub fn take_first(&mut self, alloc: Global) -> Option<Entry>
+        ensures { MatchOption result ((self.old.entries ≡ []) × (self.new ≡ self.old)) (λ e. IsFirstOf e self.old self.new) }
+    {
+        let first = match self.entries.get_mut(self.settled) {
+            None => return None,
+            Some(entry) => taken_out(alloc, entry),
+        };
+        self.settled += 1;
+        self.trim();
+        Some(first)
+    }
+
     /// Lets go the entries up to this position, which becomes the base. It takes no memory.
     pub fn acknowledge(&mut self, position: Seq)
         requires held { self.old.base ≤ position }
@@ -97,9 +125,18 @@ impl Suffix {
         ensures room { self.old.room ≤ self.new.room }
     {
         self.settled = (position.get() - self.start) as usize;
+        self.trim();
+    }
+
+    /// Lets the settled entries go where they are at least half of all. What is seen stays.
+    fn trim(&mut self)
+        ensures base { self.new.base ≡ self.old.base }
+        ensures entries { self.new.entries ≡ self.old.entries }
+        ensures room { self.old.room ≤ self.new.room }
+    {
         if self.settled >= self.entries.len() - self.settled {
             let_go(&mut self.entries, self.settled);
-            self.start = position.get();
+            self.start += self.settled as u64;
             self.settled = 0;
         }
     }
@@ -109,11 +146,27 @@ impl Suffix {
         requires held { self.now.base ≤ position }
         requires known { position ≤ length_of self.now }
         ensures entries { result.now ≡ entries_after self.now position }
-        ensures consecutive { AreConsecutive position result.now }
+        ensures in_row { AreInRow (position + 1) result.now }
     {
         let first = (position.get() - self.start) as usize;
         &self.entries.as_slice()[first..]
     }
+}
+
+/// Takes an entry out of its place, where one without writes stays until it is let go.
+fn taken_out(alloc: Global, entry: &mut Entry) -> Entry
+    ensures { result ≡ entry.old }
+{
+    let empty = Entry {
+        position: entry.position,
+        origin_node: entry.origin_node,
+        origin_ticket: entry.origin_ticket,
+        client: entry.client,
+        number: entry.number,
+        reply: Reply::TooLong,
+        writes: Items::new(alloc),
+    };
+    mem::replace(entry, empty)
 }
 
 /// Drops the first of the entries, this many. The vector keeps its memory.

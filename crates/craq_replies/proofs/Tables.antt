@@ -1,5 +1,5 @@
 -- A table of replies, once the place of one client is written.
-use Rattle.std.proofs.Common.{◌≡◌, ◌<◌, ◌≤◌, ℕ, Bool, true, false, cond, List, [], ◌∷◌, length, Option, Some, None, refl, sym, ◌∙◌, ap, subst, arith, rules}
+use Rattle.std.proofs.Common.{◌≡◌, ◌<◌, ◌≤◌, ℕ, Bool, true, false, cond, [], ◌∷◌, length, Option, Some, None, refl, sym, ◌∙◌, ap, subst, arith, rules}
 use Rattle.std.specs.Prelude.{unwrap_or, is_some, ◌==◌}
 use Rattle.std.specs.Option.{option_and_then}
 use Rattle.std.specs.Ordering.{nat_cmp, is_eq}
@@ -38,7 +38,7 @@ found_after es gs client held at q = found_is gs q ∙ at q ∙ ap (cond (is_at 
 pub kept_found : (es : Entries) (client : ℕ) → IsStrictlySortedBy nat_cmp (keys_of es) → at_number (filled shown es) client ≡ option_and_then shown (place_of es client)
 kept_found es client rise = find_filled nat_cmp shown nat_cmp_total client es (is_sorted_of nat_cmp shown es rise) ∙ ap (option_and_then shown) (found_is es client)
 
-kept_put : (es gs : Entries) (client : ℕ) (held : Held) (w : Window) → shown held ≡ Some w → IsStrictlySortedBy nat_cmp (keys_of es) → IsStrictlySortedBy nat_cmp (keys_of gs) → IsPlaced es gs client held → filled shown gs ≡ put_number (filled shown es) client w
+pub kept_put : (es gs : Entries) (client : ℕ) (held : Held) (w : Window) → shown held ≡ Some w → IsStrictlySortedBy nat_cmp (keys_of es) → IsStrictlySortedBy nat_cmp (keys_of gs) → IsPlaced es gs client held → filled shown gs ≡ put_number (filled shown es) client w
 kept_put es gs client held w has was is at = filled_put nat_cmp shown nat_cmp_total nat_cmp-IsAntisymmetric es gs client held w has was is (found_after es gs client held at)
 
 kept_same : (es gs : Entries) (client : ℕ) (held : Held) → shown held ≡ option_and_then shown (place_of es client) → IsStrictlySortedBy nat_cmp (keys_of es) → IsStrictlySortedBy nat_cmp (keys_of gs) → IsPlaced es gs client held → filled shown gs ≡ filled shown es
@@ -56,7 +56,7 @@ window_here es client old rise was = ap (λ (o : Option Window). unwrap_or o [])
 pub no_window : (es : Entries) (client : ℕ) → IsStrictlySortedBy nat_cmp (keys_of es) → None ≡ place_of es client → window_of (table_of es) client ≡ []
 no_window es client rise was = ap (λ (o : Option Window). unwrap_or o []) (kept_found es client rise ∙ ap (option_and_then shown) (sym was))
 
-some_shown : (w : Window) → 1 ≤ length w → unless_empty w ≡ Some w
+pub some_shown : (w : Window) → 1 ≤ length w → unless_empty w ≡ Some w
 some_shown [] h = absurd (omega (arith, h))
 some_shown (k ∷ ks) h = refl
 
@@ -66,6 +66,13 @@ kept_more es gs client old new number reply rise rises was at is =
     let some : shown new ≡ Some (keep old.replies number reply) = ap unless_empty is ∙ some_shown (keep old.replies number reply) (some_kept old.replies number reply) in
     kept_put es gs client new (keep old.replies number reply) some rise rises at
     ∙ ap (λ (w : Window). put_number (filled shown es) client (keep w number reply)) (sym (window_here es client old rise was))
+
+-- the table, once the first reply to a client is kept in a place of its own
+pub kept_first : (es gs : Entries) (client : ℕ) (new : Held) (number : ℕ) (reply : Reply) → IsStrictlySortedBy nat_cmp (keys_of es) → IsStrictlySortedBy nat_cmp (keys_of gs) → place_of es client ≡ None → IsPlaced es gs client new → new.replies ≡ keep [] number reply → (table_of gs).kept ≡ put_number (table_of es).kept client (keep (window_of (table_of es) client) number reply)
+kept_first es gs client new number reply rise rises none at is =
+    let some : shown new ≡ Some (keep [] number reply) = ap unless_empty is ∙ some_shown (keep [] number reply) (some_kept [] number reply) in
+    kept_put es gs client new (keep [] number reply) some rise rises at
+    ∙ ap (λ (w : Window). put_number (filled shown es) client (keep w number reply)) (sym (no_window es client rise (sym none)))
 
 -- the table, where the place of a client has the same replies
 pub kept_stays : (es gs : Entries) (client : ℕ) (old new : Held) → IsStrictlySortedBy nat_cmp (keys_of es) → IsStrictlySortedBy nat_cmp (keys_of gs) → Some old ≡ place_of es client → IsPlaced es gs client new → new.replies ≡ old.replies → (table_of gs).kept ≡ (table_of es).kept

@@ -1,4 +1,4 @@
-ghost use Rattle.std.specs.Prelude.{◌≡◌, ◌<◌, ◌≤◌, ◌↔◌, [], IsOk, OnOk, OnErr, IsTrue};
+ghost use Rattle.std.specs.Prelude.{◌≡◌, ◌<◌, ◌≤◌, ◌↔◌, [], length, IsOk, OnOk, OnErr, IsTrue};
 ghost use Rattle.craq_commands.specs.Kept.{keep};
 
 use craq_commands::{Kept, Reply, keep_in};
@@ -13,12 +13,14 @@ pub struct HeldReplies {
 }
 
 impl Model for HeldReplies {
-    ghost use Rattle.std.specs.Prelude.{◌-◌, vec_len, vec_capacity};
+    ghost use Rattle.std.specs.Prelude.{◌-◌, ◌≤◌, length, vec_len, vec_capacity};
     ghost use Rattle.craq_replies.specs.Held.{Held};
 
     ghost Value = { Held };
 
     ghost view = { λ h. record { replies = h.replies.items; room = vec_capacity h.replies - vec_len h.replies } };
+
+    ghost invariant = { λ h. length h.replies.items ≤ 8 };
 }
 
 impl HeldReplies {
@@ -31,6 +33,14 @@ impl HeldReplies {
         }
     }
 
+    /// These replies, 8 at most, which come by rising number.
+    pub fn of(replies: Vec<Kept>) -> Self
+        requires { length replies.items ≤ 8 }
+        ensures { result.replies ≡ replies.items }
+    {
+        HeldReplies { replies }
+    }
+
     /// Whether nothing is kept.
     pub fn is_empty(&self) -> bool
         ensures { IsTrue result ↔ (self.now.replies ≡ []) }
@@ -38,9 +48,10 @@ impl HeldReplies {
         self.replies.is_empty()
     }
 
-    /// The replies with their numbers, by rising number.
+    /// The replies with their numbers, by rising number: 8 at most.
     pub fn as_slice(&self) -> &[Kept]
-        ensures { result.now ≡ self.now.replies }
+        ensures value { result.now ≡ self.now.replies }
+        ensures few { length self.now.replies ≤ 8 }
     {
         self.replies.as_slice()
     }

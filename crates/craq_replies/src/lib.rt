@@ -1,5 +1,5 @@
 //! The kept replies of a node, as a map from client to a window of numbers with their replies.
-//! Code that runs in tests alone.
+//! Code that runs in the program.
 #![tactic(auto)]
 
 mod held;

@@ -1,5 +1,5 @@
 //! The places of a table, by client. A place without replies only has room.
-ghost use Rattle.std.specs.Prelude.{◌≡◌, ◌<◌, [], None, IsSome, IsOk, OnOk, OnErr};
+ghost use Rattle.std.specs.Prelude.{◌≡◌, ◌<◌, ◌≤◌, [], None, IsOk, IfOk, OnOk, OnErr, length};
 ghost use Rattle.std.specs.BTreeMap.{get, IsOrdered};
 ghost use Rattle.std.specs.Ordering.{nat_cmp};
 ghost use Rattle.craq_names.specs.Maps.{put_number};
@@ -7,45 +7,42 @@ ghost use Rattle.craq_commands.specs.Kept.{keep};
 ghost use Rattle.craq_replies.specs.Replies.{table_of, window_of, room_at, KeepsRoom, KeepsOthersRoom};
 
 use crate::held::HeldReplies;
-use craq_commands::Reply;
-use craq_names::RequestNo;
+use craq_commands::{Kept, Reply, Window};
+use craq_names::{ClientId, RequestNo, copies_of};
 use std::alloc::{AllocError, Global};
 use std::collections::BTreeMap;
 
 /// The places of clients.
 pub type Places = BTreeMap<u64, HeldReplies>;
 
-/// Makes sure that the client has a place. Only a client without one takes memory.
-pub fn place(alloc: Global, places: &mut Places, client: u64) -> Result<(), AllocError>
-    requires { IsOrdered nat_cmp places.old }
-    ensures kept { (table_of places.new.entries).kept ≡ (table_of places.old.entries).kept }
-    ensures room { KeepsRoom (table_of places.old.entries) (table_of places.new.entries) }
-    ensures placed { OnOk result (IsSome (get nat_cmp places.new client)) }
-    ensures succeeds { 0 < room_at (table_of places.old.entries) client → IsOk result }
+/// Puts in a place with these replies for a client.
+pub fn put_place(places: &mut Places, client: u64, replies: Vec<Kept>) -> Result<(), AllocError>
+    requires few { length replies.items ≤ 8 }
+    requires some { 1 ≤ length replies.items }
+    ensures ok { OnOk result ((table_of places.new.entries).kept ≡ put_number (table_of places.old.entries).kept client replies.items) }
     ensures ordered { IsOrdered nat_cmp places.new }
 {
-    if places.contains_key(&client) {
-        return Ok(());
-    }
-    put_empty(places, client, HeldReplies::new(alloc))
-}
-
-// Puts in an empty place for a client that has none.
-fn put_empty(places: &mut Places, client: u64, held: HeldReplies) -> Result<(), AllocError>
-    requires absent { get nat_cmp places.old client ≡ None }
-    requires empty { held.replies ≡ [] }
-    ensures kept { (table_of places.new.entries).kept ≡ (table_of places.old.entries).kept }
-    ensures room { KeepsRoom (table_of places.old.entries) (table_of places.new.entries) }
-    ensures placed { OnOk result (IsSome (get nat_cmp places.new client)) }
-    ensures ordered { IsOrdered nat_cmp places.new }
-{
-    places.insert(client, held)?;
+    places.insert(client, HeldReplies::of(replies))?;
     Ok(())
 }
 
-/// Makes room for one more reply to a client that has a place.
-pub fn reserve_in(places: &mut Places, client: u64) -> Result<(), AllocError>
-    requires placed { IsSome (get nat_cmp places.old client) }
+/// Copies of what is kept, by rising client.
+pub fn copies(alloc: Global, places: &Places) -> Result<Vec<(ClientId, Window)>, AllocError>
+    ensures { IfOk result (λ kept. kept.items ≡ (table_of places.now.entries).kept) }
+{
+    let mut kept = Vec::new(alloc);
+    for (client, held) in places.iter() {
+        if !held.is_empty() {
+            let window = Window::of(copies_of(alloc, held.as_slice())?);
+            kept.push((ClientId::new(*client), window))?;
+        }
+    }
+    Ok(kept)
+}
+
+/// Makes room for one more reply to a client.
+pub fn reserve_in(alloc: Global, places: &mut Places, client: u64) -> Result<(), AllocError>
+    requires { IsOrdered nat_cmp places.old }
     ensures kept { (table_of places.new.entries).kept ≡ (table_of places.old.entries).kept }
     ensures room { KeepsRoom (table_of places.old.entries) (table_of places.new.entries) }
     ensures ok { OnOk result (0 < room_at (table_of places.new.entries) client) }
@@ -54,18 +51,34 @@ pub fn reserve_in(places: &mut Places, client: u64) -> Result<(), AllocError>
 {
     match places.get_mut(&client) {
         Some(held) => held.reserve(),
-        None => Ok(()),
+        None => put_room(places, client, HeldReplies::new(alloc)),
     }
 }
 
-/// Keeps the reply to a new number of a client that has a place.
+// Puts in a place with room for a reply for a client that has none.
+fn put_room(places: &mut Places, client: u64, mut held: HeldReplies) -> Result<(), AllocError>
+    requires ordered { IsOrdered nat_cmp places.old }
+    requires absent { get nat_cmp places.old client ≡ None }
+    requires empty { held.replies ≡ [] }
+    ensures kept { (table_of places.new.entries).kept ≡ (table_of places.old.entries).kept }
+    ensures room { KeepsRoom (table_of places.old.entries) (table_of places.new.entries) }
+    ensures ok { OnOk result (0 < room_at (table_of places.new.entries) client) }
+    ensures ordered { IsOrdered nat_cmp places.new }
+{
+    held.reserve()?;
+    places.insert(client, held)?;
+    Ok(())
+}
+
+/// Keeps the reply to a new number of a client.
 pub fn keep_in_place(
+    alloc: Global,
     places: &mut Places,
     client: u64,
     number: RequestNo,
     reply: Reply,
 ) -> Result<(), AllocError>
-    requires placed { IsSome (get nat_cmp places.old client) }
+    requires { IsOrdered nat_cmp places.old }
     ensures ok { OnOk result ((table_of places.new.entries).kept ≡ put_number (table_of places.old.entries).kept client (keep (window_of (table_of places.old.entries) client) number reply)) }
     ensures err { OnErr result ((table_of places.new.entries).kept ≡ (table_of places.old.entries).kept) }
     ensures rooms { KeepsOthersRoom (table_of places.old.entries) (table_of places.new.entries) client }
@@ -74,6 +87,27 @@ pub fn keep_in_place(
 {
     match places.get_mut(&client) {
         Some(held) => held.keep(number, reply),
-        None => Ok(()),
+        None => put_reply(places, client, HeldReplies::new(alloc), number, reply),
     }
+}
+
+// Puts in a place with this reply for a client that has none.
+fn put_reply(
+    places: &mut Places,
+    client: u64,
+    mut held: HeldReplies,
+    number: RequestNo,
+    reply: Reply,
+) -> Result<(), AllocError>
+    requires ordered { IsOrdered nat_cmp places.old }
+    requires absent { get nat_cmp places.old client ≡ None }
+    requires empty { held.replies ≡ [] }
+    ensures ok { OnOk result ((table_of places.new.entries).kept ≡ put_number (table_of places.old.entries).kept client (keep (window_of (table_of places.old.entries) client) number reply)) }
+    ensures err { OnErr result ((table_of places.new.entries).kept ≡ (table_of places.old.entries).kept) }
+    ensures rooms { KeepsOthersRoom (table_of places.old.entries) (table_of places.new.entries) client }
+    ensures ordered { IsOrdered nat_cmp places.new }
+{
+    held.keep(number, reply)?;
+    places.insert(client, held)?;
+    Ok(())
 }

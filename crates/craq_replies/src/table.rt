@@ -1,4 +1,4 @@
-ghost use Rattle.std.specs.Prelude.{◌≡◌, ◌<◌, [], IsOk, OnOk, OnErr, map};
+ghost use Rattle.std.specs.Prelude.{◌≡◌, ◌<◌, ◌≤◌, [], IsOk, IfOk, OnOk, OnErr, length, map};
 ghost use Rattle.std.specs.List.Sorted.{IsStrictlySortedBy};
 ghost use Rattle.std.specs.Ordering.{nat_cmp};
 ghost use Rattle.craq_names.specs.Maps.{put_number};
@@ -7,9 +7,9 @@ ghost use Rattle.craq_commands.specs.Told.{told};
 ghost use Rattle.craq_replies.specs.Replies.{window_of, room_at, KeepsRoom, KeepsOthersRoom};
 
 use crate::KeptReplies;
-use crate::places::{Places, keep_in_place, place, reserve_in};
-use craq_commands::{Reply, Said, look_in};
-use craq_names::{ClientId, RequestNo};
+use crate::places::{Places, copies, keep_in_place, put_place, reserve_in};
+use craq_commands::{Kept, Reply, Said, Window, look_in};
+use craq_names::{ClientId, Items, RequestNo};
 use std::alloc::{AllocError, Global};
 use std::collections::BTreeMap;
 use std::marker::Model;
@@ -56,6 +56,33 @@ impl ReplyTable {
         }
     }
 
+    /// What is kept for a client, by rising number: 8 replies at most. It takes no memory.
+    pub fn window(&self, client: ClientId) -> &[Kept]
+        ensures window { result.now ≡ window_of self.now client }
+        ensures few { length result.now ≤ 8 }
+    {
+        match self.places.get(&client.get()) {
+            Some(held) => held.as_slice(),
+            None => &[],
+        }
+    }
+
+    /// These replies, 1 to 8, which come by rising number, are what is kept for a client.
+    pub fn put(&mut self, client: ClientId, replies: Vec<Kept>) -> Result<(), AllocError>
+        requires few { length replies.items ≤ 8 }
+        requires some { 1 ≤ length replies.items }
+        ensures { OnOk result (self.new.kept ≡ put_number self.old.kept client replies.items) }
+    {
+        put_place(&mut self.places, client.get(), replies)
+    }
+
+    /// A copy of what is kept for each client, by rising client.
+    pub fn copied(&self, alloc: Global) -> Result<Items<(ClientId, Window)>, AllocError>
+        ensures { IfOk result (λ kept. kept ≡ self.now.kept) }
+    {
+        Ok(Items::of(copies(alloc, &self.places)?))
+    }
+
     /// Makes room for the next reply to a client, whose `keep` then takes no memory. What is kept stays in
     /// either case.
     pub fn reserve(&mut self, client: ClientId) -> Result<(), AllocError>
@@ -64,8 +91,7 @@ impl ReplyTable {
         ensures ok { OnOk result (0 < room_at self.new client) }
         ensures succeeds { 0 < room_at self.old client → IsOk result }
     {
-        place(self.alloc, &mut self.places, client.get())?;
-        reserve_in(&mut self.places, client.get())
+        reserve_in(self.alloc, &mut self.places, client.get())
     }
 
     /// Keeps the reply to a new number of a client; a ninth drops that to its smallest number. Where memory
@@ -81,8 +107,7 @@ impl ReplyTable {
         ensures rooms { KeepsOthersRoom self.old self.new client }
         ensures succeeds { 0 < room_at self.old client → IsOk result }
     {
-        place(self.alloc, &mut self.places, client.get())?;
-        keep_in_place(&mut self.places, client.get(), number, reply)
+        keep_in_place(self.alloc, &mut self.places, client.get(), number, reply)
     }
 
     /// What is kept for each client, by rising client. It takes no memory.

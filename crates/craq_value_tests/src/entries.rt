@@ -29,6 +29,9 @@ fn entry(alloc: Global, position: u64) -> Result<Entry, Refusal>
 enum Ask {
     /// An entry at the next position.
     Append,
+    /// Entries at the next two positions.
+    AppendTwo,
+    TakeFirst,
     Acknowledge(u64),
     Reserve(usize),
     /// The entries after a position.
@@ -39,6 +42,24 @@ fn append(alloc: Global, suffix: &mut Suffix) -> Result<(), Refusal> {
     match suffix.len().get().checked_add(1) {
         None => Err(Refusal::Exhausted),
         Some(position) => Ok(suffix.append(entry(alloc, position)?)?),
+    }
+}
+
+fn append_two(alloc: Global, suffix: &mut Suffix) -> Result<(), Refusal> {
+    let length = suffix.len().get();
+    if length.checked_add(2).is_none() {
+        return Err(Refusal::Exhausted);
+    }
+    let mut two = Vec::new(alloc);
+    two.push(entry(alloc, length + 1)?)?;
+    two.push(entry(alloc, length + 2)?)?;
+    Ok(suffix.append_all(Items::of(two))?)
+}
+
+fn take_first(alloc: Global, suffix: &mut Suffix) -> Option<Seq> {
+    match suffix.take_first(alloc) {
+        None => None,
+        Some(entry) => Some(entry.position),
     }
 }
 
@@ -70,6 +91,8 @@ fn print_from<R: Print>(rt: &R, suffix: &Suffix, position: u64) -> io::Result<()
 fn answer<R: AllocGlobal + Print>(rt: &R, suffix: &mut Suffix, ask: Ask) -> io::Result<()> {
     match ask {
         Ask::Append => say(rt, "append", append(rt.alloc(), suffix)),
+        Ask::AppendTwo => say(rt, "append two", append_two(rt.alloc(), suffix)),
+        Ask::TakeFirst => say(rt, "take first", take_first(rt.alloc(), suffix)),
         Ask::Acknowledge(position) => say(rt, "acknowledge", acknowledge(suffix, position)),
         Ask::Reserve(additional) => say(rt, "reserve", suffix.reserve(additional)),
         Ask::From(position) => print_from(rt, suffix, position),
@@ -102,8 +125,21 @@ static IN_AND_OUT: [Ask; 10] = [
 
 static RESERVED: [Ask; 4] = [Ask::Reserve(2), Ask::Append, Ask::Append, Ask::From(2)];
 
-/// Entries that go in and out of a suffix, and into room that was made.
+static TAKEN: [Ask; 9] = [
+    Ask::TakeFirst,
+    Ask::AppendTwo,
+    Ask::AppendTwo,
+    Ask::TakeFirst,
+    Ask::From(5),
+    Ask::TakeFirst,
+    Ask::Acknowledge(6),
+    Ask::TakeFirst,
+    Ask::TakeFirst,
+];
+
+/// Entries that go in and out of a suffix, into room that was made, and two at once and out one at a time.
 pub(crate) fn run<R: AllocGlobal + Print>(rt: &R) -> io::Result<()> {
     ask_all(rt, 10, &IN_AND_OUT)?;
-    ask_all(rt, 0, &RESERVED)
+    ask_all(rt, 0, &RESERVED)?;
+    ask_all(rt, 3, &TAKEN)
 }

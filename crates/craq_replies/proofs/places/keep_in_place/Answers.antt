@@ -1,6 +1,7 @@
-use Rattle.std.proofs.Common.{arith, rules}
+use Rattle.std.proofs.Common.{ap, arith, rules}
 use Rattle.std.proofs.lemmas.Result.{on_ok_weaker, on_err_weaker}
-use Rattle.craq_replies.proofs.Tables.{kept_more, kept_stays, others_kept, room_old}
+use Rattle.std.specs.Prelude.{is_some}
+use Rattle.craq_replies.proofs.Tables.{no_room, kept_more, kept_stays, others_kept, room_old}
 use Rattle.craq_replies.proofs.places.keep_in_place.Goals as goal
 
 pub returns-in-Some-clause-ok : goal.returns-in-Some-clause-ok
@@ -24,3 +25,6 @@ pub returns-in-Some-clause-succeeds : goal.returns-in-Some-clause-succeeds
 returns-in-Some-clause-succeeds c =
     let old = room_old c.args.places.now.entries c.args.client c.in-Some.held.now c.in-Some.ensures.value in
     λ room. c.keep.ensures.succeeds (omega (arith, old, room))
+
+pub returns-in-None-clause-succeeds : goal.returns-in-None-clause-succeeds
+returns-in-None-clause-succeeds c = λ room. absurd (no_room c.args.places.now.entries c.args.client (ap is_some c.in-None.ensures.value) room)

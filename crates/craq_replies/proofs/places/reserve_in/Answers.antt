@@ -1,6 +1,7 @@
-use Rattle.std.proofs.Common.{arith, rules}
+use Rattle.std.proofs.Common.{ap, arith, rules}
 use Rattle.std.proofs.lemmas.Result.{on_ok_weaker}
-use Rattle.craq_replies.proofs.Tables.{kept_stays, rooms_kept, room_here, room_old}
+use Rattle.std.specs.Prelude.{is_some}
+use Rattle.craq_replies.proofs.Tables.{no_room, kept_stays, rooms_kept, room_here, room_old}
 use Rattle.craq_replies.proofs.places.reserve_in.Goals as goal
 
 pub returns-in-Some-clause-kept : goal.returns-in-Some-clause-kept
@@ -22,3 +23,6 @@ pub returns-in-Some-clause-succeeds : goal.returns-in-Some-clause-succeeds
 returns-in-Some-clause-succeeds c =
     let old = room_old c.args.places.now.entries c.args.client c.in-Some.held.now c.in-Some.ensures.value in
     λ room. c.reserve.ensures.succeeds (omega (arith, old, room))
+
+pub returns-in-None-clause-succeeds : goal.returns-in-None-clause-succeeds
+returns-in-None-clause-succeeds c = λ room. absurd (no_room c.args.places.now.entries c.args.client (ap is_some c.in-None.ensures.value) room)

@@ -1,9 +1,8 @@
-use Rattle.std.proofs.Common.{arith}
-use Rattle.craq_log.proofs.Consecutive.{consecutive_from, rest_taken}
+use Rattle.craq_log.proofs.Stored.{row_after, rest_taken}
 use Rattle.craq_log.proofs.suffix.Suffix.from.Goals as goal
 
-pub returns-clause-consecutive : goal.returns-clause-consecutive
-returns-clause-consecutive c =
+pub returns-clause-in_row : goal.returns-clause-in_row
+returns-clause-in_row c =
     let held = rw (← c.self.view_is) at c.requires.held in
     rw (c.as_slice.ensures.value, c.get.ensures, rest_taken)
-    (consecutive_from c.self.inside.start c.args.position c.self.inside.entries.items (omega arith) c.self.invariant.consecutive)
+    (row_after c.self.inside.start c.self.inside.settled c.args.position c.self.inside.entries.items c.self.invariant held)

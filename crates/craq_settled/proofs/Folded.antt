@@ -1,0 +1,77 @@
+-- The state once entries are folded into it.
+use Rattle.std.proofs.Common.{◌≡◌, ◌<◌, ◌≤◌, ℕ, zero, suc, ◌+◌, ◌-◌, List, [], ◌∷◌, length, get_or, take, drop, unwrap_or, refl, sym, ap, ◌∙◌, arith, drop-drop}
+use Rattle.std.specs.Prelude.{Result, Ok, Err, IsOk, OnOk, true, false}
+use Rattle.craq_names.specs.Maps.{at_number, put_number}
+use Rattle.craq_commands.specs.declared.entry.Entry.{Entry}
+use Rattle.craq_commands.specs.declared.entry.Write.{Write}
+use Rattle.craq_commands.specs.declared.state.State.{State}
+use Rattle.craq_commands.specs.Kept.{Window, keep}
+use Rattle.craq_commands.specs.Objects.{Objects, set_object}
+use Rattle.craq_commands.specs.SingleCopy.{after_entry, after_entries, kept_with, window_of, with_writes}
+use Rattle.craq_log.specs.Suffixed.{Suffixed, IsFirstOf}
+use Rattle.craq_settled.specs.Folded.{AreFolded}
+use Rattle.craq_settled.specs.Placed.{state_at}
+
+-- what holds where a call succeeds, once it did
+pub when_ok : {T E P : Type 0} (r : Result T E) → IsOk r → OnOk r P → P
+when_ok (Ok x) h p = p
+when_ok (Err e) h p = absurd (not_ok h)
+  where
+    not_ok : false ≡ true → ⊥
+    not_ok h = cc
+
+-- what an entry's writes and its reply make of a state
+pub after_is : (m n : Objects) (kept more : List (ℕ × Window)) (e : Entry) → n ≡ with_writes m e.writes → more ≡ put_number kept e.client (keep (unwrap_or (at_number kept e.client) []) e.number e.reply)
+    → state_at n more ≡ after_entry (state_at m kept) e
+unfolding after_entry kept_with window_of
+after_is m n kept more e a b = ap (λ (x : Objects). state_at x more) a ∙ ap (λ (k : List (ℕ × Window)). state_at (with_writes m e.writes) k) b
+
+take_nothing : (n : ℕ) → take {A = Entry} n [] ≡ []
+take_nothing zero = refl
+take_nothing (suc n) = refl
+
+-- entries in two parts
+in_parts : (s : State) (es : List Entry) (n m : ℕ) → after_entries (after_entries s (take n es)) (take m (drop n es)) ≡ after_entries s (take (n + m) es)
+in_parts s es zero m = let k : m ≡ 0 + m = omega arith in ap (λ (i : ℕ). after_entries s (take i es)) k
+in_parts s [] (suc n) m = ap (after_entries s) (take_nothing m ∙ sym (take_nothing (suc n + m)))
+in_parts s (e ∷ es) (suc n) m = let k : suc (n + m) ≡ suc n + m = omega arith in in_parts (after_entry s e) es n m ∙ ap (λ (i : ℕ). after_entries s (take i (e ∷ es))) k
+
+-- the first is folded
+one_folded : (s t : State) (old new : Suffixed) (e : Entry) → t ≡ after_entry s e → IsFirstOf e old new → AreFolded s old t new
+one_folded s t old new e one first =
+    let base = first.base in
+    let k : 1 ≡ new.base - old.base = omega arith in
+    record {
+      state = one ∙ ap (λ (l : List Entry). after_entries s (take 1 l)) (sym first.entries) ∙ ap (λ (i : ℕ). after_entries s (take i old.entries)) k;
+      entries = ap (λ (l : List Entry). drop 1 l) (sym first.entries) ∙ ap (λ (i : ℕ). drop i old.entries) k;
+    }
+
+-- a list of one item
+pub only : (ws : List Write) (w : Write) → 1 ≤ length ws → length ws < 2 → w ≡ get_or ws 0 w → ws ≡ w ∷ []
+only [] w some few is = absurd (omega (arith, some))
+only (v ∷ []) w some few is = ap (λ (x : Write). x ∷ []) (sym is)
+only (v ∷ u ∷ ws) w some few is = absurd (omega (arith, few))
+
+-- the entry that is taken out is the one that was looked at
+pub taken_is : (old new : Suffixed) (first entry : Entry) → take 1 old.entries ≡ first ∷ [] → IsFirstOf entry old new → entry ≡ first
+taken_is old new first entry looked is = ap (λ (l : List Entry). get_or l 0 entry) (sym (ap (λ (l : List Entry). take 1 l) is.entries) ∙ looked)
+
+-- the first is folded into the place of the one object that it writes
+pub folded_in_place : (m n : Objects) (kept mid more : List (ℕ × Window)) (old new : Suffixed) (e : Entry) (w : Write) → IsFirstOf e old new → e.writes ≡ w ∷ [] → n ≡ set_object m w.key w.version w.value
+    → mid ≡ kept → more ≡ put_number mid e.client (keep (unwrap_or (at_number mid e.client) []) e.number e.reply) → AreFolded (state_at m kept) old (state_at n more) new
+folded_in_place m n kept mid more old new e w first writes written same keeps =
+    one_folded (state_at m kept) (state_at n more) old new e
+    (after_is m n kept more e (written ∙ ap (λ (l : List Write). with_writes m l) (sym writes)) (keeps ∙ ap (λ (k : List (ℕ × Window)). put_number k e.client (keep (unwrap_or (at_number k e.client) []) e.number e.reply)) same))
+    first
+
+-- more are folded
+pub more_folded : (s t u : State) (old mid new : Suffixed) → old.base ≤ mid.base → mid.base ≤ new.base → AreFolded s old t mid → AreFolded t mid u new → AreFolded s old u new
+more_folded s t u old mid new low high before after =
+    let k : (mid.base - old.base) + (new.base - mid.base) ≡ new.base - old.base = omega arith in
+    record {
+      state = after.state ∙ ap (λ (l : List Entry). after_entries t (take (new.base - mid.base) l)) before.entries
+          ∙ ap (λ (x : State). after_entries x (take (new.base - mid.base) (drop (mid.base - old.base) old.entries))) before.state
+          ∙ in_parts s old.entries (mid.base - old.base) (new.base - mid.base) ∙ ap (λ (i : ℕ). after_entries s (take i old.entries)) k;
+      entries = after.entries ∙ ap (λ (l : List Entry). drop (new.base - mid.base) l) before.entries
+          ∙ drop-drop (new.base - mid.base) (mid.base - old.base) old.entries ∙ ap (λ (i : ℕ). drop i old.entries) k;
+    }

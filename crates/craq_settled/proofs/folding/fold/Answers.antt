@@ -1,0 +1,17 @@
+use Rattle.std.proofs.Common.{◌≡◌, ◌+◌, ◌∙◌, arith, rules}
+use Rattle.craq_settled.proofs.Folded.{more_folded, when_ok}
+use Rattle.craq_settled.proofs.folding.fold.Goals as goal
+
+pub loop-alloc-preserved : goal.loop-alloc-preserved
+loop-alloc-preserved c =
+    let next : c.fold_first.new.entries.base ≡ c.loop-alloc.entries.base + 1 = when_ok c.fold_first.result (search rules) c.fold_first.ensures.ok in
+    let low = c.loop-alloc.invariant.from in
+    let below = c.loop-alloc-test.true in
+    let base = c.get.ensures ∙ c.base.ensures in
+    let end = c.get-in-loop-alloc.ensures in
+    record {
+      from = omega (arith, next, low);
+      to = omega (arith, next, below, base, end);
+      folded = more_folded _ _ _ _ _ _ low (omega (arith, next)) c.loop-alloc.invariant.folded c.fold_first.ensures.folded;
+      ordered = c.fold_first.ensures.ordered;
+    }

@@ -1,0 +1,3 @@
+pub mod Folds
+pub mod Forgets
+pub mod Observed

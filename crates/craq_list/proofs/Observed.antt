@@ -1,0 +1,72 @@
+-- What is read of what is stored, by the past that it stands for.
+use Rattle.std.proofs.Common.{◌≡◌, ℕ, ◌+◌, ◌-◌, List, length, take, drop, sym, ap, ◌∙◌, arith}
+use Rattle.craq_commands.specs.declared.entry.Entry.{Entry}
+use Rattle.craq_commands.specs.declared.state.State.{State}
+use Rattle.craq_commands.specs.Kept.{Window}
+use Rattle.craq_commands.specs.Objects.{object_of, version_of}
+use Rattle.craq_commands.specs.SingleCopy.{after_entries, is_new_to, said, window_of}
+use Rattle.craq_model.specs.Past.{Past, entries_in, newest_in, clean_in, newest_within, values_after, object_within_in}
+use Rattle.craq_compaction.specs.Compacted.{compacted_in}
+use Rattle.craq_compaction.proofs.Pasts.{compacted_newest, compacted_clean}
+use Rattle.craq_plain.specs.Scans.{last_value}
+use Rattle.craq_plain.specs.Slots.{is_new_in, reply_at, said_in, slots_after, slots_from}
+use Rattle.craq_plain.proofs.Scans.{last_of_values}
+use Rattle.craq_plain.proofs.Windows.{said_after, new_later}
+
+-- the newest version of an object
+pub newest_told : (h : Past) (key : List ℕ) (o : ℕ × List ℕ) (es : List Entry) → o ≡ object_of h.base_state.objects key → es ≡ h.entries
+    → last_value o (values_after es key) ≡ object_of (newest_in (compacted_in h)).objects key
+newest_told h key o es e f =
+    ap (λ (x : ℕ × List ℕ). last_value x (values_after es key)) e
+    ∙ ap (λ (xs : List Entry). last_value (object_of h.base_state.objects key) (values_after xs key)) f
+    ∙ sym (last_of_values h.base_state h.entries key)
+    ∙ sym (ap (λ (s : State). object_of s.objects key) (compacted_newest h))
+
+-- its clean version
+pub clean_told : (h : Past) (key : List ℕ) (o : ℕ × List ℕ) (es : List Entry) → o ≡ object_of h.base_state.objects key → es ≡ take (h.acknowledged - h.base) h.entries
+    → last_value o (values_after es key) ≡ object_of (clean_in (compacted_in h)).objects key
+clean_told h key o es e f =
+    ap (λ (x : ℕ × List ℕ). last_value x (values_after es key)) e
+    ∙ ap (λ (xs : List Entry). last_value (object_of h.base_state.objects key) (values_after xs key)) f
+    ∙ sym (last_of_values h.base_state (take (h.acknowledged - h.base) h.entries) key)
+    ∙ sym (ap (λ (s : State). object_of s.objects key) (compacted_clean h))
+
+nothing : (n : ℕ) → n - n ≡ 0
+nothing n = omega arith
+
+-- the entries that are not settled
+later_told : (h : Past) → drop (h.acknowledged - h.base) h.entries ≡ entries_in (compacted_in h) h.acknowledged
+later_told h = sym (ap (λ (n : ℕ). drop n (drop (h.acknowledged - h.base) h.entries)) (nothing h.acknowledged))
+
+-- its newest version within a bound
+pub within_told : (h : Past) (key : List ℕ) (bound : ℕ) (o : ℕ × List ℕ) (es : List Entry) → o ≡ object_of (clean_in (compacted_in h)).objects key → es ≡ drop (h.acknowledged - h.base) h.entries
+    → newest_within bound o (values_after es key) ≡ object_within_in (compacted_in h) key bound
+within_told h key bound o es e f =
+    ap (λ (x : ℕ × List ℕ). newest_within bound x (values_after es key)) e
+    ∙ ap (λ (xs : List Entry). newest_within bound (object_of (clean_in (compacted_in h)).objects key) (values_after xs key)) (f ∙ later_told h)
+
+-- what is said of a client's number
+pub said_told : (h : Past) (client n : ℕ) (w : Window) (es : List Entry) → w ≡ window_of h.base_state client → es ≡ h.entries
+    → said_in (reply_at w es) (slots_after client (length w) es (slots_from 0 w)) n ≡ said (newest_in (compacted_in h)) client n
+said_told h client n w es e f =
+    ap (λ (x : Window). said_in (reply_at x es) (slots_after client (length x) es (slots_from 0 x)) n) e
+    ∙ ap (λ (xs : List Entry). said_in (reply_at (window_of h.base_state client) xs) (slots_after client (length (window_of h.base_state client)) xs (slots_from 0 (window_of h.base_state client))) n) f
+    ∙ said_after h.base_state h.entries client n
+    ∙ sym (ap (λ (s : State). said s client n) (compacted_newest h))
+
+-- whether it is new after further entries
+pub new_told : (h : Past) (later : List Entry) (client n : ℕ) (w : Window) (es : List Entry) → w ≡ window_of h.base_state client → es ≡ h.entries
+    → is_new_in (slots_after client (length w + length es) later (slots_after client (length w) es (slots_from 0 w))) n ≡ is_new_to (after_entries (newest_in (compacted_in h)) later) client n
+new_told h later client n w es e f =
+    let v : Window = window_of h.base_state client in
+    ap (λ (x : Window). is_new_in (slots_after client (length x + length es) later (slots_after client (length x) es (slots_from 0 x))) n) e
+    ∙ ap (λ (xs : List Entry). is_new_in (slots_after client (length v + length xs) later (slots_after client (length v) xs (slots_from 0 v))) n) f
+    ∙ new_later h.base_state h.entries later client n
+    ∙ sym (ap (λ (s : State). is_new_to (after_entries s later) client n) (compacted_newest h))
+
+-- the version of an object after further entries
+pub version_told : (h : Past) (later : List Entry) (key : List ℕ) (o : ℕ × List ℕ) → o ≡ object_of (newest_in (compacted_in h)).objects key
+    → (last_value o (values_after later key)).0 ≡ version_of (after_entries (newest_in (compacted_in h)) later).objects key
+version_told h later key o e =
+    ap (λ (x : ℕ × List ℕ). (last_value x (values_after later key)).0) e
+    ∙ sym (ap (λ (x : ℕ × List ℕ). x.0) (last_of_values (newest_in (compacted_in h)) later key))

@@ -1,0 +1,178 @@
+ghost use Rattle.std.specs.Prelude.{◌≡◌, ◌-◌, ◌≤◌, true, take, drop};
+ghost use Rattle.craq_commands.specs.Objects.{version_of};
+ghost use Rattle.craq_commands.specs.SingleCopy.{after_entries, is_new_to};
+ghost use Rattle.craq_model.specs.Deliveries.{is_applicable};
+ghost use Rattle.craq_model.specs.Past.{newest_in};
+ghost use Rattle.craq_compaction.specs.Compacted.{compacted_in};
+ghost use Rattle.craq_compaction.proofs.Pasts.{compacted_twice};
+ghost use Rattle.craq_log.specs.Suffixed.{length_of};
+ghost use Rattle.craq_list.specs.Stored.{stored};
+
+use craq_commands::{Entry, Said, State};
+use craq_history::History;
+use craq_log::Suffix;
+use craq_names::{ClientId, Items, Key, RequestNo, Seq, Version};
+use craq_plain::lookups::{
+    follows, is_new_past, last_position_of, object_past, object_up_to, said_past,
+};
+use craq_plain::states::state_after;
+use craq_settled::SettledState;
+use std::alloc::{AllocError, Global};
+
+/// A past that forgets settled entries. It keeps the state after the first so many entries, and the entries after
+/// them. Settled entries are folded into the state at once; where memory is refused for that, later, and nothing
+/// that is seen differs.
+///
+/// What it is asked of an object or a client takes one look-up, and a look at each entry that is not settled.
+#[derive(Drop)]
+pub struct ListHistory {
+    state: SettledState,
+    held: Suffix,
+    acknowledged: Seq,
+    alloc: Global,
+    ghost based: { held.base ≤ acknowledged },
+    ghost within: { acknowledged ≤ length_of held },
+}
+
+impl ListHistory {
+    /// The entries after the state.
+    fn entries(&self) -> &[Entry]
+        ensures { result.now ≡ self.now.held.entries }
+    {
+        self.held.from(self.held.base())
+    }
+
+    /// The entries that are settled and not folded into the state yet. Mostly there are none.
+    fn settled(&self) -> &[Entry]
+        ensures { result.now ≡ take (self.now.acknowledged - self.now.held.base) self.now.held.entries }
+    {
+        let count = (self.acknowledged.get() - self.held.base().get()) as usize;
+        &self.entries()[..count]
+    }
+
+    /// The entries that are not settled.
+    fn unsettled(&self) -> &[Entry]
+        ensures { result.now ≡ drop (self.now.acknowledged - self.now.held.base) self.now.held.entries }
+    {
+        self.held.from(self.acknowledged)
+    }
+
+    /// The version of an object after all entries and these further ones.
+    fn version_later(&self, later: &[Entry], key: &Key) -> Version
+        ensures { result ≡ version_of (after_entries (newest_in (⟦<ListHistory as History>⟧.past self.now)) later.now).objects key.now }
+    {
+        let (newest, bytes) = self.newest(key);
+        object_past(newest, bytes, later, key).0
+    }
+
+    /// Whether a client's number is new after all entries and these further ones.
+    fn is_new_later(&self, later: &[Entry], client: ClientId, number: RequestNo) -> bool
+        ensures { result ≡ is_new_to (after_entries (newest_in (⟦<ListHistory as History>⟧.past self.now)) later.now) client number }
+    {
+        let window = self.state.window(client);
+        is_new_past(window, self.entries(), later, client, number)
+    }
+
+    /// Whether an entry fits the state after all entries and these earlier ones.
+    #[tactic(auto, unfolding(craq_model::specs::Deliveries::is_applicable))]
+    fn is_next(&self, earlier: &[Entry], entry: &Entry) -> bool
+        ensures { result ≡ is_applicable (after_entries (newest_in (⟦<ListHistory as History>⟧.past self.now)) earlier.now) entry.now }
+    {
+        for write in entry.writes.as_slice() {
+            if !follows(write.version, self.version_later(earlier, &write.key)) {
+                return false;
+            }
+        }
+        self.is_new_later(earlier, entry.client, entry.number)
+    }
+}
+
+impl History for ListHistory {
+    ghost past = { λ h. compacted_in (stored h.held.base h.state h.held.entries h.acknowledged) };
+
+    ghost forgets = { true };
+
+    ghost is_remembered = { λ h. compacted_twice (stored h.held.base h.state h.held.entries h.acknowledged) };
+
+    fn new(alloc: Global) -> Self {
+        ListHistory {
+            state: SettledState::new(alloc),
+            held: Suffix::new(alloc, Seq::new(0)),
+            acknowledged: Seq::new(0),
+            alloc,
+        }
+    }
+
+    fn len(&self) -> u64 {
+        self.held.len().get()
+    }
+
+    fn acknowledged(&self) -> u64 {
+        self.acknowledged.get()
+    }
+
+    fn newest(&self, key: &Key) -> (Version, &[u8]) {
+        let (first, bytes) = self.state.object(key);
+        object_past(first, bytes, self.entries(), key)
+    }
+
+    fn clean(&self, key: &Key) -> (Version, &[u8]) {
+        let (first, bytes) = self.state.object(key);
+        object_past(first, bytes, self.settled(), key)
+    }
+
+    fn within(&self, key: &Key, version: u64, above: u64) -> (Version, &[u8]) {
+        let (clean, bytes) = self.clean(key);
+        object_up_to(clean, bytes, self.unsettled(), key, version, above)
+    }
+
+    fn said(&self, client: ClientId, number: RequestNo) -> Said<'_> {
+        said_past(self.state.window(client), self.entries(), client, number)
+    }
+
+    fn are_next(&self, entries: &[Entry]) -> bool {
+        for place in 0..entries.len() {
+            if !self.is_next(&entries[..place], &entries[place]) {
+                return false;
+            }
+        }
+        true
+    }
+
+    fn position_of(&self, client: ClientId) -> u64 {
+        last_position_of(self.unsettled(), client, self.acknowledged.get())
+    }
+
+    fn after(&self, position: u64) -> &[Entry] {
+        if position < self.held.len().get() {
+            self.held.from(Seq::new(position))
+        } else {
+            &[]
+        }
+    }
+
+    fn append(&mut self, entries: Items<Entry>) -> Result<(), AllocError> {
+        self.held.append_all(entries)
+    }
+
+    fn acknowledge(&mut self, position: Seq) {
+        self.acknowledged = position;
+        self.state.fold(self.alloc, &mut self.held, position);
+    }
+
+    fn snapshot(&self, alloc: Global) -> Result<State, AllocError> {
+        let state = self.state.copied(alloc)?;
+        let settled = self.settled();
+        if settled.is_empty() {
+            return Ok(state);
+        }
+        state_after(alloc, &state, settled)
+    }
+
+    fn install(&mut self, position: Seq, state: State) -> Result<(), AllocError> {
+        self.state = SettledState::of(self.alloc, state)?;
+        self.held = Suffix::new(self.alloc, position);
+        self.acknowledged = position;
+        Ok(())
+    }
+}

@@ -2,23 +2,39 @@ use clap::builder::ValueParser;
 use clap::{Arg, ArgAction, ArgMatches, Command, Error};
 use std::alloc::{AllocError, Global};
 
+/// What the nodes of a chain keep.
+#[derive(Clone, Copy)]
+pub enum CoreKind {
+    /// Every entry.
+    Plain,
+    /// The state after the entries that are known to be committed, and the other entries.
+    List,
+}
+
+/// The nodes of the chain that is played on.
+#[derive(Clone, Copy)]
+pub struct Nodes {
+    pub count: u32,
+    pub core: CoreKind,
+}
+
 /// What a command line asks for.
 #[derive(Clone, Copy)]
 pub enum Asked<'a> {
-    /// To play the script of this file, or of standard input, on a chain of so many nodes.
+    /// To play the script of this file, or of standard input, on a chain of these nodes.
     Play {
-        nodes: u32,
+        nodes: Nodes,
         file: Option<&'a str>,
     },
     /// To play one schedule of the script of this file, drawn by these choices.
     Draw {
-        nodes: u32,
+        nodes: Nodes,
         file: &'a str,
         choices: &'a str,
     },
     /// To stop and remove the node of this id after each move of the script of this file.
     Stops {
-        nodes: u32,
+        nodes: Nodes,
         file: &'a str,
         node: &'a str,
     },
@@ -30,6 +46,8 @@ pub enum Asked<'a> {
 const GREATEST_NODE: u64 = 0xffff_ffff;
 
 static NODE_COUNTS: [&str; 8] = ["1", "2", "3", "4", "5", "6", "7", "8"];
+
+static CORES: [&str; 2] = ["plain", "list"];
 
 const ABOUT: &str =
     "Plays scripts on a small replicated object store, and prints what each step does";
@@ -128,17 +146,31 @@ fn nodes_arg<'a>(alloc: Global) -> Arg<'a> {
         .help("How many nodes the chain has; they are numbered from 1, the head")
 }
 
-/// A command with its texts and its first argument, `[--nodes N]`.
+/// What the nodes keep: `[--core CORE]`.
+fn core_arg<'a>(alloc: Global) -> Arg<'a> {
+    Arg::new(alloc, "core")
+        .long("core")
+        .value_name("CORE")
+        .action(ArgAction::Set)
+        .value_parser(CORES.as_slice())
+        .default_value("list")
+        .help(
+            "What a node keeps: every entry (plain), or a state and the entries after it (list); both print the same",
+        )
+}
+
+/// A command with its texts and its first arguments, `[--nodes N] [--core CORE]`.
 fn command_with_nodes<'a>(
     alloc: Global,
     name: &'a str,
     about: &'a str,
     help: &'a str,
 ) -> Result<Command<'a>, AllocError> {
-    Command::new(alloc, name)
+    let command = Command::new(alloc, name)
         .about(about)
         .after_help(help)
-        .arg(nodes_arg(alloc))
+        .arg(nodes_arg(alloc))?;
+    command.arg(core_arg(alloc))
 }
 
 /// The argument `FILE`, which must be given.
@@ -146,14 +178,14 @@ fn script_arg<'a>(alloc: Global) -> Arg<'a> {
     Arg::new(alloc, "FILE").required(true).help("The script")
 }
 
-/// `play [--nodes N] [FILE]`.
+/// `play [--nodes N] [--core CORE] [FILE]`.
 fn play_command<'a>(alloc: Global) -> Result<Command<'a>, AllocError> {
     let command = command_with_nodes(alloc, "play", PLAY_ABOUT, PLAY_HELP)?;
     let file = Arg::new(alloc, "FILE").help("The script; without it, standard input is played");
     command.arg(file)
 }
 
-/// `draw [--nodes N] FILE CHOICES`.
+/// `draw [--nodes N] [--core CORE] FILE CHOICES`.
 fn draw_command<'a>(alloc: Global) -> Result<Command<'a>, AllocError> {
     let command = command_with_nodes(alloc, "draw", DRAW_ABOUT, DRAW_HELP)?;
     let command = command.arg(script_arg(alloc))?;
@@ -163,7 +195,7 @@ fn draw_command<'a>(alloc: Global) -> Result<Command<'a>, AllocError> {
     command.arg(choices)
 }
 
-/// `stops [--nodes N] FILE NODE`.
+/// `stops [--nodes N] [--core CORE] FILE NODE`.
 fn stops_command<'a>(alloc: Global) -> Result<Command<'a>, AllocError> {
     let command = command_with_nodes(alloc, "stops", STOPS_ABOUT, STOPS_HELP)?;
     let command = command.arg(script_arg(alloc))?;
@@ -203,9 +235,21 @@ fn with_stops<'a>(alloc: Global, command: Command<'a>) -> Result<Command<'a>, Al
     command.subcommand(stops)
 }
 
+/// The nodes that the words after a command's name ask for.
+fn nodes_of(given: &ArgMatches<'_>) -> Nodes {
+    let core = match given.get_str("core") {
+        Some("plain") => CoreKind::Plain,
+        _ => CoreKind::List,
+    };
+    Nodes {
+        count: given.get_one::<u32>("nodes").unwrap_or(3),
+        core,
+    }
+}
+
 /// What the words after a command's name ask for.
 fn asked_of<'a>(name: &str, given: &ArgMatches<'a>) -> Asked<'a> {
-    let nodes = given.get_one::<u32>("nodes").unwrap_or(3);
+    let nodes = nodes_of(given);
     let file = given.get_str("FILE");
     match name {
         "draw" => Asked::Draw {

@@ -1,13 +1,17 @@
-//! The program: `craq_lab play [--nodes N] [FILE]`, `craq_lab draw [--nodes N] FILE CHOICES`,
-//! `craq_lab stops [--nodes N] FILE NODE`.
+//! The program: `craq_lab play [--nodes N] [--core CORE] [FILE]`,
+//! `craq_lab draw [--nodes N] [--core CORE] FILE CHOICES`, `craq_lab stops [--nodes N] [--core CORE] FILE NODE`.
 #![tactic(auto)]
+
+ghost use Rattle.std.specs.Prelude.{◌≤◌};
 
 mod command_line;
 mod numbers;
 
 use clap::Error;
-use command_line::{Asked, asked_by};
+use command_line::{Asked, CoreKind, Nodes, asked_by};
+use craq_list::ListCore;
 use craq_names::{NodeId, Refusal};
+use craq_node::Core;
 use craq_play::{PlainCore, PlayFault, play};
 use craq_schedules::{draw, stops};
 use std::alloc::Global;
@@ -106,8 +110,27 @@ enum Way<'a> {
     Stops(NodeId),
 }
 
+/// What a script prints on a chain of so many nodes, each a core of this type.
+fn played<C: Core, R: AllocGlobal + Wait>(
+    rt: &R,
+    nodes: u32,
+    script: &[u8],
+    way: &Way<'_>,
+) -> Result<String, PlayFault>
+    requires { (1 ≤ nodes) × (nodes ≤ 8) }
+{
+    let alloc = rt.alloc();
+    match way {
+        Way::Play => play::<C, R>(rt, alloc, nodes, script),
+        Way::Draw(choices) => {
+            draw::<C>(alloc, nodes, script, choices).map_err(PlayFault::Refused)
+        }
+        Way::Stops(node) => stops::<C>(alloc, nodes, script, *node).map_err(PlayFault::Refused),
+    }
+}
+
 /// Plays the script of a file and prints what it did. Gives the status.
-fn play_file<R>(rt: &R, nodes: u32, file: Option<&str>, way: Way<'_>) -> io::Result<u8>
+fn play_file<R>(rt: &R, nodes: Nodes, file: Option<&str>, way: &Way<'_>) -> io::Result<u8>
 where
     R: AllocGlobal + Files + Input + Print + Eprint + Wait,
 {
@@ -115,28 +138,22 @@ where
         Ok(bytes) => bytes,
         Err(error) => return report_unread(rt, file, error.kind()),
     };
-    let alloc = rt.alloc();
-    let nodes = nodes.max(1).min(GREATEST_COUNT);
+    let count = nodes.count.max(1).min(GREATEST_COUNT);
     let script = bytes.as_slice();
-    let played = match way {
-        Way::Play => play::<PlainCore, R>(rt, alloc, nodes, script),
-        Way::Draw(choices) => {
-            draw::<PlainCore>(alloc, nodes, script, choices).map_err(PlayFault::Refused)
-        }
-        Way::Stops(node) => {
-            stops::<PlainCore>(alloc, nodes, script, node).map_err(PlayFault::Refused)
-        }
+    let printed = match nodes.core {
+        CoreKind::Plain => played::<PlainCore, R>(rt, count, script, way),
+        CoreKind::List => played::<ListCore, R>(rt, count, script, way),
     };
-    report(rt, played)
+    report(rt, printed)
 }
 
 /// Plays the schedule that the choices draw. Gives the status.
-fn draw_file<R>(rt: &R, nodes: u32, file: &str, choices: &str) -> io::Result<u8>
+fn draw_file<R>(rt: &R, nodes: Nodes, file: &str, choices: &str) -> io::Result<u8>
 where
     R: AllocGlobal + Files + Input + Print + Eprint + Wait,
 {
     match numbers::choices_of(rt.alloc(), choices)? {
-        Some(choices) => play_file(rt, nodes, Some(file), Way::Draw(choices.as_slice())),
+        Some(choices) => play_file(rt, nodes, Some(file), &Way::Draw(choices.as_slice())),
         None => {
             eprintln!(rt; "choices refused")?;
             Ok(BAD_INPUT)
@@ -145,12 +162,12 @@ where
 }
 
 /// Plays the script up to each of its moves, and stops the node there. Gives the status.
-fn stops_file<R>(rt: &R, nodes: u32, file: &str, node: &str) -> io::Result<u8>
+fn stops_file<R>(rt: &R, nodes: Nodes, file: &str, node: &str) -> io::Result<u8>
 where
     R: AllocGlobal + Files + Input + Print + Eprint + Wait,
 {
     match numbers::number_of(node.as_bytes()) {
-        Some(id) => play_file(rt, nodes, Some(file), Way::Stops(NodeId::new(id))),
+        Some(id) => play_file(rt, nodes, Some(file), &Way::Stops(NodeId::new(id))),
         None => {
             eprintln!(rt; "error: invalid value '{node}' for '<NODE>': a leading zero or sign")?;
             Ok(BAD_INPUT)
@@ -178,7 +195,7 @@ where
     R: AllocGlobal + Files + Input + Print + Eprint + Wait,
 {
     match asked_by(rt.alloc(), words) {
-        Ok(Asked::Play { nodes, file }) => play_file(rt, nodes, file, Way::Play),
+        Ok(Asked::Play { nodes, file }) => play_file(rt, nodes, file, &Way::Play),
         Ok(
             Asked::Draw {
                 nodes,

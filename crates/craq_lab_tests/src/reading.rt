@@ -1,6 +1,7 @@
 //! Texts that are scripts, and texts that are not, read and played with ample memory.
+use craq_list::ListCore;
 use craq_names::Refusal;
-use craq_play::{PlainCore, PlayFault, play};
+use craq_play::{PlayFault, play};
 use craq_script::Script;
 use std::alloc::{AllocError, Global};
 use std::sync::Wait;
@@ -86,7 +87,7 @@ pub fn is_told(alloc: Global, line: &str) -> Result<bool, AllocError> {
 
 /// Whether the text is not played, and this line is told as its first outside the grammar.
 pub fn is_unplayed<R: AllocGlobal + Wait>(rt: &R, text: &str, line: u64) -> bool {
-    let played = play::<PlainCore, R>(rt, rt.alloc(), 3, text.as_bytes());
+    let played = play::<ListCore, R>(rt, rt.alloc(), 3, text.as_bytes());
     match &played {
         Err(PlayFault::Refused(Refusal::BadScript(told))) => *told == line,
         _ => false,

@@ -4,19 +4,16 @@ ghost use Rattle.craq_model.specs.Spelled.{IsSpelled};
 use crate::moves::moves_of;
 use crate::seats::opened;
 use craq_audit::{Audit, audit};
+use craq_list::ListCore;
 use craq_locked::LockedChain;
 use craq_model::{Body, Event, LinkMessage};
 use craq_names::{ChainId, Epoch, NodeId, Pass, Refusal, Seq, Stamp};
-use craq_node::NodeCore;
-use craq_plain::PlainHistory;
 use craq_play::explanation_text;
 use craq_runs::Explanation;
 use craq_seat::{BookCell, BookEvent, CallReceipt, Cell, Receipt, Seated};
 use craq_world::explain_run;
 use std::alloc::{AllocError, Global};
 use std::sync::{MutexGuard, Wait};
-
-type Node = NodeCore<PlainHistory>;
 
 /// What an audit has to answer.
 #[derive(Clone, Copy)]
@@ -199,7 +196,7 @@ fn played<R: AllocGlobal + Wait>(
     script: &str,
     shows: bool,
     calls: &mut Vec<CallReceipt>,
-) -> Result<LockedChain<Node>, Refusal> {
+) -> Result<LockedChain<ListCore>, Refusal> {
     let alloc = rt.alloc();
     let mut cells = opened(alloc, members, journal)?;
     let mut pass = Pass::start();
@@ -254,7 +251,7 @@ fn is_refused(number: u8, wanted: Wanted) -> bool {
 fn answers(
     alloc: Global,
     book: &BookCell,
-    cells: &[&Cell<Node>],
+    cells: &[&Cell<ListCore>],
     calls: &[CallReceipt],
     wanted: Wanted,
 ) -> Result<bool, AllocError> {
@@ -273,11 +270,11 @@ fn answers(
 /// The cells whose locks are held.
 fn cells_in<'a, 'b>(
     alloc: Global,
-    held: &'a [MutexGuard<'b, Seated<Node>>],
-) -> Result<Vec<&'a Cell<Node>>, AllocError> {
+    held: &'a [MutexGuard<'b, Seated<ListCore>>],
+) -> Result<Vec<&'a Cell<ListCore>>, AllocError> {
     let mut cells = Vec::new(alloc);
     for seated in held {
-        let cell: &'a Cell<Node> = seated.desk.cell();
+        let cell: &'a Cell<ListCore> = seated.desk.cell();
         cells.push(cell)?;
     }
     Ok(cells)
@@ -286,7 +283,7 @@ fn cells_in<'a, 'b>(
 /// The same of these cells of chains, of which the first has the master: all locks are held.
 fn answer<R: AllocGlobal + Wait>(
     rt: &R,
-    chains: &[LockedChain<Node>],
+    chains: &[LockedChain<ListCore>],
     cells: &[(usize, u32)],
     calls: &[CallReceipt],
     wanted: Wanted,

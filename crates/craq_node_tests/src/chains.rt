@@ -4,15 +4,14 @@ use crate::moves::{members, moves_of};
 use craq_chain::ChainCore;
 use craq_check::check;
 use craq_explain::explain_run_of;
+use craq_list::ListCore;
 use craq_model::{Answer, Out, Step};
 use craq_names::{ChainId, Items, NodeId, Refusal, Seq, Ticket, Value, Version};
-use craq_node::NodeCore;
-use craq_plain::PlainHistory;
 use craq_runs::{Explanation, Place, Run, Taken};
 use craq_world::explain_run;
 use std::alloc::{AllocError, Global};
 
-type Chain = ChainCore<NodeCore<PlainHistory>>;
+type Chain = ChainCore<ListCore>;
 
 /// A script on a chain of these members, an explanation of what it does, each place told as node, ticket and position,
 /// and whether it holds.

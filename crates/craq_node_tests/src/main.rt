@@ -1,16 +1,18 @@
-//! Facts of nodes, of the past that they keep, of chains with what explains their runs, of worlds, and of locked cells:
-//! each public call that may run out of memory is made with ample memory. Each fact is printed with whether it holds.
+//! Facts of nodes, of chains with what explains their runs, of worlds, and of locked cells: each public call that may run
+//! out of memory is made with ample memory. Each fact is printed with whether it holds.
 #![tactic(auto)]
 
 mod audits;
 mod chains;
 mod moves;
 mod nodes;
-mod pasts;
 mod seats;
 mod worlds;
 
+use craq_list::ListCore;
 use craq_names::Refusal;
+use craq_node::Core;
+use craq_play::PlainCore;
 use std::io;
 use std::sync::Wait;
 use std::thread::Threads;
@@ -23,14 +25,6 @@ fn tell<R: Print>(rt: &R, fact: &str, held: Result<bool, Refusal>) -> io::Result
         Err(_) => "is refused",
     };
     println!(rt; "{fact}: {word}")
-}
-
-fn tell_pasts<R: AllocGlobal + Print>(rt: &R) -> io::Result<()> {
-    let told = pasts::told(rt.alloc()).unwrap_or([false; 5]);
-    for (fact, held) in pasts::FACTS.iter().zip(&told) {
-        tell(rt, fact, Ok(*held))?;
-    }
-    Ok(())
 }
 
 fn tell_nodes<R: AllocGlobal + Print>(rt: &R) -> io::Result<()> {
@@ -62,24 +56,29 @@ fn tell_chains<R: AllocGlobal + Print>(rt: &R) -> io::Result<()> {
     )
 }
 
-fn tell_worlds<R: AllocGlobal + Print>(rt: &R) -> io::Result<()> {
+/// Tells of worlds over a core.
+fn tell_worlds<C: Core, R: AllocGlobal + Print>(rt: &R) -> io::Result<()> {
     let alloc = rt.alloc();
-    tell(rt, "chains do not meet", worlds::keeps_chains_apart(alloc))?;
-    tell(rt, "a put is explained", worlds::explains_a_put(alloc))?;
+    tell(
+        rt,
+        "chains do not meet",
+        worlds::keeps_chains_apart::<C>(alloc),
+    )?;
+    tell(rt, "a put is explained", worlds::explains_a_put::<C>(alloc))?;
     tell(
         rt,
         "refused moves change nothing",
-        worlds::refuses_moves(alloc),
+        worlds::refuses_moves::<C>(alloc),
     )?;
     tell(
         rt,
         "a list of moves goes on after a refusal",
-        worlds::goes_on(alloc),
+        worlds::goes_on::<C>(alloc),
     )?;
     tell(
         rt,
         "worlds have 1 to 64 chains of memberships",
-        Ok(worlds::limits_chains(alloc)),
+        Ok(worlds::limits_chains::<C>(alloc)),
     )
 }
 
@@ -121,10 +120,12 @@ fn tell_audits<R: AllocGlobal + Print + Wait>(rt: &R) -> io::Result<()> {
 }
 
 fn main(rt: HostRuntime) -> io::Result<()> {
-    tell_pasts(&rt)?;
     tell_nodes(&rt)?;
     tell_chains(&rt)?;
-    tell_worlds(&rt)?;
+    println!(rt; "over nodes that keep every entry:")?;
+    tell_worlds::<PlainCore, _>(&rt)?;
+    println!(rt; "over nodes that forget settled entries:")?;
+    tell_worlds::<ListCore, _>(&rt)?;
     tell_seats(&rt)?;
     tell_audits(&rt)
 }

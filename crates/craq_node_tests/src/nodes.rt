@@ -5,17 +5,15 @@ ghost use Rattle.craq_node.specs.Represented.{CanArrive};
 
 use craq_commands::{Command, Update};
 use craq_epochs::{Master, is_among};
+use craq_list::ListCore;
 use craq_model::{Ask, Body, Event, LinkMessage, Step};
 use craq_names::{
     ChainId, ClientId, Epoch, Key, NodeId, NodeName, ObjectId, Refusal, RequestNo, Seq, Stamp,
     Value,
 };
-use craq_node::{Core, NodeCore};
-use craq_plain::PlainHistory;
-use craq_play::{print_refusal, print_step};
+use craq_node::Core;
+use craq_play::{PlainCore, print_refusal, print_step};
 use std::alloc::{AllocError, Global};
-
-type Node = NodeCore<PlainHistory>;
 
 /// What happens at a node.
 #[derive(Clone, Copy)]
@@ -216,7 +214,7 @@ fn name_of(id: u32) -> NodeName
 }
 
 /// The node of this name in a chain of these members.
-fn member(alloc: Global, members: &[NodeId], name: NodeName) -> Result<Node, Refusal>
+fn member<C: Core>(alloc: Global, members: &[NodeId], name: NodeName) -> Result<C, Refusal>
     requires { 1 ≤ name.node }
 {
     let master = Master::open(alloc, name.chain, members)?;
@@ -224,29 +222,29 @@ fn member(alloc: Global, members: &[NodeId], name: NodeName) -> Result<Node, Ref
     if !is_among(config.members.as_slice(), name.node) {
         return Err(Refusal::NotMember);
     }
-    Node::open(alloc, name, Some(config))
+    C::open(alloc, name, Some(config))
 }
 
 /// The node of a case.
-fn node_of(alloc: Global, members: &[u32], id: u32) -> Result<Node, Refusal> {
+fn node_of<C: Core>(alloc: Global, members: &[u32], id: u32) -> Result<C, Refusal> {
     let name = name_of(id);
     if members.is_empty() {
-        return Node::open(alloc, name, None);
+        return C::open(alloc, name, None);
     }
     let members = crate::moves::members(alloc, members)?;
     member(alloc, members.as_slice(), name)
 }
 
 /// The step of a node where this happens.
-fn step(alloc: Global, node: &mut Node, happening: Happening) -> Result<Step, Refusal> {
+fn step<C: Core>(alloc: Global, node: &mut C, happening: Happening) -> Result<Step, Refusal> {
     let event = event_of(alloc, happening)?;
     node.step(alloc, event)
 }
 
 /// Takes a step and prints what it did, or its refusal.
-fn take(
+fn take<C: Core>(
     alloc: Global,
-    node: &mut Node,
+    node: &mut C,
     id: u32,
     happening: Happening,
     text: &mut String,
@@ -257,18 +255,23 @@ fn take(
     }
 }
 
-/// Whether what a case says is printed.
-pub fn is_told(alloc: Global, case: &Case) -> Result<bool, Refusal> {
+/// Whether what a case says is printed of a node of one kind.
+fn is_printed<C: Core>(alloc: Global, case: &Case) -> Result<bool, Refusal> {
     let mut text = String::new(alloc);
-    let mut node = node_of(alloc, case.members, case.id)?;
+    let mut node: C = node_of(alloc, case.members, case.id)?;
     for happening in case.happenings {
         take(alloc, &mut node, case.id, *happening, &mut text)?;
     }
     Ok(text.as_str() == case.printed)
 }
 
+/// Whether what a case says is printed of a node that keeps every entry, and of one that forgets settled entries.
+pub fn is_told(alloc: Global, case: &Case) -> Result<bool, Refusal> {
+    Ok(is_printed::<PlainCore>(alloc, case)? && is_printed::<ListCore>(alloc, case)?)
+}
+
 /// The number of the refusal of a put, or 0 where it is taken.
-fn refusal_of(alloc: Global, node: &mut Node, number: u64) -> u8 {
+fn refusal_of<C: Core>(alloc: Global, node: &mut C, number: u64) -> u8 {
     match &step(alloc, node, Happening::Put(number)) {
         Ok(_) => 0,
         Err(refusal) => refusal.number(),
@@ -276,12 +279,17 @@ fn refusal_of(alloc: Global, node: &mut Node, number: u64) -> u8 {
 }
 
 /// Whether 1,024 asks wait at a head, and no more.
-pub fn limits_waiting(alloc: Global) -> Result<bool, Refusal> {
-    let mut node = node_of(alloc, &[1, 2, 3], 1)?;
+fn limits_waiting_at<C: Core>(alloc: Global) -> Result<bool, Refusal> {
+    let mut node: C = node_of(alloc, &[1, 2, 3], 1)?;
     for number in 1..1025u64 {
         if refusal_of(alloc, &mut node, number) != 0 {
             return Ok(false);
         }
     }
     Ok(refusal_of(alloc, &mut node, 1025) == 12)
+}
+
+/// Whether that is so of both kinds of nodes.
+pub fn limits_waiting(alloc: Global) -> Result<bool, Refusal> {
+    Ok(limits_waiting_at::<PlainCore>(alloc)? && limits_waiting_at::<ListCore>(alloc)?)
 }

@@ -1,18 +1,15 @@
 //! Moves on locked cells: the receipts of their steps, what is refused where there is no next stamp, and steps that two
 //! threads take.
 use crate::moves::{members, moves_of};
+use craq_list::ListCore;
 use craq_locked::LockedChain;
 use craq_model::Event;
 use craq_names::{ChainId, NodeId, NodeName, Pass, Refusal, Stamp};
-use craq_node::NodeCore;
-use craq_plain::PlainHistory;
 use craq_seat::{Cell, Receipt, Seat};
 use std::alloc::Global;
 use std::sync::Wait;
 use std::thread;
 use std::thread::Threads;
-
-type Node = NodeCore<PlainHistory>;
 
 /// A script on the cells of a chain of these members, opened at stamp 0, and for each of its moves the pass that is shown,
 /// and the node and stamp of its receipt.
@@ -58,7 +55,7 @@ tick 3
 ];
 
 /// New locked cells of chain 0, with journals or without.
-pub fn opened(alloc: Global, ids: &[u32], journal: bool) -> Result<LockedChain<Node>, Refusal> {
+pub fn opened(alloc: Global, ids: &[u32], journal: bool) -> Result<LockedChain<ListCore>, Refusal> {
     let members = members(alloc, ids)?;
     LockedChain::open(alloc, ChainId::new(0), members.as_slice(), journal)
 }
@@ -88,7 +85,7 @@ pub fn exhausts_stamps(alloc: Global) -> Result<bool, Refusal> {
         chain: ChainId::new(0),
         node: NodeId::new(1),
     };
-    let mut cell: Cell<Node> = Cell::open(alloc, name, None, true, Stamp::new(u64::MAX - 1))?;
+    let mut cell: Cell<ListCore> = Cell::open(alloc, name, None, true, Stamp::new(u64::MAX - 1))?;
     let stopped = cell.take(alloc, Event::Stop, Pass::start())?;
     let refused = cell.take(alloc, Event::Tick, Pass::start());
     Ok(stopped.stamp.get() == u64::MAX && refused == Err(Refusal::Exhausted))
@@ -98,7 +95,7 @@ pub fn exhausts_stamps(alloc: Global) -> Result<bool, Refusal> {
 const STEPS: u64 = 100;
 
 /// Ticks of a node, each under its lock: the stamp of the last.
-fn tick<R: Wait>(rt: &R, alloc: Global, seat: &Seat<Node>) -> Result<u64, Refusal> {
+fn tick<R: Wait>(rt: &R, alloc: Global, seat: &Seat<ListCore>) -> Result<u64, Refusal> {
     let mut last = 0;
     for _ in 0..STEPS {
         let (receipt, made) = seat.lock(rt).desk.take(alloc, Event::Tick, Pass::start())?;

@@ -1,13 +1,10 @@
-//! Worlds of two chains whose nodes keep the list of entries.
+//! Worlds of two chains, over any core.
 use crate::moves::{members, moves_of};
 use craq_names::{ChainId, Copied, Refusal};
-use craq_node::NodeCore;
-use craq_plain::PlainHistory;
+use craq_node::Core;
 use craq_runs::Move;
 use craq_world::World;
 use std::alloc::Global;
-
-type Chains = World<NodeCore<PlainHistory>>;
 
 /// A put that reaches the tail twice and is acknowledged, a read, ticks, and then node 2 stops, is removed, and node 3
 /// joins; of chain 0.
@@ -41,7 +38,7 @@ deliver 6
 ";
 
 /// Chains of so many equal lists of members.
-fn opened(alloc: Global, count: usize, ids: &[u32]) -> Result<Chains, Refusal> {
+fn opened<C: Core>(alloc: Global, count: usize, ids: &[u32]) -> Result<World<C>, Refusal> {
     let mut lists = Vec::new(alloc);
     for _ in 0..count {
         lists.push(members(alloc, ids)?)?;
@@ -50,13 +47,18 @@ fn opened(alloc: Global, count: usize, ids: &[u32]) -> Result<Chains, Refusal> {
 }
 
 /// A move of a chain: the number that it is given.
-fn take(alloc: Global, world: &mut Chains, chain: ChainId, chosen: &Move) -> Result<u64, Refusal> {
+fn take<C: Core>(
+    alloc: Global,
+    world: &mut World<C>,
+    chain: ChainId,
+    chosen: &Move,
+) -> Result<u64, Refusal> {
     world.take(alloc, chain, chosen.copied(alloc)?)
 }
 
 /// The world in which one chain alone takes moves.
-fn alone(alloc: Global, chain: ChainId, moves: &[Move]) -> Result<Chains, Refusal> {
-    let mut world = opened(alloc, 2, &[1, 2])?;
+fn alone<C: Core>(alloc: Global, chain: ChainId, moves: &[Move]) -> Result<World<C>, Refusal> {
+    let mut world: World<C> = opened(alloc, 2, &[1, 2])?;
     for chosen in moves {
         take(alloc, &mut world, chain, chosen)?;
     }
@@ -64,8 +66,8 @@ fn alone(alloc: Global, chain: ChainId, moves: &[Move]) -> Result<Chains, Refusa
 }
 
 /// The world in which both chains take moves, in turn.
-fn mixed(alloc: Global, zero: &[Move], one: &[Move]) -> Result<Chains, Refusal> {
-    let mut world = opened(alloc, 2, &[1, 2])?;
+fn mixed<C: Core>(alloc: Global, zero: &[Move], one: &[Move]) -> Result<World<C>, Refusal> {
+    let mut world: World<C> = opened(alloc, 2, &[1, 2])?;
     for (in_zero, in_one) in zero.iter().zip(one) {
         take(alloc, &mut world, ChainId::new(0), in_zero)?;
         take(alloc, &mut world, ChainId::new(1), in_one)?;
@@ -74,25 +76,30 @@ fn mixed(alloc: Global, zero: &[Move], one: &[Move]) -> Result<Chains, Refusal> 
 }
 
 /// The run of a chain, and its explanation, in words.
-fn told(alloc: Global, world: &Chains, chain: ChainId) -> Result<String, Refusal> {
+fn told<C: Core>(alloc: Global, world: &World<C>, chain: ChainId) -> Result<String, Refusal> {
     let run = world.run_of(chain)?;
     let explanation = world.explain(alloc, chain)?;
     Ok(format!(in alloc; "{run:?} {explanation:?}")?)
 }
 
 /// Whether a chain comes to the same in both worlds.
-fn agree(alloc: Global, one: &Chains, other: &Chains, chain: ChainId) -> Result<bool, Refusal> {
+fn agree<C: Core>(
+    alloc: Global,
+    one: &World<C>,
+    other: &World<C>,
+    chain: ChainId,
+) -> Result<bool, Refusal> {
     let first = told(alloc, one, chain)?;
     let second = told(alloc, other, chain)?;
     Ok(first == second)
 }
 
 /// Chains that take moves in turn come to what each comes to alone.
-pub fn keeps_chains_apart(alloc: Global) -> Result<bool, Refusal> {
+pub fn keeps_chains_apart<C: Core>(alloc: Global) -> Result<bool, Refusal> {
     let (zero, one) = (ChainId::new(0), ChainId::new(1));
     let in_zero = moves_of(alloc, IN_CHAIN_0)?;
     let in_one = moves_of(alloc, IN_CHAIN_1)?;
-    let both = mixed(alloc, in_zero.as_slice(), in_one.as_slice())?;
+    let both: World<C> = mixed(alloc, in_zero.as_slice(), in_one.as_slice())?;
     let first = alone(alloc, zero, in_zero.as_slice())?;
     let second = alone(alloc, one, in_one.as_slice())?;
     Ok(
@@ -103,7 +110,7 @@ pub fn keeps_chains_apart(alloc: Global) -> Result<bool, Refusal> {
 }
 
 /// Whether chain 0 is explained by a put, committed by the second of five moves, and two strong answers.
-fn has_one_put(alloc: Global, world: &Chains) -> Result<bool, Refusal> {
+fn has_one_put<C: Core>(alloc: Global, world: &World<C>) -> Result<bool, Refusal> {
     let explanation = world.explain(alloc, ChainId::new(0))?;
     Ok(
         explanation.asks.as_slice() == [1].as_slice()
@@ -114,9 +121,9 @@ fn has_one_put(alloc: Global, world: &Chains) -> Result<bool, Refusal> {
 
 /// A put, its entry and its acknowledgement, the entry again, and a strong read: they have the numbers from 1 on, and
 /// are explained.
-pub fn explains_a_put(alloc: Global) -> Result<bool, Refusal> {
+pub fn explains_a_put<C: Core>(alloc: Global) -> Result<bool, Refusal> {
     let moves = moves_of(alloc, IN_CHAIN_0)?;
-    let mut world = opened(alloc, 2, &[1, 2])?;
+    let mut world: World<C> = opened(alloc, 2, &[1, 2])?;
     for (place, chosen) in moves.iter().take(5).enumerate() {
         if take(alloc, &mut world, ChainId::new(0), chosen)? != place as u64 + 1 {
             return Ok(false);
@@ -136,7 +143,7 @@ static REFUSED: [(u16, &str, u8); 6] = [
 ];
 
 /// The number of the refusal of a move, or 0 where it is taken.
-fn refusal_of(alloc: Global, world: &mut Chains, chain: ChainId, chosen: &Move) -> u8 {
+fn refusal_of<C: Core>(alloc: Global, world: &mut World<C>, chain: ChainId, chosen: &Move) -> u8 {
     match take(alloc, world, chain, chosen) {
         Ok(_) => 0,
         Err(refusal) => refusal.number(),
@@ -144,9 +151,9 @@ fn refusal_of(alloc: Global, world: &mut Chains, chain: ChainId, chosen: &Move) 
 }
 
 /// Whether each move of a script is refused with this number.
-fn is_refused(
+fn is_refused<C: Core>(
     alloc: Global,
-    world: &mut Chains,
+    world: &mut World<C>,
     chain: ChainId,
     script: &str,
     number: u8,
@@ -161,17 +168,17 @@ fn is_refused(
 }
 
 /// Whether the world has no chain 2.
-fn lacks_chain_2(alloc: Global, world: &Chains) -> bool {
+fn lacks_chain_2<C: Core>(alloc: Global, world: &World<C>) -> bool {
     let two = ChainId::new(2);
     matches!(world.run_of(two), Err(Refusal::UnknownChain))
         && matches!(&world.explain(alloc, two), Err(Refusal::UnknownChain))
 }
 
 /// Refused moves change nothing, and there is no chain beyond the last.
-pub fn refuses_moves(alloc: Global) -> Result<bool, Refusal> {
+pub fn refuses_moves<C: Core>(alloc: Global) -> Result<bool, Refusal> {
     let zero = ChainId::new(0);
     let put = moves_of(alloc, "put 1 1 1 k a")?;
-    let mut world = alone(alloc, zero, put.as_slice())?;
+    let mut world: World<C> = alone(alloc, zero, put.as_slice())?;
     for (chain, line, number) in &REFUSED {
         if !is_refused(alloc, &mut world, ChainId::new(*chain), line, *number)? {
             return Ok(false);
@@ -202,8 +209,8 @@ fn listed(alloc: Global) -> Result<Vec<(ChainId, Move)>, Refusal> {
 }
 
 /// A list of moves goes on after a refusal.
-pub fn goes_on(alloc: Global) -> Result<bool, Refusal> {
-    let mut world = opened(alloc, 2, &[1, 2])?;
+pub fn goes_on<C: Core>(alloc: Global) -> Result<bool, Refusal> {
+    let mut world: World<C> = opened(alloc, 2, &[1, 2])?;
     let moves = listed(alloc)?;
     let report = world.run(alloc, moves.as_slice())?;
     let wanted = [
@@ -230,9 +237,9 @@ static MEMBERSHIPS: [(usize, &[u32], bool); 9] = [
 ];
 
 /// Worlds have 1 to 64 chains of memberships, and no others.
-pub fn limits_chains(alloc: Global) -> bool {
+pub fn limits_chains<C: Core>(alloc: Global) -> bool {
     for (count, ids, is_had) in &MEMBERSHIPS {
-        let told = match &opened(alloc, *count, ids) {
+        let told = match &opened::<C>(alloc, *count, ids) {
             Ok(_) => *is_had,
             Err(refusal) => !*is_had && *refusal == Refusal::BadConfig,
         };

@@ -1,24 +1,23 @@
 use crate::gate::CaseGate;
 use craq_commands::{Command, ReadMode, Reply, Update};
+use craq_list::ListCore;
 use craq_model::{Answer, Ask};
 use craq_names::{
     ChainId, ClientId, Key, NodeId, NodeName, ObjectId, Pass, Refusal, RequestNo, Value,
 };
-use craq_node::NodeCore;
-use craq_plain::PlainHistory;
 use craq_seat::CallReceipt;
 use craq_workers::{Client, Store};
 use std::alloc::Global;
 use std::sync::Wait;
 
-/// The stores that are tested.
-pub type Tested = Store<NodeCore<PlainHistory>, CaseGate>;
+/// The stores that are tested: their nodes forget settled entries, as those of a server do.
+pub type Tested = Store<ListCore, CaseGate>;
 
 /// A client of a store that is tested. It asks for one object of chain 0, and keeps the receipts of its calls.
 #[derive(Drop)]
 pub struct Asker {
     alloc: Global,
-    client: Client<NodeCore<PlainHistory>, CaseGate>,
+    client: Client<ListCore, CaseGate>,
     id: u64,
     /// The number of its next put.
     number: u64,

@@ -2,9 +2,8 @@ use crate::audits::print_audits;
 use crate::fault::Fault;
 use crate::plans::plan_of;
 use craq_line::Line;
+use craq_list::ListCore;
 use craq_names::Refusal;
-use craq_node::NodeCore;
-use craq_plain::PlainHistory;
 use craq_seat::CallReceipt;
 use craq_server::accept;
 use craq_workers::{OpenGate, Store};
@@ -18,7 +17,7 @@ use std::thread::Threads;
 use std::time::{Clock, Duration};
 
 /// The stores that are served.
-pub type Served = Store<NodeCore<PlainHistory>, OpenGate>;
+pub type Served = Store<ListCore, OpenGate>;
 
 /// How often the nodes and masters are told to send again what others may lack.
 const TICK_MILLISECONDS: u64 = 50;

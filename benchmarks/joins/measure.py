@@ -1,7 +1,7 @@
 #!/usr/bin/env python3
 """What each step of a join takes and allocates.
 
-    benchmarks/joins/measure.py PROGRAM
+    benchmarks/joins/measure.py PROGRAM [OBJECTS]
 
 PROGRAM is built of join_main.txt (README.md). It runs three times with allocated.rs loaded before the C library, which
 rustc builds here. For each step the least time counts; the bytes are those that the step asked of the allocator, the
@@ -17,9 +17,9 @@ HERE = os.path.dirname(os.path.realpath(__file__))
 TIMES = 3
 
 
-def counted(program, library):
+def counted(program, objects, library):
     """The steps in order: by whom the objects were put, name, nanoseconds, bytes."""
-    ran = subprocess.run([program], env={**os.environ, "LD_PRELOAD": library}, check=True, capture_output=True, text=True)
+    ran = subprocess.run([program, objects], env={**os.environ, "LD_PRELOAD": library}, check=True, capture_output=True, text=True)
     steps, start, end, whose = [], 0, 0, ""
     for line, total in zip(ran.stdout.splitlines(), map(int, ran.stderr.split()), strict=True):
         if line == "begin":
@@ -28,6 +28,10 @@ def counted(program, library):
             end = total
         elif found := re.fullmatch(r"(.*): (\d+) ns, (\d+) outs", line):
             steps.append((whose, found[1], int(found[2]), end - start))
+        elif line == f"{objects} of {objects} objects are the same":
+            continue
+        elif line.endswith("are the same"):
+            sys.exit(line)
         else:
             whose = line
     return steps
@@ -47,13 +51,13 @@ def grouped(steps):
 
 
 def main():
-    if len(sys.argv) != 2:
+    if len(sys.argv) not in (2, 3):
         sys.exit(__doc__)
     with tempfile.TemporaryDirectory() as folder:
         library = f"{folder}/allocated.so"
         source = f"{HERE}/allocated.rs"
         subprocess.run(["rustc", "--edition", "2021", "-O", "--crate-type", "cdylib", "-o", library, source], check=True)
-        runs = [counted(os.path.realpath(sys.argv[1]), library) for _ in range(TIMES)]
+        runs = [counted(os.path.realpath(sys.argv[1]), (sys.argv + ["10000"])[2], library) for _ in range(TIMES)]
     if any([it[:2] + it[3:] for it in run] != [it[:2] + it[3:] for it in runs[0]] for run in runs):
         sys.exit("the runs allocate differently")
     steps = [(*now[0][:2], min(it[2] for it in now), now[0][3]) for now in zip(*runs, strict=True)]

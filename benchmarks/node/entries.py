@@ -1,9 +1,9 @@
 #!/usr/bin/env python3
-"""Steps a second of one node, by how many entries it keeps.
+"""Steps a second of one node that keeps a list of its entries, by how many they are.
 
-    benchmarks/node/measure.py PROGRAM
+    benchmarks/node/entries.py PROGRAM
 
-PROGRAM is a built craq_lab. The chain has one node. For each number of entries a script makes that many
+PROGRAM is a built craq_lab. The chain has one node (`--core plain`). For each number of entries a script makes that many
 puts, of as many objects, and then asks reads of one object (50,000, or 5,000 where there are 10,000 entries) or
 1,000 puts of it; the time of the same script without those asks is taken away. The puts make entries too. Times are of the processor; each script is played three times and
 the least time counts. What is measured includes reading the line and printing the answer."""
@@ -30,7 +30,7 @@ def played(program, lines):
         times = []
         for _ in range(3):
             began = processor_time()
-            subprocess.run([program, "play", "--nodes", "1", script.name], check=True, stdout=subprocess.DEVNULL)
+            subprocess.run([program, "play", "--core", "plain", "--nodes", "1", script.name], check=True, stdout=subprocess.DEVNULL)
             times.append(processor_time() - began)
         return min(times)
 

@@ -1,0 +1,65 @@
+#!/usr/bin/env python3
+"""What a step costs: the proved node beside the plain one.
+
+    benchmarks/node/compare.py PROVED PLAIN [PROCESSOR]
+
+PROVED is built of measure_main.txt, PLAIN of plain_main.rs (README.md). Both run in turn, on this processor (3 if none is
+named): five times with 1,000 objects, three times with 1,000,000. Each prints what 1,024 steps took of the processor's time,
+several times a run; the median of all these counts. Printed is the time of a step in nanoseconds."""
+
+import os
+import statistics
+import subprocess
+import sys
+
+TIMES = {1_000: 5, 1_000_000: 3}
+STEPS = 1_024
+
+
+def ran(words, processor):
+    """What one run tells: how many steps it took, and of each measurement the times."""
+    pin = lambda: os.sched_setaffinity(0, {processor})
+    out = subprocess.run(words, check=True, capture_output=True, text=True, preexec_fn=pin).stdout
+    times, did = {}, ""
+    for line in out.splitlines():
+        if line.startswith("did "):
+            did = line
+        else:
+            waiting, step, time = line.split()
+            times.setdefault((step, int(waiting)), []).append(int(time) / STEPS)
+    return did, times
+
+
+def main():
+    if len(sys.argv) not in (3, 4):
+        sys.exit(__doc__)
+    proved, plain = map(os.path.realpath, sys.argv[1:3])
+    processor = int((sys.argv + ["3"])[3])
+    programs = {"proved": [proved], "plain": [plain, "measure"]}
+    medians = {}
+    for objects, count in TIMES.items():
+        for role in ("single", "head", "middle", "tail"):
+            found = {name: {} for name in programs}
+            for _ in range(count):
+                dids = set()
+                for name, words in programs.items():
+                    did, times = ran([*words, role, str(objects)], processor)
+                    dids.add(did)
+                    for key, some in times.items():
+                        found[name].setdefault(key, []).extend(some)
+                if len(dids) != 1 or " 0 " not in next(iter(dids)):
+                    sys.exit(f"the programs did not take the same steps: {dids}")
+            for key in found["proved"]:
+                pair = [statistics.median(found[name][key]) for name in ("proved", "plain")]
+                if min(pair) > 0:
+                    medians[role, *key, objects] = pair
+                    print(f"{role:7} {key[0]:16} {key[1]:5} waiting {objects:9,} objects: "
+                          f"proved {pair[0]:8.0f}, plain {pair[1]:8.0f}, times {pair[0] / pair[1]:.2f}", flush=True)
+    small, large = TIMES
+    for key in [it[:3] for it in medians if it[3] == small]:
+        growth = [medians[*key, large][at] / medians[*key, small][at] for at in (0, 1)]
+        print(f"{key[0]:7} {key[1]:16} {key[2]:5} waiting, growth: "
+              f"proved {growth[0]:.2f}, plain {growth[1]:.2f}, times {growth[0] / growth[1]:.2f}")
+
+
+main()

@@ -1,0 +1,212 @@
+//! `plain_main measure ROLE OBJECTS`: what a step of the plain node costs, by the same schedule as measure_main.txt.
+//! `plain_main script SEED NODES MOVES SCRIPT PRINTED`: makes a script by chance, plays it on plain nodes, and writes it and
+//! what `craq_lab play` is to print of it into files.
+
+#[allow(dead_code)] // a message says more than a node reads
+mod plain_node;
+mod plain_scripts;
+
+use plain_node::*;
+use std::fs;
+
+const RUN: u64 = 16;
+const RUNS: u64 = 64;
+const LINES: u64 = 16;
+const CLIENTS: u64 = 64;
+const WAITING: [u64; 3] = [0, 64, 1000];
+
+#[repr(C)]
+struct Timespec {
+    seconds: i64,
+    nanoseconds: i64,
+}
+
+extern "C" {
+    fn clock_gettime(clock: i32, time: *mut Timespec) -> i32;
+}
+
+/// The processor time of this thread, in nanoseconds.
+fn thread_cpu_time() -> u64 {
+    const THREAD_CPU_TIME: i32 = 3;
+    let mut time = Timespec { seconds: 0, nanoseconds: 0 };
+    unsafe { clock_gettime(THREAD_CPU_TIME, &mut time) };
+    time.seconds as u64 * 1_000_000_000 + time.nanoseconds as u64
+}
+
+#[derive(Clone, Copy, PartialEq)]
+enum Role {
+    Single,
+    Head,
+    Middle,
+    Tail,
+}
+
+impl Role {
+    fn id(self) -> NodeId {
+        match self {
+            Role::Single | Role::Head => 1,
+            Role::Middle => 2,
+            Role::Tail => 3,
+        }
+    }
+
+    fn is_head(self) -> bool {
+        matches!(self, Role::Single | Role::Head)
+    }
+
+    fn is_acknowledged(self) -> bool {
+        matches!(self, Role::Head | Role::Middle)
+    }
+}
+
+/// What happens to a node: puts to objects of the first half, in the order that chance gives, reads of those of the
+/// second half, and acknowledgements one by one.
+struct Plan {
+    role: Role,
+    versions: Vec<u64>,
+    chance: u64,
+    puts: u64,
+    acknowledged: u64,
+}
+
+fn object(number: u64) -> ObjectId {
+    ObjectId { chain: 0, key: format!("object-{number:09}").into_bytes() }
+}
+
+impl Plan {
+    fn objects(&self) -> u64 {
+        self.versions.len() as u64
+    }
+
+    fn chosen(&mut self) -> u64 {
+        self.chance = self.chance.wrapping_mul(6364136223846793005).wrapping_add(1442695040888963407);
+        (self.chance >> 33) % (self.objects() / 2).max(1)
+    }
+
+    fn message(&self, sender: NodeId, body: Body) -> Event {
+        Event::Deliver(LinkMessage { chain: 0, sender, receiver: self.role.id(), stamp: 1, index: 0, epoch: 1, body })
+    }
+
+    fn put(&mut self, object_number: u64) -> Event {
+        let (client, number) = (self.puts % CLIENTS, self.puts / CLIENTS + 1);
+        let object = object(object_number);
+        let value = vec![7; 64];
+        self.puts += 1;
+        if self.role.is_head() {
+            return Event::Ask(Ask::Update { client, number, command: Command::Put(object, value) });
+        }
+        self.versions[object_number as usize] += 1;
+        let version = self.versions[object_number as usize];
+        let entry = Entry {
+            position: self.puts,
+            origin_node: 1,
+            origin_ticket: self.puts,
+            client,
+            number,
+            reply: Reply::Written(version),
+            writes: vec![Write { key: object.key, version, value }],
+        };
+        self.message(self.role.id() - 1, Body::Entry(entry))
+    }
+
+    fn acknowledgement(&mut self) -> Event {
+        self.acknowledged += 1;
+        self.message(self.role.id() + 1, Body::Ack(self.acknowledged))
+    }
+
+    fn read(&mut self) -> Event {
+        let number = self.chosen() + self.objects() / 2;
+        Event::Ask(Ask::Read { mode: ReadMode::Strong, object: object(number) })
+    }
+
+    fn some_puts(&mut self, count: u64) -> Vec<Event> {
+        (0..count).map(|_| { let number = self.chosen(); self.put(number) }).collect()
+    }
+}
+
+/// A node, and what it has done: how many steps it took and was refused, and how many outs those had.
+struct Seen {
+    node: Node,
+    steps: u64,
+    refused: u64,
+    outs: u64,
+}
+
+impl Seen {
+    fn take(&mut self, events: Vec<Event>) {
+        for event in events {
+            match self.node.step(event) {
+                Ok(step) => {
+                    self.steps += 1;
+                    self.outs += step.outs.len() as u64;
+                }
+                Err(_) => self.refused += 1,
+            }
+        }
+    }
+
+    fn timed(&mut self, events: Vec<Event>) -> u64 {
+        let start = thread_cpu_time();
+        self.take(events);
+        thread_cpu_time() - start
+    }
+}
+
+fn measure(role: Role, objects: u64) {
+    let members: &[NodeId] = if role == Role::Single { &[1] } else { &[1, 2, 3] };
+    let node = Node::open(0, role.id(), Some(members));
+    let mut seen = Seen { node, steps: 0, refused: 0, outs: 0 };
+    let mut plan = Plan { role, versions: vec![0; objects as usize], chance: 1, puts: 0, acknowledged: 0 };
+    for number in 0..objects {
+        let put = plan.put(number);
+        seen.take(vec![put]);
+        if role.is_acknowledged() {
+            seen.take(vec![plan.acknowledgement()]);
+        }
+    }
+    let mut held = 0;
+    for waiting in WAITING {
+        if waiting > 0 && !role.is_acknowledged() {
+            continue;
+        }
+        seen.take(plan.some_puts(waiting - held));
+        held = waiting;
+        for _ in 0..LINES {
+            let (mut puts, mut acknowledgements, mut reads) = (0, 0, 0);
+            for _ in 0..RUNS {
+                puts += seen.timed(plan.some_puts(RUN));
+                if role.is_acknowledged() {
+                    acknowledgements += seen.timed((0..RUN).map(|_| plan.acknowledgement()).collect());
+                }
+                reads += seen.timed((0..RUN).map(|_| plan.read()).collect());
+            }
+            println!("{waiting} put {puts}");
+            println!("{waiting} acknowledgement {acknowledgements}");
+            println!("{waiting} read {reads}");
+        }
+    }
+    println!("did {} {} {}", seen.steps, seen.refused, seen.outs);
+}
+
+
+fn main() {
+    let words: Vec<String> = std::env::args().skip(1).collect();
+    match words.iter().map(String::as_str).collect::<Vec<_>>()[..] {
+        ["measure", role, objects] => {
+            let role = match role {
+                "head" => Role::Head,
+                "middle" => Role::Middle,
+                "tail" => Role::Tail,
+                _ => Role::Single,
+            };
+            measure(role, objects.parse().expect("a number of objects"));
+        }
+        ["script", seed, nodes, moves, script, printed] => {
+            let nodes = nodes.parse().expect("a number of nodes");
+            let made = plain_scripts::by_chance(seed.parse().expect("a seed"), nodes, moves.parse().expect("a number of moves"));
+            fs::write(script, made.0).expect("a file for the script");
+            fs::write(printed, made.1).expect("a file for what it prints");
+        }
+        _ => eprintln!("plain_main measure ROLE OBJECTS | script SEED NODES MOVES SCRIPT PRINTED"),
+    }
+}

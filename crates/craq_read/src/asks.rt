@@ -1,4 +1,4 @@
-ghost use Rattle.std.specs.Prelude.{◌≡◌, ◌==◌, ◌<◌, ◌≤◌, ◌+◌, ◌-◌, ◌^◌, [], false, length, IfOk, IfErr};
+ghost use Rattle.std.specs.Prelude.{◌≡◌, ◌==◌, ◌<◌, ◌≤◌, ◌+◌, ◌-◌, ◌^◌, [], false, is_some, length, IfOk, IfErr, IfSome};
 ghost use Rattle.craq_commands.specs.Objects.{object_of};
 ghost use Rattle.craq_model.specs.Asks.{read_turn, waiting_read_turn};
 ghost use Rattle.craq_model.specs.Past.{clean_in, newest_in, values_after};
@@ -40,14 +40,10 @@ pub fn plan_read<H: History>(
             let (version, value) = node.history.within(key, clean.get(), u64::from(above));
             answered(alloc, node.last_ticket, version, value)
         }
-        ReadMode::Strong => {
-            let (version, value) = node.history.newest(key);
-            if is_clean(&node.history, key, version) {
-                answered(alloc, node.last_ticket, version, value)
-            } else {
-                waits(alloc, node, key)
-            }
-        }
+        ReadMode::Strong => match newest_if_clean(&node.history, key) {
+            Some((version, value)) => answered(alloc, node.last_ticket, version, value),
+            None => waits(alloc, node, key),
+        },
     }
 }
 
@@ -66,16 +62,21 @@ fn is_written(entries: &[Entry], key: &Key) -> bool
     false
 }
 
-/// Whether the newest version of an object is the clean one. It is where no entry that is not committed writes the
-/// object, which is then not looked up again.
-fn is_clean<H: History>(history: &H, key: &Key, newest: Version) -> bool
-    requires { newest ≡ (object_of (newest_in (H.past history.now)).objects key.now).0 }
-    ensures { result ≡ (newest == (object_of (clean_in (H.past history.now)).objects key.now).0) }
+/// The newest version and value of an object, where that version is the clean one. It is where no entry that is not
+/// committed writes the object, which is then looked up once.
+fn newest_if_clean<'a, H: History>(history: &'a H, key: &Key) -> Option<(Version, &'a [u8])>
+    ensures object { IfSome result (λ r. (r.0, r.1.now) ≡ object_of (newest_in (H.past history.now)).objects key.now) }
+    ensures short { IfSome result (λ r. length r.1.now ≤ 4096) }
+    ensures clean { is_some result ≡ ((object_of (newest_in (H.past history.now)).objects key.now).0 == (object_of (clean_in (H.past history.now)).objects key.now).0) }
 {
-    if is_written(history.after(history.acknowledged()), key) {
-        newest == history.clean(key).0
+    if !is_written(history.after(history.acknowledged()), key) {
+        return Some(history.clean(key));
+    }
+    let (version, value) = history.newest(key);
+    if version == history.clean(key).0 {
+        Some((version, value))
     } else {
-        true
+        None
     }
 }
 

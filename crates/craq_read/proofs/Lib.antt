@@ -1,1 +1,1 @@
-pub mod Unwritten
+pub mod Settled

@@ -7,7 +7,7 @@ ghost use Rattle.craq_history.specs.Nodes.{plain_of};
 ghost use Rattle.craq_history.specs.Plans.{Plans};
 ghost use Rattle.craq_read.specs.Answers.{read_step};
 
-use craq_commands::{Entry, ReadMode};
+use craq_commands::ReadMode;
 use craq_history::members::last_member;
 use craq_history::outs::message;
 use craq_history::steps::accepted;
@@ -47,29 +47,14 @@ pub fn plan_read<H: History>(
     }
 }
 
-/// Whether some of these entries writes the object.
-#[tactic(auto, unfolding(craq_model::specs::Past::values_in, craq_model::specs::Past::values_after))]
-fn is_written(entries: &[Entry], key: &Key) -> bool
-    ensures { result ≡ false → values_after entries.now key.now ≡ [] }
-{
-    for entry in entries {
-        for write in entry.writes.as_slice() {
-            if write.key == *key {
-                return true;
-            }
-        }
-    }
-    false
-}
-
-/// The newest version and value of an object, where that version is the clean one. It is where no entry that is not
-/// committed writes the object, which is then looked up once.
+/// The newest version and value of an object, where that version is the clean one. It is where all entries are known to
+/// be committed: the object is then looked up once.
 fn newest_if_clean<'a, H: History>(history: &'a H, key: &Key) -> Option<(Version, &'a [u8])>
     ensures object { IfSome result (λ r. (r.0, r.1.now) ≡ object_of (newest_in (H.past history.now)).objects key.now) }
     ensures short { IfSome result (λ r. length r.1.now ≤ 4096) }
     ensures clean { is_some result ≡ ((object_of (newest_in (H.past history.now)).objects key.now).0 == (object_of (clean_in (H.past history.now)).objects key.now).0) }
 {
-    if !is_written(history.after(history.acknowledged()), key) {
+    if history.after(history.acknowledged()).is_empty() {
         return Some(history.clean(key));
     }
     let (version, value) = history.newest(key);

@@ -1,5 +1,5 @@
 -- What is read of what is stored, by the past that it stands for.
-use Rattle.std.proofs.Common.{◌≡◌, ℕ, ◌+◌, ◌-◌, List, length, take, drop, sym, ap, ◌∙◌, arith}
+use Rattle.std.proofs.Common.{◌≡◌, ℕ, zero, suc, ◌+◌, ◌-◌, List, [], ◌∷◌, length, take, drop, refl, sym, ap, ◌∙◌, arith}
 use Rattle.craq_commands.specs.declared.entry.Entry.{Entry}
 use Rattle.craq_commands.specs.declared.state.State.{State}
 use Rattle.craq_commands.specs.Kept.{Window}
@@ -14,13 +14,8 @@ use Rattle.craq_plain.proofs.Scans.{last_of_values}
 use Rattle.craq_plain.proofs.Windows.{said_after, new_later}
 
 -- the newest version of an object
-pub newest_told : (h : Past) (key : List ℕ) (o : ℕ × List ℕ) (es : List Entry) → o ≡ object_of h.base_state.objects key → es ≡ h.entries
-    → last_value o (values_after es key) ≡ object_of (newest_in (compacted_in h)).objects key
-newest_told h key o es e f =
-    ap (λ (x : ℕ × List ℕ). last_value x (values_after es key)) e
-    ∙ ap (λ (xs : List Entry). last_value (object_of h.base_state.objects key) (values_after xs key)) f
-    ∙ sym (last_of_values h.base_state h.entries key)
-    ∙ sym (ap (λ (s : State). object_of s.objects key) (compacted_newest h))
+pub newest_told : (h : Past) (key : List ℕ) (o : ℕ × List ℕ) → o ≡ object_of (after_entries h.base_state h.entries).objects key → o ≡ object_of (newest_in (compacted_in h)).objects key
+newest_told h key o e = e ∙ sym (ap (λ (s : State). object_of s.objects key) (compacted_newest h))
 
 -- its clean version
 pub clean_told : (h : Past) (key : List ℕ) (o : ℕ × List ℕ) (es : List Entry) → o ≡ object_of h.base_state.objects key → es ≡ take (h.acknowledged - h.base) h.entries
@@ -44,6 +39,18 @@ pub within_told : (h : Past) (key : List ℕ) (bound : ℕ) (o : ℕ × List ℕ
 within_told h key bound o es e f =
     ap (λ (x : ℕ × List ℕ). newest_within bound x (values_after es key)) e
     ∙ ap (λ (xs : List Entry). newest_within bound (object_of (clean_in (compacted_in h)).objects key) (values_after xs key)) (f ∙ later_told h)
+
+none_before : (n : ℕ) (es : List Entry) → take n es ≡ [] → drop n es ≡ es
+none_before zero es none = refl
+none_before (suc n) [] none = refl
+none_before (suc n) (e ∷ es) none = cc
+
+-- the same, where no entry that is held is settled
+pub all_within_told : (h : Past) (key : List ℕ) (bound : ℕ) → take (h.acknowledged - h.base) h.entries ≡ []
+    → newest_within bound (object_of h.base_state.objects key) (values_after h.entries key) ≡ object_within_in (compacted_in h) key bound
+all_within_told h key bound none =
+    let clean : h.base_state ≡ clean_in (compacted_in h) = ap (λ (es : List Entry). after_entries h.base_state es) (sym none) ∙ sym (compacted_clean h) in
+    within_told h key bound (object_of h.base_state.objects key) h.entries (ap (λ (s : State). object_of s.objects key) clean) (sym (none_before (h.acknowledged - h.base) h.entries none))
 
 -- what is said of a client's number
 pub said_told : (h : Past) (client n : ℕ) (w : Window) (es : List Entry) → w ≡ window_of h.base_state client → es ≡ h.entries

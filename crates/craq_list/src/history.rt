@@ -5,29 +5,28 @@ ghost use Rattle.craq_model.specs.Deliveries.{is_applicable};
 ghost use Rattle.craq_model.specs.Past.{newest_in};
 ghost use Rattle.craq_compaction.specs.Compacted.{compacted_in};
 ghost use Rattle.craq_compaction.proofs.Pasts.{compacted_twice};
-ghost use Rattle.craq_log.specs.Suffixed.{length_of};
+ghost use Rattle.craq_settled.specs.Held.{length_of};
 ghost use Rattle.craq_list.specs.Stored.{stored};
 
 use craq_commands::{Entry, Said, State};
 use craq_history::History;
-use craq_log::Suffix;
 use craq_names::{ClientId, Items, Key, RequestNo, Seq, Version};
 use craq_plain::lookups::{
     follows, is_new_past, last_position_of, object_past, object_up_to, said_past,
 };
 use craq_plain::states::state_after;
-use craq_settled::SettledState;
+use craq_settled::HeldPast;
 use std::alloc::{AllocError, Global};
 
 /// A past that forgets settled entries. It keeps the state after the first so many entries, and the entries after
 /// them. Settled entries are folded into the state at once; where memory is refused for that, later, and nothing
 /// that is seen differs.
 ///
-/// What it is asked of an object or a client takes one look-up, and a look at each entry that is not settled.
+/// What it is asked of an object takes a look-up or two, and a look at few of the entries that are not settled; what it is
+/// asked of a client, one look-up and a look at each of them.
 #[derive(Drop)]
 pub struct ListHistory {
-    state: SettledState,
-    held: Suffix,
+    held: HeldPast,
     acknowledged: Seq,
     alloc: Global,
     ghost based: { held.base ≤ acknowledged },
@@ -69,7 +68,7 @@ impl ListHistory {
     fn is_new_later(&self, later: &[Entry], client: ClientId, number: RequestNo) -> bool
         ensures { result ≡ is_new_to (after_entries (newest_in (⟦<ListHistory as History>⟧.past self.now)) later.now) client number }
     {
-        let window = self.state.window(client);
+        let window = self.held.window(client);
         is_new_past(window, self.entries(), later, client, number)
     }
 
@@ -88,16 +87,15 @@ impl ListHistory {
 }
 
 impl History for ListHistory {
-    ghost past = { λ h. compacted_in (stored h.held.base h.state h.held.entries h.acknowledged) };
+    ghost past = { λ h. compacted_in (stored h.held.base h.held.state h.held.entries h.acknowledged) };
 
     ghost forgets = { true };
 
-    ghost is_remembered = { λ h. compacted_twice (stored h.held.base h.state h.held.entries h.acknowledged) };
+    ghost is_remembered = { λ h. compacted_twice (stored h.held.base h.held.state h.held.entries h.acknowledged) };
 
     fn new(alloc: Global) -> Self {
         ListHistory {
-            state: SettledState::new(alloc),
-            held: Suffix::new(alloc, Seq::new(0)),
+            held: HeldPast::new(alloc),
             acknowledged: Seq::new(0),
             alloc,
         }
@@ -112,22 +110,24 @@ impl History for ListHistory {
     }
 
     fn newest(&self, key: &Key) -> (Version, &[u8]) {
-        let (first, bytes) = self.state.object(key);
-        object_past(first, bytes, self.entries(), key)
+        self.held.newest(key)
     }
 
     fn clean(&self, key: &Key) -> (Version, &[u8]) {
-        let (first, bytes) = self.state.object(key);
+        let (first, bytes) = self.held.settled(key);
         object_past(first, bytes, self.settled(), key)
     }
 
     fn within(&self, key: &Key, version: u64, above: u64) -> (Version, &[u8]) {
+        if self.settled().is_empty() {
+            return self.held.within(key, version, above);
+        }
         let (clean, bytes) = self.clean(key);
         object_up_to(clean, bytes, self.unsettled(), key, version, above)
     }
 
     fn said(&self, client: ClientId, number: RequestNo) -> Said<'_> {
-        said_past(self.state.window(client), self.entries(), client, number)
+        said_past(self.held.window(client), self.entries(), client, number)
     }
 
     fn are_next(&self, entries: &[Entry]) -> bool {
@@ -152,16 +152,16 @@ impl History for ListHistory {
     }
 
     fn append(&mut self, entries: Items<Entry>) -> Result<(), AllocError> {
-        self.held.append_all(entries)
+        self.held.append(entries)
     }
 
     fn acknowledge(&mut self, position: Seq) {
         self.acknowledged = position;
-        self.state.fold(self.alloc, &mut self.held, position);
+        self.held.fold(position);
     }
 
     fn snapshot(&self, alloc: Global) -> Result<State, AllocError> {
-        let state = self.state.copied(alloc)?;
+        let state = self.held.copied(alloc)?;
         let settled = self.settled();
         if settled.is_empty() {
             return Ok(state);
@@ -170,8 +170,7 @@ impl History for ListHistory {
     }
 
     fn install(&mut self, position: Seq, state: State) -> Result<(), AllocError> {
-        self.state = SettledState::of(self.alloc, state)?;
-        self.held = Suffix::new(self.alloc, position);
+        self.held = HeldPast::of(self.alloc, position, state)?;
         self.acknowledged = position;
         Ok(())
     }

@@ -1,3 +1,10 @@
 pub mod Placing
 pub mod Lists
 pub mod Folded
+pub mod Results
+pub mod Counts
+pub mod Written
+pub mod Entered
+pub mod Seen
+pub mod Found
+pub mod Settling

@@ -1,2 +1,4 @@
 pub mod Folded
 pub mod Placed
+pub mod Listed
+pub mod Held

@@ -8,10 +8,11 @@ ghost use Rattle.craq_commands.specs.SingleCopy.{after_entry, with_writes};
 ghost use Rattle.craq_log.specs.Suffixed.{length_of};
 ghost use Rattle.craq_replies.specs.Replies.{room_at};
 ghost use Rattle.craq_settled.specs.Folded.{AreFolded};
-ghost use Rattle.craq_settled.specs.Placed.{objects_of, state_at, HasPlace};
+ghost use Rattle.craq_settled.specs.Listed.{LaterAreSettled};
+ghost use Rattle.craq_settled.specs.Placed.{objects_of, state_at, HasPlace, KeepsLater, LaterWithout};
 
 use crate::in_place::{first_of, fold_in_place};
-use crate::objects::{Places, make_place, write_object};
+use crate::objects::{Places, make_place, settle_object};
 use craq_commands::{Entry, Write};
 use craq_log::Suffix;
 use craq_names::{Items, Seq};
@@ -22,6 +23,7 @@ use std::alloc::{AllocError, Global};
 fn make_places(alloc: Global, places: &mut Places, writes: &[Write]) -> Result<(), AllocError>
     requires { IsOrdered key_cmp places.old }
     ensures objects { objects_of places.new.entries ≡ objects_of places.old.entries }
+    ensures later { KeepsLater places.old.entries places.new.entries }
     ensures placed { OnOk result (AllByRecursion (λ (w : Write). HasPlace places.new.entries w.key) writes.now) }
     ensures ordered { IsOrdered key_cmp places.new }
 {
@@ -31,11 +33,12 @@ fn make_places(alloc: Global, places: &mut Places, writes: &[Write]) -> Result<(
     Ok(())
 }
 
-/// Writes objects that have places, in order. Their values are moved, and it takes no memory.
-fn write_objects(places: &mut Places, writes: Items<Write>)
+/// Settles what is written of objects that have places, in order. Their values are moved, and it takes no memory.
+fn settle_objects(places: &mut Places, writes: Items<Write>)
     requires ordered { IsOrdered key_cmp places.old }
     requires placed { AllByRecursion (λ (w : Write). HasPlace places.old.entries w.key) writes }
     ensures objects { objects_of places.new.entries ≡ with_writes (objects_of places.old.entries) writes }
+    ensures later { LaterWithout writes places.old.entries places.new.entries }
     ensures ordered { IsOrdered key_cmp places.new }
 {
     for write in writes.into_vec() {
@@ -44,7 +47,7 @@ fn write_objects(places: &mut Places, writes: Items<Write>)
             version,
             value,
         } = write;
-        write_object(places, &key, version, value);
+        settle_object(places, &key, version, value);
     }
 }
 
@@ -58,6 +61,7 @@ fn make_room(
     requires { IsOrdered key_cmp places.old }
     ensures objects { objects_of places.new.entries ≡ objects_of places.old.entries }
     ensures kept { replies.new.kept ≡ replies.old.kept }
+    ensures later { KeepsLater places.old.entries places.new.entries }
     ensures placed { OnOk result (AllByRecursion (λ (w : Write). HasPlace places.new.entries w.key) entry.now.writes) }
     ensures room { OnOk result (0 < room_at replies.new entry.now.client) }
     ensures ordered { IsOrdered key_cmp places.new }
@@ -72,6 +76,7 @@ fn fold_one(places: &mut Places, replies: &mut ReplyTable, entry: Entry)
     requires placed { AllByRecursion (λ (w : Write). HasPlace places.old.entries w.key) entry.writes }
     requires room { 0 < room_at replies.old entry.client }
     ensures state { state_at (objects_of places.new.entries) replies.new.kept ≡ after_entry (state_at (objects_of places.old.entries) replies.old.kept) entry }
+    ensures later { LaterWithout entry.writes places.old.entries places.new.entries }
     ensures ordered { IsOrdered key_cmp places.new }
 {
     let Entry {
@@ -81,7 +86,7 @@ fn fold_one(places: &mut Places, replies: &mut ReplyTable, entry: Entry)
         writes,
         ..
     } = entry;
-    write_objects(places, writes);
+    settle_objects(places, writes);
     replies.keep(client, number, reply).unwrap();
 }
 
@@ -97,6 +102,7 @@ fn fold_with_room(
     ensures ok { OnOk result (entries.new.base ≡ entries.old.base + 1) }
     ensures err { OnErr result (entries.new.base ≡ entries.old.base) }
     ensures folded { AreFolded (state_at (objects_of places.old.entries) replies.old.kept) entries.old (state_at (objects_of places.new.entries) replies.new.kept) entries.new }
+    ensures later { LaterAreSettled places.old.entries entries.old places.new.entries entries.new }
     ensures ordered { IsOrdered key_cmp places.new }
 {
     make_room(alloc, places, replies, first_of(entries))?;
@@ -118,6 +124,7 @@ fn fold_first(
     ensures ok { OnOk result (entries.new.base ≡ entries.old.base + 1) }
     ensures err { OnErr result (entries.new.base ≡ entries.old.base) }
     ensures folded { AreFolded (state_at (objects_of places.old.entries) replies.old.kept) entries.old (state_at (objects_of places.new.entries) replies.new.kept) entries.new }
+    ensures later { LaterAreSettled places.old.entries entries.old places.new.entries entries.new }
     ensures ordered { IsOrdered key_cmp places.new }
 {
     if fold_in_place(alloc, places, replies, entries)? {
@@ -140,6 +147,7 @@ pub fn fold(
     ensures from { entries.old.base ≤ entries.new.base }
     ensures to { entries.new.base ≤ position }
     ensures folded { AreFolded (state_at (objects_of places.old.entries) replies.old.kept) entries.old (state_at (objects_of places.new.entries) replies.new.kept) entries.new }
+    ensures later { LaterAreSettled places.old.entries entries.old places.new.entries entries.new }
     ensures ordered { IsOrdered key_cmp places.new }
 {
     while entries.base().get() < position.get() {

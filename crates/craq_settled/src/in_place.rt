@@ -1,18 +1,20 @@
 //! Folds an entry that writes one object into the place of that object.
-ghost use Rattle.std.specs.Prelude.{◌≡◌, ◌+◌, ◌<◌, ◌≤◌, [], ◌∷◌, Some, IfOk, OnErr, if◌then◌else◌, length, take};
+ghost use Rattle.std.specs.Prelude.{◌≡◌, ◌+◌, ◌<◌, ◌≤◌, [], ◌∷◌, Some, drop, IfOk, OnErr, if◌then◌else◌, length, take};
 ghost use Rattle.std.specs.BTreeMap.{IsOrdered};
 ghost use Rattle.craq_names.specs.Maps.{key_cmp, put_number};
 ghost use Rattle.craq_commands.specs.declared.entry.Write.{Write};
 ghost use Rattle.craq_commands.specs.Kept.{keep};
 ghost use Rattle.craq_replies.specs.Replies.{room_at, window_of};
 ghost use Rattle.craq_settled.specs.Folded.{AreFolded};
+ghost use Rattle.craq_settled.specs.Listed.{LaterAreSettled};
 ghost use Rattle.craq_settled.specs.Placed.{objects_of, state_at};
 
-use crate::objects::{Places, fill};
+use crate::objects::Places;
 use craq_commands::{Entry, Write};
 use craq_log::Suffix;
-use craq_names::{Items, Value, Version};
+use craq_names::Items;
 use craq_replies::ReplyTable;
+use craq_versions::VersionList;
 use std::alloc::{AllocError, Global};
 
 /// The first of some entries.
@@ -23,20 +25,22 @@ pub fn first_of(entries: &Suffix) -> &Entry
     &entries.from(entries.base())[0]
 }
 
-/// Puts what is written into the place of the one object that is written.
-fn fill_with(place: &mut Option<(Version, Value)>, writes: Items<Write>)
-    ensures { (w : Write) → writes ≡ w ∷ [] → place.new ≡ Some (w.version, w.value) }
+/// Settles the version that is written of the one object.
+fn settle_with(place: &mut VersionList, writes: Items<Write>)
+    ensures settled { (w : Write) → writes ≡ w ∷ [] → place.new.settled ≡ Some (w.version, w.value) }
+    ensures later { (w : Write) → writes ≡ w ∷ [] → place.new.later ≡ drop 1 place.old.later }
 {
     let mut writes = writes.into_vec();
     if let Some(write) = writes.pop() {
-        fill(place, write.version, write.value);
+        place.settle(write.version, write.value);
     }
 }
 
 /// Folds an entry that writes one object, of which this is the place; there is room for its reply. It takes no memory.
-fn fold_into(place: &mut Option<(Version, Value)>, replies: &mut ReplyTable, entry: Entry)
+fn fold_into(place: &mut VersionList, replies: &mut ReplyTable, entry: Entry)
     requires { 0 < room_at replies.old entry.client }
-    ensures place { (w : Write) → entry.writes ≡ w ∷ [] → place.new ≡ Some (w.version, w.value) }
+    ensures settled { (w : Write) → entry.writes ≡ w ∷ [] → place.new.settled ≡ Some (w.version, w.value) }
+    ensures later { (w : Write) → entry.writes ≡ w ∷ [] → place.new.later ≡ drop 1 place.old.later }
     ensures kept { replies.new.kept ≡ put_number replies.old.kept entry.client (keep (window_of replies.old entry.client) entry.number entry.reply) }
 {
     let Entry {
@@ -46,7 +50,7 @@ fn fold_into(place: &mut Option<(Version, Value)>, replies: &mut ReplyTable, ent
         writes,
         ..
     } = entry;
-    fill_with(place, writes);
+    settle_with(place, writes);
     replies.keep(client, number, reply).unwrap();
 }
 
@@ -63,6 +67,7 @@ pub fn fold_in_place(
     ensures ok { IfOk result (λ folded. entries.new.base ≡ entries.old.base + (if folded then 1 else 0)) }
     ensures err { OnErr result (entries.new.base ≡ entries.old.base) }
     ensures folded { AreFolded (state_at (objects_of places.old.entries) replies.old.kept) entries.old (state_at (objects_of places.new.entries) replies.new.kept) entries.new }
+    ensures later { LaterAreSettled places.old.entries entries.old places.new.entries entries.new }
     ensures ordered { IsOrdered key_cmp places.new }
 {
     let first = first_of(entries);

@@ -1,9 +1,12 @@
-//! The state after settled entries, in maps. Code that runs in the program.
+//! What a node holds of the past that it does not forget: the state after the entries that it has folded, in maps,
+//! the entries after them, and where these write each object. Code that runs in the program.
 #![tactic(auto)]
 
 mod folding;
+mod held;
 mod in_place;
+mod listing;
+mod lookups;
 mod objects;
-mod state;
 
-pub use state::SettledState;
+pub use held::HeldPast;

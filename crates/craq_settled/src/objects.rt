@@ -1,30 +1,21 @@
-//! Objects by key. A key for which only a place was made has nothing in it, which no call shows.
-ghost use Rattle.std.specs.Prelude.{◌≡◌, ◌≤◌, [], T, None, Some, IfOk, OnOk, length, unwrap_or};
+//! Objects by key. A key for which only a place was made has no version in it, which no call shows.
+ghost use Rattle.std.specs.Prelude.{◌≡◌, ◌≤◌, ℕ, List, [], T, None, Some, IfOk, OnOk, drop, if◌then◌else◌, length};
 ghost use Rattle.std.specs.BTreeMap.{IsOrdered, get};
 ghost use Rattle.std.specs.FinMap.Entries.{is_sorted};
-ghost use Rattle.craq_names.specs.Maps.{key_cmp, put_key};
+ghost use Rattle.craq_names.specs.Maps.{key_cmp, put_key, same_bytes};
 ghost use Rattle.craq_commands.specs.Objects.{object_of, set_object};
-ghost use Rattle.craq_settled.specs.Placed.{objects_of, HasPlace, KeepsPlaces};
+ghost use Rattle.craq_versions.specs.Versions.{no_versions};
+ghost use Rattle.craq_settled.specs.Placed.{objects_of, later_of, HasPlace, KeepsLater, KeepsPlaces};
 
 use craq_names::{Copied, Items, Key, Value, Version};
+use craq_versions::VersionList;
 use std::alloc::{AllocError, Global};
 use std::collections::BTreeMap;
 
-/// The places of keys, each with a version and a value, or empty.
-pub type Places = BTreeMap<Key, Option<(Version, Value)>>;
+/// The places of keys, each with the versions of an object.
+pub type Places = BTreeMap<Key, VersionList>;
 
-/// The version and value in a place; version 0 and no bytes where it is empty.
-fn object_at(place: &Option<(Version, Value)>) -> (Version, &[u8])
-    ensures object { (result.0, result.1.now) ≡ unwrap_or place.now (0, []) }
-    ensures short { length result.1.now ≤ 4096 }
-{
-    match place {
-        None => (Version::new(0), &[]),
-        Some((version, value)) => (*version, value.as_slice()),
-    }
-}
-
-/// The version and value of an object; version 0 and no bytes where it is absent. It takes no memory.
+/// The settled version and value of an object; version 0 and no bytes where it is absent. It takes no memory.
 pub fn object_in<'a>(places: &'a Places, key: &Key) -> (Version, &'a [u8])
     requires { IsOrdered key_cmp places.now }
     ensures object { (result.0, result.1.now) ≡ object_of (objects_of places.now.entries) key.now }
@@ -32,7 +23,7 @@ pub fn object_in<'a>(places: &'a Places, key: &Key) -> (Version, &'a [u8])
 {
     match places.get(key) {
         None => (Version::new(0), &[]),
-        Some(place) => object_at(place),
+        Some(place) => place.object(),
     }
 }
 
@@ -40,6 +31,7 @@ pub fn object_in<'a>(places: &'a Places, key: &Key) -> (Version, &'a [u8])
 pub fn make_place(alloc: Global, places: &mut Places, key: &Key) -> Result<(), AllocError>
     requires { IsOrdered key_cmp places.old }
     ensures objects { objects_of places.new.entries ≡ objects_of places.old.entries }
+    ensures later { KeepsLater places.old.entries places.new.entries }
     ensures keeps { KeepsPlaces places.old.entries places.new.entries }
     ensures placed { OnOk result (HasPlace places.new.entries key.now) }
     ensures ordered { IsOrdered key_cmp places.new }
@@ -47,46 +39,49 @@ pub fn make_place(alloc: Global, places: &mut Places, key: &Key) -> Result<(), A
     if places.contains_key(key) {
         return Ok(());
     }
-    put_empty(places, key.copied(alloc)?)
+    put_empty(places, key.copied(alloc)?, VersionList::new(alloc))
 }
 
-// Puts in an empty place for a key that has none.
-fn put_empty(places: &mut Places, key: Key) -> Result<(), AllocError>
-    requires { get key_cmp places.old key ≡ None }
+// Puts in a place without versions for a key that has none.
+fn put_empty(places: &mut Places, key: Key, list: VersionList) -> Result<(), AllocError>
+    requires absent { get key_cmp places.old key ≡ None }
+    requires empty { list ≡ no_versions }
     ensures objects { objects_of places.new.entries ≡ objects_of places.old.entries }
+    ensures later { KeepsLater places.old.entries places.new.entries }
     ensures keeps { KeepsPlaces places.old.entries places.new.entries }
     ensures placed { OnOk result (HasPlace places.new.entries key) }
     ensures ordered { IsOrdered key_cmp places.new }
 {
-    places.insert(key, None)?;
+    places.insert(key, list)?;
     Ok(())
 }
 
-/// Puts an object into a place.
-pub fn fill(place: &mut Option<(Version, Value)>, version: Version, value: Value)
-    ensures { place.new ≡ Some (version, value) }
-{
-    *place = Some((version, value));
-}
-
-/// Writes an object that has a place. It takes no memory.
-pub fn write_object(places: &mut Places, key: &Key, version: Version, value: Value)
+/// Settles the next version of an object that has a place. It takes no memory.
+pub fn settle_object(places: &mut Places, key: &Key, version: Version, value: Value)
     requires { HasPlace places.old.entries key.now }
     ensures objects { objects_of places.new.entries ≡ set_object (objects_of places.old.entries) key.now version value }
+    ensures later { (q : List ℕ) → later_of places.new.entries q ≡ drop (if same_bytes key.now q then 1 else 0) (later_of places.old.entries q) }
     ensures keeps { KeepsPlaces places.old.entries places.new.entries }
     ensures ordered { IsOrdered key_cmp places.new }
 {
     if let Some(place) = places.get_mut(key) {
-        fill(place, version, value);
+        place.settle(version, value);
     }
 }
 
-/// Puts in an object.
-fn put_object(places: &mut Places, key: Key, object: (Version, Value)) -> Result<(), AllocError>
-    ensures objects { OnOk result (objects_of places.new.entries ≡ put_key (objects_of places.old.entries) key object) }
+/// Puts in an object of one settled version.
+fn put_object(
+    alloc: Global,
+    places: &mut Places,
+    key: Key,
+    version: Version,
+    value: Value,
+) -> Result<(), AllocError>
+    ensures objects { OnOk result (objects_of places.new.entries ≡ put_key (objects_of places.old.entries) key (version, value)) }
+    ensures later { OnOk result ((q : List ℕ) → later_of places.old.entries q ≡ [] → later_of places.new.entries q ≡ []) }
     ensures ordered { IsOrdered key_cmp places.new }
 {
-    places.insert(key, Some(object))?;
+    places.insert(key, VersionList::of(alloc, version, value))?;
     Ok(())
 }
 
@@ -99,7 +94,7 @@ pub fn objects_copied(
 {
     let mut objects = Vec::new(alloc);
     for (key, place) in places.iter() {
-        if let Some((version, value)) = place {
+        if let Some((version, value)) = place.settled() {
             objects.push((key.copied(alloc)?, (*version, value.copied(alloc)?)))?;
         }
     }
@@ -113,11 +108,12 @@ pub fn objects_placed(
 ) -> Result<Places, AllocError>
     requires { T (is_sorted key_cmp objects) }
     ensures objects { IfOk result (λ places. objects_of places.entries ≡ objects) }
+    ensures later { IfOk result (λ places. (q : List ℕ) → later_of places.entries q ≡ []) }
     ensures ordered { IfOk result (λ places. IsOrdered key_cmp places) }
 {
     let mut places = BTreeMap::new(alloc);
-    for (key, object) in objects.into_vec() {
-        put_object(&mut places, key, object)?;
+    for (key, (version, value)) in objects.into_vec() {
+        put_object(alloc, &mut places, key, version, value)?;
     }
     Ok(places)
 }

@@ -1,2 +1,1 @@
 pub mod Versions
-pub mod Tables

@@ -1,12 +1,6 @@
-//! The versions of objects that a node holds, as a list for each object and a table of them.
-//! Code that runs in tests alone.
+//! The versions of one object that a node holds. Code that runs in the program.
 #![tactic(auto)]
 
-mod iterators;
 mod list;
-mod lists;
-mod table;
 
-pub use iterators::{Keys, Objects};
-pub use list::VersionList;
-pub use table::ObjectTable;
+pub use list::{VersionList, WriteRef};

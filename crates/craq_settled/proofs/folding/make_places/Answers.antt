@@ -10,6 +10,7 @@ loop-write-preserved c =
     let now : Write → Type 0 = λ w. HasPlace c.make_place.new.places.entries w.key in
     record {
       objects = c.make_place.ensures.objects ∙ c.loop-write.invariant.objects;
+      later = λ q. c.make_place.ensures.later q ∙ c.loop-write.invariant.later q;
       placed = all_to_next before now c.args.writes.now c.loop-write.write-index c.write-item.result c.write-item.is (λ w h. c.make_place.ensures.keeps w.key h) c.in_ok-make_place.ensures.placed c.loop-write.invariant.placed;
       ordered = c.make_place.ensures.ordered;
     }

@@ -4,4 +4,4 @@ use Rattle.craq_list.proofs.Observed.{version_told}
 use Rattle.craq_list.proofs.history.ListHistory.version_later.Goals as goal
 
 pub returns : goal.returns
-returns c = ap (λ x. x.0) c.object_past.ensures.object ∙ version_told (stored c.args.self.now.held.base c.args.self.now.state c.args.self.now.held.entries c.args.self.now.acknowledged) c.args.later.now c.args.key.now _ c.newest-newest.ensures.object
+returns c = ap (λ x. x.0) c.object_past.ensures.object ∙ version_told (stored c.args.self.now.held.base c.args.self.now.held.state c.args.self.now.held.entries c.args.self.now.acknowledged) c.args.later.now c.args.key.now _ c.newest-newest.ensures.object

@@ -7,5 +7,5 @@ use Rattle.craq_list.proofs.history.ListHistoryHistory.are_next.Goals as goal
 
 pub loop-place-preserved : goal.loop-place-preserved
 loop-place-preserved c =
-    next_fits (newest_in (compacted_in (stored c.args.self.now.held.base c.args.self.now.state c.args.self.now.held.entries c.args.self.now.acknowledged))) c.args.entries.now c.loop-place.place c.index-entries-place.result c.loop-place-test.true c.index-entries-place.is (sym c.is_next.ensures ∙ c.if-not-is_next.false)
+    next_fits (newest_in (compacted_in (stored c.args.self.now.held.base c.args.self.now.held.state c.args.self.now.held.entries c.args.self.now.acknowledged))) c.args.entries.now c.loop-place.place c.index-entries-place.result c.loop-place-test.true c.index-entries-place.is (sym c.is_next.ensures ∙ c.if-not-is_next.false)
     ∙ c.loop-place.invariant

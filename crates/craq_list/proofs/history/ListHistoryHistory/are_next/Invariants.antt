@@ -9,5 +9,5 @@ use Rattle.craq_list.proofs.history.ListHistoryHistory.are_next.Given as goal
 -- each entry so far fits; the rest goes on after them
 abbrev pub invariant-loop-place : goal.invariant-loop-place
 invariant-loop-place l =
-    are_applicable (after_entries (newest_in (compacted_in (stored l.self.held.base l.self.state l.self.held.entries l.self.acknowledged))) (take l.place l.entries)) (drop l.place l.entries)
-    ≡ are_applicable (newest_in (compacted_in (stored l.self.held.base l.self.state l.self.held.entries l.self.acknowledged))) l.entries
+    are_applicable (after_entries (newest_in (compacted_in (stored l.self.held.base l.self.held.state l.self.held.entries l.self.acknowledged))) (take l.place l.entries)) (drop l.place l.entries)
+    ≡ are_applicable (newest_in (compacted_in (stored l.self.held.base l.self.held.state l.self.held.entries l.self.acknowledged))) l.entries

@@ -1,8 +1,7 @@
-use Rattle.std.proofs.Common.{refl}
-use Rattle.craq_versions.proofs.Numbered.{newest_is}
+use Rattle.craq_versions.proofs.Newest.{last_is}
 use Rattle.craq_versions.proofs.list.VersionList.newest.Goals as goal
 
-pub returns-in-Some-clause-newest : goal.returns-in-Some-clause-newest
-returns-in-Some-clause-newest c =
-    rw (← c.self.view_is, c.new-in-Some.ensures, c.len.ensures, c.as_slice.ensures.value)
-    (newest_is c.self.inside.first c.self.inside.values.len c.self.inside.values.items c.in-Some.value.now c.self.inside.values.ok.0 (c.in-Some.ensures.variant.0 refl) c.in-Some.ensures.lookup)
+pub returns : goal.returns
+returns c =
+    let all = c.self.inside.later.ok.0 in
+    rw (← c.self.view_is) (last_is c.self.inside.later.items c.back.result (rw all at c.back.ensures.variant) (rw all at c.back.ensures.lookup))

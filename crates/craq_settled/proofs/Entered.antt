@@ -1,0 +1,103 @@
+-- Where entries give an object a version, as they are gone through.
+use Rattle.std.proofs.Common.{◌≡◌, ℕ, zero, suc, ◌+◌, ◌-◌, ◌<◌, ◌≤◌, List, [], ◌∷◌, ◌++◌, length, take, drop, get_or, refl, sym, ◌∙◌, ap, arith, append_assoc, length-append}
+use Rattle.std.proofs.lemmas.List.{get_or-drop, length-drop, take-append-le}
+use Rattle.craq_commands.specs.declared.entry.Entry.{Entry}
+use Rattle.craq_node_invariant.specs.Sound.{AreInRow}
+use Rattle.craq_log.specs.Suffixed.{Suffixed, length_of}
+use Rattle.craq_versions.specs.declared.list.WriteRef.{WriteRef}
+use Rattle.craq_settled.specs.Listed.{AreListed, written_in, written_after}
+use Rattle.craq_settled.specs.Placed.{Placed, KeepsLater, later_of}
+use Rattle.craq_settled.proofs.Placing.{none_more}
+
+-- one more entry
+entered_to_suc : (base : ℕ) (es : List Entry) (n : ℕ) (e : Entry) (key : List ℕ) → n < length es → e ≡ get_or es n e → written_after base (take (suc n) es) key ≡ written_after base (take n es) key ++ written_in (base + n + 1) 0 e.writes key
+unfolding written_after
+entered_to_suc base [] n e key low is = absurd (omega (arith, low))
+entered_to_suc base (d ∷ es) zero e key low is =
+    let here : base + 1 ≡ base + 0 + 1 = omega arith in
+    sym (none_more (written_in (base + 1) 0 d.writes key)) ∙ ap (λ (x : Entry). written_in (base + 1) 0 x.writes key) (sym is) ∙ ap (λ (n : ℕ). written_in n 0 e.writes key) here
+entered_to_suc base (d ∷ es) (suc n) e key low is =
+    let there : (base + 1) + n + 1 ≡ base + suc n + 1 = omega arith in
+    let first : List WriteRef = written_in (base + 1) 0 d.writes key in
+    ap (λ (l : List WriteRef). first ++ l) (entered_to_suc (base + 1) es n e key (omega (arith, low)) is ∙ ap (λ (p : ℕ). written_after (base + 1) (take n es) key ++ written_in p 0 e.writes key) there)
+    ∙ sym (append_assoc first (written_after (base + 1) (take n es) key) (written_in (base + suc n + 1) 0 e.writes key))
+
+-- nothing more is listed
+pub listed_still : (ps qs : Placed) (s : Suffixed) (done : ℕ) → AreListed ps s done → KeepsLater ps qs → AreListed qs s done
+listed_still ps qs s done listed kept = record {
+  from = listed.from;
+  to = listed.to;
+  later = λ q. kept q ∙ listed.later q;
+}
+
+first_in_row : (front : List Entry) (n : ℕ) (e : Entry) → 0 < length front → e ≡ get_or front 0 e → AreInRow n front → e.position ≡ n
+first_in_row [] n e some is row = absurd (omega (arith, some))
+first_in_row (d ∷ ds) n e some is row = ap (λ (x : Entry). x.position) is ∙ row.0
+
+-- one more entry is listed
+pub listed_next : (ps qs : Placed) (s : Suffixed) (done : ℕ) (front : List Entry) (e : Entry) → AreListed ps s done → done < length_of s → front ≡ drop (done - s.base) s.entries → AreInRow (done + 1) front → e ≡ get_or front 0 e
+    → ((q : List ℕ) → later_of qs q ≡ later_of ps q ++ written_in e.position 0 e.writes q) → AreListed qs s e.position
+listed_next ps qs s done front e listed low rest row is more =
+    let from = listed.from in
+    let n : ℕ = done - s.base in
+    let few : n < length s.entries = omega arith in
+    let long : length front ≡ length s.entries - n = ap length rest ∙ length-drop n s.entries in
+    let some : 0 < length front = omega arith in
+    let zero_more : n + 0 ≡ n = omega arith in
+    let its : e ≡ get_or s.entries n e = is ∙ ap (λ (l : List Entry). get_or l 0 e) rest ∙ get_or-drop n s.entries 0 e ∙ ap (λ (m : ℕ). get_or s.entries m e) zero_more in
+    let next : e.position ≡ done + 1 = first_in_row front (done + 1) e some is row in
+    let here : s.base + n + 1 ≡ e.position = omega arith in
+    let one : suc n ≡ e.position - s.base = omega arith in
+    let low_enough : s.base ≤ e.position = omega arith in
+    let high_enough : e.position ≤ length_of s = omega arith in
+    record {
+      from = low_enough;
+      to = high_enough;
+      later = λ q.
+          more q ∙ ap (λ (l : List WriteRef). l ++ written_in e.position 0 e.writes q) (listed.later q)
+          ∙ ap (λ (p : ℕ). written_after s.base (take n s.entries) q ++ written_in p 0 e.writes q) (sym here)
+          ∙ sym (entered_to_suc s.base s.entries n e q few its)
+          ∙ ap (λ (m : ℕ). written_after s.base (take m s.entries) q) one;
+    }
+
+-- and one later
+pub listed_later : (s : Suffixed) (done : ℕ) (front : List Entry) (e : Entry) → s.base ≤ done → done < length_of s → front ≡ drop (done - s.base) s.entries → AreInRow (done + 1) front → e ≡ get_or front 0 e → done < e.position
+listed_later s done front e from low rest row is =
+    let n : ℕ = done - s.base in
+    let long : length front ≡ length s.entries - n = ap length rest ∙ length-drop n s.entries in
+    let some : 0 < length front = omega arith in
+    let next : e.position ≡ done + 1 = first_in_row front (done + 1) e some is row in
+    omega arith
+
+-- what was listed is, where more entries come after
+pub listed_before : (ps : Placed) (s t : Suffixed) (more : List Entry) (done : ℕ) → t.base ≡ s.base → t.entries ≡ s.entries ++ more → AreListed ps s done → AreListed ps t done
+listed_before ps s t more done base entries listed =
+    let from = listed.from in
+    let to = listed.to in
+    let few : done - s.base ≤ length s.entries = omega arith in
+    let taken : take (done - s.base) s.entries ≡ take (done - t.base) t.entries = sym (take-append-le (done - s.base) s.entries more few) ∙ ap (λ (l : List Entry). take (done - s.base) l) (sym entries) ∙ ap (λ (b : ℕ). take (done - b) t.entries) (sym base) in
+    let long : length t.entries ≡ length (s.entries ++ more) = ap length entries in
+    let sum : length (s.entries ++ more) ≡ length s.entries + length more = length-append s.entries more in
+    let low : t.base ≤ done = omega arith in
+    let high : done ≤ length_of t = omega arith in
+    record {
+      from = low;
+      to = high;
+      later = λ q. listed.later q ∙ ap (λ (b : ℕ). written_after b (take (done - s.base) s.entries) q) (sym base) ∙ ap (λ (l : List Entry). written_after t.base l q) taken;
+    }
+
+none_of_none : (n : ℕ) (base : ℕ) (key : List ℕ) → [] ≡ written_after base (take n []) key
+unfolding written_after
+none_of_none zero base key = refl
+none_of_none (suc n) base key = refl
+
+-- without entries nothing is listed
+pub none_listed : (ps : Placed) (s : Suffixed) (listed : ℕ) → s.base ≡ listed → s.entries ≡ [] → ((q : List ℕ) → later_of ps q ≡ []) → AreListed ps s listed
+none_listed ps s listed base none empty =
+    let from : s.base ≤ listed = omega (arith, base) in
+    let to : listed ≤ length_of s = omega (arith, base) in
+    record {
+      from = from;
+      to = to;
+      later = λ q. empty q ∙ none_of_none (listed - s.base) s.base q ∙ ap (λ (es : List Entry). written_after s.base (take (listed - s.base) es) q) (sym none);
+    }

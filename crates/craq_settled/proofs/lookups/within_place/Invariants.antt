@@ -1,0 +1,12 @@
+use Rattle.std.proofs.Common.{◌≡◌, ℕ, ◌+◌, ◌-◌, ◌≤◌, ◌++◌, List, [], drop, length, unwrap_or}
+use Rattle.std.specs.List.{AllZip}
+use Rattle.craq_model.specs.Past.{newest_within, values_after}
+use Rattle.craq_settled.specs.Listed.{Gives}
+use Rattle.craq_settled.proofs.lookups.within_place.Given as goal
+
+-- the values that the places to come give, and those that are not listed, end in the one that is sought
+abbrev pub invariant-loop-at : goal.invariant-loop-at
+invariant-loop-at l = record {
+  goes_on : (vs : List (ℕ × List ℕ)) × AllZip (Gives l.entries) (l.at-iterator.head.now ++ l.at-iterator.wrapped.now) vs × (newest_within (l.version + l.above) (l.last, l.bytes) (vs ++ values_after (drop (l.listed - l.entries.base) l.entries.entries) l.key) ≡ newest_within (l.version + l.above) (unwrap_or l.place.settled (0, [])) (values_after l.entries.entries l.key));
+  short : length l.bytes ≤ 4096;
+}

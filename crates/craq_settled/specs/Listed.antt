@@ -1,0 +1,39 @@
+-- Where entries write objects.
+use Rattle.std.specs.Prelude.{◌≡◌, ℕ, ◌+◌, ◌-◌, ◌≤◌, if◌then◌else◌, List, [], ◌∷◌, ◌++◌, Some, drop, length, slice_get, take}
+use Rattle.craq_names.specs.Maps.{same_bytes}
+use Rattle.craq_commands.specs.declared.entry.Entry.{Entry}
+use Rattle.craq_commands.specs.declared.entry.Write.{Write}
+use Rattle.craq_model.specs.Past.{values_after}
+use Rattle.craq_log.specs.Suffixed.{Suffixed, length_of}
+use Rattle.craq_versions.specs.declared.list.WriteRef.{WriteRef}
+use Rattle.craq_settled.specs.Placed.{Placed, later_of}
+
+-- where the writes of an entry give an object a version, from the write of an index on
+unfoldable pub written_in : ℕ → ℕ → List Write → List ℕ → List WriteRef
+written_in position index [] key = []
+written_in position index (w ∷ ws) key = if same_bytes w.key key then record { position = position; index = index } ∷ written_in position (index + 1) ws key else written_in position (index + 1) ws key
+
+-- where entries after a position do
+unfoldable pub written_after : ℕ → List Entry → List ℕ → List WriteRef
+written_after base [] key = []
+written_after base (e ∷ es) key = written_in (base + 1) 0 e.writes key ++ written_after (base + 1) es key
+
+-- the places say of each object where the entries up to a position write it
+pub record AreListed (ps : Placed) (entries : Suffixed) (listed : ℕ) : Type 0 where
+  pub from : entries.base ≤ listed
+  pub to : listed ≤ length_of entries
+  pub later : (key : List ℕ) → later_of ps key ≡ written_after entries.base (take (listed - entries.base) entries.entries) key
+
+-- of each object the versions are gone that the entries up to the newer base give it
+abbrev pub LaterAreSettled : Placed → Suffixed → Placed → Suffixed → Type 0
+LaterAreSettled ps old qs new = (key : List ℕ) → later_of qs key ≡ drop (length (values_after (take (new.base - old.base) old.entries) key)) (later_of ps key)
+
+-- this version and value are written there, in an entry that so many stand before
+pub record Gives (s : Suffixed) (at : WriteRef) (value : ℕ × List ℕ) : Type 0 where
+  pub earlier : ℕ
+  pub entry : Entry
+  pub write : Write
+  pub position : at.position ≡ s.base + earlier + 1
+  pub its_entry : slice_get s.entries earlier ≡ Some entry
+  pub its_write : slice_get entry.writes at.index ≡ Some write
+  pub given : value ≡ (write.version, write.value)

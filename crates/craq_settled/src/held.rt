@@ -1,0 +1,224 @@
+ghost use Rattle.std.specs.Prelude.{◌≡◌, ◌+◌, ◌-◌, ◌<◌, ◌≤◌, ◌^◌, ◌++◌, T, ℕ, [], IfOk, OnOk, OnErr, drop, length, take};
+ghost use Rattle.std.specs.List.{AllByRecursion};
+ghost use Rattle.std.specs.Ordering.{nat_cmp};
+ghost use Rattle.std.specs.FinMap.Entries.{is_sorted};
+ghost use Rattle.craq_names.specs.Maps.{key_cmp};
+ghost use Rattle.craq_commands.specs.Kept.{Window};
+ghost use Rattle.craq_commands.specs.Objects.{object_of};
+ghost use Rattle.craq_commands.specs.SingleCopy.{after_entries, opening_state, window_of};
+ghost use Rattle.craq_model.specs.Past.{newest_within, values_after};
+ghost use Rattle.craq_node_invariant.specs.Sound.{AreInRow};
+ghost use Rattle.craq_settled.specs.Held.{length_of};
+
+use crate::folding::fold;
+use crate::listing::list_entries;
+use crate::lookups::{newest_in, within_in};
+use crate::objects::{Places, object_in, objects_copied, objects_placed};
+use craq_commands::{Entry, Kept, State, Window};
+use craq_log::Suffix;
+use craq_names::{ClientId, Items, Key, Seq, Version, copies_of};
+use craq_replies::ReplyTable;
+use std::alloc::{AllocError, Global};
+use std::collections::BTreeMap;
+use std::marker::Model;
+
+/// How many entries at most are not listed, while memory is there: a look at so few costs less than a look-up.
+const MOST_UNLISTED: u64 = 4;
+
+/// What is held of a past: the state after its first entries, whose objects are found by key and whose kept replies by
+/// client, in a time that grows with the logarithm of how many there are; and the entries after them. The place of an
+/// object says where the entries up to some position write it; those after that position are looked through.
+#[derive(Drop)]
+pub struct HeldPast {
+    places: Places,
+    replies: ReplyTable,
+    entries: Suffix,
+    listed: Seq,
+    alloc: Global,
+}
+
+impl Model for HeldPast {
+    ghost use Rattle.std.specs.BTreeMap.{IsOrdered};
+    ghost use Rattle.craq_names.specs.Maps.{key_cmp};
+    ghost use Rattle.craq_settled.specs.Held.{Held};
+    ghost use Rattle.craq_settled.specs.Listed.{AreListed};
+    ghost use Rattle.craq_settled.specs.Placed.{objects_of, state_at};
+
+    ghost Value = { Held };
+
+    ghost view = { λ h. record { base = h.entries.base; state = state_at (objects_of h.places.entries) h.replies.kept; entries = h.entries.entries } };
+
+    ghost invariant = { λ h. IsOrdered key_cmp h.places × AreListed h.places.entries h.entries h.listed };
+}
+
+/// The kept replies, which come by rising client, moved into a table.
+fn replies_placed(alloc: Global, kept: Items<(ClientId, Window)>) -> Result<ReplyTable, AllocError>
+    requires rising { T (is_sorted nat_cmp kept) }
+    requires some { AllByRecursion (λ (k : ℕ × Window). 1 ≤ length k.1) kept }
+    ensures { IfOk result (λ table. table.kept ≡ kept) }
+{
+    let mut table = ReplyTable::new(alloc);
+    for (client, window) in kept.as_slice() {
+        table.put(*client, copies_of(alloc, window.as_slice())?)?;
+    }
+    Ok(table)
+}
+
+impl HeldPast {
+    /// Nothing yet. It takes no memory.
+    pub fn new(alloc: Global) -> Self
+        ensures base { result.base ≡ 0 }
+        ensures state { result.state ≡ opening_state }
+        ensures entries { result.entries ≡ [] }
+    {
+        HeldPast {
+            places: BTreeMap::new(alloc),
+            replies: ReplyTable::new(alloc),
+            entries: Suffix::new(alloc, Seq::new(0)),
+            listed: Seq::new(0),
+            alloc,
+        }
+    }
+
+    /// A state after so many entries, and no entries after it. Its keys rise; its clients rise and have replies each. It
+    /// is moved into maps.
+    pub fn of(alloc: Global, base: Seq, state: State) -> Result<Self, AllocError>
+        requires keys { T (is_sorted key_cmp state.objects) }
+        requires clients { T (is_sorted nat_cmp state.kept) }
+        requires windows { AllByRecursion (λ (k : ℕ × Window). 1 ≤ length k.1) state.kept }
+        ensures base { IfOk result (λ h. h.base ≡ base) }
+        ensures state { IfOk result (λ h. h.state ≡ state) }
+        ensures entries { IfOk result (λ h. h.entries ≡ []) }
+    {
+        let State { objects, kept } = state;
+        Ok(HeldPast {
+            places: objects_placed(alloc, objects)?,
+            replies: replies_placed(alloc, kept)?,
+            entries: Suffix::new(alloc, base),
+            listed: base,
+            alloc,
+        })
+    }
+
+    /// How many entries are folded into the state.
+    pub fn base(&self) -> Seq
+        ensures { result ≡ self.now.base }
+    {
+        self.entries.base()
+    }
+
+    /// How many entries the past has.
+    pub fn len(&self) -> Seq
+        ensures { result ≡ length_of self.now }
+    {
+        self.entries.len()
+    }
+
+    /// The entries after a position, one after another. It takes no memory.
+    pub fn from(&self, position: Seq) -> &[Entry]
+        requires held { self.now.base ≤ position }
+        requires known { position ≤ length_of self.now }
+        ensures entries { result.now ≡ drop (position - self.now.base) self.now.entries }
+        ensures in_row { AreInRow (position + 1) result.now }
+    {
+        self.entries.from(position)
+    }
+
+    /// The version and value of an object after the entries that are folded; version 0 and no bytes where it is absent. It
+    /// takes no memory.
+    pub fn settled(&self, key: &Key) -> (Version, &[u8])
+        ensures object { (result.0, result.1.now) ≡ object_of self.now.state.objects key.now }
+        ensures short { length result.1.now ≤ 4096 }
+    {
+        object_in(&self.places, key)
+    }
+
+    /// The newest version and value of an object: those after all entries. It takes no memory.
+    #[tactic(auto, using(craq_plain::proofs::Scans::last_of_values))]
+    pub fn newest(&self, key: &Key) -> (Version, &[u8])
+        ensures object { (result.0, result.1.now) ≡ object_of (after_entries self.now.state self.now.entries).objects key.now }
+        ensures short { length result.1.now ≤ 4096 }
+    {
+        newest_in(&self.places, &self.entries, self.listed, key)
+    }
+
+    /// The newest version of an object, from the settled one on, that is at most so many above a version (a sum above
+    /// 2^64 - 1 bounds nothing). It takes no memory.
+    pub fn within(&self, key: &Key, version: u64, above: u64) -> (Version, &[u8])
+        ensures object { (result.0, result.1.now) ≡ newest_within (version + above) (object_of self.now.state.objects key.now) (values_after self.now.entries key.now) }
+        ensures short { length result.1.now ≤ 4096 }
+    {
+        within_in(
+            &self.places,
+            &self.entries,
+            self.listed,
+            key,
+            version,
+            above,
+        )
+    }
+
+    /// What is kept for a client after the entries that are folded, by rising number: 8 replies at most. It takes no
+    /// memory.
+    #[tactic(auto, unfolding(craq_commands::specs::SingleCopy::window_of))]
+    pub fn window(&self, client: ClientId) -> &[Kept]
+        ensures window { result.now ≡ window_of self.now.state client }
+        ensures few { length result.now ≤ 8 }
+    {
+        self.replies.window(client)
+    }
+
+    /// More entries, at the positions that come next. Where memory is refused for them the past stays.
+    pub fn append(&mut self, entries: Items<Entry>) -> Result<(), AllocError>
+        requires fits { length_of self.old + length entries < 2 ^ 64 }
+        requires in_row { AreInRow (length_of self.old + 1) entries }
+        ensures base { self.new.base ≡ self.old.base }
+        ensures state { self.new.state ≡ self.old.state }
+        ensures ok { OnOk result (self.new.entries ≡ self.old.entries ++ entries) }
+        ensures err { OnErr result (self.new.entries ≡ self.old.entries) }
+    {
+        self.entries.append_all(entries)?;
+        let most = Seq::new(self.entries.len().get().saturating_sub(MOST_UNLISTED));
+        self.listed = list_entries(
+            self.alloc,
+            &mut self.places,
+            &self.entries,
+            self.listed,
+            most,
+        );
+        Ok(())
+    }
+
+    /// Folds the entries up to a position into the state, in order, while memory is there: the state is then that after
+    /// them. Their values are moved.
+    pub fn fold(&mut self, position: Seq)
+        requires from { self.old.base ≤ position }
+        requires to { position ≤ length_of self.old }
+        ensures from { self.old.base ≤ self.new.base }
+        ensures to { self.new.base ≤ position }
+        ensures state { self.new.state ≡ after_entries self.old.state (take (self.new.base - self.old.base) self.old.entries) }
+        ensures entries { self.new.entries ≡ drop (self.new.base - self.old.base) self.old.entries }
+    {
+        fold(
+            self.alloc,
+            &mut self.places,
+            &mut self.replies,
+            &mut self.entries,
+            position,
+        );
+        let base = self.entries.base();
+        if self.listed.get() < base.get() {
+            self.listed = base;
+        }
+    }
+
+    /// The state after the entries that are folded, in memory of its own.
+    pub fn copied(&self, alloc: Global) -> Result<State, AllocError>
+        ensures { IfOk result (λ s. s ≡ self.now.state) }
+    {
+        Ok(State {
+            objects: objects_copied(alloc, &self.places)?,
+            kept: self.replies.copied(alloc)?,
+        })
+    }
+}

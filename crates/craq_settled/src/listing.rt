@@ -1,0 +1,120 @@
+//! Says in the places of objects where entries write them.
+ghost use Rattle.std.specs.Prelude.{◌≡◌, ℕ, ◌-◌, ◌≤◌, List, [], ◌∷◌, ◌++◌, OnOk, OnErr, if◌then◌else◌, length, take};
+ghost use Rattle.std.specs.BTreeMap.{IsOrdered};
+ghost use Rattle.craq_names.specs.Maps.{key_cmp, same_bytes};
+ghost use Rattle.craq_log.specs.Suffixed.{length_of};
+ghost use Rattle.craq_settled.specs.Listed.{written_in, AreListed};
+ghost use Rattle.craq_settled.specs.Placed.{objects_of, later_of, HasPlace, KeepsLater, LaterTakenBack};
+
+use crate::objects::{Places, make_place};
+use craq_commands::Write;
+use craq_log::Suffix;
+use craq_names::{Key, Seq};
+use craq_versions::WriteRef;
+use std::alloc::{AllocError, Global};
+
+/// One more version of an object that has a place.
+fn push_into(places: &mut Places, key: &Key, at: WriteRef) -> Result<(), AllocError>
+    requires { HasPlace places.old.entries key.now }
+    ensures objects { objects_of places.new.entries ≡ objects_of places.old.entries }
+    ensures ok { OnOk result ((q : List ℕ) → later_of places.new.entries q ≡ later_of places.old.entries q ++ (if same_bytes key.now q then at ∷ [] else [])) }
+    ensures err { OnErr result (KeepsLater places.old.entries places.new.entries) }
+    ensures ordered { IsOrdered key_cmp places.new }
+{
+    match places.get_mut(key) {
+        Some(place) => place.push(at),
+        None => Ok(()),
+    }
+}
+
+/// One more version of an object, which is written there. Where memory is refused the versions stay.
+fn push_version(
+    alloc: Global,
+    places: &mut Places,
+    key: &Key,
+    at: WriteRef,
+) -> Result<(), AllocError>
+    requires { IsOrdered key_cmp places.old }
+    ensures objects { objects_of places.new.entries ≡ objects_of places.old.entries }
+    ensures ok { OnOk result ((q : List ℕ) → later_of places.new.entries q ≡ later_of places.old.entries q ++ (if same_bytes key.now q then at ∷ [] else [])) }
+    ensures err { OnErr result (KeepsLater places.old.entries places.new.entries) }
+    ensures ordered { IsOrdered key_cmp places.new }
+{
+    make_place(alloc, places, key)?;
+    push_into(places, key, at)
+}
+
+/// Takes the newest of the later versions of an object back.
+fn pop_version(places: &mut Places, key: &Key)
+    requires { IsOrdered key_cmp places.old }
+    ensures objects { objects_of places.new.entries ≡ objects_of places.old.entries }
+    ensures later { (q : List ℕ) → later_of places.new.entries q ≡ take (length (later_of places.old.entries q) - (if same_bytes key.now q then 1 else 0)) (later_of places.old.entries q) }
+    ensures ordered { IsOrdered key_cmp places.new }
+{
+    if let Some(place) = places.get_mut(key) {
+        place.pop();
+    }
+}
+
+/// Takes back as many of the later versions of each object as these writes give it.
+fn unlist(places: &mut Places, writes: &[Write])
+    requires { IsOrdered key_cmp places.old }
+    ensures objects { objects_of places.new.entries ≡ objects_of places.old.entries }
+    ensures later { LaterTakenBack writes.now places.old.entries places.new.entries }
+    ensures ordered { IsOrdered key_cmp places.new }
+{
+    for write in writes {
+        pop_version(places, &write.key);
+    }
+}
+
+/// Says in the places where an entry writes each object. Where memory is refused the versions stay.
+fn list_writes(
+    alloc: Global,
+    places: &mut Places,
+    position: Seq,
+    writes: &[Write],
+) -> Result<(), AllocError>
+    requires { IsOrdered key_cmp places.old }
+    ensures objects { objects_of places.new.entries ≡ objects_of places.old.entries }
+    ensures ok { OnOk result ((q : List ℕ) → later_of places.new.entries q ≡ later_of places.old.entries q ++ written_in position 0 writes.now q) }
+    ensures err { OnErr result (KeepsLater places.old.entries places.new.entries) }
+    ensures ordered { IsOrdered key_cmp places.new }
+{
+    for index in 0..writes.len() {
+        let at = WriteRef { position, index };
+        if let Err(refused) = push_version(alloc, places, &writes[index].key, at) {
+            unlist(places, &writes[..index]);
+            return Err(refused);
+        }
+    }
+    Ok(())
+}
+
+/// Says in the places where entries write each object: those after the listed ones, up to a position and while memory
+/// is there. It gives the position up to which all are listed then.
+pub fn list_entries(
+    alloc: Global,
+    places: &mut Places,
+    entries: &Suffix,
+    listed: Seq,
+    position: Seq,
+) -> Seq
+    requires ordered { IsOrdered key_cmp places.old }
+    requires listed { AreListed places.old.entries entries.now listed }
+    requires to { position ≤ length_of entries.now }
+    ensures objects { objects_of places.new.entries ≡ objects_of places.old.entries }
+    ensures listed { AreListed places.new.entries entries.now result }
+    ensures more { listed ≤ result }
+    ensures ordered { IsOrdered key_cmp places.new }
+{
+    let mut done = listed;
+    while done.get() < position.get() {
+        let entry = &entries.from(done)[0];
+        if list_writes(alloc, places, entry.position, entry.writes.as_slice()).is_err() {
+            return done;
+        }
+        done = entry.position;
+    }
+    done
+}

@@ -1,7 +1,0 @@
-use Rattle.craq_versions.proofs.Numbered.{none_numbered}
-use Rattle.craq_versions.proofs.list.VersionList.is_empty.Goals as goal
-
-pub returns : goal.returns
-returns c =
-    let none = rw c.self.inside.values.ok.0 at c.is_empty.ensures in
-    rw (← c.self.view_is) (none_numbered c.self.inside.first c.self.inside.values.items c.is_empty.result none)

@@ -1,5 +1,5 @@
-ghost use Rattle.std.specs.Prelude.{◌≡◌, max, IfOk, IsTrue, OnErr};
-ghost use Rattle.craq_workers.specs.Calls.{IsCallOf};
+ghost use Rattle.std.specs.Prelude.{◌≡◌, max, IfOk, OnErr};
+ghost use Rattle.craq_calls.specs.Calls.{IsCallOf};
 
 use crate::chain::Chain;
 use crate::gate::Gate;
@@ -7,12 +7,13 @@ use crate::node::Node;
 use crate::replies::Reply;
 use crate::shared::Shared;
 use crate::steps::Asked;
+use craq_calls::{answer_of_call, pass_after};
 use craq_model::{Answer, Ask};
-use craq_names::{Copied, NodeName, Pass, Refusal, Same};
+use craq_names::{Copied, NodeName, Pass, Refusal};
 use craq_node::Core;
 use craq_seat::CallReceipt;
 use crossbeam_channel::SendError;
-use std::alloc::{AllocError, Global};
+use std::alloc::Global;
 use std::marker::Model;
 use std::sync::{Arc, Wait};
 
@@ -30,25 +31,6 @@ impl<C: Core, G: Gate> Model for Client<C, G> {
     ghost Value = { ℕ };
 
     ghost view = { λ c. c.pass };
-}
-
-/// Whether the receipt is of this ask at this node, shown with this pass.
-fn is_of(receipt: &CallReceipt, node: &NodeName, ask: &Ask, pass: Pass) -> bool
-    ensures { IsTrue result → IsCallOf node.now ask.now pass receipt.now.answer receipt.now }
-{
-    receipt.asked().node == node.node
-        && receipt.answered().node == node.node
-        && receipt.pass() == pass
-        && pass.stamp() < receipt.asked().stamp
-        && receipt.asked().stamp <= receipt.answered().stamp
-        && receipt.ask().is_same(ask)
-}
-
-/// The answer in memory of its own.
-fn answer_of(alloc: Global, receipt: &CallReceipt) -> Result<Answer, AllocError>
-    ensures { IfOk result (λ answer. answer ≡ receipt.now.answer) }
-{
-    receipt.answer().copied(alloc)
 }
 
 impl<C: Core, G: Gate> Client<C, G> {
@@ -91,7 +73,7 @@ impl<C: Core, G: Gate> Client<C, G> {
         let called = self.wait_for(rt, &node, &ask);
         drop(ask);
         let (answer, receipt) = called?;
-        self.pass = self.pass.join(Pass::of(receipt.answered().stamp));
+        self.pass = pass_after(self.pass, &receipt);
         Ok((answer, receipt))
     }
 
@@ -105,10 +87,7 @@ impl<C: Core, G: Gate> Client<C, G> {
         ensures { IfOk result (λ r. IsCallOf node.now ask.now self.now r.0 r.1) }
     {
         let receipt = self.reply(rt, node, ask)?;
-        if !is_of(&receipt, node, ask, self.pass) {
-            return Err(Refusal::Closed);
-        }
-        let answer = answer_of(self.alloc, &receipt)?;
+        let answer = answer_of_call(self.alloc, &receipt, node, ask, self.pass)?;
         Ok((answer, receipt))
     }
 

@@ -1,0 +1,8 @@
+//! What a caller learns of its call: the answer, once the receipt that it was told is known to be of that call, and its
+//! pass after the answer.
+//! Code that runs in the programs.
+#![tactic(auto)]
+
+mod answering;
+
+pub use answering::{answer_of_call, pass_after};

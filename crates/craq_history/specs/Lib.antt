@@ -3,3 +3,4 @@ pub mod Standing
 pub mod Nodes
 pub mod Room
 pub mod Plans
+pub mod InMemory

@@ -5,16 +5,30 @@ ghost use Rattle.craq_commands.specs.Told.{told};
 ghost use Rattle.craq_model.specs.Deliveries.{are_applicable};
 ghost use Rattle.craq_node_invariant.specs.Sound.{AreInRow, IsSoundState};
 ghost use Rattle.craq_compaction.specs.Compacted.{HoldsCommitted, remembered_in};
+ghost use Rattle.craq_history.specs.InMemory.{ArePartlyFolded};
 ghost use Rattle.craq_model.specs.Past.{Past, no_past, length_in, newest_in, clean_in, entries_in, object_within_in, last_position, with_entries_in, acknowledged_in, installed_in};
 
 use craq_commands::{Entry, Said, State};
 use craq_names::{ClientId, Items, Key, RequestNo, Seq, Version};
 use std::alloc::{AllocError, Global};
 
+/// The newest and the clean version of an object, each with its value. The object is clean where they are the same.
+#[derive(Clone, Copy, Debug)]
+pub struct ObjectVersions<'a> {
+    /// After all entries.
+    pub newest: (Version, &'a [u8]),
+    /// After the committed entries.
+    pub clean: (Version, &'a [u8]),
+}
+
 /// How a node keeps the past.
 pub trait History: Drop {
     /// The past that it stands for.
     ghost past: { Self → Past };
+
+    /// What is in memory of it: a state, and the entries after that. Where settled entries are forgotten, some of them
+    /// may be in memory still.
+    ghost in_memory: { Self → Past };
 
     /// Whether it forgets settled entries: then the past that it stands for is compacted.
     ghost forgets: { Bool };
@@ -40,6 +54,12 @@ pub trait History: Drop {
     fn clean(&self, key: &Key) -> (Version, &[u8])
         ensures object { (result.0, result.1.now) ≡ object_of (clean_in (past self.now)).objects key.now }
         ensures short { length result.1.now ≤ 4096 };
+
+    /// The newest and the clean version of an object, as `newest` and `clean` tell them.
+    fn versions(&self, key: &Key) -> ObjectVersions<'_>
+        ensures newest { (result.newest.0, result.newest.1.now) ≡ object_of (newest_in (past self.now)).objects key.now }
+        ensures clean { (result.clean.0, result.clean.1.now) ≡ object_of (clean_in (past self.now)).objects key.now }
+        ensures short { length result.newest.1.now ≤ 4096 };
 
     /// The newest version held, from the clean one on, that is at most so many above a version (a sum
     /// above 2^64 - 1 bounds nothing).
@@ -72,11 +92,15 @@ pub trait History: Drop {
         ensures ok { OnOk result (past self.new ≡ with_entries_in (past self.old) entries) }
         ensures err { OnErr result (past self.new ≡ past self.old) };
 
-    /// The entries up to the position are committed; one that forgets settled entries forgets them now.
-    /// It is never refused.
-    fn acknowledge(&mut self, position: Seq)
+    /// The entries up to the position are committed, whatever the answer is; one that forgets settled entries forgets
+    /// them now. After `Ok` no settled entry that is forgotten is in memory. An error says that a growth was refused:
+    /// the settled entries after some position are in memory still, and nothing else that is seen differs. The next
+    /// call lets them go too, where it answers `Ok`.
+    fn acknowledge(&mut self, position: Seq) -> Result<(), AllocError>
         requires { HoldsCommitted (acknowledged_in (past self.old) position) }
-        ensures { past self.new ≡ remembered_in forgets (acknowledged_in (past self.old) position) };
+        ensures past { past self.new ≡ remembered_in forgets (acknowledged_in (past self.old) position) }
+        ensures ok { OnOk result (in_memory self.new ≡ past self.new) }
+        ensures err { OnErr result (ArePartlyFolded (acknowledged_in (in_memory self.old) position) (in_memory self.new)) };
 
     /// The state after the committed entries.
     fn snapshot(&self, alloc: Global) -> Result<State, AllocError>

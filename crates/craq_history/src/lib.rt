@@ -11,5 +11,5 @@ pub mod outs;
 pub mod steps;
 
 pub use change::{Change, GatheringChange, HistoryChange, WaitingChange};
-pub use history::History;
+pub use history::{History, ObjectVersions};
 pub use node::Node;

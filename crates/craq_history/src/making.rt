@@ -138,13 +138,14 @@ fn change_gathering(
     }
 }
 
-/// Commits the entries up to a position, if there is one.
+/// Commits the entries up to a position, if there is one. Where a growth was refused, settled entries are in memory for
+/// longer, which nothing that the node says shows; so that answer is dropped.
 fn commit<H: History>(history: &mut H, acknowledged: Option<Seq>)
     requires { HoldsCommitted (commits_by acknowledged (H.past history.old)) }
     ensures { H.past history.new ≡ remembered_in H.forgets (commits_by acknowledged (H.past history.old)) }
 {
     if let Some(position) = acknowledged {
-        history.acknowledge(position);
+        let _ = history.acknowledge(position);
     }
 }
 

@@ -8,7 +8,7 @@ use crate::lookups::{
 };
 use crate::states::state_after;
 use craq_commands::{Entry, Said, State};
-use craq_history::History;
+use craq_history::{History, ObjectVersions};
 use craq_names::{ClientId, Items, Key, RequestNo, Seq, Version};
 use std::alloc::{AllocError, Global};
 
@@ -74,6 +74,8 @@ impl PlainHistory {
 impl History for PlainHistory {
     ghost past = { λ h. record { base = h.base; base_state = h.base_state; entries = h.entries.items; acknowledged = h.acknowledged } };
 
+    ghost in_memory = { λ h. record { base = h.base; base_state = h.base_state; entries = h.entries.items; acknowledged = h.acknowledged } };
+
     ghost forgets = { false };
 
     ghost is_remembered = { λ h. refl };
@@ -102,6 +104,13 @@ impl History for PlainHistory {
     fn clean(&self, key: &Key) -> (Version, &[u8]) {
         let (committed, _) = self.split(self.acknowledged.get());
         object_after(&self.base_state, committed, key)
+    }
+
+    fn versions(&self, key: &Key) -> ObjectVersions<'_> {
+        ObjectVersions {
+            newest: self.newest(key),
+            clean: self.clean(key),
+        }
     }
 
     fn within(&self, key: &Key, version: u64, above: u64) -> (Version, &[u8]) {
@@ -136,8 +145,9 @@ impl History for PlainHistory {
         Ok(())
     }
 
-    fn acknowledge(&mut self, position: Seq) {
+    fn acknowledge(&mut self, position: Seq) -> Result<(), AllocError> {
         self.acknowledged = position;
+        Ok(())
     }
 
     fn snapshot(&self, alloc: Global) -> Result<State, AllocError> {

@@ -11,7 +11,7 @@ use craq_commands::ReadMode;
 use craq_history::members::last_member;
 use craq_history::outs::message;
 use craq_history::steps::accepted;
-use craq_history::{Change, History, Node, WaitingChange};
+use craq_history::{Change, History, Node, ObjectVersions, WaitingChange};
 use craq_model::{Answer, Body, Out, Step, WaitingRead};
 use craq_names::{Copied, Key, Refusal, Ticket, Value, Version};
 use std::alloc::Global;
@@ -47,19 +47,15 @@ pub fn plan_read<H: History>(
     }
 }
 
-/// The newest version and value of an object, where that version is the clean one. It is where all entries are known to
-/// be committed: the object is then looked up once.
+/// The newest version and value of an object, where that version is the clean one.
 fn newest_if_clean<'a, H: History>(history: &'a H, key: &Key) -> Option<(Version, &'a [u8])>
     ensures object { IfSome result (λ r. (r.0, r.1.now) ≡ object_of (newest_in (H.past history.now)).objects key.now) }
     ensures short { IfSome result (λ r. length r.1.now ≤ 4096) }
     ensures clean { is_some result ≡ ((object_of (newest_in (H.past history.now)).objects key.now).0 == (object_of (clean_in (H.past history.now)).objects key.now).0) }
 {
-    if history.after(history.acknowledged()).is_empty() {
-        return Some(history.clean(key));
-    }
-    let (version, value) = history.newest(key);
-    if version == history.clean(key).0 {
-        Some((version, value))
+    let ObjectVersions { newest, clean } = history.versions(key);
+    if newest.0 == clean.0 {
+        Some(newest)
     } else {
         None
     }

@@ -7,7 +7,7 @@ ghost use Rattle.craq_history.specs.Plans.{IsPlanOf};
 use craq_history::members::{is_member_of, last_member};
 use craq_history::outs::message;
 use craq_history::steps::{done, ignoring};
-use craq_history::{Change, History, Node, WaitingChange};
+use craq_history::{Change, History, Node, ObjectVersions, WaitingChange};
 use craq_model::{Answer, Body, Out, Step, WaitingRead, Why};
 use craq_names::{Key, NodeId, Ticket, Value, Version};
 use std::alloc::{AllocError, Global};
@@ -89,11 +89,11 @@ fn told<H: History>(
     ensures turn { IfOk result (λ r. IsPlanOf (plain_of H.past node.now) r (told_version_turn (plain_of H.past node.now) version (Some read.now))) }
     ensures free { IsSome (told_version_turn (plain_of H.past node.now) version (Some read.now)).1.ignored → IsOk result }
 {
-    if node.history.newest(&read.key).0 < version {
+    let ObjectVersions { newest, clean } = node.history.versions(&read.key);
+    if newest.0 < version {
         return Ok((Change::none(), ignoring(alloc, Why::TooFar)));
     }
-    let (clean, _) = node.history.clean(&read.key);
-    let known = version.get().max(clean.get());
+    let known = version.get().max(clean.0.get());
     let (version, bytes) = node.history.within(&read.key, known, 0);
     let value = Value::of(Vec::from_slice(alloc, bytes)?);
     let mut outs = Vec::new(alloc);

@@ -4,6 +4,7 @@
 
 mod held;
 mod items;
+mod looking;
 mod places;
 mod table;
 

@@ -15,11 +15,12 @@ use std::collections::BTreeMap;
 /// The places of clients.
 pub type Places = BTreeMap<u64, HeldReplies>;
 
-/// Puts in a place with these replies for a client.
+/// Puts in a place with these replies for a client. Where memory is refused the places stay.
 pub fn put_place(places: &mut Places, client: u64, replies: Vec<Kept>) -> Result<(), AllocError>
     requires few { length replies.items ≤ 8 }
     requires some { 1 ≤ length replies.items }
     ensures ok { OnOk result ((table_of places.new.entries).kept ≡ put_number (table_of places.old.entries).kept client replies.items) }
+    ensures err { OnErr result (places.new.entries ≡ places.old.entries) }
     ensures ordered { IsOrdered nat_cmp places.new }
 {
     places.insert(client, HeldReplies::of(replies))?;

@@ -4,11 +4,13 @@ ghost use Rattle.std.specs.Ordering.{nat_cmp};
 ghost use Rattle.craq_names.specs.Maps.{put_number};
 ghost use Rattle.craq_commands.specs.Kept.{keep, said_of};
 ghost use Rattle.craq_commands.specs.Told.{told};
+ghost use Rattle.craq_replies.specs.Known.{known_by, known_of};
 ghost use Rattle.craq_replies.specs.Replies.{window_of, room_at, KeepsRoom, KeepsOthersRoom};
 
 use crate::KeptReplies;
+use crate::looking::known_in;
 use crate::places::{Places, copies, keep_in_place, put_place, reserve_in};
-use craq_commands::{Kept, Reply, Said, Window, look_in};
+use craq_commands::{Kept, Reply, Said, Window};
 use craq_names::{ClientId, Items, RequestNo};
 use std::alloc::{AllocError, Global};
 use std::collections::BTreeMap;
@@ -25,6 +27,7 @@ pub struct ReplyTable {
 impl Model for ReplyTable {
     ghost use Rattle.std.specs.Ordering.{nat_cmp};
     ghost use Rattle.std.specs.BTreeMap.{IsOrdered};
+    ghost use Rattle.craq_replies.specs.Known.{known_by, known_of};
     ghost use Rattle.craq_replies.specs.Replies.{Replies, table_of};
 
     ghost Value = { Replies };
@@ -46,12 +49,13 @@ impl ReplyTable {
     }
 
     /// What is known of a number of a client: its reply, that it is below all of a full window, or that it
-    /// is new. It takes no memory.
+    /// is new. A number whose kept reply is itself `Stale` is kept. It takes no memory.
     pub fn look(&self, client: ClientId, number: RequestNo) -> Said<'_>
-        ensures { told result ≡ said_of (window_of self.now client) number }
+        ensures told { told result ≡ said_of (window_of self.now client) number }
+        ensures known { known_by result ≡ known_of (window_of self.now client) number }
     {
         match self.places.get(&client.get()) {
-            Some(held) => look_in(held.as_slice(), number),
+            Some(held) => known_in(held.as_slice(), number),
             None => Said::New,
         }
     }
@@ -67,11 +71,13 @@ impl ReplyTable {
         }
     }
 
-    /// These replies, 1 to 8, which come by rising number, are what is kept for a client.
+    /// These replies, 1 to 8, which come by rising number, are what is kept for a client. Where memory is refused the
+    /// table stays.
     pub fn put(&mut self, client: ClientId, replies: Vec<Kept>) -> Result<(), AllocError>
         requires few { length replies.items ≤ 8 }
         requires some { 1 ≤ length replies.items }
-        ensures { OnOk result (self.new.kept ≡ put_number self.old.kept client replies.items) }
+        ensures err { OnErr result (self.new ≡ self.old) }
+        ensures ok { OnOk result (self.new.kept ≡ put_number self.old.kept client replies.items) }
     {
         put_place(&mut self.places, client.get(), replies)
     }

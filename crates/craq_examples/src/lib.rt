@@ -14,6 +14,7 @@ ghost use Rattle.craq_runs.specs.Runs.{IsRunOf};
 ghost use Rattle.craq_runs.specs.Seen.{seen};
 ghost use Rattle.craq_runs.specs.Valid.{IsValid, StrongHold, HasForm, IsBounded, look_of};
 ghost use Rattle.craq_examples.specs.Bounded.{run, explanation, earlier, answered, look};
+ghost use Rattle.craq_examples.specs.Pieces.{part_counts, run_lengths};
 ghost use Rattle.craq_examples.specs.Printed.{play, printed, run_of};
 ghost use Rattle.craq_examples.specs.Rows.{first_read_moves, first_read_lines, first_read_explained, clean_and_dirty_reads_moves, clean_and_dirty_reads_lines, clean_and_dirty_reads_explained, one_put_moves, one_put_lines, one_put_explained, query_overtaken_moves, query_overtaken_lines, query_overtaken_explained, out_of_order_moves, out_of_order_lines, head_lost_early_moves, head_lost_early_lines, head_lost_early_explained, head_lost_with_retry_moves, head_lost_with_retry_lines, head_lost_with_retry_explained, tail_lost_moves, tail_lost_lines, tail_lost_explained, join_moves, join_lines, old_epoch_moves, old_epoch_lines, one_node_moves, one_node_lines, one_node_explained, numbers_moves, numbers_lines, transactions_moves, transactions_lines, bounded_reads_moves, bounded_reads_lines, refusals_moves, refusals_lines, last_node_moves, last_node_lines, full_chain_moves, full_chain_lines, long_append_moves, long_append_lines, prepend_moves, prepend_lines, retry_moves, retry_lines, retry_explained, ticks_moves, ticks_lines, ticks_explained, whole_join_moves, whole_join_lines, whole_join_explained, eight_kept_moves, eight_kept_lines, eight_kept_explained, batch_moves, batch_lines, batch_explained, chain_of_many, parts_moves, parts_lines};
 
@@ -126,6 +127,18 @@ pub fn eight_kept()
 pub fn batch()
     ensures printed { play (1 ∷ 2 ∷ []) batch_moves ≡ batch_lines }
     ensures explained { explain 0 (run_of (1 ∷ 2 ∷ []) batch_moves) ≡ batch_explained }
+{}
+
+/// 17 entries are sent in runs of 16 and 1, and 33 in two runs of 16 and one of 1.
+pub fn runs()
+    ensures seventeen { run_lengths 17 ≡ 16 ∷ 1 ∷ [] }
+    ensures thirty_three { run_lengths 33 ≡ 16 ∷ 16 ∷ 1 ∷ [] }
+{}
+
+/// A state of 65 items is sent in parts of 64 and 1, and one of 129 in two parts of 64 and one of 1.
+pub fn part_items()
+    ensures sixty_five { part_counts 60 5 ≡ 64 ∷ 1 ∷ [] }
+    ensures hundred_twenty_nine { part_counts 100 29 ≡ 64 ∷ 64 ∷ 1 ∷ [] }
 {}
 
 /// A state of 66 items comes in two parts, the second one first and twice.

@@ -4,3 +4,4 @@ pub mod Names
 pub mod Nodes
 pub mod Writes
 pub mod Parts
+pub mod Full

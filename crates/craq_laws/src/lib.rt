@@ -2,7 +2,7 @@
 //! Laws: functions without bodies, whose contracts are the theorems.
 #![tactic(auto)]
 
-ghost use Rattle.std.specs.Prelude.{◌≡◌, ◌≢◌, ◌≤◌, ◌↔◌, ℕ, true, false, Err, List, [], ◌∷◌, ◌++◌, map, None, Some, Ok, Option};
+ghost use Rattle.std.specs.Prelude.{◌≡◌, ◌≢◌, ◌≤◌, ◌↔◌, ℕ, true, false, Err, List, [], ◌∷◌, ◌++◌, length, map, None, Some, Ok, Option};
 ghost use Rattle.std.specs.List.{IsDistinct};
 ghost use Rattle.std.specs.Prelude.{T, ◌&&◌};
 ghost use Rattle.std.specs.FinMap.Entries.{is_sorted};
@@ -29,9 +29,10 @@ ghost use Rattle.craq_model.specs.declared.step.Step.{Step};
 ghost use Rattle.craq_model.specs.Node.{node_step, is_for};
 ghost use Rattle.std.specs.List.{flat_map};
 ghost use Rattle.craq_model.specs.declared.message.StatePart.{StatePart};
-ghost use Rattle.craq_model.specs.Parts.{joined_state, parts_of};
+ghost use Rattle.craq_model.specs.Parts.{item_count, joined_state, parts_of};
 ghost use Rattle.craq_model.specs.Sends.{runs_of};
 ghost use Rattle.craq_model.specs.Plain.{Plain, newest, id_of, is_first};
+ghost use Rattle.craq_laws.specs.Pieces.{AreFullButLast};
 
 /// A number is new exactly where it has no reply.
 pub fn new_numbers()
@@ -56,6 +57,16 @@ pub fn parts_are_the_state()
 /// The runs in which entries are sent, one after another, are the entries.
 pub fn runs_are_the_entries()
     ensures { (es : List Entry) → flat_map (λ (run : List Entry). run) (runs_of es) ≡ es }
+{}
+
+/// Each run in which entries are sent has 16 of them, but for the last, which has 1 to 16.
+pub fn runs_but_the_last_are_full()
+    ensures { (es : List Entry) → AreFullButLast length 16 (runs_of es) }
+{}
+
+/// Each part in which a state is sent has 64 items, but for the last, which has 1 to 64.
+pub fn parts_but_the_last_are_full()
+    ensures { (position : ℕ) (s : State) → AreFullButLast (λ (p : StatePart). item_count p.state) 64 (parts_of position s) }
 {}
 
 /// A step keeps a node's name.

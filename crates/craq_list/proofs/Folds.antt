@@ -46,3 +46,9 @@ installed_is n s t e = nothing_left n t ∙ ap (λ (x : State). past_at n x []) 
 
 pub holds : (base acknowledged : ℕ) (s : State) (es : List Entry) → base ≤ acknowledged → acknowledged ≤ base + length es → HoldsCommitted (stored base s es acknowledged)
 holds base acknowledged s es a b = record { based = a; within = b }
+
+-- where all settled entries are folded, what is stored is the past that it stands for
+pub all_folded : (base n : ℕ) (s : State) (es : List Entry) → base ≡ n → stored base s es n ≡ compacted_in (stored base s es n)
+all_folded base n s es e =
+    let none : n - base ≡ 0 = omega arith in
+    ap (λ (k : ℕ). stored k s es n) e ∙ sym (ap (λ (k : ℕ). past_at n (after_entries s (take k es)) (drop k es)) none)

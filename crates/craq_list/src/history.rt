@@ -1,4 +1,4 @@
-ghost use Rattle.std.specs.Prelude.{◌≡◌, ◌-◌, ◌≤◌, true, take, drop};
+ghost use Rattle.std.specs.Prelude.{◌≡◌, ◌-◌, ◌≤◌, true, length, take, drop};
 ghost use Rattle.craq_commands.specs.Objects.{version_of};
 ghost use Rattle.craq_commands.specs.SingleCopy.{after_entries, is_new_to};
 ghost use Rattle.craq_model.specs.Deliveries.{is_applicable};
@@ -9,13 +9,13 @@ ghost use Rattle.craq_settled.specs.Held.{length_of};
 ghost use Rattle.craq_list.specs.Stored.{stored};
 
 use craq_commands::{Entry, Said, State};
-use craq_history::History;
+use craq_history::{History, ObjectVersions};
 use craq_names::{ClientId, Items, Key, RequestNo, Seq, Version};
 use craq_plain::lookups::{
     follows, is_new_past, last_position_of, object_past, object_up_to, said_past,
 };
 use craq_plain::states::state_after;
-use craq_settled::HeldPast;
+use craq_settled::{HeldPast, Seen};
 use std::alloc::{AllocError, Global};
 
 /// A past that forgets settled entries. It keeps the state after the first so many entries, and the entries after
@@ -34,6 +34,20 @@ pub struct ListHistory {
 }
 
 impl ListHistory {
+    /// How many entries are known by the state after them alone. No entry at or below this position is in memory.
+    pub fn base(&self) -> Seq
+        ensures { result ≡ (⟦<ListHistory as History>⟧.in_memory self.now).base }
+    {
+        self.held.base()
+    }
+
+    /// How many entries are in memory: those after the base.
+    pub fn entries_held(&self) -> usize
+        ensures { result ≡ length (⟦<ListHistory as History>⟧.in_memory self.now).entries }
+    {
+        self.entries().len()
+    }
+
     /// The entries after the state.
     fn entries(&self) -> &[Entry]
         ensures { result.now ≡ self.now.held.entries }
@@ -89,6 +103,8 @@ impl ListHistory {
 impl History for ListHistory {
     ghost past = { λ h. compacted_in (stored h.held.base h.held.state h.held.entries h.acknowledged) };
 
+    ghost in_memory = { λ h. stored h.held.base h.held.state h.held.entries h.acknowledged };
+
     ghost forgets = { true };
 
     ghost is_remembered = { λ h. compacted_twice (stored h.held.base h.held.state h.held.entries h.acknowledged) };
@@ -116,6 +132,15 @@ impl History for ListHistory {
     fn clean(&self, key: &Key) -> (Version, &[u8]) {
         let (first, bytes) = self.held.settled(key);
         object_past(first, bytes, self.settled(), key)
+    }
+
+    fn versions(&self, key: &Key) -> ObjectVersions<'_> {
+        let Seen { newest, settled } = self.held.seen(key);
+        let (first, bytes) = settled;
+        ObjectVersions {
+            newest,
+            clean: object_past(first, bytes, self.settled(), key),
+        }
     }
 
     fn within(&self, key: &Key, version: u64, above: u64) -> (Version, &[u8]) {
@@ -155,9 +180,9 @@ impl History for ListHistory {
         self.held.append(entries)
     }
 
-    fn acknowledge(&mut self, position: Seq) {
+    fn acknowledge(&mut self, position: Seq) -> Result<(), AllocError> {
         self.acknowledged = position;
-        self.held.fold(position);
+        self.held.fold(position)
     }
 
     fn snapshot(&self, alloc: Global) -> Result<State, AllocError> {

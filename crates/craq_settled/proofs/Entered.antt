@@ -60,14 +60,13 @@ listed_next ps qs s done front e listed low rest row is more =
           ∙ ap (λ (m : ℕ). written_after s.base (take m s.entries) q) one;
     }
 
--- and one later
-pub listed_later : (s : Suffixed) (done : ℕ) (front : List Entry) (e : Entry) → s.base ≤ done → done < length_of s → front ≡ drop (done - s.base) s.entries → AreInRow (done + 1) front → e ≡ get_or front 0 e → done < e.position
+-- and it is the next one
+pub listed_later : (s : Suffixed) (done : ℕ) (front : List Entry) (e : Entry) → s.base ≤ done → done < length_of s → front ≡ drop (done - s.base) s.entries → AreInRow (done + 1) front → e ≡ get_or front 0 e → e.position ≡ done + 1
 listed_later s done front e from low rest row is =
     let n : ℕ = done - s.base in
     let long : length front ≡ length s.entries - n = ap length rest ∙ length-drop n s.entries in
     let some : 0 < length front = omega arith in
-    let next : e.position ≡ done + 1 = first_in_row front (done + 1) e some is row in
-    omega arith
+    first_in_row front (done + 1) e some is row
 
 -- what was listed is, where more entries come after
 pub listed_before : (ps : Placed) (s t : Suffixed) (more : List Entry) (done : ℕ) → t.base ≡ s.base → t.entries ≡ s.entries ++ more → AreListed ps s done → AreListed ps t done

@@ -5,6 +5,6 @@ pub mod Results
 pub mod Counts
 pub mod Written
 pub mod Entered
-pub mod Seen
+pub mod Looked
 pub mod Found
 pub mod Settling

@@ -133,17 +133,20 @@ fn fold_first(
     fold_with_room(alloc, places, replies, entries)
 }
 
-/// Folds entries in order, up to a position and while memory is there, and takes them out.
+/// Folds entries in order, up to a position, and takes them out. It stops at the first growth that is refused: the entries
+/// from that one on stay, and the next call begins with it.
 pub fn fold(
     alloc: Global,
     places: &mut Places,
     replies: &mut ReplyTable,
     entries: &mut Suffix,
     position: Seq,
-)
+) -> Result<(), AllocError>
     requires ordered { IsOrdered key_cmp places.old }
     requires from { entries.old.base ≤ position }
     requires to { position ≤ length_of entries.old }
+    ensures ok { OnOk result (entries.new.base ≡ position) }
+    ensures err { OnErr result (entries.new.base < position) }
     ensures from { entries.old.base ≤ entries.new.base }
     ensures to { entries.new.base ≤ position }
     ensures folded { AreFolded (state_at (objects_of places.old.entries) replies.old.kept) entries.old (state_at (objects_of places.new.entries) replies.new.kept) entries.new }
@@ -151,8 +154,7 @@ pub fn fold(
     ensures ordered { IsOrdered key_cmp places.new }
 {
     while entries.base().get() < position.get() {
-        if fold_first(alloc, places, replies, entries).is_err() {
-            return;
-        }
+        fold_first(alloc, places, replies, entries)?;
     }
+    Ok(())
 }

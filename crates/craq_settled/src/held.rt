@@ -12,7 +12,7 @@ ghost use Rattle.craq_settled.specs.Held.{length_of};
 
 use crate::folding::fold;
 use crate::listing::list_entries;
-use crate::lookups::{newest_in, within_in};
+use crate::lookups::{Seen, seen_in, within_in};
 use crate::objects::{Places, object_in, objects_copied, objects_placed};
 use craq_commands::{Entry, Kept, State, Window};
 use craq_log::Suffix;
@@ -21,9 +21,6 @@ use craq_replies::ReplyTable;
 use std::alloc::{AllocError, Global};
 use std::collections::BTreeMap;
 use std::marker::Model;
-
-/// How many entries at most are not listed, while memory is there: a look at so few costs less than a look-up.
-const MOST_UNLISTED: u64 = 4;
 
 /// What is held of a past: the state after its first entries, whose objects are found by key and whose kept replies by
 /// client, in a time that grows with the logarithm of how many there are; and the entries after them. The place of an
@@ -134,12 +131,23 @@ impl HeldPast {
     }
 
     /// The newest version and value of an object: those after all entries. It takes no memory.
-    #[tactic(auto, using(craq_plain::proofs::Scans::last_of_values))]
     pub fn newest(&self, key: &Key) -> (Version, &[u8])
         ensures object { (result.0, result.1.now) ≡ object_of (after_entries self.now.state self.now.entries).objects key.now }
         ensures short { length result.1.now ≤ 4096 }
     {
-        newest_in(&self.places, &self.entries, self.listed, key)
+        self.seen(key).newest
+    }
+
+    /// The settled version of an object, after the entries that are folded, and its newest one, after all entries, each with
+    /// its value; version 0 and no bytes where it is absent. The object is looked up once. It takes no memory.
+    #[tactic(auto, using(craq_plain::proofs::Scans::last_of_values))]
+    pub fn seen(&self, key: &Key) -> Seen<'_>
+        ensures settled { (result.settled.0, result.settled.1.now) ≡ object_of self.now.state.objects key.now }
+        ensures newest { (result.newest.0, result.newest.1.now) ≡ object_of (after_entries self.now.state self.now.entries).objects key.now }
+        ensures short_settled { length result.settled.1.now ≤ 4096 }
+        ensures short_newest { length result.newest.1.now ≤ 4096 }
+    {
+        seen_in(&self.places, &self.entries, self.listed, key)
     }
 
     /// The newest version of an object, from the settled one on, that is at most so many above a version (a sum above
@@ -168,7 +176,8 @@ impl HeldPast {
         self.replies.window(client)
     }
 
-    /// More entries, at the positions that come next. Where memory is refused for them the past stays.
+    /// More entries, at the positions that come next. Where memory is refused for them the past stays. Where it is refused
+    /// for the lists of the objects that they write, the next call lists them; what is seen is the same.
     pub fn append(&mut self, entries: Items<Entry>) -> Result<(), AllocError>
         requires fits { length_of self.old + length entries < 2 ^ 64 }
         requires in_row { AreInRow (length_of self.old + 1) entries }
@@ -178,28 +187,29 @@ impl HeldPast {
         ensures err { OnErr result (self.new.entries ≡ self.old.entries) }
     {
         self.entries.append_all(entries)?;
-        let most = Seq::new(self.entries.len().get().saturating_sub(MOST_UNLISTED));
-        self.listed = list_entries(
+        let _refused = list_entries(
             self.alloc,
             &mut self.places,
             &self.entries,
-            self.listed,
-            most,
+            &mut self.listed,
         );
         Ok(())
     }
 
-    /// Folds the entries up to a position into the state, in order, while memory is there: the state is then that after
-    /// them. Their values are moved.
-    pub fn fold(&mut self, position: Seq)
+    /// Folds the entries up to a position into the state, in order: the state is then that after them, and none of them is
+    /// held. Their values are moved. It stops at the first growth that is refused: the entries before that one are folded,
+    /// the others are held as they were, and the next call begins with it.
+    pub fn fold(&mut self, position: Seq) -> Result<(), AllocError>
         requires from { self.old.base ≤ position }
         requires to { position ≤ length_of self.old }
+        ensures ok { OnOk result (self.new.base ≡ position) }
+        ensures err { OnErr result (self.new.base < position) }
         ensures from { self.old.base ≤ self.new.base }
         ensures to { self.new.base ≤ position }
         ensures state { self.new.state ≡ after_entries self.old.state (take (self.new.base - self.old.base) self.old.entries) }
         ensures entries { self.new.entries ≡ drop (self.new.base - self.old.base) self.old.entries }
     {
-        fold(
+        let folded = fold(
             self.alloc,
             &mut self.places,
             &mut self.replies,
@@ -210,6 +220,7 @@ impl HeldPast {
         if self.listed.get() < base.get() {
             self.listed = base;
         }
+        folded
     }
 
     /// The state after the entries that are folded, in memory of its own.

@@ -10,3 +10,4 @@ mod lookups;
 mod objects;
 
 pub use held::HeldPast;
+pub use lookups::Seen;

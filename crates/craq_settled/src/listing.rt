@@ -1,5 +1,5 @@
 //! Says in the places of objects where entries write them.
-ghost use Rattle.std.specs.Prelude.{◌≡◌, ℕ, ◌-◌, ◌≤◌, List, [], ◌∷◌, ◌++◌, OnOk, OnErr, if◌then◌else◌, length, take};
+ghost use Rattle.std.specs.Prelude.{◌≡◌, ℕ, ◌-◌, ◌<◌, ◌≤◌, List, [], ◌∷◌, ◌++◌, OnOk, OnErr, if◌then◌else◌, length, max, take};
 ghost use Rattle.std.specs.BTreeMap.{IsOrdered};
 ghost use Rattle.craq_names.specs.Maps.{key_cmp, same_bytes};
 ghost use Rattle.craq_log.specs.Suffixed.{length_of};
@@ -12,6 +12,9 @@ use craq_log::Suffix;
 use craq_names::{Key, Seq};
 use craq_versions::WriteRef;
 use std::alloc::{AllocError, Global};
+
+/// How many entries at most are not listed, while memory is there: a look at so few costs less than a look-up.
+const MOST_UNLISTED: u64 = 4;
 
 /// One more version of an object that has a place.
 fn push_into(places: &mut Places, key: &Key, at: WriteRef) -> Result<(), AllocError>
@@ -91,30 +94,29 @@ fn list_writes(
     Ok(())
 }
 
-/// Says in the places where entries write each object: those after the listed ones, up to a position and while memory
-/// is there. It gives the position up to which all are listed then.
+/// Says in the places where entries write each object: all entries but the last few. It stops at the first growth that is
+/// refused: the entries before that one are listed, and the next call begins with it. It keeps the position up to which all
+/// are listed.
 pub fn list_entries(
     alloc: Global,
     places: &mut Places,
     entries: &Suffix,
-    listed: Seq,
-    position: Seq,
-) -> Seq
+    listed: &mut Seq,
+) -> Result<(), AllocError>
     requires ordered { IsOrdered key_cmp places.old }
-    requires listed { AreListed places.old.entries entries.now listed }
-    requires to { position ≤ length_of entries.now }
+    requires listed { AreListed places.old.entries entries.now listed.old }
+    ensures ok { OnOk result (listed.new ≡ max listed.old (length_of entries.now - MOST_UNLISTED)) }
+    ensures err { OnErr result (listed.new < length_of entries.now - MOST_UNLISTED) }
     ensures objects { objects_of places.new.entries ≡ objects_of places.old.entries }
-    ensures listed { AreListed places.new.entries entries.now result }
-    ensures more { listed ≤ result }
+    ensures listed { AreListed places.new.entries entries.now listed.new }
+    ensures more { listed.old ≤ listed.new }
     ensures ordered { IsOrdered key_cmp places.new }
 {
-    let mut done = listed;
-    while done.get() < position.get() {
-        let entry = &entries.from(done)[0];
-        if list_writes(alloc, places, entry.position, entry.writes.as_slice()).is_err() {
-            return done;
-        }
-        done = entry.position;
+    let most = entries.len().get().saturating_sub(MOST_UNLISTED);
+    while listed.get() < most {
+        let entry = &entries.from(*listed)[0];
+        list_writes(alloc, places, entry.position, entry.writes.as_slice())?;
+        *listed = entry.position;
     }
-    done
+    Ok(())
 }

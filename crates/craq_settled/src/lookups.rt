@@ -40,38 +40,49 @@ fn newest_of<'a>(entries: &'a Suffix, place: &'a VersionList) -> (Version, &'a [
     }
 }
 
-/// The version and value of an object after the listed entries; version 0 and no bytes where it is absent.
-fn newest_listed<'a>(
-    places: &'a Places,
-    entries: &'a Suffix,
-    listed: Seq,
-    key: &Key,
-) -> (Version, &'a [u8])
+/// The settled version of an object and its newest one, each with its value; version 0 and no bytes where there is none.
+#[derive(Clone, Copy)]
+pub struct Seen<'a> {
+    pub settled: (Version, &'a [u8]),
+    pub newest: (Version, &'a [u8]),
+}
+
+/// What is seen of an object after the listed entries. It looks the object up once.
+fn seen_listed<'a>(places: &'a Places, entries: &'a Suffix, listed: Seq, key: &Key) -> Seen<'a>
     requires ordered { IsOrdered key_cmp places.now }
     requires listed { AreListed places.now.entries entries.now listed }
-    ensures object { (result.0, result.1.now) ≡ last_value (object_of (objects_of places.now.entries) key.now) (values_after (take (listed - entries.now.base) entries.now.entries) key.now) }
-    ensures short { length result.1.now ≤ 4096 }
+    ensures settled { (result.settled.0, result.settled.1.now) ≡ object_of (objects_of places.now.entries) key.now }
+    ensures newest { (result.newest.0, result.newest.1.now) ≡ last_value (object_of (objects_of places.now.entries) key.now) (values_after (take (listed - entries.now.base) entries.now.entries) key.now) }
+    ensures short_settled { length result.settled.1.now ≤ 4096 }
+    ensures short_newest { length result.newest.1.now ≤ 4096 }
 {
     match places.get(key) {
-        None => (Version::new(0), &[]),
-        Some(place) => newest_of(entries, place),
+        None => Seen {
+            settled: (Version::new(0), &[]),
+            newest: (Version::new(0), &[]),
+        },
+        Some(place) => Seen {
+            settled: place.object(),
+            newest: newest_of(entries, place),
+        },
     }
 }
 
-/// The version and value of an object after all entries. It takes no memory.
-pub fn newest_in<'a>(
-    places: &'a Places,
-    entries: &'a Suffix,
-    listed: Seq,
-    key: &Key,
-) -> (Version, &'a [u8])
+/// What is seen of an object after all entries. It looks the object up once, and takes no memory.
+pub fn seen_in<'a>(places: &'a Places, entries: &'a Suffix, listed: Seq, key: &Key) -> Seen<'a>
     requires ordered { IsOrdered key_cmp places.now }
     requires listed { AreListed places.now.entries entries.now listed }
-    ensures object { (result.0, result.1.now) ≡ last_value (object_of (objects_of places.now.entries) key.now) (values_after entries.now.entries key.now) }
-    ensures short { length result.1.now ≤ 4096 }
+    ensures settled { (result.settled.0, result.settled.1.now) ≡ object_of (objects_of places.now.entries) key.now }
+    ensures newest { (result.newest.0, result.newest.1.now) ≡ last_value (object_of (objects_of places.now.entries) key.now) (values_after entries.now.entries key.now) }
+    ensures short_settled { length result.settled.1.now ≤ 4096 }
+    ensures short_newest { length result.newest.1.now ≤ 4096 }
 {
-    let (version, value) = newest_listed(places, entries, listed, key);
-    object_past(version, value, entries.from(listed), key)
+    let seen = seen_listed(places, entries, listed, key);
+    let (version, value) = seen.newest;
+    Seen {
+        settled: seen.settled,
+        newest: object_past(version, value, entries.from(listed), key),
+    }
 }
 
 /// The newest version and value in a place and in the entries that are not listed, from the settled ones on, that is at

@@ -28,7 +28,7 @@ loop-alloc-preserved c =
       ordered = c.fold_first.ensures.ordered;
     }
 
-pub returns-then-is_err-clause-later : goal.returns-then-is_err-clause-later
-returns-then-is_err-clause-later c =
+pub returns-in_err-fold_first-clause-later : goal.returns-in_err-fold_first-clause-later
+returns-in_err-fold_first-clause-later c =
     let high : c.loop-alloc.entries.base ≤ c.fold_first.new.entries.base = at_most_one c.fold_first.result c.loop-alloc.entries.base c.fold_first.new.entries.base c.fold_first.ensures.ok c.fold_first.ensures.err in
     more_settled c.args.places.now.entries c.loop-alloc.places.entries c.fold_first.new.places.entries c.args.entries.now c.loop-alloc.entries c.fold_first.new.entries c.loop-alloc.invariant.from high c.loop-alloc.invariant.folded.entries c.loop-alloc.invariant.later c.fold_first.ensures.later

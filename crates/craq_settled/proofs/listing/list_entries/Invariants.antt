@@ -1,4 +1,4 @@
-use Rattle.std.proofs.Common.{◌≡◌, ◌≤◌, ◌-◌}
+use Rattle.std.proofs.Common.{◌≡◌, ◌≤◌, ◌-◌, max}
 use Rattle.std.specs.BTreeMap.{IsOrdered}
 use Rattle.craq_names.specs.Maps.{key_cmp}
 use Rattle.craq_settled.specs.Listed.{AreListed}
@@ -9,10 +9,11 @@ use Rattle.craq_settled.proofs.listing.list_entries.Given as goal
 abbrev pub invariant-loop-alloc : goal.invariant-loop-alloc
 invariant-loop-alloc l = record {
   objects : objects_of l.places.entries ≡ objects_of l.initial.places.entries;
-  listed : AreListed l.places.entries l.entries l.done;
-  more : l.fn.listed ≤ l.done;
+  listed : AreListed l.places.entries l.entries l.listed;
+  more : l.initial.listed ≤ l.listed;
+  most : l.listed ≤ max l.initial.listed l.most;
   ordered : IsOrdered key_cmp l.places;
 }
 
 abbrev pub decreases-loop-alloc : goal.decreases-loop-alloc
-decreases-loop-alloc l = l.position - l.done
+decreases-loop-alloc l = l.most - l.listed

@@ -3,7 +3,7 @@ use Rattle.craq_commands.specs.declared.entry.Entry.{Entry}
 use Rattle.craq_model.specs.Past.{newest_within, values_after}
 use Rattle.craq_settled.proofs.Found.{none_before}
 use Rattle.craq_settled.proofs.Placing.{no_object, object_here}
-use Rattle.craq_settled.proofs.Seen.{none_in_no_place, seen_in_place}
+use Rattle.craq_settled.proofs.Looked.{none_in_no_place, seen_in_place}
 use Rattle.craq_settled.proofs.lookups.within_in.Goals as goal
 
 pub within_place-requires-clause-later : goal.within_place-requires-clause-later

@@ -1,5 +1,5 @@
 #!/usr/bin/env python3
-"""A client of a store that runs, with Python's standard library alone, written from docs/BYTES.md.
+"""A client of a store that runs, with Python's standard library alone, written from docs/use/BYTES.md.
 
     with Client("127.0.0.1:7000") as store:
         store.put("k", b"a")                # Written(version=1)

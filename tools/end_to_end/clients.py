@@ -29,13 +29,13 @@ WORKED = [
 
 
 def page(checks):
-    """The client writes the bytes that docs/BYTES.md has."""
-    file = os.path.join(os.path.dirname(os.path.realpath(__file__)), "..", "..", "docs", "BYTES.md")
+    """The client writes the bytes that docs/use/BYTES.md has."""
+    file = os.path.join(os.path.dirname(os.path.realpath(__file__)), "..", "..", "docs", "use", "BYTES.md")
     with open(file, encoding="utf-8") as it:
         worked = {cell.replace(" ", "") for cell in re.findall(r"`([0-9a-f ]+)`", it.read())}
     for what, payload in WORKED:
         framed = len(payload).to_bytes(4, "big") + payload
-        checks.that({payload.hex(), framed.hex()} & worked, f"docs/BYTES.md has the bytes of {what}: {payload.hex()}")
+        checks.that({payload.hex(), framed.hex()} & worked, f"docs/use/BYTES.md has the bytes of {what}: {payload.hex()}")
 
 
 class Counted:

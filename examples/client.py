@@ -456,6 +456,9 @@ def tour(address):
 
 
 def main():
+    if sys.argv[1:] in (["help"], ["--help"]):
+        print(__doc__)
+        return 0
     try:
         address, words = sys.argv[1], sys.argv[2:]
         if not words:

@@ -1,9 +1,7 @@
 -- A running node that is stopped.
-use Rattle.std.proofs.Common.{◌≡◌, true, false, List, [], Some, None, Ok, Err, inl, inr, refl, sym, ap}
-use Rattle.std.specs.Prelude.{Bool, is_some, if◌then◌else◌}
-use Rattle.craq_names.specs.declared.name.NodeName.{NodeName}
+use Rattle.std.proofs.Common.{◌≡◌, true, false, Bool, List, [], None, Ok, Err, inl, inr, refl, sym, ap, ◌∙◌}
 use Rattle.craq_model.specs.declared.ask.Event.{Event}
-use Rattle.craq_model.specs.declared.ask.Event.TheVariants.{Deliver, Stop}
+use Rattle.craq_model.specs.declared.ask.Event.TheVariants.{Ask, Deliver, Tick, Stop}
 use Rattle.craq_model.specs.declared.step.Out.{Out}
 use Rattle.craq_model.specs.declared.step.Step.{Step}
 use Rattle.craq_model.specs.Plain.{Plain}
@@ -11,13 +9,20 @@ use Rattle.craq_names.specs.declared.refusal.Refusal.{Refusal}
 use Rattle.craq_model.specs.declared.message.LinkMessage.{LinkMessage}
 use Rattle.craq_model.specs.Deliveries.{delivery_turn}
 use Rattle.craq_model.specs.Node.{event_turn, is_for, node_step, outs_fit}
-use Rattle.craq_node.specs.Represented.{Gives}
+use Rattle.craq_admission.specs.Admitted.{uncounted_step}
+use Rattle.craq_node.specs.Represented.{Gives, IsFree}
 use Rattle.craq_write.specs.Sent.{LacksOrOutgrows}
 
--- a switch without a receipt is on
-pub is_on : (on : Bool) (name : NodeName) → is_some (if on then None else Some name) ≡ false → on ≡ true
-is_on true name h = refl
-is_on false name h = sym h
+-- what needs no memory is admitted
+pub free_is_admitted : (p : Plain) (e : Event) (x : Refusal) → IsFree p e → ¬ (uncounted_step p e ≡ Err x)
+free_is_admitted p (Deliver m) x f refused =
+    let taken : uncounted_step p (Deliver m) ≡ Ok (delivery_turn p m) = rw (f.0, f.1) refl in
+    absurd (let w : Ok (delivery_turn p m) ≡ Err x = sym taken ∙ refused in cc)
+free_is_admitted p (Ask ask) x f refused = f
+free_is_admitted p Tick x f refused = f
+free_is_admitted p Stop x f refused =
+    let taken : uncounted_step p Stop ≡ event_turn p Stop = rw f refl in
+    absurd (let w : event_turn p Stop ≡ Err x = sym taken ∙ refused in cc)
 
 pub stops : (p : Plain) (e : Event) (step : Step) → p.running ≡ true → e ≡ Stop → step ≡ record { ticket = None; outs = []; ignored = None } → node_step p e ≡ Ok (record p { running = false }, step)
 unfolding node_step outs_fit

@@ -1,16 +1,15 @@
 -- The plain nodes that a core stands for, and what its step answers.
-use Rattle.std.specs.Prelude.{◌≡◌, ◌≤◌, ⊤, true, Bool, if◌then◌else◌, IsSome, IsOk, Option, None, Some, Result, Ok, Err}
+use Rattle.std.specs.Prelude.{◌≡◌, ◌≤◌, ⊤, true, Bool, IsSome, IsOk, Option, None, Some, Result, Ok, Err}
 use Rattle.craq_names.specs.Order.{RefusesWhere}
 use Rattle.craq_names.specs.declared.name.NodeName.{NodeName}
 use Rattle.craq_names.specs.declared.refusal.Refusal.{Refusal}
-use Rattle.craq_names.specs.declared.refusal.Refusal.TheVariants.{Stopped}
 use Rattle.craq_model.specs.declared.ask.Event.{Event}
 use Rattle.craq_model.specs.declared.ask.Event.TheVariants.{Ask, Deliver, Tick, Stop}
 use Rattle.craq_model.specs.declared.config.Config.{Config}
 use Rattle.craq_model.specs.declared.step.Step.{Step}
 use Rattle.craq_model.specs.Deliveries.{delivery_turn}
 use Rattle.craq_model.specs.Members.{IsMembership, is_member}
-use Rattle.craq_model.specs.Node.{event_turn, is_for, node_step, within_counts}
+use Rattle.craq_model.specs.Node.{is_for, node_step, within_counts}
 use Rattle.craq_model.specs.Plain.{Plain, opening_joined, opening_member}
 use Rattle.craq_model.specs.Settle.{Turn}
 use Rattle.craq_model.specs.Spelled.{IsSpelled}
@@ -18,6 +17,7 @@ use Rattle.craq_history.specs.declared.node.Node.{Node}
 use Rattle.craq_model.specs.Past.{Past}
 use Rattle.craq_history.specs.Nodes.{plain_of}
 use Rattle.craq_node_invariant.specs.Sound.{IsSound}
+pub use Rattle.craq_admission.specs.Admitted.{uncounted_step}
 use Rattle.craq_compaction.specs.Compacted.{remembered, remembered_turn}
 
 -- the plain node of a node that runs or has stopped
@@ -53,10 +53,6 @@ IsFree p (Deliver m) = (p.running ≡ true) × (is_for p m ≡ true) × IsSome (
 IsFree p (Ask ask) = ⊥
 IsFree p Tick = ⊥
 IsFree p Stop = p.running ≡ true
-
--- a step before its counts are looked at: of its sends, and of the items in a message
-abbrev pub uncounted_step : Plain → Event → Result Turn Refusal
-uncounted_step p e = if p.running then event_turn p e else Err Stopped
 
 -- a node was seen as one plain node and is seen as another: it took this turn, within its counts, and is seen as what
 -- it remembers of it; or it is as it was, and was refused as the turn was, or for its counts, or for want of memory

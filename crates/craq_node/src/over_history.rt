@@ -9,11 +9,13 @@ ghost use Rattle.craq_compaction.specs.Compacted.{remembered};
 ghost use Rattle.craq_history.specs.Change.{changed, no_change};
 ghost use Rattle.craq_history.specs.Nodes.{plain_of};
 ghost use Rattle.craq_history.specs.Plans.{CanMake};
+ghost use Rattle.craq_admission.specs.Admitted.{IsAdmitted};
 ghost use Rattle.craq_node.specs.Represented.{Answers, CanArrive, Gives, IsFree, IsRemembered, plain_at};
 
 use crate::Core;
 use crate::fitting::are_fitting;
 use crate::planning::{plan_ask, plan_delivery};
+use craq_admission::admit;
 use craq_commands::Command;
 use craq_epochs::{Config, Switch};
 use craq_history::steps::done;
@@ -65,7 +67,7 @@ fn made<H: History>(
     Ok(step)
 }
 
-/// A message at a running node: refused where it is for another (`WrongNode`).
+/// A message for this node, at a running node.
 #[tactic(auto, using(crate::proofs::Stops::delivery_refused))]
 fn hear<H: History>(
     alloc: Global,
@@ -74,24 +76,23 @@ fn hear<H: History>(
 ) -> Result<Step, Refusal>
     requires sound { IsSound (plain_of H.past node.old) }
     requires spelled { IsSpelled message }
+    requires here { is_for (plain_of H.past node.old) message ≡ true }
     ensures gives { Gives H.forgets (plain_of H.past node.old) (plain_of H.past node.new) result (event_turn (plain_of H.past node.old) (Event.Deliver message)) }
     ensures name { (plain_of H.past node.new).name ≡ (plain_of H.past node.old).name }
-    ensures free { is_for (plain_of H.past node.old) message ≡ true → IsSome (delivery_turn (plain_of H.past node.old) message).1.ignored → IsOk result }
+    ensures free { IsSome (delivery_turn (plain_of H.past node.old) message).1.ignored → IsOk result }
 {
-    if message.chain != node.name.chain || message.receiver != node.name.node {
-        return Err(Refusal::WrongNode);
-    }
     let (change, step) = plan_delivery(alloc, node, message)?;
     made(alloc, node, change, step)
 }
 
-/// An event but a stop at a running node.
+/// An event but a stop that is admitted at a running node.
 #[tactic(auto, using(crate::proofs::Kept::still_sound), unfolding(craq_model::specs::Sends::tick_sends))]
 fn meet<H: History>(alloc: Global, node: &mut Node<H>, event: Event) -> Result<Step, Refusal>
     requires sound { IsSound (plain_of H.past node.old) }
     requires arrives { CanArrive event }
     requires spelled { IsSpelledEvent event }
     requires goes_on { event ≢ Event.Stop }
+    requires admitted { IsAdmitted (plain_of H.past node.old) event }
     ensures gives { Gives H.forgets (plain_of H.past node.old) (plain_of H.past node.new) result (event_turn (plain_of H.past node.old) event) }
     ensures name { (plain_of H.past node.new).name ≡ (plain_of H.past node.old).name }
     ensures free { IsFree (plain_of H.past node.old) event → IsOk result }
@@ -118,6 +119,7 @@ fn happen<H: History>(alloc: Global, node: &mut Node<H>, event: Event) -> Result
     requires arrives { CanArrive event }
     requires spelled_event { IsSpelledEvent event }
     requires goes_on { event ≢ Event.Stop }
+    requires admitted { IsAdmitted (plain_of H.past node.old) event }
     ensures gives { Gives H.forgets (plain_of H.past node.old) (plain_of H.past node.new) result (event_turn (plain_of H.past node.old) event) }
     ensures free { IsFree (plain_of H.past node.old) event → IsOk result }
     ensures sound { IsSound (plain_of H.past node.new) }
@@ -175,9 +177,7 @@ impl<H: History> NodeCore<H> {
         ensures spelled { IfOk result (λ step. AreSpelled step.outs) }
         ensures free { IsFree (plain_at H.past self.old.node self.old.switch.running) event → IsOk result }
     {
-        if self.switch.receipt().is_some() {
-            return Err(Refusal::Stopped);
-        }
+        admit(&self.node, &self.switch, &event)?;
         if let Event::Stop = &event {
             self.switch.stop()?;
             return Ok(done(Vec::new(alloc)));

@@ -1,14 +1,15 @@
 //! What a running node does on an event, worked out before anything changes.
-ghost use Rattle.std.specs.Prelude.{◌≡◌, IfOk, IfErr, IsOk, IsSome};
+ghost use Rattle.std.specs.Prelude.{◌≡◌, true, IfOk, IfErr, IsOk, IsSome};
 ghost use Rattle.craq_model.specs.Asks.{ask_turn};
 ghost use Rattle.craq_model.specs.Deliveries.{delivery_turn};
 ghost use Rattle.craq_history.specs.Nodes.{plain_of};
 ghost use Rattle.craq_history.specs.Plans.{Plans, IsPlanOf};
 ghost use Rattle.craq_model.specs.Spelled.{IsSpelled};
 ghost use Rattle.craq_node_invariant.specs.Sound.{IsSound};
+ghost use Rattle.craq_admission.specs.Admitted.{IsAdmittedAsk, is_heeded};
 ghost use Rattle.craq_write.specs.Sent.{LacksOrOutgrows};
 
-use craq_history::members::first_member;
+use craq_admission::is_heeded;
 use craq_history::steps::ignoring;
 use craq_history::{Change, History, Node};
 use craq_model::{Ask, Body, LinkMessage, Step, Why};
@@ -20,56 +21,31 @@ use craq_write::{
 };
 use std::alloc::Global;
 
-/// An ask at a running node. The refusals, in order: `NotReady`; `TwoChains` where an object is of
-/// another chain; for an update `NotHead` at a node that is not first in its membership; `Exhausted`
-/// where there is no next ticket; then those of the update or of the read.
-#[tactic(auto, unfolding(craq_model::specs::Asks::ask_turn, craq_commands::specs::Evaluation::all_of_chain, craq_model::specs::Plain::newest))]
+/// An ask that is admitted: the refusals left are those of the update or of the read.
 pub(crate) fn plan_ask<H: History>(
     alloc: Global,
     node: &Node<H>,
     ask: Ask,
 ) -> Result<(Change, Step), Refusal>
+    requires { IsAdmittedAsk (plain_of H.past node.now) ask }
     ensures { Plans (plain_of H.past node.now) result (ask_turn (plain_of H.past node.now) ask) }
 {
-    if !node.ready {
-        return Err(Refusal::NotReady);
-    }
     match ask {
-        Ask::Update(update) => {
-            if !update.command.is_of_chain(node.name.chain) {
-                return Err(Refusal::TwoChains);
-            }
-            let head = first_member(node.members.as_slice());
-            if head != node.name.node {
-                return Err(Refusal::NotHead(head));
-            }
-            if node.last_ticket.get() == u64::MAX {
-                return Err(Refusal::Exhausted);
-            }
-            plan_update(alloc, node, update)
-        }
-        Ask::Read { mode, object } => {
-            if object.chain != node.name.chain {
-                return Err(Refusal::TwoChains);
-            }
-            if node.last_ticket.get() == u64::MAX {
-                return Err(Refusal::Exhausted);
-            }
-            plan_read(alloc, node, mode, &object.key)
-        }
+        Ask::Update(update) => plan_update(alloc, node, update),
+        Ask::Read { mode, object } => plan_read(alloc, node, mode, &object.key),
     }
 }
 
-/// A message of the node's epoch, for this node. A membership of it is ignored (`OtherEpoch`).
+/// A message for this node that is heeded: of the node's epoch, or a membership.
 #[tactic(auto, using(crate::proofs::Orders::ordered, crate::proofs::Orders::part_ordered, crate::proofs::Orders::batch_in_row))]
-fn plan_in_epoch<H: History>(
+fn plan_heeded<H: History>(
     alloc: Global,
     node: &Node<H>,
     message: LinkMessage,
 ) -> Result<(Change, Step), Refusal>
     requires sound { IsSound (plain_of H.past node.now) }
     requires spelled { IsSpelled message }
-    requires epoch { message.epoch ≡ node.now.epoch }
+    requires heeded { is_heeded (plain_of H.past node.now) message ≡ true }
     ensures turn { IfOk result (λ r. IsPlanOf (plain_of H.past node.now) r (delivery_turn (plain_of H.past node.now) message)) }
     ensures err { IfErr result (λ e. LacksOrOutgrows (delivery_turn (plain_of H.past node.now) message) e) }
     ensures free { IsSome (delivery_turn (plain_of H.past node.now) message).1.ignored → IsOk result }
@@ -106,13 +82,8 @@ pub(crate) fn plan_delivery<H: History>(
     ensures err { IfErr result (λ e. LacksOrOutgrows (delivery_turn (plain_of H.past node.now) message) e) }
     ensures free { IsSome (delivery_turn (plain_of H.past node.now) message).1.ignored → IsOk result }
 {
-    if message.epoch == node.epoch {
-        return plan_in_epoch(alloc, node, message);
+    if !is_heeded(node, &message) {
+        return Ok((Change::none(), ignoring(alloc, Why::OtherEpoch)));
     }
-    let epoch = message.epoch;
-    let body = message.body;
-    match body {
-        Body::Config { members } => Ok(plan_config(alloc, node, epoch, members)?),
-        _ => Ok((Change::none(), ignoring(alloc, Why::OtherEpoch))),
-    }
+    plan_heeded(alloc, node, message)
 }

@@ -1,0 +1,21 @@
+ghost use Rattle.std.specs.Prelude.{◌≡◌, false};
+ghost use Rattle.craq_history.specs.Nodes.{plain_of};
+ghost use Rattle.craq_model.specs.Deliveries.{delivery_turn};
+ghost use Rattle.craq_model.specs.Settle.{turn_ignoring};
+ghost use Rattle.craq_admission.specs.Admitted.{is_heeded};
+
+use craq_history::{History, Node};
+use craq_model::{Body, LinkMessage, Why};
+
+/// Whether a message for this node is heeded: any but a membership has to be of the node's epoch, else it is ignored
+/// (`OtherEpoch`). It takes no memory.
+#[tactic(auto, using(crate::proofs::Ignored::not_heeded))]
+pub fn is_heeded<H: History>(node: &Node<H>, message: &LinkMessage) -> bool
+    ensures heeded { result ≡ is_heeded (plain_of H.past node.now) message.now }
+    ensures ignored { result ≡ false → delivery_turn (plain_of H.past node.now) message.now ≡ turn_ignoring (plain_of H.past node.now) Why.OtherEpoch }
+{
+    if let Body::Config { .. } = &message.body {
+        return true;
+    }
+    message.epoch == node.epoch
+}

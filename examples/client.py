@@ -155,19 +155,23 @@ def bounded(above):
 
 
 def update_request(node, shown, client, request, command):
+    """An update as its kind and its body."""
     return UPDATE, number(4, node) + number(8, shown) + number(8, client) + number(8, request) + command
 
 
 def read_request(node, shown, mode, chain, key):
+    """A read as its kind and its body."""
     return READ, number(4, node) + number(8, shown) + mode + object_bytes(chain, key)
 
 
 def one(version, request):
+    """The payload of one request."""
     kind, body = request
     return number(1, version) + number(1, kind) + body
 
 
 def many(requests):
+    """The payload of up to eight requests, in version 2."""
     return bytes([2, MANY, len(requests)]) + b"".join(number(1, kind) + body for kind, body in requests)
 
 
@@ -177,6 +181,7 @@ BARE = {3: TooLong(), 4: NotANumber(), 5: Overflow(), 6: Underflow()}
 
 
 def take_update_reply(unread):
+    """The reply to an update at the front of these bytes."""
     tag = unread.number(1)
     if tag in BARE:
         return BARE[tag]
@@ -194,6 +199,7 @@ def take_update_reply(unread):
 
 
 def take_reply(unread, kind):
+    """A reply of this kind at the front of these bytes: its pass, if it has one, and what it tells."""
     if kind == UPDATE_REPLY:
         return unread.number(8), take_update_reply(unread)
     if kind == READ_REPLY:
@@ -235,9 +241,11 @@ class Connection:
         return it
 
     def send(self, *payloads):
+        """Sends payloads, each in a frame."""
         self.socket.sendall(b"".join(number(4, len(it)) + it for it in payloads))
 
     def receive(self):
+        """The payload of the next frame."""
         size = int.from_bytes(self.bytes(4), "big")
         if size > FRAME_LIMIT:
             raise BadReply("a frame above the limit")
@@ -289,24 +297,31 @@ class Client:
     # One request and its reply.
 
     def put(self, key, value, chain=0, **where):
+        """Writes the value: Written(version)."""
         return self.update(chain, put(chain, key, value), **where)
 
     def tas(self, key, expected, value, chain=0, **where):
+        """Test and set: writes the value if the object has the expected version, else Mismatch(version)."""
         return self.update(chain, test_and_set(chain, key, expected, value), **where)
 
     def append(self, key, value, chain=0, **where):
+        """Puts the value after what is there: Written(version), or TooLong() above 4,096 bytes."""
         return self.update(chain, append(chain, key, value), **where)
 
     def prepend(self, key, value, chain=0, **where):
+        """Puts the value before what is there: Written(version), or TooLong() above 4,096 bytes."""
         return self.update(chain, prepend(chain, key, value), **where)
 
     def inc(self, key, by=1, chain=0, **where):
+        """Adds to the number in the object's 8 bytes: Written(version), NotANumber() or Overflow()."""
         return self.update(chain, increment(chain, key, by), **where)
 
     def dec(self, key, by=1, chain=0, **where):
+        """Takes from the number in the object's 8 bytes: Written(version), NotANumber() or Underflow()."""
         return self.update(chain, decrement(chain, key, by), **where)
 
     def mini(self, compares=(), reads=(), writes=(), chain=0, **where):
+        """A transaction of (key, version), key, and (key, value) in one chain: Done(reads), or CompareFailed(index)."""
         return self.update(chain, mini(chain, compares, reads, writes), **where)
 
     def read(self, key, mode=STRONG, chain=0, node=None):
@@ -339,13 +354,16 @@ class Client:
     # Requests for `many`, which asks up to eight in one frame and gives their replies in order.
 
     def asks_put(self, key, value, chain=0):
+        """A put for `many`, under the client's next number."""
         return self.asks_update(chain, put(chain, key, value))
 
     def asks_read(self, key, mode=STRONG, chain=0, node=None):
+        """A read for `many`, of the node that is named or of any member."""
         node = random.choice(self.members(chain)) if node is None else node
         return read_request(node, self.shown, mode, chain, key)
 
     def asks_update(self, chain, command, node=None, request=None):
+        """An update for `many`, at the head or the node that is named, under the client's next number or this one."""
         node = self.members(chain)[0] if node is None else node
         request = self.next_number(chain) if request is None else request
         return update_request(node, self.shown, self.id, request, command)
@@ -371,6 +389,7 @@ class Client:
         return replies
 
     def ask(self, request):
+        """Asks one request, once."""
         [told] = self.exchange(one(self.version, request))
         if isinstance(told, Refused):
             raise told
@@ -399,6 +418,7 @@ def text_of(value):
 
 
 def bytes_of(text):
+    """The value that a word of a command line spells."""
     return bytes.fromhex(text[2:]) if text.startswith("0x") else text.encode()
 
 
@@ -456,6 +476,7 @@ def tour(address):
 
 
 def main():
+    """Does what the command line asks, and gives the status."""
     if sys.argv[1:] in (["help"], ["--help"]):
         print(__doc__)
         return 0

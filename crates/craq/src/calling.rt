@@ -1,3 +1,4 @@
+//! What `main` does with a command line that was read: one request to the server, and its answer printed.
 use crate::fault::{Fault, REFUSED};
 use craq_frames::{ClientMessage, ClientReply};
 use craq_front::{Stream, exchange};

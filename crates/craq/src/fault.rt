@@ -1,3 +1,4 @@
+//! Why `craq` ends without an answer, with the text and the status of each reason; for `main` and `calling`.
 use std::alloc::AllocError;
 use std::io;
 use std::io::ErrorKind;

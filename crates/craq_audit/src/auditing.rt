@@ -1,3 +1,4 @@
+//! The call of the crate, `audit`: its tests in order, and the merge that it answers.
 ghost use Rattle.std.specs.Prelude.{◌≡◌};
 ghost use Rattle.craq_audit.specs.Audited.{Audits};
 ghost use Rattle.craq_audit.specs.Lookups.{cells_of};

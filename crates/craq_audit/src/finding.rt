@@ -1,3 +1,4 @@
+//! What `audit` answers.
 use craq_names::NodeId;
 use craq_runs::Run;
 

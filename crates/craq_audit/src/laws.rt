@@ -1,3 +1,4 @@
+//! Laws of an audited run, for whoever has the answer `Merged`: places of its strong answers, and their order.
 ghost use Rattle.std.specs.Prelude.{◌≡◌, ◌≤◌, ℕ, List, Contains, IsTrue};
 ghost use Rattle.craq_runs.specs.Seen.{is_strong_ask};
 ghost use Rattle.craq_runs.specs.Valid.{IsValid};

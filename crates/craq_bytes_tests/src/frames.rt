@@ -1,3 +1,4 @@
+//! Frames: their bytes, what is cut off, lengths above the limit; run by `main`.
 use crate::payloads::{NOT_HEAD, PUT, READ, VALUE, WRITTEN};
 use crate::say;
 use bytes::{Bytes, BytesMut};

@@ -1,3 +1,4 @@
+//! Messages between nodes, one kind after another, their cuts and changed bytes; run by `main`.
 use crate::say;
 use craq_names::Refusal;
 use craq_wire::{decode, encode, spelled};

@@ -1,3 +1,4 @@
+//! What clients send and get, as worked bytes and with each byte changed; run by `main`.
 use crate::say;
 use craq_frames::{ClientMessage, ClientReply};
 use craq_names::Refusal;

@@ -1,3 +1,4 @@
+//! Texts that are plans and texts that are none, and the chain of an object; run by `main`.
 use crate::say;
 use craq_commands::Mini;
 use craq_names::{ChainId, Items, Key, ObjectId, Refusal};

@@ -1,3 +1,4 @@
+//! Messages that carry states, parts and batches; run by `main`.
 use crate::links::{ENTRY, is_written_again, print_changed};
 use crate::say;
 use craq_wire::decode;

@@ -1,3 +1,4 @@
+//! The two calls of the crate: the answer of a receipt that is the caller's own, and the pass after it.
 ghost use Rattle.std.specs.Prelude.{◌≡◌, max, IfOk, IsTrue};
 ghost use Rattle.craq_calls.specs.Calls.{IsCallOf};
 

@@ -1,3 +1,4 @@
+//! What the type of a transaction keeps of its limits, told of moves; called where a chain keeps a move.
 ghost use Rattle.craq_runs.specs.Typed.{IsAskOfType, IsMoveOfType, IsOfType};
 
 use craq_commands::Command;

@@ -1,3 +1,4 @@
+//! What the master does in a move: ticks, removals, joins; called by `moving`.
 ghost use Rattle.std.specs.Prelude.{◌≡◌, ◌≢◌, ◌⊎◌, ◌<◌, ◌+◌, ◌++◌, ◌∷◌, [], ℕ, Ok, Err, IfOk, IfErr, IsOk, OnErr, OnOk};
 ghost use Rattle.craq_names.specs.Limits.{greatest};
 ghost use Rattle.craq_model.specs.Members.{without, IsMembership};

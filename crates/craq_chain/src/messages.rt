@@ -1,3 +1,4 @@
+//! The messages that were sent, counted over the steps of a run; called by `chain` and `moving`.
 ghost use Rattle.std.specs.Prelude.{◌≡◌, ◌<◌, ◌≤◌, ◌-◌, ◌∷◌, length, slice_get, slice_index};
 ghost use Rattle.std.specs.Option.{option_copied};
 ghost use Rattle.craq_runs.specs.Chain.{message_at, sent_in};

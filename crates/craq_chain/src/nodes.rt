@@ -1,3 +1,4 @@
+//! What happens at one node of a chain: asks, arrivals, ticks, stops; called by `moving`.
 ghost use Rattle.std.specs.Prelude.{◌≡◌, ◌<◌, ℕ, List, Some, IfOk, IfSome, IsSome, length, vec_len};
 ghost use Rattle.std.specs.List.{AllZip};
 ghost use Rattle.craq_model.specs.Plain.{Plain};

@@ -1,3 +1,4 @@
+//! Commands as bytes, by the grammar of `specs/CommandSpelling`; for `craq_frames`.
 ghost use Rattle.std.specs.Prelude.{◌≡◌, ◌++◌, OnOk, OnErr};
 ghost use Rattle.std.specs.Io.{StartsWith};
 ghost use Rattle.craq_codec.specs.NumberReading.{Gives};

@@ -1,3 +1,4 @@
+//! Entries and their writes as parts of messages.
 ghost use Rattle.std.specs.Prelude.{⊤};
 ghost use Rattle.craq_model.specs.Spelled.{IsSpelledEntry};
 ghost use Rattle.craq_codec.specs.EntryReading.{entry_at, write_at};

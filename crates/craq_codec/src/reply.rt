@@ -1,3 +1,4 @@
+//! Replies to updates as parts of messages.
 ghost use Rattle.std.specs.Prelude.{◌≡◌};
 ghost use Rattle.craq_codec.specs.NumberReading.{Gives};
 ghost use Rattle.craq_model.specs.Spelled.{IsReply};

@@ -1,3 +1,4 @@
+//! What a failed write takes off a buffer again, so that each write adds all or nothing.
 ghost use Rattle.std.specs.Prelude.{◌≡◌, take, OnOk, OnErr};
 
 use bytes::BytesMut;

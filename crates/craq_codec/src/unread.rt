@@ -1,3 +1,4 @@
+//! Why bytes were not read: they encode nothing, or there was no memory.
 ghost use Rattle.std.specs.Prelude.{◌≡◌};
 ghost use Rattle.craq_codec.specs.NumberReading.{refusal_of};
 ghost use Rattle.craq_codec.specs.declared.unread.Unread.TheVariants.{Memory};

@@ -1,3 +1,4 @@
+//! `Entry`, an update with its outcome, and `Write`, a value that it gives an object.
 use crate::Reply;
 use craq_names::{
     ClientId, Copied, Items, Key, NodeId, RequestNo, Same, Seq, Ticket, Value, Version,

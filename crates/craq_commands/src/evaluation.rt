@@ -1,3 +1,4 @@
+//! `evaluate`: what a command writes and what is replied, as the single copy has it; called by the head of a chain.
 ghost use Rattle.std.specs.Prelude.{◌≡◌, ◌<◌, ◌≤◌, ◌++◌, false, length, map, IfOk};
 ghost use Rattle.craq_names.specs.Limits.{greatest, value_limit, item_limit};
 ghost use Rattle.craq_commands.specs.Objects.{Objects, object_of};

@@ -1,3 +1,4 @@
+//! Tests of the objects that a command names: their chain, and versions that are used up.
 ghost use Rattle.std.specs.Prelude.{◌≡◌, ◌==◌, map};
 ghost use Rattle.std.specs.List.{list_all, list_any};
 ghost use Rattle.craq_names.specs.Limits.{greatest};

@@ -1,3 +1,4 @@
+//! `ReadMode`: strong, eventual or bounded.
 /// How new the answer to a read has to be.
 #[derive(Clone, Copy, Debug, PartialEq, Eq)]
 pub enum ReadMode {

@@ -1,3 +1,4 @@
+//! `Reply`: what a client is told about an update.
 use craq_names::{Copied, Items, RequestNo, Same, Value, Version};
 use std::alloc::{AllocError, Global};
 

@@ -1,3 +1,4 @@
+//! `Mini`, a transaction whose type keeps its limits.
 ghost use Rattle.std.specs.Prelude.{◌≡◌, ◌≤◌, length, map};
 ghost use Rattle.std.specs.List.{list_any};
 ghost use Rattle.craq_names.specs.Limits.{item_limit};

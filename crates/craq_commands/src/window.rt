@@ -1,3 +1,4 @@
+//! The replies that are kept for a client: what is known of a number, and how a new reply is kept.
 ghost use Rattle.std.specs.Prelude.{◌≡◌, ◌≤◌, [], length, OnOk, OnErr, vec_len, vec_capacity};
 ghost use Rattle.std.specs.Option.{option_copied};
 ghost use Rattle.craq_names.specs.Maps.{at_number};

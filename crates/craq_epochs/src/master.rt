@@ -1,3 +1,4 @@
+//! `Master`: it alone makes the memberships of a chain, one after another.
 ghost use Rattle.std.specs.Prelude.{◌≡◌, ◌⊎◌, ◌↔◌, Ok, Err, IfOk, IfErr, OnOk, OnErr};
 ghost use Rattle.craq_names.specs.Order.{Refuses};
 ghost use Rattle.craq_model.specs.Members.{IsMembership};

@@ -1,3 +1,4 @@
+//! Tests of lists of ids: which can be members of a chain.
 ghost use Rattle.std.specs.Prelude.{◌≡◌, ◌≤◌, ◌↔◌, ℕ, IsTrue, IfOk};
 ghost use Rattle.std.specs.List.{AllByRecursion};
 ghost use Rattle.craq_names.specs.Limits.{greatest_count};

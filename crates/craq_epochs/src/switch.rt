@@ -1,3 +1,4 @@
+//! `Switch`, which tells whether a node runs, and the receipt that a stopped one gives.
 ghost use Rattle.std.specs.Prelude.{◌≡◌, true, false, Ok, Err, Some, None, if◌then◌else◌};
 
 use craq_names::{NodeName, Refusal};

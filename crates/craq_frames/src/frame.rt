@@ -1,3 +1,4 @@
+//! Frames: a payload behind its length, cut off the front of bytes and written at the end.
 ghost use Rattle.std.specs.Prelude.{◌≡◌, ◌≢◌, ◌<◌, ◌≤◌, ◌^◌, ◌⊎◌, ◌↔◌, ℕ, List, ◌++◌, length, All, Ok, Err, None, IsTrue, IfSome, IfOk, IfErr, OnOk, OnErr};
 ghost use Rattle.std.specs.IoError.{error_kind};
 ghost use Rattle.std.specs.declared.io.ErrorKind.TheVariants.{OutOfMemory};

@@ -1,3 +1,4 @@
+//! `Text`: a text that contracts see as its bytes.
 ghost use Rattle.std.specs.Prelude.{◌≡◌, ℕ, List, string_bytes, IfOk};
 ghost use Rattle.std.specs.Str.{IsUtf8};
 

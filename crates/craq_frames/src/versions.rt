@@ -1,3 +1,4 @@
+//! Payloads of versions 1 and 2, those of several messages among them: `Payload` and `Answered`.
 ghost use Rattle.std.specs.Prelude.{◌≡◌, ◌≤◌, ◌⊎◌, ◌++◌, length, Err, IfOk, IfErr, OnOk};
 ghost use Rattle.std.specs.List.{AllByRecursion, list_all};
 ghost use Rattle.craq_codec.specs.NumberReading.{Gives};

@@ -1,3 +1,4 @@
+//! `Door`: what answers the messages of one client, and which replies it may give; implemented by whoever has a store.
 ghost use Rattle.std.specs.Prelude.{◌↔◌, IsTrue};
 ghost use Rattle.craq_frames.specs.declared.answer.ClientReply.{ClientReply};
 ghost use Rattle.craq_frames.specs.declared.ask.ClientMessage.{ClientMessage};

@@ -1,3 +1,4 @@
+//! Laws: which replies a door may give.
 ghost use Rattle.std.specs.Prelude.{◌≤◌, ◌↔◌, length};
 ghost use Rattle.craq_frames.specs.declared.answer.ClientReply.{ClientReply};
 ghost use Rattle.craq_frames.specs.Payload.{AnswerFits, IsAnswer, answer_spelling};

@@ -1,3 +1,4 @@
+//! The payload of the reply to a payload; called by `serving`.
 ghost use Rattle.std.specs.Prelude.{◌≡◌, ◌≤◌, ℕ, List, ◌++◌, length, IfOk, IfErr, OnErr};
 ghost use Rattle.std.specs.List.{AllByRecursion};
 ghost use Rattle.craq_frames.specs.declared.ask.ClientMessage.{ClientMessage};

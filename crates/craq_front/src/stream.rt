@@ -1,3 +1,4 @@
+//! `Source` and `Sink`, the streams that `serve` and `exchange` know, and `Stream`, which makes them of std's.
 ghost use Rattle.std.specs.Prelude.{◌≡◌, ℕ, ◌+◌, ◌-◌, ◌^◌, ◌<◌, ◌≤◌, List, Option, length, take, Ok, IfOk, OnErr};
 ghost use Rattle.std.specs.Io.KnownBytes.{Appends, Consumes, IsAtEnd, Keeps};
 

@@ -1,3 +1,4 @@
+//! Connections that are cut, changed or failing at each place; run by `main`.
 ghost use Rattle.std.specs.Prelude.{◌≤◌, length};
 
 use crate::frames::{BAD_FRAME, PUT, WRITTEN};

@@ -1,3 +1,4 @@
+//! The door that answers in these tests.
 ghost use Rattle.std.specs.Prelude.{⊤};
 ghost use Rattle.craq_front.specs.Door.{IsAllowed};
 

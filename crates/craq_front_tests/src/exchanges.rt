@@ -1,3 +1,4 @@
+//! Asking over memory: the reply, what is no reply, each cut; run by `main`.
 ghost use Rattle.std.specs.Prelude.{◌≤◌};
 
 use crate::fakes::{Duplex, Pieces, Room};

@@ -1,3 +1,4 @@
+//! Readers and writers over memory that give pieces, end or fail where they are told to.
 use std::io;
 use std::io::{Read, Write};
 

@@ -1,3 +1,4 @@
+//! Whole connections by their table; run by `main`.
 use crate::door::Answers;
 use crate::fakes::{Pieces, Room};
 use crate::frames::{

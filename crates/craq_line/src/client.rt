@@ -1,3 +1,4 @@
+//! The command line of `craq`: its options, its help, and the words of a command.
 use crate::numbers::number_of;
 use clap::error::ErrorKind;
 use clap::{Arg, ArgAction, ArgMatches, Command, Error};

@@ -1,3 +1,4 @@
+//! Numbers on command lines, spelled as in scripts.
 ghost use Rattle.std.specs.Prelude.{◌≤◌, IfSome};
 
 use craq_script::number_up_to;

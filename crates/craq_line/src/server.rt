@@ -1,3 +1,4 @@
+//! The command line of `craqd`: its options and its help.
 use crate::numbers::number_of;
 use clap::error::ErrorKind;
 use clap::{Arg, ArgAction, ArgMatches, Command, Error};

@@ -1,3 +1,4 @@
+//! `LockedChain`: the cells of a chain, each under its lock; for `craq_play`.
 ghost use Rattle.std.specs.Prelude.{◌≡◌, ◌⊎◌, ◌↔◌, Err, IfErr, IfOk, IfSome, OnOk};
 ghost use Rattle.std.specs.Option.{option_copied};
 ghost use Rattle.craq_model.specs.Members.{IsMembership};

@@ -1,3 +1,4 @@
+//! The messages that the cells of a chain sent, all encodable; kept by `LockedChain`.
 ghost use Rattle.std.specs.Prelude.{◌≡◌, ◌++◌, [], IfSome, OnErr, OnOk};
 ghost use Rattle.std.specs.List.{AllByRecursion};
 ghost use Rattle.std.specs.Option.{option_copied};

@@ -1,3 +1,4 @@
+//! `Suffix`: the entries of a history after a base position; for histories that forget.
 ghost use Rattle.std.specs.Prelude.{◌≡◌, ◌+◌, ◌-◌, ◌<◌, ◌≤◌, ◌^◌, [], ◌∷◌, ◌++◌, drop, length, vec_len, vec_capacity, IsOk, OnOk, OnErr, MatchOption};
 ghost use Rattle.craq_node_invariant.specs.Sound.{AreInRow};
 ghost use Rattle.craq_log.specs.Suffixed.{length_of, entries_after, IsFirstOf};

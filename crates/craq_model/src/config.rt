@@ -1,3 +1,4 @@
+//! `Config`: a membership with its epoch.
 use craq_names::{Copied, Epoch, Items, NodeId, Same};
 use std::alloc::{AllocError, Global};
 

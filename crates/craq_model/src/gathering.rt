@@ -1,3 +1,4 @@
+//! `Gathering`: the parts of a state that a node which is not ready holds.
 use craq_commands::State;
 use craq_names::{Items, Seq};
 

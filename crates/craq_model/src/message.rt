@@ -1,3 +1,4 @@
+//! `LinkMessage`, a message between nodes, with its `Body`.
 use craq_commands::{Entry, State};
 use craq_names::{ChainId, Copied, Epoch, Items, Key, NodeId, Same, Seq, Stamp, Ticket, Version};
 use std::alloc::{AllocError, Global};

@@ -1,3 +1,4 @@
+//! `Copied`: values that can be made again in other memory, each copy equal to its value.
 ghost use Rattle.std.specs.Prelude.{◌≡◌, IfOk};
 
 use crate::{ClientId, Items, Key, NodeId, ObjectId, RequestNo, Value, Version};

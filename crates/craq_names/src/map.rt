@@ -1,3 +1,4 @@
+//! A list of pairs by rising key as a map: where it is put into.
 ghost use Rattle.std.specs.Prelude.{◌≡◌, ◌≤◌, OnOk, OnErr, vec_len, vec_capacity};
 ghost use Rattle.std.specs.FinMap.Entries.{put};
 

@@ -1,3 +1,4 @@
+//! `NodeName` and `ObjectId`: a node, or an object, with its chain.
 use crate::{ChainId, Key, NodeId};
 
 /// A node of a chain.

@@ -1,3 +1,4 @@
+//! The numbers of the store, each a type of its own: versions, positions, epochs, ids, tickets, stamps, passes.
 ghost use Rattle.std.specs.Prelude.{◌≡◌, ◌+◌, ◌-◌, ◌^◌, ℕ, ◌≤◌, ◌↔◌, max, Err, IfOk, IfErr};
 
 use crate::Refusal;

@@ -1,3 +1,4 @@
+//! `Same`: a test that is true exactly where two values are equal.
 ghost use Rattle.std.specs.Prelude.{◌≡◌, ◌↔◌, IsTrue};
 
 use crate::{ClientId, Items, Key, NodeId, ObjectId, Refusal, RequestNo, Value, Version};

@@ -1,3 +1,4 @@
+//! `Plan`: the chains of a store by name, and the chain of an object or of a transaction.
 ghost use Rattle.std.specs.Prelude.{◌≡◌, ◌⊎◌, ◌++◌, ◌∷◌, ℕ, List, [], false, nat_le, length, map, string_bytes, Ok, Err, MatchResult, OnOk, IfOk, IfErr};
 ghost use Rattle.toml.specs.View.{items_of, table_view, view};
 ghost use Rattle.std.specs.List.{list_any};

@@ -1,3 +1,4 @@
+//! The tables of a plan's text, tested and read one after another; called by `plan`.
 ghost use Rattle.std.specs.Prelude.{◌≡◌, [], map, codes, string_bytes, option_map};
 ghost use Rattle.std.specs.List.{list_all};
 ghost use Rattle.toml.specs.View.{view, items_of, table_view};

@@ -1,3 +1,4 @@
+//! The update or the read that a script's line asks, or the refusal of its values.
 ghost use Rattle.std.specs.Prelude.{◌≡◌, map, IfOk};
 ghost use Rattle.std.specs.List.{list_all, flat_map};
 ghost use Rattle.craq_commands.specs.Transaction.{mini_of};

@@ -1,3 +1,4 @@
+//! The move of a script's line, or its refusal; called for each line before the chain is.
 ghost use Rattle.std.specs.Prelude.{◌≡◌, Ok};
 ghost use Rattle.craq_play.specs.Asked.{Answers};
 ghost use Rattle.craq_play.specs.Moves.{asked_move, move_of};

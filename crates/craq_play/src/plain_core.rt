@@ -1,3 +1,4 @@
+//! `PlainCore`: the node that keeps its whole history.
 use craq_node::NodeCore;
 use craq_plain::PlainHistory;
 

@@ -1,3 +1,4 @@
+//! A script's lines on one chain: a move is taken and printed; also for `craq_schedules`.
 ghost use Rattle.std.specs.Prelude.{◌≡◌, ◌⊎◌, ◌++◌, ◌∷◌, [], ◌≤◌, List, IfOk, OnOk, OnErr, string_bytes};
 ghost use Rattle.craq_runs.specs.Explain.{explain};
 ghost use Rattle.craq_runs.specs.declared.run.Taken.{Taken};

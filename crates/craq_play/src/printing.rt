@@ -1,3 +1,4 @@
+//! Replies, answers, messages, steps and refusals as printed text, as `specs/Printed` has it.
 ghost use Rattle.std.specs.Prelude.{◌≡◌, ◌+◌, ◌<◌, ◌^◌, ◌++◌, length, OnOk, string_bytes};
 ghost use Rattle.std.specs.List.{flat_map};
 ghost use Rattle.craq_model.specs.Deliveries.{final_position, first_position};

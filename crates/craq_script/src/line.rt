@@ -1,3 +1,4 @@
+//! `Line`: a line of a script as values.
 use craq_commands::ReadMode;
 use craq_names::{ChainId, ClientId, Items, NodeId, Version};
 

@@ -1,3 +1,4 @@
+//! Why a line was not read: it is outside the grammar, or there was no memory.
 ghost use Rattle.std.specs.Prelude.{◌≡◌};
 ghost use Rattle.craq_script.specs.declared.misread.Misread.TheVariants.{Memory};
 

@@ -1,3 +1,4 @@
+//! The words of a line as a `Line`, kind by kind; called by `script`.
 ghost use Rattle.std.specs.Prelude.{◌≡◌, map};
 ghost use Rattle.craq_script.specs.Reading.{Gives};
 ghost use Rattle.craq_script.specs.Words.{greatest_node};

@@ -1,3 +1,4 @@
+//! `Script::read`: a text as the lines that it spells; the one call of the crate that programs need.
 ghost use Rattle.craq_script.specs.Texts.{script_of};
 
 use crate::Line;

@@ -1,3 +1,4 @@
+//! A text cut into lines and words; called by `script`.
 ghost use Rattle.std.specs.Prelude.{◌≡◌, ◌==◌, ◌<◌, not, length, map, IfOk};
 ghost use Rattle.std.specs.List.{filter, slice_split};
 ghost use Rattle.craq_script.specs.Reading.{Gives};

@@ -1,3 +1,4 @@
+//! The next word of a line as what it has to be; called by `reading`.
 ghost use Rattle.std.specs.Prelude.{◌≡◌, ◌≤◌, map, IfOk};
 ghost use Rattle.craq_script.specs.Reading.{Gives};
 ghost use Rattle.craq_script.specs.Grammar.{next, at_the_end, number_at, number_alone, object_at, value_last, object_and_value, object_and_number};

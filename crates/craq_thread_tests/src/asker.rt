@@ -1,3 +1,4 @@
+//! A client of a store that is tested, with its own object and number.
 use crate::gate::CaseGate;
 use craq_commands::{Command, ReadMode, Reply, Update};
 use craq_list::ListCore;

@@ -1,3 +1,4 @@
+//! Cases of calls: two that overlap, steps in place and by the ask worker, what is read back.
 use crate::asker::{Asker, Tested};
 use crate::case::{Fact, Fault, expect, expect_refusal};
 use crate::gate::{LIMIT, Signs, wait_for};

@@ -1,3 +1,4 @@
+//! The table of cases, and what one expects.
 use craq_names::Refusal;
 use std::alloc::{AllocError, AllocFailed};
 

@@ -1,3 +1,4 @@
+//! The case in which nodes stop, go and join while clients ask and messages are lost.
 use crate::asker::{Asker, Tested};
 use crate::calls::confirm;
 use crate::case::{Fact, Fault, expect};

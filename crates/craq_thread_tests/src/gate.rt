@@ -1,3 +1,4 @@
+//! The gate of a case, which holds workers up, cuts links and waits for signs.
 use crate::case::Case;
 use craq_names::NodeName;
 use craq_workers::{Gate, Work};

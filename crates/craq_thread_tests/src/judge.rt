@@ -1,3 +1,4 @@
+//! One case tried on a thread of its own, with a limit of time.
 ghost use Rattle.std.specs.Prelude.{IfOk};
 ghost use Rattle.craq_place.specs.Plan.{IsPlan};
 

@@ -1,3 +1,4 @@
+//! Cases of memberships and of how many threads there are.
 use crate::asker::Tested;
 use crate::case::{Fact, Fault, expect, expect_refusal};
 use crate::gate::{LIMIT, rest};

@@ -1,3 +1,4 @@
+//! Commands by their table, transactions and copies; run by `main`.
 ghost use Rattle.std.specs.Prelude.{[]};
 
 use crate::say;

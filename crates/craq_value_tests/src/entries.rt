@@ -1,3 +1,4 @@
+//! Entries in a suffix, into room that was made; run by `main`.
 ghost use Rattle.std.specs.Prelude.{◌≡◌, ◌≤◌, IfOk, IsTrue};
 ghost use Rattle.craq_log.specs.Suffixed.{length_of};
 

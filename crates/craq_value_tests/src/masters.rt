@@ -1,3 +1,4 @@
+//! A switch, memberships, and masters whose members come and go; run by `main`.
 use crate::say;
 use craq_epochs::{Master, Switch, is_membership};
 use craq_names::{ChainId, NodeId, NodeName, Refusal};

@@ -1,3 +1,4 @@
+//! Keys, values and numbers at their bounds, and texts of refusals; run by `main`.
 use crate::say;
 use craq_names::{Copied, Key, NodeId, Refusal, RequestNo, Value, Version, copies_of};
 use std::alloc::Global;

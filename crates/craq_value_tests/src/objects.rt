@@ -1,3 +1,4 @@
+//! The versions of one object in a list; run by `main`.
 use crate::say;
 use craq_names::{Refusal, Seq, Value, Version};
 use craq_versions::{VersionList, WriteRef};

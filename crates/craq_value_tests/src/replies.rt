@@ -1,3 +1,4 @@
+//! Tables of kept replies; run by `main`.
 use crate::say;
 use craq_commands::{Reply, Said};
 use craq_names::{ClientId, Copied, Refusal, RequestNo, Version};

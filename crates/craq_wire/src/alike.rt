@@ -1,3 +1,4 @@
+//! Tests of lists: whether two items are alike, whether keys rise; called by `rules`.
 ghost use Rattle.std.specs.Prelude.{◌≡◌, Bool, nat_eq};
 ghost use Rattle.std.specs.List.{list_any};
 ghost use Rattle.craq_wire.specs.Tests.{is_rising, same_key, stands_twice};

@@ -1,3 +1,4 @@
+//! A message between nodes read from the front of bytes and written at the end, kind by kind; called by `wire`.
 ghost use Rattle.std.specs.Prelude.{◌≡◌, ◌++◌, OnOk};
 ghost use Rattle.craq_codec.specs.NumberReading.{Gives};
 ghost use Rattle.craq_model.specs.Spelled.{IsSpelledBody, IsSpelledPart, IsSpelledState, IsSpelled};

@@ -1,3 +1,4 @@
+//! `encode`, `decode` and `spelled`: the calls of the crate, for links between nodes.
 ghost use Rattle.std.specs.Prelude.{◌≡◌, ◌⊎◌, ◌↔◌, ℕ, List, Err, IfOk, IfErr, IsTrue};
 ghost use Rattle.craq_model.specs.Spelled.{IsSpelled};
 ghost use Rattle.craq_codec.specs.NumberReading.{Gives};

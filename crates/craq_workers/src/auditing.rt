@@ -1,3 +1,4 @@
+//! `Store::audit`: the audit of a chain whose nodes are all locked for it.
 ghost use Rattle.std.specs.Prelude.{IfOk};
 ghost use Rattle.craq_workers.specs.Audits.{Confirms};
 

@@ -1,3 +1,4 @@
+//! A chain that runs: the ways to its workers, through which all that asks, sends or ticks goes.
 use crate::node::{Brought, Entrances, Node, Way};
 use crate::steps::Asked;
 use bytes::Bytes;

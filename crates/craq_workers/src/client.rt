@@ -1,3 +1,4 @@
+//! `Client`: calls of a store from any thread, one at a time, with the pass that they raise.
 ghost use Rattle.std.specs.Prelude.{◌≡◌, max, IfOk, OnErr};
 ghost use Rattle.craq_calls.specs.Calls.{IsCallOf};
 

@@ -1,3 +1,4 @@
+//! `Gate`: what is called round each piece of work, so that tests can hold it up; `OpenGate` for all others.
 use craq_names::NodeName;
 
 /// Which worker of a node works. A tick, and all that a chain's master does, counts among deliveries.

@@ -1,3 +1,4 @@
+//! A node that runs, as its workers and its callers share it: the seat, the ask turn, the ways to it.
 use crate::replies::Reply;
 use crate::steps::Asked;
 use bytes::Bytes;

@@ -1,3 +1,4 @@
+//! Chains and nodes before any step; called by `store` at a start and at a join.
 ghost use Rattle.std.specs.Prelude.{◌≡◌, IfErr, OnOk};
 ghost use Rattle.std.specs.Option.{option_copied};
 ghost use Rattle.craq_model.specs.Members.{IsMembership};

@@ -1,3 +1,4 @@
+//! What the callers that a step answers are told, kept until its lock is free.
 use craq_names::{Refusal, Ticket};
 use craq_seat::{CallReceipt, Caller};
 use crossbeam_channel::Sender;

@@ -1,3 +1,4 @@
+//! What all threads of a store share, how a step's messages go out, and how one ask is served.
 ghost use Rattle.std.specs.List.{AllByRecursion};
 ghost use Rattle.craq_model.specs.Spelled.{IsSpelled};
 

@@ -1,3 +1,4 @@
+//! A step of a node whose seat is locked: an ask's or another event's, with its messages and its replies.
 ghost use Rattle.std.specs.Prelude.{◌≡◌, IfSome};
 ghost use Rattle.std.specs.List.{AllByRecursion};
 ghost use Rattle.std.specs.Option.{option_copied};

@@ -1,3 +1,4 @@
+//! `Store`, the primary object of the crate: it starts, stops, removes, joins and closes.
 ghost use Rattle.std.specs.Prelude.{◌≡◌, ◌≤◌, IfErr, IfOk, OnOk};
 ghost use Rattle.craq_place.specs.Plan.{IsPlan};
 

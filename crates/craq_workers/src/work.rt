@@ -1,3 +1,4 @@
+//! What each thread of a store does, from its start to its end.
 ghost use Rattle.std.specs.List.{AllByRecursion};
 ghost use Rattle.craq_model.specs.Spelled.{IsSpelled};
 ghost use Rattle.craq_node.specs.Represented.{CanArrive};

@@ -1,3 +1,4 @@
+//! `explain_run`: the explanation of any run, valid by the theorem.
 ghost use Rattle.std.specs.Prelude.{◌≡◌, ℕ, IfOk};
 ghost use Rattle.craq_runs.specs.Explain.{explain};
 ghost use Rattle.craq_runs.specs.Runs.{IsRun, IsRunOf};

@@ -1,3 +1,4 @@
+//! The rules of entries, batches, acknowledgements and blanks that arrive; called by `craq_node`.
 ghost use Rattle.std.specs.Prelude.{◌≡◌, ◌≤◌, ◌<◌, ◌+◌, ◌++◌, ◌∷◌, [], length, true, false, nat_lt, if◌then◌else◌, Some, None, Ok, IfOk, IfErr, OnOk, IsOk, IsSome, map};
 ghost use Rattle.craq_model.specs.Deliveries.{ack_turn, blank_turn, due_updates, entries_above, entries_turn, fill_bodies, final_position, first_position, forwarding_turn, taken_entries_turn};
 ghost use Rattle.craq_model.specs.Past.{length_in, entries_in, clean_in};

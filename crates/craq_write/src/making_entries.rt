@@ -1,3 +1,4 @@
+//! A command made into an entry at the head: its versions, its writes and its reply; called by `updates`.
 ghost use Rattle.std.specs.Prelude.{◌≡◌, ◌≢◌, ◌∷◌, [], ℕ, List, All, map, is_none, ◌++◌, IfOk, IfSome, OnOk};
 ghost use Rattle.craq_names.specs.Limits.{greatest};
 ghost use Rattle.craq_commands.specs.Evaluation.{objects_named, some_used_up};

@@ -1,3 +1,4 @@
+//! Why `craqd` ends or serves nothing, with the text and the status of each reason.
 use clap::Error;
 use std::alloc::{AllocError, AllocFailed};
 use std::io;

@@ -1,3 +1,4 @@
+//! A store started, listened for, ticked and served, as a command line asks for; called by `main`.
 use crate::audits::print_audits;
 use crate::fault::Fault;
 use crate::plans::plan_of;

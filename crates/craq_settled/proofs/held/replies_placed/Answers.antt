@@ -13,7 +13,7 @@ loop-client-preserved c =
     let k = c.loop-client-item.result in
     let is : k ≡ get_or all i k = rw c.as_slice-client-items.ensures at c.loop-client-item.is in
     let below : i < length all = rw c.as_slice-client-items.ensures at c.loop-client-test.true in
-    c.in_ok-put.ensures
+    c.in_ok-put.ensures.ok
     ∙ ap (λ (l : List (ℕ × Window)). put_number l k.0 c.in_ok-copies_of.field-0.items) c.loop-client.invariant
     ∙ ap (λ (w : Window). put_number (take i all) k.0 w) (c.in_ok-copies_of.ensures ∙ c.as_slice.ensures.value)
     ∙ put_next nat_cmp nat_cmp_total all i k below is c.requires.rising

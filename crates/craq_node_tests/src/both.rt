@@ -2,10 +2,10 @@
 //! step of the one has to be that of the other.
 ghost use Rattle.craq_model.specs.Spelled.{IsSpelled};
 
-use crate::sights::Sights;
+use crate::moves::members;
 use craq_list::ListCore;
 use craq_locked::LockedChain;
-use craq_model::{Event, LinkMessage, Out, Step};
+use craq_model::{Event, LinkMessage, Out, Step, Why};
 use craq_names::{ChainId, Copied, NodeId, Pass, Refusal, Same};
 use craq_node::Core;
 use craq_play::PlainCore;
@@ -22,17 +22,8 @@ pub struct Both {
     list: LockedChain<ListCore>,
     /// The messages that moves sent, in order.
     pub sent: Vec<LinkMessage>,
-    /// What came up so far.
-    pub sights: Sights,
-}
-
-/// The ids from 1 to the count.
-fn first_ids(alloc: Global, count: u32) -> Result<Vec<NodeId>, AllocError> {
-    let mut ids = Vec::new(alloc);
-    for id in 0..count {
-        ids.push(NodeId::new(id + 1))?;
-    }
-    Ok(ids)
+    /// The reasons for which nodes ignored a message, each once.
+    pub reasons: Vec<Why>,
 }
 
 /// Whether both took a step, and the same one, or neither did.
@@ -54,6 +45,16 @@ fn add_sends(alloc: Global, step: &Step, sent: &mut Vec<LinkMessage>) -> Result<
     Ok(())
 }
 
+/// The reason for which a node ignored a message comes after others, unless it is among them.
+fn add_reason(step: &Step, reasons: &mut Vec<Why>) -> Result<(), AllocError> {
+    if let Some(why) = step.ignored {
+        if !reasons.iter().any(|known| *known == why) {
+            reasons.push(why)?;
+        }
+    }
+    Ok(())
+}
+
 /// The step of a node in which this message arrives, which nobody sent.
 fn deliver_at<C: Core, R: Wait>(
     rt: &R,
@@ -70,31 +71,17 @@ fn deliver_at<C: Core, R: Wait>(
 }
 
 impl Both {
-    /// Two chains of the nodes from 1 to the count, before any move. What came up before is in the sights.
-    pub fn open(alloc: Global, nodes: u32, sights: Sights) -> Result<Both, Refusal> {
-        let members = first_ids(alloc, nodes)?;
+    /// Two chains of these members, before any move. The reasons are those that came up before.
+    pub fn open(alloc: Global, ids: &[u32], reasons: Vec<Why>) -> Result<Both, Refusal> {
+        let members = members(alloc, ids)?;
         let (chain, members) = (ChainId::new(0), members.as_slice());
         Ok(Both {
             alloc,
             plain: LockedChain::open(alloc, chain, members, false)?,
             list: LockedChain::open(alloc, chain, members, false)?,
             sent: Vec::new(alloc),
-            sights,
+            reasons,
         })
-    }
-
-    /// The first member.
-    pub fn head<R: Wait>(&self, rt: &R) -> NodeId {
-        let book = self.plain.book().lock(rt);
-        match book.config().members.as_slice().first() {
-            Some(head) => *head,
-            None => NodeId::new(1),
-        }
-    }
-
-    /// How many members there are.
-    pub fn members<R: Wait>(&self, rt: &R) -> usize {
-        self.plain.book().lock(rt).config().members.len()
     }
 
     /// Whether the last steps of the two masters are the same. What they send comes after what was sent.
@@ -120,7 +107,7 @@ impl Both {
         let (one, other) = (one.lock(rt), other.lock(rt));
         let step = one.desk.cell().last();
         if let Some(step) = step {
-            self.sights.see(step)?;
+            add_reason(step, &mut self.reasons)?;
             if is_known {
                 add_sends(self.alloc, step, &mut self.sent)?;
             }

@@ -36,8 +36,10 @@ def plays(checks):
         bad_cases(room)
         drawn_cases(room)
         said, found = tries.cases(checks, "craq_lab", room)
-    for name, text in said.items():
-        status = 2 if name.startswith("bad-") else 0
+    lines = {f"bad-{at}": f"script line {line}" for at, (_, line) in enumerate(worked.bad_texts())}
+    for name, (text, errors) in said.items():
+        status = 2 if name in lines else 0
+        checks.same(f"craq_lab, {name}: standard error", errors, lines.get(name, ""))
         is_well = text.startswith(f"run=ended status={status} ") and (" output=expected " in text or name.startswith("draw-"))
         checks.that(is_well, f"craq_lab, {name}: {text}")
     for seed in SEEDS:

@@ -1,4 +1,5 @@
 """craqd and craq without their proofs, from end to end: a server, commands and clients."""
+import os
 import re
 import signal
 import socket
@@ -30,7 +31,7 @@ class Tried(running.Server):
         words = ["--journal", "--connections", str(connections), "plan.toml", self.address]
         self.process = subprocess.Popen(
             tries.words_of("--data", f"plan.toml={self.file.name}", "--", *words, seconds=str(RUNS)),
-            cwd=repository.path("crates", "craqd"), stdin=subprocess.DEVNULL, stdout=subprocess.PIPE, stderr=subprocess.PIPE)
+            cwd=repository.path("crates", "craqd"), stdin=subprocess.DEVNULL, stdout=subprocess.PIPE, stderr=subprocess.PIPE, start_new_session=True)
 
     def listens(self):
         """Waits until it takes a connection, which counts; tells whether it came to that."""
@@ -54,7 +55,7 @@ class Tried(running.Server):
 
     def kill(self):
         if self.runs():
-            self.process.send_signal(signal.SIGTERM)
+            os.killpg(self.process.pid, signal.SIGTERM)
             self.process.wait()
         self.file.close()
 

@@ -70,11 +70,22 @@ def printed(output):
     return {name.decode(): text for name, text in zip(parts[1::2], parts[2::2])}
 
 
+def said_of(told):
+    """How each case ended, by name, and what its program wrote to standard error before."""
+    found, before = {}, []
+    for line in told.splitlines():
+        case = re.fullmatch(r"case=(\S+) (.*)", line)
+        if case:
+            found[case[1]] = case[2], "\n".join(before)
+        before = [] if case else [*before, line]
+    return found
+
+
 def cases(checks, crate, room):
     """Runs a program for each case of the folder: what is said of each, by name, and what was printed of those not known."""
     ran = subprocess.run(words_of("--cases", room, seconds="60"), cwd=repository.path("crates", crate), stdin=subprocess.DEVNULL, capture_output=True)
     told = ran.stderr.decode(errors="replace")
-    said = dict(re.findall(r"^case=(\S+) (.*)$", told, re.M))
+    said = said_of(told)
     if not said:
         checks.that(False, f"rt try --cases in {crate}: {told[-600:]}")
     return said, printed(ran.stdout)

@@ -3,7 +3,7 @@ import re
 
 import repository
 
-PAGE = "docs/WRONG_BODIES.md"
+PAGE = "docs/proof/WRONG_BODIES.md"
 HEAD = "| Crate | Last refused | Edits in `wrong/` |\n|---|---|---|\n"
 ROW = re.compile(r"\| `(\w+)` \| ([^|]+) \| ([^|]+) \|\n")
 NEVER = "never"

@@ -26,7 +26,7 @@ def folders(checks):
             checks.that(False, f"{name} has no {root_of(name)}")
             continue
         text = repository.text_of(file)
-        checks.that(re.match(r"(//!( .+)?\n)+#!\[tactic\(auto\)\]\n", text), f"{name}/{root_of(name)} begins with lines '//! ..', and then #![tactic(auto)]")
+        checks.that(re.match(r"(//!( .+)?\n)+#!\[tactic\(auto\b", text), f"{name}/{root_of(name)} begins with lines '//! ..', and then #![tactic(auto)]")
 
 
 def stray(checks):
@@ -71,14 +71,14 @@ def fault_of(name, edit):
 
 
 def edits(checks):
-    """Each edit can be applied, and docs/WRONG_BODIES.md names those that there are."""
+    """Each edit can be applied, and docs/proof/WRONG_BODIES.md names those that there are."""
     for name in repository.crates():
         for folder in "must-fail", "wrong":
             for edit in repository.edits_in(name, folder):
                 fault = fault_of(name, repository.path("crates", name, folder, f"{edit}.edit"))
                 checks.that(not fault, f"crates/{name}/{folder}/{edit}.edit: {fault}")
-    checks.same("crates whose edits in wrong/ docs/WRONG_BODIES.md tells otherwise (./refuse --write)", wrong_bodies.missing(), [])
-    checks.same("edits that docs/WRONG_BODIES.md names and that are not there", wrong_bodies.strange(), [])
+    checks.same("crates whose edits in wrong/ docs/proof/WRONG_BODIES.md tells otherwise (./refuse --write)", wrong_bodies.missing(), [])
+    checks.same("edits that docs/proof/WRONG_BODIES.md names and that are not there", wrong_bodies.strange(), [])
 
 
 def formatted(checks, room):

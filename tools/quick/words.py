@@ -6,6 +6,7 @@ import subprocess
 import repository
 
 LIST = "tools/quick/words.txt"
+PAGE = "docs/develop/ARCHITECTURE.md"
 CRATE = re.compile(r"\bcraq_[a-z_]*[a-z]\b")
 # Crates that stand elsewhere than under crates/, and what is no crate.
 OTHER_NAMES = re.compile(r"craq_\w*bench")
@@ -51,12 +52,11 @@ def unwanted(checks):
 
 
 def names_of_crates(checks):
-    """What the documents and tools name as a crate is one, and README and the page of the architecture name each."""
+    """What the documents and tools name as a crate is one, and the page of the architecture names each."""
     known = set(repository.crates())
     for name, text in texts():
         if name.endswith(".md") or name.startswith("tools/") or name == "crates.txt":
             strange = {it for it in CRATE.findall(text) if it not in known and not OTHER_NAMES.fullmatch(it)}
             checks.same(f"{name}: names that are no crates", sorted(strange), [])
-    for page in "README.md", "docs/ARCHITECTURE.md":
-        text = repository.text_of(page)
-        checks.same(f"crates that {page} lacks", [it for it in known if not re.search(rf"\b{it}\b", text)], [])
+    text = repository.text_of(PAGE)
+    checks.same(f"crates that {PAGE} lacks", [it for it in known if not re.search(rf"\b{it}\b", text)], [])

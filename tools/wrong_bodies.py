@@ -10,39 +10,37 @@ NEVER = "never"
 
 
 def table():
-    """What stands before the table, its rows as date and edits by crate, and what stands after it."""
+    """What stands before the table, the date of each edit by crate and name, and what stands after it."""
     before, head, rest = repository.text_of(PAGE).partition(HEAD)
     if not head:
         raise ValueError(f"{PAGE} has no table with the head {HEAD!r}")
-    rows, at = {}, 0
+    dates, at = {}, 0
     while found := ROW.match(rest, at):
-        rows[found[1]] = found[2], re.findall(r"`(\w+)`", found[3])
+        dates.update({(found[1], edit): found[2] for edit in re.findall(r"`(\w+)`", found[3])})
         at = found.end()
-    return before, rows, rest[at:]
+    return before, dates, rest[at:]
 
 
 def wanted():
-    """The edits that stand in wrong/, by crate."""
-    found = {name: repository.edits_in(name, "wrong") for name in repository.crates()}
-    return {name: edits for name, edits in found.items() if edits}
+    """The edits that stand in wrong/, as crate and name."""
+    return [(name, edit) for name in repository.crates() for edit in repository.edits_in(name, "wrong")]
 
 
-def note(names, date):
-    """Writes the table anew: of these crates all edits were refused on this date. An edit that the table lacked was never refused before."""
-    before, rows, after = table()
-    text = HEAD
-    for name, edits in wanted().items():
-        last, known = rows.get(name, (NEVER, []))
-        last = date if name in names else last if {*edits} <= {*known} else NEVER
-        text += f"| `{name}` | {last} | {', '.join(f'`{it}`' for it in edits)} |\n"
+def note(refused, date):
+    """Writes the table anew: these edits, given as crate and name, were refused on this date. What the table lacked never was."""
+    before, dates, after = table()
+    rows = {}
+    for crate, edit in wanted():
+        last = date if (crate, edit) in refused else dates.get((crate, edit), NEVER)
+        rows.setdefault((crate, last), []).append(f"`{edit}`")
+    text = "".join(f"| `{crate}` | {last} | {', '.join(edits)} |\n" for (crate, last), edits in rows.items())
     with open(repository.path(PAGE), "w", encoding="utf-8") as it:
-        it.write(before + text + after)
+        it.write(before + HEAD + text + after)
 
 
-def missing():
-    """What of the table is not as wrong/ has it."""
-    rows = {name: sorted(edits) for name, (_, edits) in table()[1].items()}
-    return [name for name in {**rows, **wanted()} if rows.get(name) != wanted().get(name)]
+def unlike():
+    """The edits that the table has and wrong/ has not, or the other way round."""
+    return sorted(f"{crate}: {edit}" for crate, edit in {*table()[1]} ^ {*wanted()})
 
 
 def strange():

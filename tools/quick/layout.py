@@ -77,7 +77,7 @@ def edits(checks):
             for edit in repository.edits_in(name, folder):
                 fault = fault_of(name, repository.path("crates", name, folder, f"{edit}.edit"))
                 checks.that(not fault, f"crates/{name}/{folder}/{edit}.edit: {fault}")
-    checks.same("crates whose edits in wrong/ docs/proof/WRONG_BODIES.md tells otherwise (./refuse --write)", wrong_bodies.missing(), [])
+    checks.same("edits of wrong/ that docs/proof/WRONG_BODIES.md lacks, or has too many (./refuse --write NAME)", wrong_bodies.unlike(), [])
     checks.same("edits that docs/proof/WRONG_BODIES.md names and that are not there", wrong_bodies.strange(), [])
 
 

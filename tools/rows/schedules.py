@@ -23,13 +23,17 @@ def choices_of(seed):
     return ",".join(map(str, found))
 
 
+def nodes_of_seed(seed):
+    return NODES[seed % len(NODES)]
+
+
 def drawn(checks, program, count):
     """So many schedules of one script: both cores print the same, and the verdict is true."""
     script = worked.bytes_of("drawn.script")
     seeds = range(1, count + 1)
 
     def draw(seed):
-        return playing.on_both(program, ["draw", "--nodes", str(NODES[seed % len(NODES)]), "/dev/stdin", choices_of(seed)], script)
+        return playing.on_both(program, ["draw", "--nodes", str(nodes_of_seed(seed)), "/dev/stdin", choices_of(seed)], script)
 
     for seed, (plain, other) in zip(seeds, playing.side_by_side(draw, seeds)):
         checks.that(plain.status == 0 and plain.output.endswith(b"valid true\n"), f"schedule {seed} ends well: {plain.output[-40:]} {plain.errors}")

@@ -6,6 +6,9 @@ import playing
 
 HERE = os.path.dirname(os.path.realpath(__file__))
 SCRIPT = "{}"
+# Command lines that are not played, and what is told of them.
+NOT_PLAYED = {("play", "nowhere"): b"cannot read nowhere\n", ("draw", "/dev/null", "1,x"): b"choices refused\n",
+              ("draw", "nowhere", "1"): b"cannot read nowhere\n", ("stops", "nowhere", "1"): b"cannot read nowhere\n"}
 
 
 def bytes_of(name):
@@ -59,6 +62,8 @@ def no_scripts(checks, program):
     for (text, line), pair in zip(texts, playing.side_by_side(lambda it: playing.on_both(program, ["play"], it[0]), texts)):
         for core, told in zip(playing.CORES, pair):
             checks.same(f"{text!r} with {core}", told, playing.Told(2, b"", b"script line %d\n" % line))
+    for words, errors in NOT_PLAYED.items():
+        checks.same(" ".join(words), playing.told(program, words, b""), playing.Told(2, b"", errors))
     plain, other = playing.on_both(program, ["play"], bytes_of("forms.script"))
     checks.that(plain.status == 0 and not plain.errors, f"each form of line is played: {plain.errors}")
     checks.same("each form of line", other, plain)

@@ -1,12 +1,17 @@
 //! Facts of nodes, of chains with what explains their runs, of worlds, and of locked cells: each public call that may run
-//! out of memory is made with ample memory. Each fact is printed with whether it holds.
+//! out of memory is made with ample memory. Random scripts on both cores, in which messages arrive that nobody sent. Each
+//! fact is printed with whether it holds.
 #![tactic(auto)]
 
 mod audits;
+mod both;
 mod chains;
+mod dice;
 mod moves;
 mod nodes;
 mod seats;
+mod spoiled;
+mod spoiling;
 mod worlds;
 
 use craq_list::ListCore;
@@ -14,6 +19,7 @@ use craq_names::Refusal;
 use craq_node::Core;
 use craq_play::PlainCore;
 use std::io;
+use std::rt::Files;
 use std::sync::Wait;
 use std::thread::Threads;
 
@@ -119,6 +125,21 @@ fn tell_audits<R: AllocGlobal + Print + Wait>(rt: &R) -> io::Result<()> {
     )
 }
 
+/// Tells whether both cores take the same steps where messages arrive that nobody sent.
+fn tell_spoiled<R: AllocGlobal + Files + Print + Wait>(rt: &R) -> io::Result<()> {
+    match spoiled::are_same(rt) {
+        Ok((are_same, reasons)) => {
+            tell(
+                rt,
+                "both cores take the same steps where messages arrive that nobody sent",
+                Ok(are_same),
+            )?;
+            println!(rt; "messages were ignored there for {reasons} reasons")
+        }
+        Err(refusal) => println!(rt; "a random script is refused: {refusal}"),
+    }
+}
+
 fn main(rt: HostRuntime) -> io::Result<()> {
     tell_nodes(&rt)?;
     tell_chains(&rt)?;
@@ -127,5 +148,6 @@ fn main(rt: HostRuntime) -> io::Result<()> {
     println!(rt; "over nodes that forget settled entries:")?;
     tell_worlds::<ListCore, _>(&rt)?;
     tell_seats(&rt)?;
-    tell_audits(&rt)
+    tell_audits(&rt)?;
+    tell_spoiled(&rt)
 }

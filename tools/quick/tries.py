@@ -1,0 +1,91 @@
+"""Runs programs by `rt try`, which builds them without their proofs."""
+import os
+import re
+import shutil
+import subprocess
+import tempfile
+
+import one_crate
+import repository
+
+# rt try also interprets a program, as far as so many steps go: it is enough to build it.
+STEPS, SECONDS = "1", "300"
+# craq_thread_tests makes so many calls a client; without its proofs it is too slow for them.
+CALLS, FEW_CALLS = "const CALLS: u64 = 2500;", "const CALLS: u64 = 100;"
+
+
+def words_of(*more, seconds=SECONDS):
+    return ["rt", "try", "--steps", STEPS, "--seconds", seconds, *more]
+
+
+def tried(checks, where, *more, stdin=b""):
+    """What a program prints in that folder, and its status; what kept it from ending is a check that failed."""
+    ran = subprocess.run(words_of(*more), cwd=where, input=stdin, capture_output=True)
+    told = ran.stderr.decode(errors="replace")
+    checks.that(re.search(r"^run=ended|^cases=", told, re.M), f"rt try in {os.path.basename(where)}: {told[-600:]}")
+    return ran.returncode, ran.stdout
+
+
+def data_of(name):
+    """The words that give a program the files of its data/."""
+    folder = repository.path("crates", name, "data")
+    names = sorted(os.listdir(folder)) if os.path.isdir(folder) else []
+    return [word for it in names for word in ("--data", f"{it}={folder}/{it}")]
+
+
+def prints_its_file(checks, name, where=None):
+    """A crate of tests prints what its file stdout has."""
+    wanted = one_crate.file_of(name, "stdout")
+    status, found = tried(checks, where or repository.path("crates", name), *data_of(name))
+    checks.same(f"what {name} prints", found, wanted)
+    checks.same(f"the status of {name}", status, 0)
+    return f"{len(wanted.splitlines())} lines"
+
+
+def thread_tests(checks):
+    """The tests on threads, on a copy in which each client makes fewer calls."""
+    with tempfile.TemporaryDirectory(prefix="quick-") as room:
+        shutil.copytree(repository.path("crates"), f"{room}/crates", ignore=shutil.ignore_patterns("out"))
+        shutil.copy2(repository.path("crates.txt"), room)
+        file = f"{room}/crates/craq_thread_tests/src/changes.rt"
+        with open(file, encoding="utf-8") as it:
+            text = it.read()
+        checks.same(f"{CALLS!r} in {os.path.basename(file)}", text.count(CALLS), 1)
+        with open(file, "w", encoding="utf-8") as it:
+            it.write(text.replace(CALLS, FEW_CALLS))
+        return prints_its_file(checks, "craq_thread_tests", f"{room}/crates/craq_thread_tests")
+
+
+def case(room, name, script, words, expected=None):
+    """A run of a program among others: its standard input, its words, and what it has to print, if that is known."""
+    for ending, text in ("", script), (".args", "\n".join(words).encode()), (".stdout", expected):
+        if text is not None:
+            with open(f"{room}/{name}{ending}", "wb") as it:
+                it.write(text)
+
+
+def printed(output):
+    """What was printed of each case whose output was not known, by name."""
+    parts = re.split(rb"^== (.+)\n", output, flags=re.M)
+    return {name.decode(): text for name, text in zip(parts[1::2], parts[2::2])}
+
+
+def said_of(told):
+    """How each case ended, by name, and what its program wrote to standard error before."""
+    found, before = {}, []
+    for line in told.splitlines():
+        case = re.fullmatch(r"case=(\S+) (.*)", line)
+        if case:
+            found[case[1]] = case[2], "\n".join(before)
+        before = [] if case else [*before, line]
+    return found
+
+
+def cases(checks, crate, room):
+    """Runs a program for each case of the folder: what is said of each, by name, and what was printed of those not known."""
+    ran = subprocess.run(words_of("--cases", room, seconds="60"), cwd=repository.path("crates", crate), stdin=subprocess.DEVNULL, capture_output=True)
+    told = ran.stderr.decode(errors="replace")
+    said = said_of(told)
+    if not said:
+        checks.that(False, f"rt try --cases in {crate}: {told[-600:]}")
+    return said, printed(ran.stdout)

@@ -1,0 +1,64 @@
+"""What stands in the repository: its crates, and the edits that make their bodies wrong."""
+import os
+import re
+
+TOP = os.path.dirname(os.path.dirname(os.path.realpath(__file__)))
+EDIT = re.compile(r"[A-Za-z0-9_-][A-Za-z0-9_.-]*\.edit")
+
+
+def path(*parts):
+    return os.path.join(TOP, *parts)
+
+
+def text_of(*parts):
+    with open(path(*parts), encoding="utf-8") as it:
+        return it.read()
+
+
+def crates():
+    """The name of each crate with the names that it stands on, lowest first as crates.txt has them."""
+    found = {}
+    for line in text_of("crates.txt").splitlines():
+        name, colon, below = line.partition("#")[0].partition(":")
+        if colon:
+            found[name.split()[0]] = below.split()
+    return found
+
+
+def below(names):
+    """The crates of the repository that these stand on, lowest first."""
+    known, wanted = crates(), set()
+    left = [*names]
+    while left:
+        more = [it for it in known[left.pop()] if it in known and it not in wanted]
+        wanted.update(more)
+        left += more
+    return [it for it in lowest_first(known) if it in wanted]
+
+
+def lowest_first(known):
+    """The names in an order in which each stands after those that it stands on."""
+    found = []
+
+    def add(name):
+        if name not in found:
+            for it in known[name]:
+                if it in known:
+                    add(it)
+            found.append(name)
+
+    for name in known:
+        add(name)
+    return found
+
+
+def is_program(name):
+    return os.path.isfile(path("crates", name, "src", "main.rt"))
+
+
+def edits_in(name, folder):
+    """The names of the edits of a crate that stand in this folder of it, without their ending."""
+    try:
+        return sorted(it.removesuffix(".edit") for it in os.listdir(path("crates", name, folder)) if EDIT.fullmatch(it))
+    except FileNotFoundError:
+        return []

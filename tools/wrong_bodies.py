@@ -1,4 +1,4 @@
-"""The table of docs/WRONG_BODIES.md that says which edits stand in wrong/, and when each was last refused."""
+"""The table of docs/proof/WRONG_BODIES.md that says which edits stand in wrong/, and when each was last refused."""
 import re
 
 import repository

@@ -1,3 +1,4 @@
+//! Whether a node takes an event up, or refuses it before any rule is asked. `NodeCore` calls it first.
 ghost use Rattle.std.specs.Prelude.{◌≡◌};
 ghost use Rattle.craq_history.specs.Nodes.{plain_of};
 ghost use Rattle.craq_admission.specs.Admitted.{Admits, AdmitsAsk};

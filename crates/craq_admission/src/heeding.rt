@@ -1,3 +1,4 @@
+//! Whether a node heeds a message for it, by its epoch. `NodeCore` asks it before the rules of messages.
 ghost use Rattle.std.specs.Prelude.{◌≡◌, false};
 ghost use Rattle.craq_history.specs.Nodes.{plain_of};
 ghost use Rattle.craq_model.specs.Deliveries.{delivery_turn};

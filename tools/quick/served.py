@@ -15,8 +15,9 @@ import running
 import tries
 
 CONNECTIONS = 400
-# How long a server may take until it listens, most of it to be built; it runs for so many seconds at most.
-BUILT, RUNS = 900, 400
+# How many seconds a server may take until it listens, most of them to be built, and how many it runs at most: meanwhile craq is
+# built.
+BUILT, RUNS = 1_800, 1_800
 ENDS = 120
 
 

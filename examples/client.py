@@ -1,5 +1,7 @@
 #!/usr/bin/env python3
-"""A client of a store that runs, with Python's standard library alone, written from docs/BYTES.md.
+"""A client of a store that runs, with Python's standard library alone, written from docs/use/BYTES.md.
+
+As a module:
 
     with Client("127.0.0.1:7000") as store:
         store.put("k", b"a")                # Written(version=1)
@@ -8,21 +10,34 @@
         store.mini(compares=[("k", 1)], reads=["k"], writes=[("k", b"b"), ("l", b"c")])
         store.many([store.asks_put("k", b"d"), store.asks_read("k")])
 
-    examples/client.py 127.0.0.1:7000       runs these and prints what comes back
+As a command:
 
-What the store refuses is raised as Refused. A Client is for one thread.
+    examples/client.py ADDRESS [--node N] [--pass P] COMMAND
+        put, append or prepend OBJECT VALUE     read OBJECT         status
+        tas OBJECT VERSION VALUE                inc or dec OBJECT BY
+    examples/client.py ADDRESS                  runs the calls above and prints what comes back
+
+An OBJECT is a key of chain 0, or CHAIN/KEY. The command prints the answer, and the pass to show from then on.
+
+What the store refuses is raised as Refused. A Client is for one thread. It asks again, with the same number, what a
+lost connection or a passing refusal left open: so nothing is done twice.
 """
 import json
 import random
 import secrets
 import socket
 import sys
+import time
 from dataclasses import make_dataclass
 
 FRAME_LIMIT = 1_048_576
 UPDATE, READ, STATUS, MANY = 1, 2, 3, 4
 UPDATE_REPLY, READ_REPLY, REFUSED_REPLY, STATUS_REPLY, MANY_REPLY = 1, 2, 3, 4, 5
 STRONG, EVENTUAL = b"\x01", b"\x02"
+# After these refusals the same may be asked again: the head is another node, a node stopped, too much waits there, no
+# memory for the moment, or a server that closes.
+NOT_HEAD, STOPPED, PENDING_FULL, MEMORY, CLOSED = 9, 11, 12, 14, 27
+PASSING = (NOT_HEAD, STOPPED, PENDING_FULL, MEMORY, CLOSED)
 
 
 def reply(name, *fields):
@@ -212,6 +227,13 @@ class Connection:
         self.socket = socket.create_connection((host, int(port)), patience)
         self.socket.setsockopt(socket.IPPROTO_TCP, socket.TCP_NODELAY, 1)
 
+    @classmethod
+    def over(cls, made):
+        """Frames over a socket that is connected."""
+        it = cls.__new__(cls)
+        it.socket = made
+        return it
+
     def send(self, *payloads):
         self.socket.sendall(b"".join(number(4, len(it)) + it for it in payloads))
 
@@ -237,12 +259,13 @@ class Connection:
 class Client:
     """A client with an id of its own, its request numbers, and its pass: the largest that it was given.
 
-    Updates go to the head of their chain and reads to any member, unless the call names a node.
+    Updates go to the head of their chain and reads to any member, unless the call names a node. Where the call names none, what
+    was left open is asked again, `tries` times in all: an update with the number that it had, so that it is done once.
     """
 
-    def __init__(self, address, version=1, client=None, shown=0):
-        self.connection = Connection(address)
-        self.version, self.shown = version, shown
+    def __init__(self, address, version=1, client=None, shown=0, tries=6):
+        self.address, self.connection = address, None
+        self.version, self.shown, self.tries = version, shown, tries
         self.id = secrets.randbits(64) if client is None else client
         self.numbers = {}
         try:
@@ -258,7 +281,10 @@ class Client:
         self.close()
 
     def close(self):
-        self.connection.close()
+        """Closes the connection. The next call opens another one."""
+        if self.connection:
+            self.connection.close()
+        self.connection = None
 
     # One request and its reply.
 
@@ -284,15 +310,31 @@ class Client:
         return self.update(chain, mini(chain, compares, reads, writes), **where)
 
     def read(self, key, mode=STRONG, chain=0, node=None):
-        return self.ask(self.asks_read(key, mode, chain, node))
+        """The object's version and value; version 0 where it was never written."""
+        return self.ask_again(lambda: self.asks_read(key, mode, chain, node), node is None)
 
     def status(self):
         """The chains by id, each with its name, its epoch and its members, head first."""
         return json.loads(self.ask((STATUS, b"")))["chains"]
 
     def update(self, chain, command, node=None, request=None):
-        """Asks an update. To ask again after a lost connection, give the number that it had."""
-        return self.ask(self.asks_update(chain, command, node, request))
+        """Asks an update, at the head or at the node that is named there, under the client's next number or this one."""
+        request = self.next_number(chain) if request is None else request
+        return self.ask_again(lambda: self.asks_update(chain, command, node, request), node is None)
+
+    def ask_again(self, request, may_retry):
+        """Asks a request until it is answered, or refused for good. It is made anew each time, from the present members."""
+        for tried in range(1, self.tries + 1):
+            try:
+                if tried > 1:
+                    self.chains = self.status()
+                return self.ask(request())
+            except (OSError, Refused) as fault:
+                passes = not isinstance(fault, Refused) or fault.number in PASSING
+                if not (may_retry and passes) or tried == self.tries:
+                    raise
+                time.sleep(0.05 * tried)
+        raise ValueError("no tries")
 
     # Requests for `many`, which asks up to eight in one frame and gives their replies in order.
 
@@ -300,17 +342,27 @@ class Client:
         return self.asks_update(chain, put(chain, key, value))
 
     def asks_read(self, key, mode=STRONG, chain=0, node=None):
-        node = random.choice(self.chains[chain]["members"]) if node is None else node
+        node = random.choice(self.members(chain)) if node is None else node
         return read_request(node, self.shown, mode, chain, key)
 
     def asks_update(self, chain, command, node=None, request=None):
-        node = self.chains[chain]["members"][0] if node is None else node
-        if request is None:
-            request = self.numbers[chain] = self.numbers.get(chain, 0) + 1
+        node = self.members(chain)[0] if node is None else node
+        request = self.next_number(chain) if request is None else request
         return update_request(node, self.shown, self.id, request, command)
 
+    def members(self, chain):
+        """The nodes of a chain, head first, as they were when its status was last asked."""
+        if not 0 <= chain < len(self.chains):
+            raise Refused(7, 0)
+        return self.chains[chain]["members"]
+
+    def next_number(self, chain):
+        """The number of this client's next update of a chain."""
+        self.numbers[chain] = self.numbers.get(chain, 0) + 1
+        return self.numbers[chain]
+
     def many(self, requests):
-        """The replies in order; a refused one is a Refused among them."""
+        """The replies in order; a refused one is a Refused among them. They are asked once."""
         replies = self.exchange(many(requests))
         if len(replies) == 1 and len(requests) > 1 and isinstance(replies[0], Refused):
             raise replies[0]
@@ -325,17 +377,73 @@ class Client:
         return told
 
     def exchange(self, payload):
-        self.connection.send(payload)
-        replies = replies_of(self.connection.receive())
+        """Sends a payload and gives the replies to it. A connection that fails is closed, and the next call opens one."""
+        if not self.connection:
+            self.connection = Connection(self.address)
+        try:
+            self.connection.send(payload)
+            replies = replies_of(self.connection.receive())
+        except (OSError, BadReply):
+            self.close()
+            raise
         self.shown = max([self.shown] + [shown for shown, _ in replies if shown is not None])
         return [told for _, told in replies]
 
 
-def main():
-    if len(sys.argv) != 2:
-        print(__doc__, file=sys.stderr)
-        return 2
-    with Client(sys.argv[1], version=2) as store:
+# The command.
+
+def text_of(value):
+    """A value as a command line has it: its characters, or 0x and hexadecimal digits."""
+    printable = value and all(33 <= it <= 126 for it in value) and not value.startswith(b"0x")
+    return value.decode() if printable else "0x" + value.hex()
+
+
+def bytes_of(text):
+    return bytes.fromhex(text[2:]) if text.startswith("0x") else text.encode()
+
+
+def printed(told):
+    """An answer as craq prints it, but a value as its characters where it has such."""
+    if isinstance(told, Read):
+        return f"read {told.version} {text_of(told.value)}"
+    fields = [str(it) for it in vars(told).values()]
+    return " ".join([type(told).__name__.lower(), *fields])
+
+
+def object_of(text):
+    """The chain and the key of an OBJECT."""
+    chain, slash, key = text.partition("/")
+    return (int(chain), key) if slash else (0, text)
+
+
+def run_command(store, node, command, words):
+    """Asks what a command says, and gives what is printed."""
+    if command == "status" and not words:
+        return json.dumps({"chains": store.chains}, separators=(",", ":"))
+    chain, key = object_of(words[0])
+    where = {"chain": chain, "node": node}
+    if command == "read" and len(words) == 1:
+        return printed(store.read(key, **where))
+    if command in ("put", "append", "prepend") and len(words) == 2:
+        return printed(getattr(store, command)(key, bytes_of(words[1]), **where))
+    if command in ("inc", "dec") and len(words) == 2:
+        return printed(getattr(store, command)(key, int(words[1]), **where))
+    if command == "tas" and len(words) == 3:
+        return printed(store.tas(key, int(words[1]), bytes_of(words[2]), **where))
+    raise IndexError(command)
+
+
+def options_of(words):
+    """The options in front of a command, and the words after them."""
+    found = {"--node": None, "--pass": 0}
+    while len(words) > 1 and words[0] in found:
+        found[words[0]], words = int(words[1]), words[2:]
+    return found["--node"], found["--pass"], words
+
+
+def tour(address):
+    """Runs some calls and prints what comes back."""
+    with Client(address, version=2) as store:
         members = store.chains[0]["members"]
         print("status:", store.chains)
         print("put:", store.put("k", b"a"))
@@ -345,6 +453,30 @@ def main():
         print("mini:", store.mini(reads=["k", "n"], writes=[("k", b"b")]))
         print("many:", store.many([store.asks_put("k", b"c"), store.asks_read("k")]))
         print("pass:", store.shown)
+
+
+def main():
+    if sys.argv[1:] in (["help"], ["--help"]):
+        print(__doc__)
+        return 0
+    try:
+        address, words = sys.argv[1], sys.argv[2:]
+        if not words:
+            tour(address)
+            return 0
+        node, shown, (command, *rest) = options_of(words)
+        with Client(address, shown=shown) as store:
+            print(run_command(store, node, command, rest))
+            print("pass", store.shown)
+    except Refused as refused:
+        print("refused", refused)
+        return 3
+    except (OSError, BadReply) as fault:
+        print(f"client: {fault}", file=sys.stderr)
+        return 4
+    except (IndexError, ValueError):
+        print(__doc__, file=sys.stderr)
+        return 2
     return 0
 
 

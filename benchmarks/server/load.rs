@@ -44,7 +44,7 @@ fn key(connection: usize) -> String {
     format!("k{connection:02}")
 }
 
-/// Requests of version 1, as docs/BYTES.md has them, on one object of chain 0.
+/// Requests of version 1, as docs/use/BYTES.md has them, on one object of chain 0.
 struct Craq {
     key: String,
     node: u32,

@@ -1,6 +1,6 @@
 """Bytes that are no requests, and clients that do not take part: the server goes on serving the others.
 
-Bytes are written from docs/BYTES.md.
+Bytes are written from docs/use/BYTES.md.
 """
 import random
 import socket

@@ -1,6 +1,7 @@
-"""The client of examples/client.py: versions 1 and 2, eight clients at once, requests that do not wait for replies."""
+"""The client of examples/client.py: versions 1 and 2, eight clients at once, requests that do not wait for replies, lost replies."""
 import os
 import re
+import socket
 import sys
 import threading
 
@@ -29,13 +30,13 @@ WORKED = [
 
 
 def page(checks):
-    """The client writes the bytes that docs/BYTES.md has."""
-    file = os.path.join(os.path.dirname(os.path.realpath(__file__)), "..", "..", "docs", "BYTES.md")
+    """The client writes the bytes that docs/use/BYTES.md has."""
+    file = os.path.join(os.path.dirname(os.path.realpath(__file__)), "..", "..", "docs", "use", "BYTES.md")
     with open(file, encoding="utf-8") as it:
         worked = {cell.replace(" ", "") for cell in re.findall(r"`([0-9a-f ]+)`", it.read())}
     for what, payload in WORKED:
         framed = len(payload).to_bytes(4, "big") + payload
-        checks.that({payload.hex(), framed.hex()} & worked, f"docs/BYTES.md has the bytes of {what}: {payload.hex()}")
+        checks.that({payload.hex(), framed.hex()} & worked, f"docs/use/BYTES.md has the bytes of {what}: {payload.hex()}")
 
 
 class Counted:
@@ -184,6 +185,82 @@ def at_once(checks, server):
         checks.same(f"their sum at node {node}", made.ask("read", "shared", node=node), Read(count, count.to_bytes(8, "big")))
         checks.same(f"their swaps at node {node}", made.ask("read", "swapped", node=node).version, count)
     made.close()
+
+
+class Cutting:
+    """A server's address that passes requests and replies on, but ends the connection in place of the first replies to updates."""
+
+    def __init__(self, server, cuts):
+        self.server, self.cuts, self.connections, self.asked = server, cuts, 0, 0
+        self.listener = socket.create_server(("127.0.0.1", 0))
+        self.address = f"127.0.0.1:{self.listener.getsockname()[1]}"
+        threading.Thread(target=self.accept, daemon=True).start()
+
+    def accept(self):
+        while True:
+            try:
+                client, _ = self.listener.accept()
+            except OSError:
+                return
+            self.connections += 1
+            with client:
+                self.pass_on(client)
+
+    def pass_on(self, client):
+        """Passes frames on until the client or a cut ends the connection."""
+        near, far = example.Connection.over(client), example.Connection(self.server.address)
+        try:
+            while True:
+                request = near.receive()
+                far.send(request)
+                reply = far.receive()
+                updates = request[1] == example.UPDATE
+                self.asked += updates
+                if updates and self.cuts:
+                    self.cuts -= 1
+                    return
+                near.send(reply)
+        except ConnectionError:
+            pass
+        finally:
+            far.close()
+
+
+def lost_replies(checks, server, cuts=3):
+    """An update whose replies are lost is asked again with its number, and is done once."""
+    cutting = Cutting(server, cuts)
+    client = Client(cutting.address)
+    checks.same("a put whose first replies were lost", client.put("lost", b"a"), Written(1))
+    checks.same("how often it was asked", cutting.asked, 1 + cuts)
+    checks.same("the next one", client.put("lost", b"b"), Written(2))
+    checks.same("what both did", client.read("lost"), Read(2, b"b"))
+    client.close()
+    cutting.listener.close()
+    server.counts(cutting.connections)
+    server.answers(0, cuts + 3)
+
+
+COMMANDS = [
+    (["put", "worded", "blue"], 0, "written 1\npass N\n"),
+    (["--node", "3", "read", "worded"], 0, "read 1 blue\npass N\n"),
+    (["tas", "worded", "0", "red"], 0, "mismatch 1\npass N\n"),
+    (["append", "1/worded", "0x00"], 0, "written 1\npass N\n"),
+    (["read", "1/worded"], 0, "read 1 0x00\npass N\n"),
+    (["inc", "worded.n", "2"], 0, "written 1\npass N\n"),
+    (["--node", "3", "put", "worded", "red"], 3, "refused 9 NotHead 1\n"),
+    (["read", "9/worded"], 3, "refused 7 UnknownChain\n"),
+    (["status"], 0, running.STATUS + "\npass N\n"),
+]
+
+
+def worded(checks, server):
+    """The example as a command."""
+    for words, wanted_status, wanted in COMMANDS:
+        server.counts()
+        status, out, err = running.ended([sys.executable, example.__file__, server.address, *words])
+        checks.same(" ".join(words), (status, re.sub("pass [0-9]+", "pass N", out), err), (wanted_status, wanted, ""))
+    server.answers(0, 4)
+    server.answers(1, 2)
 
 
 def tour(checks, server):

@@ -1,7 +1,7 @@
 """craq: every command, every refusal that it can meet, every fault.
 
 A row is the node, the words of the command, and what has to be printed: an answer, or 'refused ..'. Texts are written
-from docs/SCRIPTS.md and docs/SERVER.md, never from what a program printed.
+from docs/use/SCRIPTS.md and docs/use/SERVER.md, never from what a program printed.
 """
 import re
 import socket
@@ -68,7 +68,7 @@ ROWS = [
     (1, "put 1 0 k a", "refused 6"),
     (1, f"put 1 0 {LONG_KEY} {LONG_VALUE}", "refused 1"),
     (1, "mini 1 0", "refused 4"),
-    # refused by the store, in the order of docs/BYTES.md
+    # refused by the store, in the order of docs/use/BYTES.md
     (1, "read strong 2/k", "refused 7"),
     (1, "put 1 19 65535/k a", "refused 7"),
     (1, "mini 1 19 r:k r:1/k", "refused 8"),

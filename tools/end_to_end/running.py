@@ -3,10 +3,8 @@ import re
 import resource
 import socket
 import subprocess
-import sys
 import tempfile
 import time
-import traceback
 
 PATIENCE = 20
 PLAN = """\
@@ -19,37 +17,6 @@ name = "b"
 nodes = [4, 5]
 """
 STATUS = '{"chains":[{"epoch":1,"members":[1,2,3],"name":"a"},{"epoch":1,"members":[4,5],"name":"b"}]}'
-
-
-class Checks:
-    """How many checks passed and failed. A failed one is told on standard error."""
-
-    def __init__(self):
-        self.passed = self.failed = 0
-
-    def that(self, holds, what):
-        if holds:
-            self.passed += 1
-        else:
-            self.failed += 1
-            print(f"end to end: FAILED: {what}", file=sys.stderr)
-
-    def same(self, what, found, wanted):
-        self.that(found == wanted, f"{what}: found {shortened(found)}, wanted {shortened(wanted)}")
-
-    def part(self, what, run, *given):
-        """Runs a part of the checks. What stops it is a check that failed, and the next part is run as ever."""
-        try:
-            return run(self, *given)
-        except Exception as failure:
-            at = traceback.extract_tb(failure.__traceback__)[-1]
-            self.that(False, f"{what} stopped: {failure!r} at {at.filename.rpartition('/')[2]}:{at.lineno}")
-            return None
-
-
-def shortened(it):
-    text = repr(it)
-    return text if len(text) <= 300 else text[:300] + ".."
 
 
 def text_file(text):

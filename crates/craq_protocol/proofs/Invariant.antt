@@ -1,4 +1,4 @@
--- What every move keeps. docs/PROTOCOL.md says why.
+-- What every move keeps. docs/proof/PROTOCOL.md says why.
 use Rattle.std.proofs.Common.{Some, ◌≡◌, ℕ, ◌<◌, ◌≤◌, true, false, List, [], length, take}
 use Rattle.craq_protocol.specs.Members.{is_member, is_last, is_next, membership_of}
 use Rattle.craq_protocol.specs.Machine.{Body, Message, World, entry_at, Entry, Ack, Copy, Floor}

@@ -1,0 +1,34 @@
+"""Counts checks, for the scripts that try built programs."""
+import sys
+import traceback
+
+
+class Checks:
+    """How many checks passed and failed. A failed one is told on standard error, after the title."""
+
+    def __init__(self, title):
+        self.title, self.passed, self.failed = title, 0, 0
+
+    def that(self, holds, what):
+        if holds:
+            self.passed += 1
+        else:
+            self.failed += 1
+            print(f"{self.title}: FAILED: {what}", file=sys.stderr)
+
+    def same(self, what, found, wanted):
+        self.that(found == wanted, f"{what}: found {shortened(found)}, wanted {shortened(wanted)}")
+
+    def part(self, what, run, *given):
+        """Runs a part of the checks. What stops it is a check that failed, and the next part is run as ever."""
+        try:
+            return run(self, *given)
+        except Exception as failure:
+            at = traceback.extract_tb(failure.__traceback__)[-1]
+            self.that(False, f"{what} stopped: {failure!r} at {at.filename.rpartition('/')[2]}:{at.lineno}")
+            return None
+
+
+def shortened(it):
+    text = repr(it)
+    return text if len(text) <= 300 else text[:300] + ".."

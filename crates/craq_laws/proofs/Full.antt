@@ -1,9 +1,8 @@
 -- Runs of entries and parts of states are full, but for the last ones.
-use Rattle.std.proofs.Common.{◌≡◌, ◌<◌, ◌≤◌, ℕ, zero, suc, ◌+◌, ◌-◌, ◌*◌, List, [], ◌∷◌, map, length, take, drop, min, refl, sym, ap, ◌∙◌, arith, length-drop}
+use Rattle.std.proofs.Common.{◌≡◌, ◌<◌, ◌≤◌, ℕ, zero, suc, ◌+◌, ◌-◌, ◌*◌, List, map, length, take, drop, min, ◌∙◌, arith, length-drop}
 use Rattle.std.proofs.lemmas.List.{length-take}
 use Rattle.std.specs.List.{range_with_len}
 use Rattle.std.specs.Slice.Iter.{chunk_count}
-use Rattle.craq_commands.specs.Kept.{Window}
 use Rattle.craq_commands.specs.declared.entry.Entry.{Entry}
 use Rattle.craq_commands.specs.declared.state.State.{State}
 use Rattle.craq_model.specs.declared.message.StatePart.{StatePart}

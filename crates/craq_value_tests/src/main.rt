@@ -1,9 +1,10 @@
-//! Tests of names, commands, memberships, versions, entries and kept replies with ample memory: prints what
-//! each call answers.
+//! Tests of names, commands, memberships, versions, entries, kept replies and held pasts with ample memory: prints
+//! what each call answers.
 #![tactic(auto)]
 
 mod commands;
 mod entries;
+mod held;
 mod masters;
 mod names;
 mod objects;
@@ -23,7 +24,8 @@ fn run<R: AllocGlobal + Print>(rt: &R) -> io::Result<()> {
     masters::run(rt)?;
     objects::run(rt)?;
     entries::run(rt)?;
-    replies::run(rt)
+    replies::run(rt)?;
+    held::run(rt)
 }
 
 fn main(rt: HostRuntime) -> io::Result<()> {

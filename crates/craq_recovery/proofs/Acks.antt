@@ -1,0 +1,241 @@
+-- An acknowledgement gets one member further in a round.
+use Rattle.std.proofs.Common.{◌≡◌, ◌≢◌, ◌⊎◌, inl, inr, ℕ, suc, ◌+◌, ◌≤◌, ◌<◌, ◌==◌, nat_le, nat_lt, Bool, true, false, not, cond, List, [], ◌∷◌, ◌++◌, map, length, Option, Some, None, Result, Ok, Err, refl, ap, sym, subst, ◌∙◌, arith}
+use Rattle.std.proofs.lemmas.Bool.{cond_both, both_ways, eq-eqb, eqb-true, leb-true, ltb-true, not-true}
+use Rattle.craq_commands.specs.declared.entry.Entry.{Entry}
+use Rattle.craq_model.specs.declared.message.Body.{Body}
+use Rattle.craq_model.specs.declared.message.Body.TheVariants as bodies
+use Rattle.craq_model.specs.declared.message.LinkMessage.{LinkMessage}
+use Rattle.craq_model.specs.declared.step.Out.{Out}
+use Rattle.craq_model.specs.declared.step.Out.TheVariants as outs
+use Rattle.craq_model.specs.declared.step.Why.TheVariants.{OtherEpoch, NotNeighbour, AlreadyHave, NotReadyHere, TooFar}
+use Rattle.craq_model.specs.Deliveries.{ack_turn, acknowledgement_turn, body_turn, delivery_turn, turn_in_epoch}
+use Rattle.craq_model.specs.Members.{is_id, is_member, predecessor_in, successor_in}
+use Rattle.craq_model.specs.Plain.{Plain, id_of, is_last, length_of, predecessor, successor}
+use Rattle.craq_model.specs.Sends.{catch_up, queries, ready_sends, send, send_all, tick_sends, to_neighbour, unready_sends}
+use Rattle.craq_model.specs.Settle.{Turn, turn_ignoring}
+use Rattle.craq_protocol.specs.Machine as machine
+use Rattle.craq_protocol.specs.Machine.{World}
+use Rattle.craq_protocol.specs.Promises.{IsPrefix, IsSafe, Sent}
+use Rattle.craq_protocol.proofs.Invariant.{Invariant}
+use Rattle.craq_protocol.proofs.Reached.{reached_inv, reached_safe}
+use Rattle.craq_refinement.specs.Follows.{Follows, NodeFollows, said, seen_of}
+use Rattle.craq_refinement.specs.Lines.{IsFollowed}
+use Rattle.craq_protocol.proofs.Lists.{next_right}
+use Rattle.craq_refinement.proofs.EachLine.{said_as}
+use Rattle.craq_refinement.proofs.EachStep.{every_run}
+use Rattle.craq_refinement.proofs.Members.{is_member-same, next_from_predecessor}
+use Rattle.craq_refinement.proofs.Nodes.{node_id}
+use Rattle.craq_refinement.proofs.Stages.{Arrived, arrived}
+use Rattle.craq_refinement.proofs.Worlds.{history_length}
+use Rattle.craq_runs.specs.declared.run.Move.TheVariants.{Deliver}
+use Rattle.craq_runs.specs.Chain.{Chain, Progress, chain_step, message_at, node_at, sent_in}
+use Rattle.craq_runs.specs.Runs.{IsRunOf, after_move}
+use Rattle.craq_runs.specs.declared.run.Run.{Run}
+use Rattle.craq_recovery.specs.Recovered.{AreNeighbours, Knows, KnowsCommitted, after_round, chain_after}
+use Rattle.craq_recovery.specs.Rounds.{after_moves_by, round}
+use Rattle.craq_recovery.specs.Taken.{HaveNumbers}
+use Rattle.craq_recovery.proofs.Gains.{Gains, prefix_length}
+use Rattle.craq_recovery.proofs.Hearing.{Informed, knows_at}
+use Rattle.craq_recovery.proofs.Onward.{Onward}
+use Rattle.craq_recovery.proofs.Running.{delivery_turn-runs}
+use Rattle.craq_recovery.proofs.Ids.{none_is_master, not_master}
+use Rattle.craq_recovery.proofs.Sound.{Sound, sound_after}
+use Rattle.craq_recovery.proofs.Travels.{Has, IsKept, Makes, NodeIs, Sends, arrived_here, crosses}
+
+-- ---- nodes of the master's epoch
+
+-- a ready node of an epoch at least, that knows so much to be committed
+pub record Sender (epoch least : ℕ) (p : Plain) : Type 0 where
+  pub ready : p.ready ≡ true
+  pub late : epoch ≤ p.epoch
+  pub knows : least ≤ p.past.acknowledged
+
+sender_kept : (epoch least : ℕ) → IsKept (Sender epoch least)
+sender_kept epoch least p q g s = record { ready = g.ready s.ready; late = omega (arith, g.epoch, s.late); knows = omega (arith, g.acknowledged, s.knows) }
+
+pub record Receiver (epoch : ℕ) (p : Plain) : Type 0 where
+  pub ready : p.ready ≡ true
+  pub late : epoch ≤ p.epoch
+
+receiver_kept : (epoch : ℕ) → IsKept (Receiver epoch)
+receiver_kept epoch p q g s = record { ready = g.ready s.ready; late = omega (arith, g.epoch, s.late) }
+
+abbrev Knowing : ℕ → Plain → Type 0
+Knowing least p = least ≤ p.past.acknowledged
+
+knowing_kept : (least : ℕ) → IsKept (Knowing least)
+knowing_kept least p q g s = omega (arith, g.acknowledged, s)
+
+abbrev informed : {d : Chain} {id epoch : ℕ} {F : Plain → Type 0} → (i : NodeIs d id F) → epoch ≤ i.node.epoch → Informed d id epoch
+informed i late = record { node = i.node; at = i.at; runs = i.runs; late = late }
+
+-- ---- the message
+
+pub record IsAck (epoch from to least : ℕ) (m : LinkMessage) : Type 0 where
+  pub position : ℕ
+  pub says : m.body ≡ bodies.Ack position
+  pub enough : least ≤ position
+  pub made : m.epoch ≡ epoch
+  pub comes_from : m.sender ≡ from
+  pub goes_to : m.receiver ≡ to
+
+-- ---- a tick sends it
+
+has_left : (Is : LinkMessage → Type 0) (os ps : List Out) → Has Is (sent_in os) → Has Is (sent_in (os ++ ps))
+unfolding sent_in
+has_left Is [] ps h = absurd h
+has_left Is (outs.Send to m ∷ os) ps (inl is) = inl is
+has_left Is (outs.Send to m ∷ os) ps (inr h) = inr (has_left Is os ps h)
+has_left Is (outs.Answer ticket answer ∷ os) ps h = has_left Is os ps h
+
+has_right : (Is : LinkMessage → Type 0) (os ps : List Out) → Has Is (sent_in ps) → Has Is (sent_in (os ++ ps))
+unfolding sent_in
+has_right Is [] ps h = h
+has_right Is (outs.Send to m ∷ os) ps h = inr (has_right Is os ps h)
+has_right Is (outs.Answer ticket answer ∷ os) ps h = has_right Is os ps h
+
+one_ack : (Is : LinkMessage → Type 0) (p : Plain) (to : ℕ) → Is (record { chain = p.name.chain; sender = id_of p; receiver = to; stamp = 1; index = 0; epoch = p.epoch; body = bodies.Ack p.past.acknowledged })
+    → Has Is (sent_in (send p to (bodies.Ack p.past.acknowledged) ∷ []))
+unfolding sent_in
+one_ack Is p to h = inl h
+
+ready_acks : (Is : LinkMessage → Type 0) (p : Plain) (to : ℕ) → predecessor p ≡ Some to → Has Is (sent_in (send p to (bodies.Ack p.past.acknowledged) ∷ [])) → Has Is (sent_in (ready_sends p))
+unfolding ready_sends
+ready_acks Is p to before h =
+    let first : List Out = to_neighbour (successor p) (λ to. send_all p to (catch_up p p.past.acknowledged)) in
+    let second : List Out = to_neighbour (predecessor p) (λ to. send p to (bodies.Ack p.past.acknowledged) ∷ []) in
+    let third : List Out = cond (is_last p) [] (queries p) in
+    let P : Option ℕ → Type 0 = λ o. Has Is (sent_in (to_neighbour o (λ to. send p to (bodies.Ack p.past.acknowledged) ∷ []))) in
+    has_left Is (first ++ second) third (has_right Is first second (subst P (sym before) h))
+
+tick_acks : (Is : LinkMessage → Type 0) (p : Plain) (to : ℕ) → p.ready ≡ true → 0 < p.epoch → predecessor p ≡ Some to → Has Is (sent_in (send p to (bodies.Ack p.past.acknowledged) ∷ [])) → Has Is (sent_in (tick_sends p))
+unfolding tick_sends
+tick_acks Is p to ready late before h =
+    let Q : List Out → Type 0 = λ os. Has Is (sent_in os) in
+    cond_both (p.epoch == 0) [] (cond p.ready (ready_sends p) (unready_sends p)) Q
+    (λ e. let z : p.epoch ≡ 0 = eqb-true p.epoch 0 e in absurd (omega (arith, z, late)))
+    (λ e. cond_both p.ready (ready_sends p) (unready_sends p) Q
+    (λ r. ready_acks Is p to before h)
+    (λ r. absurd (both_ways p.ready r ready)))
+
+-- a ready node is in an epoch
+in_epoch : (c : Chain) (id : ℕ) (p : Plain) → IsFollowed c → node_at c.nodes id ≡ Some p → p.ready ≡ true → 0 < p.epoch
+in_epoch c id p f at ready =
+    let w : World Entry = f.0 in
+    let g : Follows c w = f.2 in
+    let P : ℕ → Type 0 = λ k. node_at c.nodes k ≡ Some p in
+    let n : NodeFollows w (seen_of p) = g.nodes (id_of p) p (subst P (sym (node_id c.nodes id p at)) at) in
+    let i : Invariant w = reached_inv f.1 in
+    let late : 0 < w.epoch (id_of p) = i.clauses.ready_has_epoch (id_of p) (n.ready ∙ ready) in
+    omega (arith, late, n.epoch)
+
+sends_ack : (c : Chain) (from to least : ℕ) → predecessor_in c.members from ≡ Some to → Sends c from (IsAck c.epoch from to least) (Sender c.epoch least)
+sends_ack c from to least before e f on g =
+    let p : Plain = g.node in
+    let s : Sender c.epoch least p = g.holds in
+    let k : Knows e p = knows_at c e from on f (informed g s.late) in
+    let own : id_of p ≡ from = node_id e.nodes from p g.at in
+    let P : List ℕ → Type 0 = λ l. predecessor_in l from ≡ Some to in
+    let Q : ℕ → Type 0 = λ i. predecessor_in p.members i ≡ Some to in
+    let here : predecessor p ≡ Some to = subst Q (sym own) (subst P (sym (k.members ∙ on.members)) before) in
+    let Is : LinkMessage → Type 0 = IsAck c.epoch from to least in
+    tick_acks Is p to s.ready (in_epoch e from p f g.at s.ready) here
+    (one_ack Is p to (record { position = p.past.acknowledged; says = refl; enough = s.knows; made = k.epoch ∙ on.epoch; comes_from = own; goes_to = refl }))
+
+-- ---- it arrives
+
+is_id_here : (o : Option ℕ) (id : ℕ) → o ≡ Some id → is_id o id ≡ true
+is_id_here None id h = absurd (cc)
+is_id_here (Some m) id h = let same : m ≡ id = cc in eq-eqb m id same
+
+acknowledges : (p : Plain) (from position : ℕ) → successor p ≡ Some from → p.ready ≡ true → position ≤ length_of p → position ≤ (ack_turn p from position).0.past.acknowledged
+unfolding ack_turn acknowledgement_turn
+acknowledges p from position after ready le =
+    let P : Turn → Type 0 = λ t. position ≤ t.0.past.acknowledged in
+    let t4 : Turn = acknowledgement_turn p position in
+    let t3 : Turn = cond (nat_lt (length_of p) position) (turn_ignoring p TooFar) t4 in
+    let t2 : Turn = cond (nat_le position p.past.acknowledged) (turn_ignoring p AlreadyHave) t3 in
+    let t1 : Turn = cond (not p.ready) (turn_ignoring p NotReadyHere) t2 in
+    cond_both (not (is_id (successor p) from)) (turn_ignoring p NotNeighbour) t1 P
+    (λ e. absurd (both_ways (is_id (successor p) from) (not-true (is_id (successor p) from) e) (is_id_here (successor p) from after)))
+    (λ e. cond_both (not p.ready) (turn_ignoring p NotReadyHere) t2 P
+    (λ e. absurd (both_ways p.ready (not-true p.ready e) ready))
+    (λ e. cond_both (nat_le position p.past.acknowledged) (turn_ignoring p AlreadyHave) t3 P
+    (λ e. leb-true position p.past.acknowledged e)
+    (λ e. cond_both (nat_lt (length_of p) position) (turn_ignoring p TooFar) t4 P
+    (λ e. let far : length_of p < position = ltb-true (length_of p) position e in absurd (omega (arith, far, le)))
+    (λ e. omega arith))))
+
+-- what is acknowledged in an epoch a ready node holds
+held_by : (c : Chain) (number : ℕ) (m : LinkMessage) (position id : ℕ) (p : Plain) → IsFollowed c → message_at c.messages number ≡ Some m → m.body ≡ bodies.Ack position
+    → node_at c.nodes id ≡ Some p → p.running ≡ true → p.ready ≡ true → position ≤ length_of p
+held_by c number m position id p f there is at runs ready =
+    let w : World Entry = f.0 in
+    let g : Follows c w = f.2 in
+    let P : ℕ → Type 0 = λ k. node_at c.nodes k ≡ Some p in
+    let n : NodeFollows w (seen_of p) = g.nodes (id_of p) p (subst P (sym (node_id c.nodes id p at)) at) in
+    let s : IsSafe w = reached_safe f.1 in
+    let sent : Sent w.messages (said m.epoch m.sender m.receiver (machine.Ack position)) = said_as g number m (bodies.Ack position) there is in
+    let most : position ≤ length w.log = s.ack (said m.epoch m.sender m.receiver (machine.Ack position)) position sent refl in
+    let holds : IsPrefix w.log (w.history (id_of p)) = s.committed (id_of p) (n.ready ∙ ready) (s.alive (id_of p) (n.running ∙ runs)) in
+    omega (arith, most, prefix_length holds, history_length n.history)
+
+ack_makes : (c : Chain) (from to least : ℕ) → successor_in c.members to ≡ Some from → Makes c to (IsAck c.epoch from to least) (Receiver c.epoch) (Knowing least)
+ack_makes c from to least after d number m x s f on g there k is =
+    let a : Arrived d m x = arrived d number m x there k in
+    let p : Plain = a.node in
+    let t : Turn = delivery_turn p m in
+    let q : Plain = g.node in
+    let own : id_of p ≡ to = sym a.own ∙ is.goes_to in
+    let N : ℕ → Type 0 = λ i. node_at d.nodes i ≡ Some p in
+    let at : node_at d.nodes to ≡ Some p = subst N own a.at in
+    let same : q ≡ p = let there : node_at d.nodes to ≡ Some q = g.at in cc in
+    let r : Receiver c.epoch p = let P : Plain → Type 0 = λ x. Receiver c.epoch x in subst P same g.holds in
+    let kn : Knows d p = knows_at c d to on f (record { node = p; at = at; runs = a.running; late = r.late }) in
+    let P : List ℕ → Type 0 = λ l. successor_in l to ≡ Some from in
+    let Q : ℕ → Type 0 = λ i. successor_in p.members i ≡ Some from in
+    let next : successor p ≡ Some from = subst Q (sym own) (subst P (sym (kn.members ∙ on.members)) after) in
+    let R : ℕ → Type 0 = λ i. successor p ≡ Some i in
+    let le : is.position ≤ length_of p = held_by d number m is.position to p f there is.says at a.running r.ready in
+    let got : is.position ≤ (ack_turn p m.sender is.position).0.past.acknowledged = acknowledges p m.sender is.position (subst R (sym is.comes_from) next) r.ready le in
+    let same_epoch : m.epoch ≡ p.epoch = is.made ∙ sym (kn.epoch ∙ on.epoch) in
+    let turned : is.position ≤ (turn_in_epoch p m (ack_turn p m.sender is.position)).0.past.acknowledged =
+    cond_both (m.epoch == p.epoch) (ack_turn p m.sender is.position) (turn_ignoring p OtherEpoch) (λ (t : Turn). is.position ≤ t.0.past.acknowledged)
+    (λ e. got)
+    (λ e. absurd (both_ways (m.epoch == p.epoch) e (eq-eqb m.epoch p.epoch same_epoch))) in
+    let by : t ≡ turn_in_epoch p m (ack_turn p m.sender is.position) = ap (body_turn p m) is.says in
+    record {
+      node = t.0;
+      at = arrived_here d number m x s there a to is.goes_to;
+      runs = delivery_turn-runs p m ∙ a.running;
+      holds = omega (arith, is.enough, turned, ap (λ (t : Turn). t.0.past.acknowledged) by);
+    }
+
+-- ---- in a round
+
+pub ack_crosses : (count : ℕ) (c : Chain) (p q : Plain) → Sound c → IsFollowed c → id_of q ≢ 0
+    → node_at c.nodes (id_of p) ≡ Some p → node_at c.nodes (id_of q) ≡ Some q → Knows c p → Knows c q → p.ready ≡ true → q.ready ≡ true
+    → is_member c.members (id_of q) ≡ true → successor_in c.members (id_of p) ≡ Some (id_of q) → predecessor_in c.members (id_of q) ≡ Some (id_of p)
+    → HaveNumbers c (round after_move (suc count) c)
+    → NodeIs (after_moves_by after_move c (round after_move (suc count) c)) (id_of p) (λ r. q.past.acknowledged ≤ r.past.acknowledged)
+ack_crosses count c p q s f some at_p at_q kp kq rp rq member after before numbers =
+    let least : ℕ = q.past.acknowledged in
+    let pe : p.epoch ≡ c.epoch = kp.epoch in
+    let qe : q.epoch ≡ c.epoch = kq.epoch in
+    crosses count c (id_of q) (id_of p) (IsAck c.epoch (id_of q) (id_of p) least) (Sender c.epoch least) (Receiver c.epoch) (Knowing least)
+    (sender_kept c.epoch least) (receiver_kept c.epoch) (knowing_kept least) some member
+    (sends_ack c (id_of q) (id_of p) least before) (λ m is. is.goes_to) (ack_makes c (id_of q) (id_of p) least after) s f
+    (record { node = q; at = at_q; runs = kq.running; holds = record { ready = rq; late = omega (arith, qe); knows = omega arith } })
+    (record { node = p; at = at_p; runs = kp.running; holds = record { ready = rp; late = omega (arith, pe) } })
+    numbers
+
+pub acks_flow : (chain : ℕ) (run : Run) (count : ℕ) (p q : Plain) → IsRunOf chain run → AreNeighbours (chain_after chain run) p q → p.ready ≡ true → q.ready ≡ true
+    → HaveNumbers (chain_after chain run) (round after_move (suc count) (chain_after chain run))
+    → KnowsCommitted (after_round (suc count) (chain_after chain run)) (id_of p) q.past.acknowledged
+acks_flow chain run count p q is n rp rq numbers =
+    let c : Chain = chain_after chain run in
+    let some : 1 ≤ id_of q = not_master c.nodes (id_of q) q n.later (none_is_master chain run is) in
+    let member : is_member c.members (id_of q) ≡ true = is_member-same c.members (id_of q) ∙ next_right c.members (id_of p) (id_of q) (next_from_predecessor c.members (id_of q) (id_of p) n.before) in
+    let i : NodeIs (after_round (suc count) c) (id_of p) (λ r. q.past.acknowledged ≤ r.past.acknowledged) =
+    ack_crosses count c p q (sound_after chain run.members run.moves) (every_run chain run is) (λ z. absurd (omega (arith, some, z))) n.earlier n.later n.earlier_knows n.later_knows rp rq member n.after n.before numbers in
+    record { node = i.node; at = i.at; knows = i.holds }

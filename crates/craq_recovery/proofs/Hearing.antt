@@ -1,0 +1,271 @@
+-- The membership reaches each member that runs.
+use Rattle.std.proofs.Common.{◌≡◌, ◌≢◌, ◌⊎◌, inl, inr, ⊎_elim, ℕ, zero, suc, ◌+◌, ◌≤◌, ◌==◌, nat_le, Bool, true, false, not, cond, ◌||◌, List, [], ◌∷◌, ◌++◌, map, length, take, drop, append_assoc, Option, Some, None, Result, Ok, Err, refl, ap, sym, subst, ◌∙◌, arith}
+use Rattle.std.proofs.lemmas.Bool.{cond_both, both_ways, eq-eqb, eqb-true, leb-true, not-false, not-true}
+use Rattle.std.proofs.lemmas.List.{length-append, take-append-drop}
+use Rattle.std.proofs.Math.Seq.{drop-append_seam}
+use Rattle.std.specs.List.{AllByRecursion}
+use Rattle.craq_names.specs.declared.name.NodeName.{NodeName}
+use Rattle.craq_names.specs.declared.refusal.Refusal.{Refusal}
+use Rattle.craq_names.specs.declared.refusal.Refusal.TheVariants as refusals
+use Rattle.craq_commands.specs.declared.entry.Entry.{Entry}
+use Rattle.craq_model.specs.declared.message.Body.{Body}
+use Rattle.craq_model.specs.declared.message.Body.TheVariants as bodies
+use Rattle.craq_model.specs.declared.message.LinkMessage.{LinkMessage}
+use Rattle.craq_model.specs.declared.step.Why.TheVariants.{OtherEpoch, NotNeighbour}
+use Rattle.craq_model.specs.Deliveries.{body_turn, config_turn, delivery_turn}
+use Rattle.craq_model.specs.Members.{is_member}
+use Rattle.craq_model.specs.Plain.{Plain, id_of}
+use Rattle.craq_model.specs.Settle.{Turn, settling_turn, turn_ignoring}
+use Rattle.craq_protocol.specs.Machine.{World, current_membership}
+use Rattle.craq_protocol.specs.Members.{membership_of}
+use Rattle.craq_protocol.specs.Promises.{IsSafe}
+use Rattle.craq_protocol.proofs.Reached.{reached_safe}
+use Rattle.craq_refinement.specs.Follows.{Follows, NodeFollows, seen_of}
+use Rattle.craq_refinement.specs.Lines.{IsFollowed}
+use Rattle.craq_refinement.proofs.EachStep.{every_run}
+use Rattle.craq_refinement.proofs.Nodes.{node_here, node_id}
+use Rattle.craq_refinement.proofs.Stages.{Arrived, arrived, moved}
+use Rattle.craq_runs.specs.declared.run.Move.{Move}
+use Rattle.craq_runs.specs.declared.run.Move.TheVariants.{Deliver, Tick}
+use Rattle.craq_runs.specs.declared.run.Run.{Run}
+use Rattle.craq_runs.specs.Chain.{Chain, Progress, chain_step, config_progress, config_to, is_running, message_at, node_at, numbers_left, opening_chain, sent_in, set_node}
+use Rattle.craq_runs.specs.Runs.{IsRunOf, after_move, after_moves, progressed}
+use Rattle.craq_recovery.specs.Rounds.{after_moves_by, arrivals, arrivals_of, hops, round, ticks, ticks_of}
+use Rattle.craq_recovery.specs.Recovered.{AllRun, HaveHeard, HearsAt, Knows}
+use Rattle.craq_recovery.specs.Taken.{HaveNumbers, IsTaken}
+use Rattle.craq_recovery.proofs.Gains.{Gains, Goes, Later, followed_moves, gains_on, goes_move, later_here, later_moves}
+use Rattle.craq_recovery.proofs.Onward.{IsTravel, Onward, onward_move, onward_moves, onward_on, onward_self, sound_moves}
+use Rattle.craq_recovery.proofs.Running.{delivery_turn-runs}
+use Rattle.craq_recovery.proofs.Sound.{Sound, sound_after, sound_move}
+use Rattle.craq_recovery.proofs.Speaking.{by_test}
+use Rattle.craq_recovery.proofs.Taking.{arrivals_travel, bears, deliver_taken, hops_travel, master_taken, round_travels, runs_on, sent_before, stands_at, ticks_travel}
+
+-- ---- moves one after the other
+
+pub after_both : (ms ns : List Move) (c : Chain) → after_moves_by after_move c (ms ++ ns) ≡ after_moves_by after_move (after_moves_by after_move c ms) ns
+after_both [] ns c = refl
+after_both (m ∷ ms) ns c = after_both ms ns (after_move c m)
+
+pub numbers_both : (ms ns : List Move) (c : Chain) → HaveNumbers c (ms ++ ns) → HaveNumbers c ms × HaveNumbers (after_moves_by after_move c ms) ns
+numbers_both [] ns c h = (tt, h)
+numbers_both (m ∷ ms) ns c h = let r : _ = numbers_both ms ns (after_move c m) h.1 in ((h.0, r.0), r.1)
+
+pub taken_ok : (r : Result Progress Refusal) → IsTaken r → r ≢ Err refusals.Exhausted → (x : Progress) × (r ≡ Ok x)
+taken_ok (Ok x) h n = (x, refl)
+taken_ok (Err e) h n = absurd (n (ap Err h))
+
+ok_same : {A B : Type 0} (x y : A) (r : Result A B) → r ≡ Ok x → r ≡ Ok y → x ≡ y
+ok_same x y r d e = cc
+
+-- ---- a membership arrives
+
+settled_epoch : (p : Plain) → (settling_turn p).0.epoch ≡ p.epoch
+unfolding settling_turn
+settled_epoch p = grind (arith)
+
+settled_name : (p : Plain) → (settling_turn p).0.name ≡ p.name
+unfolding settling_turn
+settled_name p = grind (arith)
+
+config_name : (p : Plain) (e : ℕ) (ms : List ℕ) → (config_turn p e ms).0.name ≡ p.name
+unfolding config_turn
+config_name p e ms = grind (arith, settled_name (record p { epoch = e; members = ms; floor = None; gathering = None }))
+
+config_epoch : (p : Plain) (e : ℕ) (ms : List ℕ) → is_member ms (id_of p) ≡ true → e ≤ (config_turn p e ms).0.epoch
+unfolding config_turn
+config_epoch p e ms member =
+    let q : Plain = record p { epoch = e; members = ms; floor = None; gathering = None } in
+    let t : Turn = cond (not (is_member ms (id_of p))) (turn_ignoring p NotNeighbour) (settling_turn q) in
+    cond_both (nat_le e p.epoch) (turn_ignoring p OtherEpoch) t (λ (t : Turn). e ≤ t.0.epoch)
+    (λ old. leb-true e p.epoch old)
+    (λ new. cond_both (not (is_member ms (id_of p))) (turn_ignoring p NotNeighbour) (settling_turn q) (λ (t : Turn). e ≤ t.0.epoch)
+    (λ out. absurd (both_ways (is_member ms (id_of p)) (not-true (is_member ms (id_of p)) out) member))
+    (λ _. omega (arith, settled_epoch q)))
+
+-- the message tells this membership to the node of this id
+pub record IsConfigTo (epoch : ℕ) (members : List ℕ) (id : ℕ) (m : LinkMessage) : Type 0 where
+  pub says : m.body ≡ bodies.Config members
+  pub made : m.epoch ≡ epoch
+  pub goes_to : m.receiver ≡ id
+
+-- the node of an id runs, and knows an epoch as late
+pub record Informed (d : Chain) (id epoch : ℕ) : Type 0 where
+  pub node : Plain
+  pub at : node_at d.nodes id ≡ Some node
+  pub runs : node.running ≡ true
+  pub late : epoch ≤ node.epoch
+
+config_informs : (d : Chain) (number : ℕ) (m : LinkMessage) (x : Progress) (epoch : ℕ) (members : List ℕ) (id : ℕ) → message_at d.messages number ≡ Some m → chain_step d (Deliver number) ≡ Ok x
+    → IsConfigTo epoch members id m → is_member members id ≡ true → Informed x.0 id epoch
+config_informs d number m x epoch members id at k is member =
+    let a : Arrived d m x = arrived d number m x at k in
+    let p : Plain = a.node in
+    let own : id_of p ≡ id = sym a.own ∙ is.goes_to in
+    let t : Turn = delivery_turn p m in
+    let by : t ≡ config_turn p m.epoch members = ap (body_turn p m) is.says in
+    let named : t.0.name ≡ p.name = ap (λ (t : Turn). t.0.name) by ∙ config_name p m.epoch members in
+    let same : id_of t.0 ≡ id_of p = ap (λ (n : NodeName). n.node) named in
+    let M : ℕ → Type 0 = λ i. is_member members i ≡ true in
+    let late : m.epoch ≤ (config_turn p m.epoch members).0.epoch = config_epoch p m.epoch members (subst M (sym own) member) in
+    let N : ℕ → Type 0 = λ i. node_at d.nodes i ≡ Some p in
+    let R : ℕ → Type 0 = λ i. node_at (set_node d.nodes t.0) i ≡ Some t.0 in
+    let here : node_at (set_node d.nodes t.0) id ≡ Some t.0 = subst R (same ∙ own) (node_here d.nodes t.0 p (subst N (sym same) a.at)) in
+    let Q : Progress → Type 0 = λ y. Informed y.0 id epoch in
+    subst Q (sym a.is) (record {
+      node = t.0;
+      at = here;
+      runs = delivery_turn-runs p m ∙ a.running;
+      late = omega (arith, late, is.made, ap (λ (t : Turn). t.0.epoch) by);
+    })
+
+-- who is informed stays so
+informed_on : (ms : List Move) (c : Chain) (id epoch : ℕ) → AllByRecursion IsTravel ms → IsFollowed c → Informed c id epoch → Informed (after_moves_by after_move c ms) id epoch
+informed_on ms c id epoch t f i =
+    let l : Later (after_moves_by after_move c ms) id i.node = later_moves ms c id i.node t f (later_here c id i.node i.at i.runs) in
+    let g : Gains i.node l.node = l.gains in
+    record { node = l.node; at = l.at; runs = l.runs; late = omega (arith, i.late, g.epoch) }
+
+-- ---- messages arrive, one of which tells the membership
+
+abbrev pub HasConfig : ℕ → List ℕ → ℕ → List LinkMessage → Type 0
+HasConfig epoch members id [] = ⊥
+HasConfig epoch members id (m ∷ ms) = IsConfigTo epoch members id m ⊎ HasConfig epoch members id ms
+
+hears : (c : Chain) (epoch : ℕ) (members : List ℕ) (id : ℕ) → is_running (node_at c.nodes id) ≡ true → is_member members id ≡ true
+    → (ms before : List LinkMessage) (number : ℕ) (d : Chain) → Sound d → IsFollowed d → Onward c d → before ++ ms ≡ c.messages → number ≡ suc (length before)
+    → HasConfig epoch members id ms → HaveNumbers d (arrivals_of c.nodes number ms) → Informed (after_moves_by after_move d (arrivals_of c.nodes number ms)) id epoch
+hears c epoch members id runs member [] before number d s f on is at has = absurd has
+hears c epoch members id runs member (m ∷ ms) before number d s f on is at has =
+    let next : Chain = after_move d (Deliver number) in
+    let more : (before ++ m ∷ []) ++ ms ≡ c.messages = append_assoc before (m ∷ []) ms ∙ is in
+    let up : number + 1 ≡ suc (length (before ++ m ∷ [])) = omega (arith, at, length-append before (m ∷ [])) in
+    let rest : List Move = arrivals_of c.nodes (number + 1) ms in
+    let there : message_at d.messages number ≡ Some m = stands_at c d before m ms number on is at in
+    let Heard : List Move → Type 0 = λ l. HaveNumbers d l → Informed (after_moves_by after_move d l) id epoch in
+    let on2 : Onward c next = onward_on on (onward_move d (Deliver number) tt) in
+    let g : Goes d next = goes_move d (Deliver number) f in
+    ⊎_elim
+    (λ (now : IsConfigTo epoch members id m).
+    let P : ℕ → Type 0 = λ i. is_running (node_at c.nodes i) ≡ true in
+    let up_there : is_running (node_at c.nodes m.receiver) ≡ true = subst P (sym now.goes_to) runs in
+    cond_both (is_running (node_at c.nodes m.receiver)) (Deliver number ∷ rest) rest Heard
+    (λ r h.
+    let ok : (x : Progress) × (chain_step d (Deliver number) ≡ Ok x) = taken_ok (chain_step d (Deliver number)) (deliver_taken d number m s there (bears d number m s there) (runs_on on m.receiver up_there)) h.0 in
+    let I : Result Progress Refusal → Type 0 = λ r. Informed (progressed d r) id epoch in
+    informed_on rest next id epoch (arrivals_travel c.nodes ms (number + 1)) g.followed
+    (subst I (sym ok.1) (config_informs d number m ok.0 epoch members id there ok.1 now member)))
+    (λ r h. absurd (both_ways (is_running (node_at c.nodes m.receiver)) r up_there)))
+    (λ (later : HasConfig epoch members id ms).
+    cond_both (is_running (node_at c.nodes m.receiver)) (Deliver number ∷ rest) rest Heard
+    (λ r h. hears c epoch members id runs member ms (before ++ m ∷ []) (number + 1) next (sound_move d (Deliver number) s) g.followed on2 more up later h.1)
+    (λ r h. hears c epoch members id runs member ms (before ++ m ∷ []) (number + 1) d s f on more up later h))
+    has
+
+-- ---- the master tells it
+
+has_one : (c : Chain) (to : ℕ) (tos : List ℕ) (rest : List LinkMessage) (id : ℕ) (b : Bool) → (to == id) ≡ b → (b || is_member tos id) ≡ true
+    → (is_member tos id ≡ true → HasConfig c.epoch c.members id (sent_in (map (config_to c) tos) ++ rest))
+    → HasConfig c.epoch c.members id (sent_in (map (config_to c) (to ∷ tos)) ++ rest)
+unfolding sent_in
+has_one c to tos rest id true e h go = inl (record { says = refl; made = refl; goes_to = eqb-true to id e })
+has_one c to tos rest id false e h go = inr (go h)
+
+has_config : (c : Chain) (tos : List ℕ) (rest : List LinkMessage) (id : ℕ) → is_member tos id ≡ true → HasConfig c.epoch c.members id (sent_in (map (config_to c) tos) ++ rest)
+unfolding is_member
+has_config c [] rest id h = absurd (cc)
+has_config c (to ∷ tos) rest id h = has_one c to tos rest id (to == id) refl h (λ i. has_config c tos rest id i)
+
+told : (c : Chain) (x : Progress) → chain_step c (Tick 0) ≡ Ok x → x.0.messages ≡ c.messages ++ sent_in (map (config_to c) c.members)
+unfolding chain_step
+told c x =
+    let y : Progress = config_progress c in
+    let z : Progress = (record y.0 { messages = c.messages ++ sent_in y.1.outs; moves = c.moves + 1 }, y.1) in
+    by_test (numbers_left c y.1) (λ (r : Result Progress Refusal). r ≡ Ok x → x.0.messages ≡ c.messages ++ sent_in (map (config_to c) c.members)) (Ok z) (Err refusals.Exhausted)
+    (λ e. ap (λ (p : Progress). p.0.messages) (ok_same x z (Ok x) refl (sym e)))
+    (λ e. absurd (cc))
+
+-- ---- a round
+
+informed_by_round : (count : ℕ) (c : Chain) (id : ℕ) → Sound c → IsFollowed c → is_running (node_at c.nodes id) ≡ true → is_member c.members id ≡ true → HaveNumbers c (round after_move (suc count) c)
+    → Informed (after_moves_by after_move c (round after_move (suc count) c)) id c.epoch
+unfolding round arrivals
+informed_by_round count c id s f runs member numbers =
+    let first : List Move = ticks c in
+    let c1 : Chain = after_moves_by after_move c first in
+    let sent : ℕ = length c.messages in
+    let news : List Move = arrivals_of c1.nodes (sent + 1) (drop sent c1.messages) in
+    let c2 : Chain = after_moves_by after_move c1 news in
+    let rest : List Move = hops after_move count (length c1.messages) c2 in
+    let n1 : HaveNumbers c first × HaveNumbers c1 (news ++ rest) = numbers_both first (news ++ rest) c numbers in
+    let n2 : HaveNumbers c1 news × HaveNumbers c2 rest = numbers_both news rest c1 n1.1 in
+    let ok : (x : Progress) × (chain_step c (Tick 0) ≡ Ok x) = taken_ok (chain_step c (Tick 0)) (master_taken c) n1.0.0 in
+    let t : Chain = after_move c (Tick 0) in
+    let on0 : Onward t c1 = onward_moves (ticks_of c.nodes c.members) t (ticks_travel c.nodes c.members) in
+    let configs : List LinkMessage = sent_in (map (config_to c) c.members) in
+    let T : Result Progress Refusal → Type 0 = λ r. (progressed c r).messages ≡ c.messages ++ configs in
+    let told_here : t.messages ≡ c.messages ++ configs = subst T (sym ok.1) (told c ok.0 ok.1) in
+    let all : c.messages ++ (configs ++ on0.sent) ≡ c1.messages = sym (append_assoc c.messages configs on0.sent) ∙ (ap (λ l. l ++ on0.sent) (sym told_here) ∙ on0.messages) in
+    let new : drop sent c1.messages ≡ configs ++ on0.sent = sym (ap (drop sent) all) ∙ drop-append_seam c.messages (configs ++ on0.sent) in
+    let H : List LinkMessage → Type 0 = λ l. HasConfig c.epoch c.members id l in
+    let has : HasConfig c.epoch c.members id (drop sent c1.messages) = subst H (sym new) (has_config c c.members on0.sent id member) in
+    let on : Onward c c1 = onward_moves first c (tt, ticks_travel c.nodes c.members) in
+    let le : sent ≤ length c1.messages = omega (arith, ap length on.messages, length-append c.messages on.sent) in
+    let here : Informed c2 id c.epoch = hears c1 c.epoch c.members id (on.running id ∙ runs) member (drop sent c1.messages) (take sent c1.messages) (sent + 1) c1
+    (sound_moves first c s) (followed_moves first c f) (onward_self c1) (take-append-drop sent c1.messages) (sent_before c1.messages sent le) has n2.0 in
+    let f2 : IsFollowed c2 = followed_moves news c1 (followed_moves first c f) in
+    let I : Chain → Type 0 = λ d. Informed d id c.epoch in
+    subst I (sym (after_both first (news ++ rest) c ∙ after_both news rest c1))
+    (informed_on rest c2 id c.epoch (hops_travel count (length c1.messages) c2) f2 here)
+
+-- who is as late as the master knows its membership
+pub knows_at : (c d : Chain) (id : ℕ) → Onward c d → IsFollowed d → (i : Informed d id c.epoch) → Knows d i.node
+knows_at c d id on f i =
+    let w : World Entry = f.0 in
+    let g : Follows d w = f.2 in
+    let p : Plain = i.node in
+    let P : ℕ → Type 0 = λ k. node_at d.nodes k ≡ Some p in
+    let n : NodeFollows w (seen_of p) = g.nodes (id_of p) p (subst P (sym (node_id d.nodes id p i.at)) i.at) in
+    let s : IsSafe w = reached_safe f.1 in
+    let most : w.epoch (id_of p) ≤ length w.memberships = s.epoch (id_of p) in
+    let same : w.epoch (id_of p) ≡ length w.memberships = omega (arith, most, i.late, n.epoch, g.epoch, on.epoch) in
+    record {
+      running = i.runs;
+      epoch = omega (arith, same, n.epoch, g.epoch);
+      members = sym n.members ∙ (ap (membership_of w.memberships) same ∙ g.members);
+    }
+
+hears_at : (c d : Chain) (id : ℕ) → Onward c d → IsFollowed d → Informed d id c.epoch → HearsAt d id
+hears_at c d id on f i = (i.node, i.at, knows_at c d id on f i)
+
+self_is : (id : ℕ) → (id == id) ≡ true
+self_is id = eq-eqb id id refl
+
+also : (a b : Bool) → b ≡ true → (a || b) ≡ true
+also true b h = refl
+also false b h = h
+
+first_is : (a b : Bool) → a ≡ true → (a || b) ≡ true
+first_is true b h = refl
+first_is false b h = absurd (cc)
+
+each_hears : (c d : Chain) (ids : List ℕ) → Onward c d → IsFollowed d → ((id : ℕ) → is_member ids id ≡ true → is_running (node_at c.nodes id) ≡ true → Informed d id c.epoch)
+    → AllByRecursion (λ id. is_running (node_at c.nodes id) ≡ true) ids → AllByRecursion (HearsAt d) ids
+unfolding is_member
+each_hears c d [] on f go runs = tt
+each_hears c d (id ∷ ids) on f go runs =
+    (hears_at c d id on f (go id (first_is (id == id) (is_member ids id) (self_is id)) runs.0), each_hears c d ids on f (λ i m r. go i (also (id == i) (is_member ids i) m) r) runs.1)
+
+pub heard : (chain : ℕ) (run : Run) (count : ℕ) → IsRunOf chain run → AllRun (after_moves (opening_chain chain run.members) run.moves)
+    → HaveNumbers (after_moves (opening_chain chain run.members) run.moves) (round after_move (suc count) (after_moves (opening_chain chain run.members) run.moves))
+    → HaveHeard (after_moves_by after_move (after_moves (opening_chain chain run.members) run.moves) (round after_move (suc count) (after_moves (opening_chain chain run.members) run.moves)))
+unfolding round
+heard chain run count is runs numbers =
+    let c : Chain = after_moves (opening_chain chain run.members) run.moves in
+    let ms : List Move = round after_move (suc count) c in
+    let d : Chain = after_moves_by after_move c ms in
+    let s : Sound c = sound_after chain run.members run.moves in
+    let f : IsFollowed c = every_run chain run is in
+    let on : Onward c d = onward_moves ms c (round_travels (suc count) c) in
+    let Q : List ℕ → Type 0 = λ l. AllByRecursion (HearsAt d) l in
+    subst Q (sym on.members)
+    (each_hears c d c.members on (followed_moves ms c f) (λ id m r. informed_by_round count c id s f r m numbers) runs)

@@ -1,0 +1,11 @@
+pub mod Running
+pub mod Speaking
+pub mod Sound
+pub mod Onward
+pub mod Taking
+pub mod Gains
+pub mod Hearing
+pub mod Travels
+pub mod Ids
+pub mod Acks
+pub mod Tests

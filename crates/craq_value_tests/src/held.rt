@@ -1,3 +1,4 @@
+//! A held past after very many puts: what is settled is folded, and not held any more.
 ghost use Rattle.std.specs.Prelude.{◌≡◌, IfOk};
 
 use craq_commands::{Entry, Reply, Write};

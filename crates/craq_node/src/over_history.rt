@@ -168,8 +168,28 @@ impl<H: History> NodeCore<H> {
         }
     }
 
-    /// One step.
+    /// A stop, or another event that is admitted.
     #[tactic(auto, unfolding(craq_model::specs::Node::node_step))]
+    fn take_admitted(&mut self, alloc: Global, event: Event) -> Result<Step, Refusal>
+        requires runs { self.old.switch.running ≡ true }
+        requires admitted { IsAdmitted (plain_of H.past self.old.node) event }
+        requires arrives { CanArrive event }
+        requires spelled_event { IsSpelledEvent event }
+        ensures gives { Answers (λ p. remembered H.forgets p ≡ plain_at H.past self.new.node self.new.switch.running) (plain_of H.past self.old.node) event result }
+        ensures spelled { IfOk result (λ step. AreSpelled step.outs) }
+        ensures free { IsFree (plain_of H.past self.old.node) event → IsOk result }
+    {
+        if let Event::Stop = &event {
+            drop(event);
+            self.switch.stop()?;
+            return Ok(done(Vec::new(alloc)));
+        }
+        happen(alloc, &mut self.node, event)
+    }
+
+    /// One step. An event that is not admitted is let go before it is refused: a drop on the way out would have to be
+    /// proved for each kind of event.
+    #[tactic(auto, unfolding(craq_model::specs::Node::node_step), using(crate::proofs::Stops::free_is_admitted))]
     fn take(&mut self, alloc: Global, event: Event) -> Result<Step, Refusal>
         requires arrives { CanArrive event }
         requires spelled_event { IsSpelledEvent event }
@@ -177,12 +197,13 @@ impl<H: History> NodeCore<H> {
         ensures spelled { IfOk result (λ step. AreSpelled step.outs) }
         ensures free { IsFree (plain_at H.past self.old.node self.old.switch.running) event → IsOk result }
     {
-        admit(&self.node, &self.switch, &event)?;
-        if let Event::Stop = &event {
-            self.switch.stop()?;
-            return Ok(done(Vec::new(alloc)));
+        match admit(&self.node, &self.switch, &event) {
+            Err(refusal) => {
+                drop(event);
+                Err(refusal)
+            }
+            Ok(()) => self.take_admitted(alloc, event),
         }
-        happen(alloc, &mut self.node, event)
     }
 }
 

@@ -1,3 +1,4 @@
+//! `DoorCalls`: the receipts of a door's calls, and the reply with the answer of one.
 ghost use Rattle.std.specs.Prelude.{◌≡◌, ◌<◌, [], vec_capacity, vec_len, true, OnOk};
 ghost use Rattle.craq_door.specs.Turns.{IsCalled, message_of, reply_of};
 

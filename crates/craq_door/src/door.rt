@@ -1,3 +1,4 @@
+//! `CallDoor`: the messages of one client, answered by calls of what is served.
 ghost use Rattle.std.specs.Prelude.{◌≡◌, [], IfOk, OnErr};
 ghost use Rattle.craq_calls.specs.Calls.{IsCallOf};
 ghost use Rattle.craq_door.specs.Turns.{message_of, IsCalled, IsTurn};

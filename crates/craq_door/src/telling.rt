@@ -1,3 +1,4 @@
+//! What is told of a message, in the place of what no door may tell too.
 ghost use Rattle.craq_front.specs.Door.{IsAllowed};
 ghost use Rattle.craq_door.specs.Turns.{IsTold, IsToldFor};
 

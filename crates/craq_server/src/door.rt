@@ -1,3 +1,4 @@
+//! `ServedStore`: a store that runs, as the door of a connection calls it.
 use crate::status::status_text;
 use craq_door::Callee;
 use craq_frames::Text;

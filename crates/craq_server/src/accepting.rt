@@ -1,6 +1,7 @@
 ghost use Rattle.std.specs.Prelude.{◌≡◌, ◌⊎◌, IfErr};
 
-use crate::door::StoreDoor;
+use crate::door::ServedStore;
+use craq_door::CallDoor;
 use craq_front::{Stream, serve};
 use craq_names::Refusal;
 use craq_node::Core;
@@ -86,9 +87,14 @@ where
         let _ = stream.set_nodelay(true);
         let mut reader = Stream::new(&stream);
         let mut writer = Stream::new(&stream);
-        let mut door = StoreDoor::new(self.rt, self.alloc, self.store, self.keeps);
+        let callee = ServedStore {
+            rt: self.rt,
+            alloc: self.alloc,
+            store: self.store,
+        };
+        let mut door = CallDoor::new(self.alloc, callee, self.keeps);
         let _ = serve(self.alloc, &mut reader, &mut writer, &mut door);
-        door.into_receipts()
+        door.calls.receipts
     }
 
     /// Serves a connection to its end. Its place then has the receipts of its calls, where they are kept.

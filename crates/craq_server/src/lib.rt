@@ -1,5 +1,5 @@
-//! A store's server: the door by which a client of a connection reaches the store, the connections of a listener, and
-//! the text of a store's status.
+//! A store's server: the store as the door of a connection calls it, the connections of a listener, and the text of a
+//! store's status.
 //! Code that runs in the programs.
 #![tactic(auto)]
 

@@ -1,5 +1,7 @@
 -- What the door of a store answers.
-use Rattle.std.specs.Prelude.{◌≡◌, ⊤, ℕ, Bool, IsTrue, List, [], ◌∷◌, ◌++◌, max}
+use Rattle.std.specs.Prelude.{◌≡◌, ◌⊎◌, ℕ, Bool, if◌then◌else◌, List, [], ◌∷◌, ◌++◌, max, Result, Ok, Err}
+use Rattle.craq_names.specs.declared.refusal.Refusal.{Refusal}
+use Rattle.craq_names.specs.declared.refusal.Refusal.TheVariants.{BadFrame}
 use Rattle.craq_model.specs.declared.ask.Answer.{Answer}
 use Rattle.craq_model.specs.declared.ask.Answer.TheVariants as answers
 use Rattle.craq_model.specs.declared.ask.Ask.{Ask}
@@ -8,6 +10,7 @@ use Rattle.craq_frames.specs.declared.ask.ClientMessage.{ClientMessage}
 use Rattle.craq_frames.specs.declared.ask.ClientMessage.TheVariants as messages
 use Rattle.craq_frames.specs.declared.answer.ClientReply.{ClientReply}
 use Rattle.craq_frames.specs.declared.answer.ClientReply.TheVariants as replies
+use Rattle.craq_front.specs.Door.{IsAllowed}
 use Rattle.craq_seat.specs.Calls.{Called}
 
 -- the message that asks a node with this pass
@@ -26,13 +29,31 @@ pub record IsReplyOf (message : ClientMessage) (reply : ClientReply) (c : Called
   pub asked : message ≡ message_of c.call.asked.node c.call.pass c.call.ask
   pub answered : reply ≡ reply_of (max c.call.pass c.answered.stamp) c.answer
 
--- the reply is that of a call, whose receipt stands behind those of earlier calls if receipts are kept
-abbrev pub IsCalled : Bool → List Called → ClientMessage → ClientReply → List Called → Type 0
-IsCalled keeps old message reply new = (c : Called) × (IsReplyOf message reply c × (IsTrue keeps → new ≡ old ++ c ∷ []))
+-- the receipts after a call: its own stands behind those of earlier calls if receipts are kept
+abbrev pub after_call : Bool → List Called → Called → List Called
+after_call keeps old c = if keeps then old ++ c ∷ [] else old
 
--- a reply with an answer is that of a call; a status is told where it is asked for
+-- the reply is that of a call, whose receipt is kept if receipts are
+abbrev pub IsCalled : Bool → List Called → ClientMessage → ClientReply → List Called → Type 0
+IsCalled keeps old message reply new = (c : Called) × (IsReplyOf message reply c × (new ≡ after_call keeps old c))
+
+-- the receipts are as they were, or there is one more call
+abbrev pub HasAtMostOneCall : Bool → List Called → List Called → Type 0
+HasAtMostOneCall keeps old new = (new ≡ old) ⊎ ((c : Called) × (new ≡ after_call keeps old c))
+
+-- a reply with an answer is that of a call; a status is told where it is asked for, and is no call; a call whose reply no
+-- door allows is refused too
 abbrev pub IsTurn : Bool → List Called → ClientMessage → ClientReply → List Called → Type 0
 IsTurn keeps old message (replies.Update pass reply) new = IsCalled keeps old message (replies.Update pass reply) new
 IsTurn keeps old message (replies.Read pass version value) new = IsCalled keeps old message (replies.Read pass version value) new
-IsTurn keeps old message (replies.Refused refusal) new = ⊤
-IsTurn keeps old message (replies.Status text) new = message ≡ messages.Status
+IsTurn keeps old message (replies.Refused refusal) new = HasAtMostOneCall keeps old new
+IsTurn keeps old message (replies.Status text) new = (message ≡ messages.Status) × (new ≡ old)
+
+-- the reply is told as it is where a door may give it, and refused in its place where not
+abbrev pub IsToldFor : ClientReply → ClientReply → Type 0
+IsToldFor reply told = (IsAllowed reply × (told ≡ reply)) ⊎ ((¬ IsAllowed reply) × (told ≡ replies.Refused BadFrame))
+
+-- what a message came to is told: its reply, or its refusal
+abbrev pub IsTold : Result ClientReply Refusal → ClientReply → Type 0
+IsTold (Ok reply) told = IsToldFor reply told
+IsTold (Err refusal) told = IsToldFor (replies.Refused refusal) told

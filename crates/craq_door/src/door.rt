@@ -1,0 +1,87 @@
+//! `CallDoor`: the messages of one client, answered by calls of what is served.
+ghost use Rattle.std.specs.Prelude.{◌≡◌, [], IfOk, OnErr};
+ghost use Rattle.craq_calls.specs.Calls.{IsCallOf};
+ghost use Rattle.craq_door.specs.Turns.{message_of, IsCalled, IsTurn};
+
+use crate::{DoorCalls, told};
+use craq_frames::{ClientMessage, ClientReply, Text};
+use craq_front::Door;
+use craq_model::{Answer, Ask};
+use craq_names::{NodeId, NodeName, Pass, Refusal};
+use craq_seat::CallReceipt;
+use std::alloc::{AllocError, Global};
+
+/// What a door reaches: a store that is called.
+pub trait Callee: Drop {
+    /// Asks a node, with this pass: the answer, and the receipt of the call. Refused as the store refuses the call.
+    fn call(&self, node: NodeName, pass: Pass, ask: Ask) -> Result<(Answer, CallReceipt), Refusal>
+        ensures { IfOk result (λ r. IsCallOf node ask pass r.0 r.1) };
+
+    /// The chains and their members. It fails for want of memory alone.
+    fn status(&self) -> Result<Text, AllocError>;
+}
+
+/// The door by which the client of one connection calls.
+#[derive(Drop)]
+pub struct CallDoor<C: Callee> {
+    /// What is called.
+    pub callee: C,
+    /// The calls so far.
+    pub calls: DoorCalls,
+}
+
+impl<C: Callee> CallDoor<C> {
+    /// A door with no calls so far, which keeps receipts or not. It takes no memory.
+    pub fn new(alloc: Global, callee: C, keeps: bool) -> Self
+        ensures keeps { result.calls.keeps ≡ keeps }
+        ensures receipts { result.calls.receipts.items ≡ [] }
+    {
+        CallDoor {
+            callee,
+            calls: DoorCalls::new(alloc, keeps),
+        }
+    }
+
+    /// Asks a node of the chain of the ask's first object, with this pass. The room for the call's receipt is made first.
+    fn call(&mut self, node: NodeId, pass: Pass, ask: Ask) -> Result<ClientReply, Refusal>
+        ensures called { IfOk result (λ reply. IsCalled self.old.calls.keeps self.old.calls.receipts.items (message_of node pass ask) reply self.new.calls.receipts.items) }
+        ensures same { OnErr result (self.new.calls.receipts.items ≡ self.old.calls.receipts.items) }
+    {
+        self.calls.make_room()?;
+        let name = NodeName {
+            chain: ask.chain(),
+            node,
+        };
+        let (answer, receipt) = self.callee.call(name, pass, ask)?;
+        Ok(self.calls.reply_to(answer, receipt))
+    }
+
+    /// What a message comes to.
+    fn reply(&mut self, message: ClientMessage) -> Result<ClientReply, Refusal>
+        ensures turn { IfOk result (λ reply. IsTurn self.old.calls.keeps self.old.calls.receipts.items message reply self.new.calls.receipts.items) }
+        ensures same { OnErr result (self.new.calls.receipts.items ≡ self.old.calls.receipts.items) }
+    {
+        match message {
+            ClientMessage::Update { node, pass, update } => {
+                self.call(node, pass, Ask::Update(update))
+            }
+            ClientMessage::Read {
+                node,
+                pass,
+                mode,
+                object,
+            } => self.call(node, pass, Ask::Read { mode, object }),
+            ClientMessage::Status => Ok(ClientReply::Status(self.callee.status()?)),
+        }
+    }
+}
+
+impl<C: Callee> Door for CallDoor<C> {
+    ghost turn = { λ old message reply new.
+        IsTurn old.calls.keeps old.calls.receipts.items message reply new.calls.receipts.items };
+
+    #[tactic(auto, using(crate::proofs::Turning::told_turn, crate::proofs::Turning::told_refusal))]
+    fn ask(&mut self, message: ClientMessage) -> ClientReply {
+        told(self.reply(message))
+    }
+}

@@ -1,0 +1,12 @@
+//! The door of a served store: the reply with a call's answer, the receipts of the calls, and what is told in the place of
+//! a reply that no door allows. What it calls is behind the trait `Callee`.
+//! Code that runs in the programs.
+#![tactic(auto)]
+
+mod calls;
+mod door;
+mod telling;
+
+pub use calls::DoorCalls;
+pub use door::{CallDoor, Callee};
+pub use telling::told;

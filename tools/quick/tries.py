@@ -1,17 +1,21 @@
 """Runs programs by `rt try`, which builds them without their proofs."""
+import difflib
 import os
 import re
 import shutil
 import subprocess
 import tempfile
 
-import one_crate
 import repository
 
 # rt try also interprets a program, as far as so many steps go: it is enough to build it.
 STEPS, SECONDS = "1", "300"
-# craq_thread_tests makes so many calls a client; without its proofs it is too slow for them.
-CALLS, FEW_CALLS = "const CALLS: u64 = 2500;", "const CALLS: u64 = 100;"
+# Without its proofs craq_thread_tests is too slow for its calls: what is put in the place of what, and how often, in two of its
+# files, so that each of its 4 clients makes 100 calls.
+FEWER_CALLS = {
+    "src/changes.rt": ("const CALLS: u64 = 2500;", "const CALLS: u64 = 100;", 1),
+    "stdout": ("10000 calls come back, 5000 of them puts", "400 calls come back, 200 of them puts", 2),
+}
 
 
 def words_of(*more, seconds=SECONDS):
@@ -33,11 +37,19 @@ def data_of(name):
     return [word for it in names for word in ("--data", f"{it}={folder}/{it}")]
 
 
+def unlike(found, wanted):
+    """The lines of two texts that differ, as difflib tells them."""
+    texts = [it.decode(errors="replace").splitlines() for it in (wanted, found)]
+    return [it for it in difflib.ndiff(*texts) if not it.startswith("  ")]
+
+
 def prints_its_file(checks, name, where=None):
     """A crate of tests prints what its file stdout has."""
-    wanted = one_crate.file_of(name, "stdout")
-    status, found = tried(checks, where or repository.path("crates", name), *data_of(name))
-    checks.same(f"what {name} prints", found, wanted)
+    where = where or repository.path("crates", name)
+    with open(f"{where}/stdout", "rb") as it:
+        wanted = it.read()
+    status, found = tried(checks, where, *data_of(name))
+    checks.same(f"lines that {name} prints otherwise", unlike(found, wanted), [])
     checks.same(f"the status of {name}", status, 0)
     return f"{len(wanted.splitlines())} lines"
 
@@ -47,13 +59,14 @@ def thread_tests(checks):
     with tempfile.TemporaryDirectory(prefix="quick-") as room:
         shutil.copytree(repository.path("crates"), f"{room}/crates", ignore=shutil.ignore_patterns("out"))
         shutil.copy2(repository.path("crates.txt"), room)
-        file = f"{room}/crates/craq_thread_tests/src/changes.rt"
-        with open(file, encoding="utf-8") as it:
-            text = it.read()
-        checks.same(f"{CALLS!r} in {os.path.basename(file)}", text.count(CALLS), 1)
-        with open(file, "w", encoding="utf-8") as it:
-            it.write(text.replace(CALLS, FEW_CALLS))
-        return prints_its_file(checks, "craq_thread_tests", f"{room}/crates/craq_thread_tests")
+        crate = f"{room}/crates/craq_thread_tests"
+        for file, (many, few, times) in FEWER_CALLS.items():
+            with open(f"{crate}/{file}", encoding="utf-8") as it:
+                text = it.read()
+            checks.same(f"how often craq_thread_tests/{file} has {many!r}", text.count(many), times)
+            with open(f"{crate}/{file}", "w", encoding="utf-8") as it:
+                it.write(text.replace(many, few))
+        return prints_its_file(checks, "craq_thread_tests", crate)
 
 
 def case(room, name, script, words, expected=None):

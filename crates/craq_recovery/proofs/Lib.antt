@@ -9,3 +9,4 @@ pub mod Travels
 pub mod Ids
 pub mod Acks
 pub mod Tests
+pub mod Heads

@@ -149,12 +149,12 @@ one_more count c least front a b rest g is ra rb k numbers =
     let NQ : ℕ → Type 0 = λ i. node_at c.nodes i ≡ Some q in
     let S1 : ℕ → Type 0 = λ i. successor_in c.members i ≡ Some (id_of q) in
     let S2 : ℕ → Type 0 = λ i. successor_in c.members a ≡ Some i in
-    let R1 : ℕ → Type 0 = λ i. predecessor_in c.members i ≡ Some (id_of p) in
-    let R2 : ℕ → Type 0 = λ i. predecessor_in c.members b ≡ Some i in
+    let P1 : ℕ → Type 0 = λ i. predecessor_in c.members i ≡ Some (id_of p) in
+    let P2 : ℕ → Type 0 = λ i. predecessor_in c.members b ≡ Some i in
     let MB : ℕ → Type 0 = λ i. is_member c.members i ≡ true in
     let i : NodeIs (after_moves_by after_move c (round after_move (suc count) c)) (id_of p) (λ r. q.past.acknowledged ≤ r.past.acknowledged) =
     ack_crosses count c p q g.sound g.followed (λ z. absurd (omega (arith, some, own_q, z))) (subst NP (sym own_p) ra.at) (subst NQ (sym own_q) rb.at) ra.knows rb.knows ra.ready rb.ready
-    (subst MB (sym own_q) member) (subst S1 (sym own_p) (subst S2 (sym own_q) next)) (subst R1 (sym own_q) (subst R2 (sym own_p) before)) numbers in
+    (subst MB (sym own_q) member) (subst S1 (sym own_p) (subst S2 (sym own_q) next)) (subst P1 (sym own_q) (subst P2 (sym own_p) before)) numbers in
     let same : q ≡ k.node = let x : node_at c.nodes b ≡ Some q = rb.at in let y : node_at c.nodes b ≡ Some k.node = k.at in cc in
     let E : ℕ → Type 0 = λ j. node_at (after_moves_by after_move c (round after_move (suc count) c)).nodes j ≡ Some i.node in
     record { node = i.node; at = subst E own_p i.at; knows = omega (arith, i.holds, k.knows, ap (λ (x : Plain). x.past.acknowledged) same) }

@@ -3,6 +3,7 @@ use Rattle.std.proofs.Common.{◌≡◌, ◌≤◌, ℕ, ◌+◌, ◌-◌, Bool,
 use Rattle.craq_model.specs.Plain.{Plain, clean}
 use Rattle.craq_model.specs.Spelled.{IsSpelledEntry}
 use Rattle.craq_node_invariant.specs.Sound.{AreInRow, IsSound}
+use Rattle.craq_node_invariant.proofs.Applicable.{applicable_drop}
 use Rattle.craq_node_invariant.proofs.Lists.{all_drop}
 use Rattle.craq_node_invariant.proofs.Rows.{row_drop}
 use Rattle.craq_node_invariant.proofs.States.{clean_is}
@@ -29,6 +30,7 @@ compacted_is p s =
       state = clean_is p s;
       entries = all_drop IsSpelledEntry m p.past.entries s.entries;
       placed = subst P (next_after p.past.base p.past.acknowledged s.based) (row_drop (p.past.base + 1) m p.past.entries s.placed);
+      applicable = applicable_drop p.past.base_state m p.past.entries s.applicable;
       gathering = s.gathering;
       replies = s.replies;
       tickets = s.tickets;

@@ -1,19 +1,24 @@
--- A change that leads to a sound node: what it commits is held, entries follow in a row, and a state that it copies is
--- sound.
+-- A change that leads to a sound node: what it commits is held, entries follow in a row, are applicable and can be spelled, and a
+-- state that it copies is sound.
 use Rattle.std.proofs.Common.{None, Some, subst, arith}
 use Rattle.std.proofs.Math.Seq.{drop-append_seam}
-use Rattle.std.specs.Prelude.{◌≡◌, ℕ, ◌+◌, ◌++◌, List, length, drop, Option}
+use Rattle.std.specs.Prelude.{true, ◌≡◌, ℕ, ◌+◌, ◌++◌, List, length, drop, Option}
 use Rattle.craq_commands.specs.declared.entry.Entry.{Entry}
-use Rattle.craq_model.specs.Past.{Past, length_in}
+use Rattle.craq_model.specs.Deliveries.{are_applicable}
+use Rattle.craq_model.specs.Past.{Past, length_in, newest_in}
 use Rattle.craq_model.specs.Plain.{Plain}
+use Rattle.craq_model.specs.Spelled.{IsSpelledEntry}
+use Rattle.std.specs.List.{AllByRecursion}
 use Rattle.craq_node_invariant.specs.Sound.{AreInRow, IsSound, IsSoundState}
+use Rattle.craq_node_invariant.proofs.Applicable.{applicable_rest}
 use Rattle.craq_node_invariant.proofs.Rows.{row_drop}
+use Rattle.craq_node_invariant.proofs.Sorted.{all_split}
 use Rattle.craq_compaction.specs.Compacted.{HoldsCommitted}
 use Rattle.craq_history.specs.declared.change.Change.{Change}
 use Rattle.craq_history.specs.declared.change.HistoryChange.{HistoryChange}
 use Rattle.craq_history.specs.declared.change.HistoryChange.TheVariants as histories
 use Rattle.craq_history.specs.Change.{changed, past_by, commits_by}
-use Rattle.craq_history.specs.Plans.{FollowsInRow, IsSoundCopy}
+use Rattle.craq_history.specs.Plans.{FollowsInRow, IsApplicable, IsSoundCopy, IsSpelledGrowth}
 
 pub holds_after : (p : Plain) (c : Change) → IsSound (changed p c) → HoldsCommitted (commits_by c.acknowledged (past_by c.history p.past))
 holds_after p c s = record { based = s.based; within = s.within }
@@ -41,3 +46,21 @@ row_in o (histories.IsCopied position state) past r = tt
 
 pub follows_in_row : (p : Plain) (c : Change) → IsSound (changed p c) → FollowsInRow (length_in p.past) c.history
 follows_in_row p c s = row_in c.acknowledged c.history p.past s.placed
+
+applicable_in : (o : Option ℕ) (h : HistoryChange) (past : Past) → are_applicable (commits_by o (past_by h past)).base_state (commits_by o (past_by h past)).entries ≡ true → IsApplicable (newest_in past) h
+applicable_in o histories.Stays past a = tt
+applicable_in None (histories.Grows entries) past a = applicable_rest past.base_state past.entries entries a
+applicable_in (Some n) (histories.Grows entries) past a = applicable_rest past.base_state past.entries entries a
+applicable_in o (histories.IsCopied position state) past a = tt
+
+pub grows_applicable : (p : Plain) (c : Change) → IsSound (changed p c) → IsApplicable (newest_in p.past) c.history
+grows_applicable p c s = applicable_in c.acknowledged c.history p.past s.applicable
+
+spelled_in : (o : Option ℕ) (h : HistoryChange) (past : Past) → AllByRecursion IsSpelledEntry (commits_by o (past_by h past)).entries → IsSpelledGrowth h
+spelled_in o histories.Stays past a = tt
+spelled_in None (histories.Grows entries) past a = (all_split IsSpelledEntry past.entries entries a).1
+spelled_in (Some n) (histories.Grows entries) past a = (all_split IsSpelledEntry past.entries entries a).1
+spelled_in o (histories.IsCopied position state) past a = tt
+
+pub grows_spelled : (p : Plain) (c : Change) → IsSound (changed p c) → IsSpelledGrowth c.history
+grows_spelled p c s = spelled_in c.acknowledged c.history p.past s.entries

@@ -4,6 +4,8 @@ use Rattle.craq_names.specs.Limits.{greatest}
 use Rattle.craq_names.specs.Order.{Refuses}
 use Rattle.craq_names.specs.declared.refusal.Refusal.{Refusal}
 use Rattle.craq_model.specs.declared.step.Step.{Step}
+use Rattle.craq_commands.specs.declared.state.State.{State}
+use Rattle.craq_model.specs.Deliveries.{are_applicable}
 use Rattle.craq_model.specs.Plain.{Plain, length_of}
 use Rattle.craq_model.specs.Settle.{Turn}
 use Rattle.craq_history.specs.declared.change.Change.{Change}
@@ -11,6 +13,8 @@ use Rattle.craq_history.specs.declared.change.HistoryChange.{HistoryChange}
 use Rattle.craq_history.specs.declared.change.HistoryChange.TheVariants as histories
 use Rattle.craq_history.specs.declared.change.GatheringChange.{GatheringChange}
 use Rattle.craq_history.specs.declared.change.GatheringChange.TheVariants as gatherings
+use Rattle.craq_model.specs.Spelled.{IsSpelledEntry}
+use Rattle.std.specs.List.{AllByRecursion}
 use Rattle.craq_node_invariant.specs.Sound.{AreInRow, IsSoundState}
 use Rattle.craq_history.specs.Change.{changed, no_change}
 
@@ -25,6 +29,18 @@ abbrev pub FollowsInRow : ℕ → HistoryChange → Type 0
 FollowsInRow count histories.Stays = ⊤
 FollowsInRow count (histories.Grows entries) = AreInRow (count + 1) entries
 FollowsInRow count (histories.IsCopied position state) = ⊤
+
+-- the entries that a history is to grow by are applicable, one after the other, from this state on
+abbrev pub IsApplicable : State → HistoryChange → Type 0
+IsApplicable s histories.Stays = ⊤
+IsApplicable s (histories.Grows entries) = are_applicable s entries ≡ true
+IsApplicable s (histories.IsCopied position state) = ⊤
+
+-- the entries that a history is to grow by can be spelled
+abbrev pub IsSpelledGrowth : HistoryChange → Type 0
+IsSpelledGrowth histories.Stays = ⊤
+IsSpelledGrowth (histories.Grows entries) = AllByRecursion IsSpelledEntry entries
+IsSpelledGrowth (histories.IsCopied position state) = ⊤
 
 -- a state that takes the place of the history is sound
 abbrev pub IsSoundCopy : HistoryChange → Type 0

@@ -1,8 +1,10 @@
-ghost use Rattle.std.specs.Prelude.{Bool, ◌≡◌, ◌≤◌, ◌+◌, ◌-◌, ◌<◌, ◌^◌, length, IfOk, OnOk, OnErr};
+ghost use Rattle.std.specs.Prelude.{Bool, true, ◌≡◌, ◌≤◌, ◌+◌, ◌-◌, ◌<◌, ◌^◌, length, IfOk, OnOk, OnErr};
+ghost use Rattle.std.specs.List.{AllByRecursion};
 ghost use Rattle.craq_commands.specs.Objects.{object_of};
 ghost use Rattle.craq_commands.specs.SingleCopy.{said};
 ghost use Rattle.craq_commands.specs.Told.{told};
 ghost use Rattle.craq_model.specs.Deliveries.{are_applicable};
+ghost use Rattle.craq_model.specs.Spelled.{IsSpelledEntry};
 ghost use Rattle.craq_node_invariant.specs.Sound.{AreInRow, IsSoundState};
 ghost use Rattle.craq_compaction.specs.Compacted.{HoldsCommitted, remembered_in};
 ghost use Rattle.craq_history.specs.InMemory.{ArePartlyFolded};
@@ -85,10 +87,13 @@ pub trait History: Drop {
         requires from { (past self.now).acknowledged ≤ position }
         ensures { result.now ≡ entries_in (past self.now) position };
 
-    /// More entries, all of them, at the positions that come next. Where memory is refused the past stays.
+    /// More entries, all of them, at the positions that come next, each applicable after those before it, and with bytes
+    /// that spell it. Where memory is refused the past stays.
     fn append(&mut self, entries: Items<Entry>) -> Result<(), AllocError>
         requires fits { length_in (past self.old) + length entries < 2 ^ 64 }
         requires in_row { AreInRow (length_in (past self.old) + 1) entries }
+        requires applicable { are_applicable (newest_in (past self.old)) entries ≡ true }
+        requires spelled { AllByRecursion IsSpelledEntry entries }
         ensures ok { OnOk result (past self.new ≡ with_entries_in (past self.old) entries) }
         ensures err { OnErr result (past self.new ≡ past self.old) };
 

@@ -5,9 +5,9 @@ ghost use Rattle.craq_history.specs.Change.{changed, no_change, past_by, gatheri
 ghost use Rattle.craq_history.specs.Nodes.{plain_of};
 ghost use Rattle.craq_node_invariant.specs.Sound.{IsSound};
 ghost use Rattle.craq_compaction.specs.Compacted.{HoldsCommitted, remembered, remembered_in};
-ghost use Rattle.craq_model.specs.Past.{length_in};
+ghost use Rattle.craq_model.specs.Past.{length_in, newest_in};
 ghost use Rattle.craq_model.specs.Parts.{gathering_for, with_part};
-ghost use Rattle.craq_history.specs.Plans.{CanGrow, CanMake, FollowsInRow, IsApart, IsSoundCopy};
+ghost use Rattle.craq_history.specs.Plans.{CanGrow, CanMake, FollowsInRow, IsApart, IsApplicable, IsSoundCopy, IsSpelledGrowth};
 ghost use Rattle.craq_history.specs.Room.{HasRoomFor};
 
 use crate::{Change, GatheringChange, History, HistoryChange, Node, WaitingChange};
@@ -82,6 +82,8 @@ fn change_waiting(
 fn change_history<H: History>(history: &mut H, change: HistoryChange) -> Result<(), AllocError>
     requires grows { CanGrow (length_in (H.past history.old)) change }
     requires in_row { FollowsInRow (length_in (H.past history.old)) change }
+    requires applicable { IsApplicable (newest_in (H.past history.old)) change }
+    requires spelled { IsSpelledGrowth change }
     requires copy { IsSoundCopy change }
     ensures ok { OnOk result (H.past history.new ≡ past_by change (H.past history.old)) }
     ensures err { OnErr result (H.past history.new ≡ H.past history.old) }

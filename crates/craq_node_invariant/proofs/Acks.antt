@@ -31,6 +31,7 @@ heard_is p position s r above below = record {
   state = s.state;
   entries = s.entries;
   placed = s.placed;
+  applicable = s.applicable;
   gathering = s.gathering;
   replies = all_filter (λ (u : WaitingUpdate). IsReply u.reply) (λ (u : WaitingUpdate). nat_lt position u.position) p.waiting_updates s.replies;
   tickets = s.tickets;

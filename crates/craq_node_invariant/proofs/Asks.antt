@@ -24,6 +24,7 @@ use Rattle.craq_node_invariant.specs.Sound.{IsSound, IsSpelledAnswer, IsSpelledA
 use Rattle.craq_node_invariant.proofs.Lists.{all_append}
 use Rattle.craq_node_invariant.proofs.Objects.{newest_read, bounded_read}
 use Rattle.craq_node_invariant.proofs.Sends.{Speaks, sent, last_member_is}
+use Rattle.craq_node_invariant.proofs.Applicable.{unsaid_is_new}
 use Rattle.craq_node_invariant.proofs.Updates.{IsSoundIfTaken, accepted_is, said_is, update_is}
 
 -- ---- reads
@@ -42,6 +43,7 @@ waits p r s ready h = record {
   state = s.state;
   entries = s.entries;
   placed = s.placed;
+  applicable = s.applicable;
   gathering = s.gathering;
   replies = s.replies;
   tickets = all_append (λ (r : WaitingRead). 1 ≤ r.ticket) p.waiting_reads (r ∷ []) s.tickets (h, tt);
@@ -80,7 +82,7 @@ accepted_ask_is p (asks.Update u) s ready c h =
     (λ a. tt)
     (λ a. cond_both (p.last_ticket == greatest) (Err refusals.Exhausted) last (λ (r : Result Turn Refusal). IsSoundIfTaken r)
     (λ b. tt)
-    (λ b. update_is p u (said (newest p) u.client u.number) s ready c h (said_is p u.client u.number s)))
+    (λ b. update_is p u (said (newest p) u.client u.number) s ready c h (said_is p u.client u.number s) (unsaid_is_new (newest p) u.client u.number)))
 accepted_ask_is p (asks.Read mode object) s ready c h =
     cond_both (p.last_ticket == greatest) (Err refusals.Exhausted) (read_turn p mode object.key) (λ (r : Result Turn Refusal). IsSoundIfTaken r)
     (λ a. tt)

@@ -25,6 +25,7 @@ adopted_is p epoch members s h m = record {
   state = s.state;
   entries = s.entries;
   placed = s.placed;
+  applicable = s.applicable;
   gathering = tt;
   replies = s.replies;
   tickets = s.tickets;

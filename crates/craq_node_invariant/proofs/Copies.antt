@@ -1,5 +1,5 @@
 -- A sound node fills its successor, or is filled itself.
-use Rattle.std.proofs.Common.{◌≤◌, ℕ, nat_le, nat_lt, max, not, Bool, ◌==◌, ◌||◌, cond, List, [], Option, Some, None, is_some, arith}
+use Rattle.std.proofs.Common.{◌≤◌, ℕ, nat_le, nat_lt, max, not, Bool, ◌==◌, ◌||◌, cond, List, [], Option, Some, None, is_some, refl, arith}
 use Rattle.std.proofs.lemmas.Bool.{cond_both, ltb-true, not-false}
 use Rattle.std.specs.List.{AllByRecursion}
 use Rattle.craq_commands.specs.declared.state.State.{State}
@@ -55,6 +55,7 @@ with_copy_is p position state s h = record {
   state = h;
   entries = tt;
   placed = tt;
+  applicable = refl;
   gathering = s.gathering;
   replies = s.replies;
   tickets = s.tickets;
@@ -85,6 +86,7 @@ with_floor_is p count s = record {
   state = s.state;
   entries = s.entries;
   placed = s.placed;
+  applicable = s.applicable;
   gathering = s.gathering;
   replies = s.replies;
   tickets = s.tickets;
@@ -116,6 +118,7 @@ with_gathering_is p g s h = record {
   state = s.state;
   entries = s.entries;
   placed = s.placed;
+  applicable = s.applicable;
   gathering = h;
   replies = s.replies;
   tickets = s.tickets;

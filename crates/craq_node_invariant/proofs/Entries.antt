@@ -1,5 +1,5 @@
 -- A sound node takes entries that can be spelled.
-use Rattle.std.proofs.Common.{◌≡◌, ℕ, ◌+◌, nat_le, nat_lt, not, cond, List, [], ◌∷◌, length, subst, arith, length-append}
+use Rattle.std.proofs.Common.{◌≡◌, ℕ, ◌+◌, nat_le, nat_lt, true, not, cond, List, [], ◌∷◌, length, subst, arith, length-append}
 use Rattle.std.proofs.lemmas.Bool.{cond_both, ltb-false}
 use Rattle.std.specs.List.{AllByRecursion}
 use Rattle.craq_commands.specs.declared.entry.Entry.{Entry}
@@ -12,6 +12,7 @@ use Rattle.craq_model.specs.Sends.{send, send_all, to_neighbour, entry_bodies}
 use Rattle.craq_model.specs.Settle.{Turn, turn_with, turn_ignoring, readiness_turn}
 use Rattle.craq_model.specs.Spelled.{IsSpelledEntry, IsConsecutive}
 use Rattle.craq_node_invariant.specs.Sound.{AreInRow, IsSound}
+use Rattle.craq_node_invariant.proofs.Applicable.{applicable_append}
 use Rattle.craq_node_invariant.proofs.Lists.{all_append, all_filter}
 use Rattle.craq_node_invariant.proofs.Neighbours.{successor_is}
 use Rattle.craq_node_invariant.proofs.Rows.{row_append, above_in_row}
@@ -25,8 +26,9 @@ next_place : (base count : ℕ) → base + count + 1 ≡ base + 1 + count
 next_place base count = omega arith
 
 -- the node with the entries that follow its own
-pub with_entries_is : (p : Plain) (es : List Entry) → IsSound p → AreSpelledEntries es → AreInRow (length_of p + 1) es → IsSound (with_entries p es)
-with_entries_is p es s h r = record {
+pub with_entries_is : (p : Plain) (es : List Entry) → IsSound p → AreSpelledEntries es → AreInRow (length_of p + 1) es → are_applicable (newest p) es ≡ true → IsSound (with_entries p es)
+unfolding newest
+with_entries_is p es s h r f = record {
   own = s.own;
   ids = s.ids;
   unknown = s.unknown;
@@ -39,6 +41,7 @@ with_entries_is p es s h r = record {
   state = s.state;
   entries = all_append IsSpelledEntry p.past.entries es s.entries h;
   placed = row_append (p.past.base + 1) p.past.entries es s.placed (subst (λ (n : ℕ). AreInRow n es) (next_place p.past.base (length p.past.entries)) r);
+  applicable = applicable_append p.past.base_state p.past.entries es s.applicable f;
   gathering = s.gathering;
   replies = s.replies;
   tickets = s.tickets;
@@ -64,7 +67,7 @@ taken_is p es n s w h r = cond_both p.ready (forwarding_turn p es) (readiness_tu
 appending_is : (p : Plain) (es : List Entry) → IsSound p → Speaks p → AreSpelledEntries es → AreInRow (length_of p + 1) es → IsSoundTurn (appending_turn p es)
 appending_is p es s w h r =
     cond_both (are_applicable (newest p) es) (taken_entries_turn (with_entries p es) es) (turn_ignoring p TooFar) (λ (t : Turn). IsSoundTurn t)
-    (λ g. taken_is (with_entries p es) es (length_of p + 1) (with_entries_is p es s h r) w h r)
+    (λ g. taken_is (with_entries p es) es (length_of p + 1) (with_entries_is p es s h r g) w h r)
     (λ g. ignoring p TooFar s)
 
 pub entries_are : (p : Plain) (sender : ℕ) (es : List Entry) → IsSound p → Speaks p → AreSpelledEntries es → IsConsecutive es → IsSoundTurn (entries_turn p sender es)

@@ -1,4 +1,5 @@
 pub mod Acks
+pub mod Applicable
 pub mod Asks
 pub mod Configs
 pub mod Copies

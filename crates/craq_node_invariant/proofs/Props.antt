@@ -16,6 +16,7 @@ use Rattle.craq_model.specs.Parts.{joined_state}
 use Rattle.craq_commands.specs.declared.state.State.{State}
 use Rattle.craq_model.specs.declared.waiting.WaitingRead.{WaitingRead}
 use Rattle.craq_model.specs.declared.waiting.WaitingUpdate.{WaitingUpdate}
+use Rattle.craq_model.specs.Deliveries.{are_applicable}
 use Rattle.craq_model.specs.Plain.{Plain, id_of, length_of}
 use Rattle.craq_model.specs.Spelled.{IsObjectRead, IsReply, IsNotStale, IsSpelledEntry, IsSpelledWindow}
 use Rattle.craq_node_invariant.specs.Sound.{AreInRow, IsSound, IsSoundGathering, IsSoundIfAny, IsSoundState}
@@ -110,6 +111,7 @@ IsSound-prop p x y =
     let based : IsProp (p.past.base ≤ p.past.acknowledged) = hlevel props in
     let within : IsProp (p.past.acknowledged ≤ length_of p) = hlevel props in
     let entries : IsProp (AllByRecursion IsSpelledEntry p.past.entries) = hlevel (props, IsSpelledEntry-prop) in
+    let applicable : IsProp (are_applicable p.past.base_state p.past.entries ≡ true) = hlevel props in
     let replies : IsProp (AllByRecursion (λ (u : WaitingUpdate). IsReply u.reply) p.waiting_updates) = hlevel (props, IsReply-prop) in
     let tickets : IsProp (AllByRecursion (λ (r : WaitingRead). 1 ≤ r.ticket) p.waiting_reads) = hlevel props in
     λ i. record {
@@ -125,6 +127,7 @@ IsSound-prop p x y =
       state = IsSoundState-prop p.past.base_state x.state y.state i;
       entries = entries x.entries y.entries i;
       placed = AreInRow-prop (p.past.base + 1) p.past.entries x.placed y.placed i;
+      applicable = applicable x.applicable y.applicable i;
       gathering = IsSoundIfAny-prop p.gathering x.gathering y.gathering i;
       replies = replies x.replies y.replies i;
       tickets = tickets x.tickets y.tickets i;

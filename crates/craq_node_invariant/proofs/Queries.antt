@@ -42,6 +42,7 @@ answered_is p ticket s = record {
   state = s.state;
   entries = s.entries;
   placed = s.placed;
+  applicable = s.applicable;
   gathering = s.gathering;
   replies = s.replies;
   tickets = all_filter (λ (r : WaitingRead). 1 ≤ r.ticket) (λ (r : WaitingRead). not (r.ticket == ticket)) p.waiting_reads s.tickets;

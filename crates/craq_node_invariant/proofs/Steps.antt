@@ -71,6 +71,7 @@ stopped_is p s = record {
   state = s.state;
   entries = s.entries;
   placed = s.placed;
+  applicable = s.applicable;
   gathering = s.gathering;
   replies = s.replies;
   tickets = s.tickets;

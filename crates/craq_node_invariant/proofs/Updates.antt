@@ -18,7 +18,7 @@ use Rattle.craq_commands.specs.Evaluation.{Outcome, eval, objects_named, all_of_
 use Rattle.craq_names.specs.Maps.{at_number}
 use Rattle.craq_commands.specs.Kept.{Kept, Window, largest, is_stale, said_of}
 use Rattle.craq_commands.specs.Objects.{Objects, version_of}
-use Rattle.craq_commands.specs.SingleCopy.{window_of, said}
+use Rattle.craq_commands.specs.SingleCopy.{is_new_to, window_of, said}
 use Rattle.craq_model.specs.declared.ask.Answer.TheVariants as answers
 use Rattle.craq_model.specs.declared.step.Out.{Out}
 use Rattle.craq_model.specs.declared.step.Out.TheVariants as outs
@@ -29,6 +29,7 @@ use Rattle.craq_model.specs.Sends.{send_all, to_neighbour, entry_bodies}
 use Rattle.craq_model.specs.Settle.{Turn}
 use Rattle.craq_model.specs.Spelled.{IsReply, IsNotStale, IsSpelledEntry}
 use Rattle.craq_node_invariant.specs.Sound.{IsSound, IsSpelledCommand}
+use Rattle.craq_node_invariant.proofs.Applicable.{entry_is_applicable}
 use Rattle.craq_node_invariant.proofs.Entries.{with_entries_is, entries_sent}
 use Rattle.craq_node_invariant.proofs.Evaluations.{IsSoundOutcome, outcome_is}
 use Rattle.craq_node_invariant.proofs.Lists.{all_append, all_like, all_map, each, found_is}
@@ -56,6 +57,7 @@ accepted_is p os s a = (
     state = s.state;
     entries = s.entries;
     placed = s.placed;
+    applicable = s.applicable;
     gathering = s.gathering;
     replies = s.replies;
     tickets = s.tickets;
@@ -77,6 +79,7 @@ waits p u s r h = record {
   state = s.state;
   entries = s.entries;
   placed = s.placed;
+  applicable = s.applicable;
   gathering = s.gathering;
   replies = all_append (λ (u : WaitingUpdate). IsReply u.reply) p.waiting_updates (u ∷ []) s.replies (h, tt);
   tickets = s.tickets;
@@ -138,15 +141,15 @@ said_is p client number s = said_of_is (window_of (newest p) client) number (rep
 -- ---- the turn
 
 pub update_is : (p : Plain) (u : Update) (o : Option Reply) → IsSound p → p.ready ≡ true → IsSpelledCommand u.command → all_of_chain p.name.chain (objects_named u.command) ≡ true
-    → MatchOption o ⊤ IsReply → IsSoundIfTaken (update_turn p u o)
+    → MatchOption o ⊤ IsReply → (o ≡ None → is_new_to (newest p) u.client u.number ≡ true) → IsSoundIfTaken (update_turn p u o)
 unfolding update_turn
-update_is p u (Some reply) s r c h a = replies_after p (position_of p u.client) reply [] s r a tt
-update_is p u None s r c h a =
+update_is p u (Some reply) s r c h a n = replies_after p (position_of p u.client) reply [] s r a tt
+update_is p u None s r c h a n =
     let m : Objects = (newest p).objects in
     let o : Outcome = eval m u.command in
     let e : Entry = entry_of p u o in
     let i : IsSpelledEntry e = entry_of_is p u o s (outcome_is m p.name.chain u.command (newest_is p s).versions c h) in
     cond_both (length_of p == greatest || some_used_up m (objects_named u.command)) (Err refusals.Exhausted) (new_update_turn p e) (λ (r : Result Turn Refusal). IsSoundIfTaken r)
     (λ b. tt)
-    (λ b. replies_after (with_entry p e) e.position e.reply (to_neighbour (successor p) (λ to. send_all p to (entry_bodies (e ∷ [])))) (with_entries_is p (e ∷ []) s (i, tt) (refl, tt)) r i.reply
+    (λ b. replies_after (with_entry p e) e.position e.reply (to_neighbour (successor p) (λ to. send_all p to (entry_bodies (e ∷ [])))) (with_entries_is p (e ∷ []) s (i, tt) (refl, tt) (entry_is_applicable p u o (n refl))) r i.reply
     (entries_sent p (e ∷ []) (length_of p + 1) s (s.own, s.in_epoch r) (i, tt) (refl, tt)))

@@ -21,6 +21,7 @@ use Rattle.craq_model.specs.declared.step.Out.TheVariants as outs
 use Rattle.craq_model.specs.declared.waiting.WaitingRead.{WaitingRead}
 use Rattle.craq_model.specs.declared.waiting.WaitingUpdate.{WaitingUpdate}
 use Rattle.craq_model.specs.declared.gathering.Gathering.{Gathering}
+use Rattle.craq_model.specs.Deliveries.{are_applicable}
 use Rattle.craq_model.specs.Parts.{joined_state}
 use Rattle.craq_model.specs.Plain.{Plain, id_of, length_of}
 use Rattle.craq_model.specs.Spelled.{IsObjectRead, IsReply, IsSpelled, IsSpelledEntry, IsSpelledWindow}
@@ -60,6 +61,7 @@ pub record IsSound (p : Plain) : Type 0 where
   pub state : IsSoundState p.past.base_state  -- the state before its entries
   pub entries : AllByRecursion IsSpelledEntry p.past.entries  -- any of them may be sent again
   pub placed : AreInRow (p.past.base + 1) p.past.entries  -- and entries in a row are sent as one message
+  pub applicable : are_applicable p.past.base_state p.past.entries ≡ true  -- each writes the next versions of its objects, under a new number
   pub gathering : IsSoundIfAny p.gathering  -- what it gathers may take its history's place
   pub replies : AllByRecursion (λ (u : WaitingUpdate). IsReply u.reply) p.waiting_updates  -- what will be answered is a reply
   pub tickets : AllByRecursion (λ (r : WaitingRead). 1 ≤ r.ticket) p.waiting_reads  -- tickets count from 1

@@ -5,7 +5,7 @@ use Rattle.std.specs.Prelude.{if◌then◌else◌}
 use Rattle.craq_names.specs.Maps.{same_bytes}
 use Rattle.craq_commands.specs.declared.entry.Write.{Write}
 use Rattle.craq_model.specs.Past.{values_in}
-use Rattle.craq_versions.specs.declared.list.WriteRef.{WriteRef}
+use Rattle.craq_versions.specs.declared.places.WriteRef.{WriteRef}
 use Rattle.craq_settled.specs.Placed.{count_of}
 
 -- the first of some writes gives one, or none

@@ -4,7 +4,7 @@ use Rattle.std.proofs.lemmas.List.{get_or-drop, length-drop, take-append-le}
 use Rattle.craq_commands.specs.declared.entry.Entry.{Entry}
 use Rattle.craq_node_invariant.specs.Sound.{AreInRow}
 use Rattle.craq_log.specs.Suffixed.{Suffixed, length_of}
-use Rattle.craq_versions.specs.declared.list.WriteRef.{WriteRef}
+use Rattle.craq_versions.specs.declared.places.WriteRef.{WriteRef}
 use Rattle.craq_settled.specs.Listed.{AreListed, written_in, written_after}
 use Rattle.craq_settled.specs.Placed.{Placed, KeepsLater, later_of}
 use Rattle.craq_settled.proofs.Placing.{none_more}

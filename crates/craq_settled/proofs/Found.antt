@@ -8,7 +8,7 @@ use Rattle.craq_log.specs.Suffixed.{Suffixed}
 use Rattle.craq_model.specs.Past.{newest_within, values_in, values_after}
 use Rattle.craq_plain.specs.Scans.{last_value}
 use Rattle.craq_plain.proofs.Scans.{last_value-append}
-use Rattle.craq_versions.specs.declared.list.WriteRef.{WriteRef}
+use Rattle.craq_versions.specs.declared.places.WriteRef.{WriteRef}
 use Rattle.craq_settled.specs.Listed.{Gives}
 
 clash : {A : Type 0} (x : A) → Some x ≡ None → ⊥

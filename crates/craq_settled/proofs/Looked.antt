@@ -7,8 +7,8 @@ use Rattle.craq_commands.specs.declared.entry.Entry.{Entry}
 use Rattle.craq_commands.specs.declared.entry.Write.{Write}
 use Rattle.craq_log.specs.Suffixed.{Suffixed}
 use Rattle.craq_model.specs.Past.{values_in, values_after}
-use Rattle.craq_versions.specs.Versions.{Versions}
-use Rattle.craq_versions.specs.declared.list.WriteRef.{WriteRef}
+use Rattle.craq_versions.specs.PlacedVersions.{PlacedVersions}
+use Rattle.craq_versions.specs.declared.places.WriteRef.{WriteRef}
 use Rattle.craq_settled.specs.Listed.{AreListed, Gives, written_in, written_after}
 use Rattle.craq_settled.specs.Placed.{Placed, later_in, place_of}
 
@@ -65,7 +65,7 @@ seen s n key =
     seen_after s s.base 0 (take n s.entries) key none (λ j e h. let same : j ≡ 0 + j = omega arith in subst (λ (m : ℕ). slice_get s.entries m ≡ Some e) same (got_of_taken n s.entries j e h))
 
 -- of an object that has a place
-pub seen_in_place : (ps : Placed) (s : Suffixed) (listed : ℕ) (key : List ℕ) (v : Versions) → AreListed ps s listed → Some v ≡ place_of ps key → AllZip (Gives s) v.later (values_after (take (listed - s.base) s.entries) key)
+pub seen_in_place : (ps : Placed) (s : Suffixed) (listed : ℕ) (key : List ℕ) (v : PlacedVersions) → AreListed ps s listed → Some v ≡ place_of ps key → AllZip (Gives s) v.later (values_after (take (listed - s.base) s.entries) key)
 seen_in_place ps s listed key v are was =
     let n : ℕ = listed - s.base in
     let same : v.later ≡ written_after s.base (take n s.entries) key = ap later_in was ∙ are.later key in

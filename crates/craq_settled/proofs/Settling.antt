@@ -8,8 +8,8 @@ use Rattle.craq_commands.specs.declared.entry.Entry.{Entry}
 use Rattle.craq_commands.specs.declared.entry.Write.{Write}
 use Rattle.craq_log.specs.Suffixed.{Suffixed, IsFirstOf, length_of}
 use Rattle.craq_model.specs.Past.{values_in, values_after}
-use Rattle.craq_versions.specs.Versions.{Versions}
-use Rattle.craq_versions.specs.declared.list.WriteRef.{WriteRef}
+use Rattle.craq_versions.specs.PlacedVersions.{PlacedVersions}
+use Rattle.craq_versions.specs.declared.places.WriteRef.{WriteRef}
 use Rattle.craq_settled.specs.Listed.{AreListed, LaterAreSettled, written_in, written_after}
 use Rattle.craq_settled.specs.Placed.{Placed, KeepsLater, LaterWithout, count_of, later_of}
 use Rattle.craq_settled.proofs.Counts.{count_first, count_none}
@@ -52,7 +52,7 @@ count_only w key =
     sym (count_first w [] key ∙ ap (λ (n : ℕ). one + n) (count_none key) ∙ sum)
 
 -- the first is, into the place of the one object that it writes
-pub settled_in_place : (ps qs : Placed) (old new : Suffixed) (e : Entry) (w : Write) (v : Versions) → IsFirstOf e old new → e.writes ≡ w ∷ [] → IsWritten ps qs w.key v → v.later ≡ drop 1 (later_of ps w.key) → LaterAreSettled ps old qs new
+pub settled_in_place : (ps qs : Placed) (old new : Suffixed) (e : Entry) (w : Write) (v : PlacedVersions) → IsFirstOf e old new → e.writes ≡ w ∷ [] → IsWritten ps qs w.key v → v.later ≡ drop 1 (later_of ps w.key) → LaterAreSettled ps old qs new
 settled_in_place ps qs old new e w v first writes at is =
     first_settled ps qs old new e first (λ key.
     later_changed ps qs w.key v (drop 1) at is key ∙ oldest_gone (same_bytes w.key key) (later_of ps key)

@@ -3,7 +3,7 @@ use Rattle.std.proofs.Common.{◌≡◌, ℕ, zero, suc, ◌+◌, ◌-◌, ◌<�
 use Rattle.std.specs.Prelude.{if◌then◌else◌}
 use Rattle.craq_names.specs.Maps.{same_bytes}
 use Rattle.craq_commands.specs.declared.entry.Write.{Write}
-use Rattle.craq_versions.specs.declared.list.WriteRef.{WriteRef}
+use Rattle.craq_versions.specs.declared.places.WriteRef.{WriteRef}
 use Rattle.craq_settled.specs.Listed.{written_in}
 use Rattle.craq_settled.specs.Placed.{count_of}
 use Rattle.craq_settled.proofs.Counts.{count_first, count_none}

@@ -5,7 +5,7 @@ use Rattle.craq_commands.specs.declared.entry.Entry.{Entry}
 use Rattle.craq_commands.specs.declared.entry.Write.{Write}
 use Rattle.craq_model.specs.Past.{values_after}
 use Rattle.craq_log.specs.Suffixed.{Suffixed, length_of}
-use Rattle.craq_versions.specs.declared.list.WriteRef.{WriteRef}
+use Rattle.craq_versions.specs.declared.places.WriteRef.{WriteRef}
 use Rattle.craq_settled.specs.Placed.{Placed, later_of}
 
 -- where the writes of an entry give an object a version, from the write of an index on

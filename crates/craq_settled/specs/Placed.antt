@@ -9,14 +9,14 @@ use Rattle.craq_commands.specs.declared.state.State.{State}
 use Rattle.craq_commands.specs.Kept.{Window}
 use Rattle.craq_commands.specs.Objects.{Objects}
 use Rattle.craq_model.specs.Past.{values_in}
-use Rattle.craq_versions.specs.Versions.{Versions}
-use Rattle.craq_versions.specs.declared.list.WriteRef.{WriteRef}
+use Rattle.craq_versions.specs.PlacedVersions.{PlacedVersions}
+use Rattle.craq_versions.specs.declared.places.WriteRef.{WriteRef}
 
 -- places by rising key
 abbrev pub Placed : Type 0
-Placed = List (List ℕ × Versions)
+Placed = List (List ℕ × PlacedVersions)
 
-abbrev pub shown : Versions → Option (ℕ × List ℕ)
+abbrev pub shown : PlacedVersions → Option (ℕ × List ℕ)
 shown v = v.settled
 
 -- the objects whose settled versions stand in the places
@@ -28,7 +28,7 @@ abbrev pub state_at : Objects → List (ℕ × Window) → State
 state_at objects kept = record { objects = objects; kept = kept }
 
 -- what stands in the place of a key
-abbrev pub place_of : Placed → List ℕ → Option Versions
+abbrev pub place_of : Placed → List ℕ → Option PlacedVersions
 place_of ps key = lookup (is_at (key_cmp key)) ps
 
 -- the key has a place, be it empty
@@ -39,7 +39,7 @@ HasPlace ps key = IsSome (place_of ps key)
 abbrev pub KeepsPlaces : Placed → Placed → Type 0
 KeepsPlaces ps qs = (key : List ℕ) → HasPlace ps key → HasPlace qs key
 
-abbrev pub later_in : Option Versions → List WriteRef
+abbrev pub later_in : Option PlacedVersions → List WriteRef
 later_in None = []
 later_in (Some v) = v.later
 

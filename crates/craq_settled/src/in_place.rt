@@ -14,7 +14,7 @@ use craq_commands::{Entry, Write};
 use craq_log::Suffix;
 use craq_names::Items;
 use craq_replies::ReplyTable;
-use craq_versions::VersionList;
+use craq_versions::Place;
 use std::alloc::{AllocError, Global};
 
 /// The first of some entries.
@@ -26,7 +26,7 @@ pub fn first_of(entries: &Suffix) -> &Entry
 }
 
 /// Settles the version that is written of the one object.
-fn settle_with(place: &mut VersionList, writes: Items<Write>)
+fn settle_with(place: &mut Place, writes: Items<Write>)
     ensures settled { (w : Write) → writes ≡ w ∷ [] → place.new.settled ≡ Some (w.version, w.value) }
     ensures later { (w : Write) → writes ≡ w ∷ [] → place.new.later ≡ drop 1 place.old.later }
 {
@@ -37,7 +37,7 @@ fn settle_with(place: &mut VersionList, writes: Items<Write>)
 }
 
 /// Folds an entry that writes one object, of which this is the place; there is room for its reply. It takes no memory.
-fn fold_into(place: &mut VersionList, replies: &mut ReplyTable, entry: Entry)
+fn fold_into(place: &mut Place, replies: &mut ReplyTable, entry: Entry)
     requires { 0 < room_at replies.old entry.client }
     ensures settled { (w : Write) → entry.writes ≡ w ∷ [] → place.new.settled ≡ Some (w.version, w.value) }
     ensures later { (w : Write) → entry.writes ≡ w ∷ [] → place.new.later ≡ drop 1 place.old.later }

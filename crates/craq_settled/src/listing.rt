@@ -1,36 +1,46 @@
 //! Says in the places of objects where entries write them.
-ghost use Rattle.std.specs.Prelude.{◌≡◌, ℕ, ◌-◌, ◌<◌, ◌≤◌, List, [], ◌∷◌, ◌++◌, OnOk, OnErr, if◌then◌else◌, length, max, take};
+ghost use Rattle.std.specs.Prelude.{◌≡◌, ℕ, ◌-◌, ◌<◌, ◌≤◌, List, [], ◌∷◌, ◌++◌, None, IfOk, OnOk, OnErr, if◌then◌else◌, length, max, take};
 ghost use Rattle.std.specs.BTreeMap.{IsOrdered};
 ghost use Rattle.craq_names.specs.Maps.{key_cmp, same_bytes};
 ghost use Rattle.craq_log.specs.Suffixed.{length_of};
 ghost use Rattle.craq_settled.specs.Listed.{written_in, AreListed};
-ghost use Rattle.craq_settled.specs.Placed.{objects_of, later_of, HasPlace, KeepsLater, LaterTakenBack};
+ghost use Rattle.craq_settled.specs.Placed.{objects_of, later_of, place_of, KeepsLater, LaterTakenBack};
 
-use crate::objects::{Places, make_place};
+use crate::objects::Places;
 use craq_commands::Write;
 use craq_log::Suffix;
-use craq_names::{Key, Seq};
-use craq_versions::WriteRef;
+use craq_names::{Copied, Key, Seq};
+use craq_versions::{Place, WriteRef};
 use std::alloc::{AllocError, Global};
 
 /// How many entries at most are not listed, while memory is there: a look at so few costs less than a look-up.
 const MOST_UNLISTED: u64 = 4;
 
-/// One more version of an object that has a place.
-fn push_into(places: &mut Places, key: &Key, at: WriteRef) -> Result<(), AllocError>
-    requires { HasPlace places.old.entries key.now }
+/// A place of one version, which is written there.
+fn written_place(alloc: Global, at: WriteRef) -> Result<Place, AllocError>
+    ensures settled { IfOk result (λ place. place.settled ≡ None) }
+    ensures later { IfOk result (λ place. place.later ≡ at ∷ []) }
+{
+    let mut place = Place::new(alloc);
+    place.push(at)?;
+    Ok(place)
+}
+
+/// Puts in a place without a settled version for a key that has none. Where memory is refused the places stay.
+fn put_unsettled(places: &mut Places, key: Key, place: Place) -> Result<(), AllocError>
+    requires absent { place_of places.old.entries key ≡ None }
+    requires unsettled { place.settled ≡ None }
     ensures objects { objects_of places.new.entries ≡ objects_of places.old.entries }
-    ensures ok { OnOk result ((q : List ℕ) → later_of places.new.entries q ≡ later_of places.old.entries q ++ (if same_bytes key.now q then at ∷ [] else [])) }
+    ensures ok { OnOk result ((q : List ℕ) → later_of places.new.entries q ≡ later_of places.old.entries q ++ (if same_bytes key q then place.later else [])) }
     ensures err { OnErr result (KeepsLater places.old.entries places.new.entries) }
     ensures ordered { IsOrdered key_cmp places.new }
 {
-    match places.get_mut(key) {
-        Some(place) => place.push(at),
-        None => Ok(()),
-    }
+    places.insert(key, place)?;
+    Ok(())
 }
 
-/// One more version of an object, which is written there. Where memory is refused the versions stay.
+/// One more version of an object, which is written there. It looks the object up once, or twice where it has no place yet.
+/// Where memory is refused the versions stay.
 fn push_version(
     alloc: Global,
     places: &mut Places,
@@ -43,8 +53,14 @@ fn push_version(
     ensures err { OnErr result (KeepsLater places.old.entries places.new.entries) }
     ensures ordered { IsOrdered key_cmp places.new }
 {
-    make_place(alloc, places, key)?;
-    push_into(places, key, at)
+    match places.get_mut(key) {
+        Some(place) => place.push(at),
+        None => {
+            let place = written_place(alloc, at)?;
+            let key = key.copied(alloc)?;
+            put_unsettled(places, key, place)
+        }
+    }
 }
 
 /// Takes the newest of the later versions of an object back.

@@ -14,7 +14,7 @@ use crate::objects::Places;
 use craq_log::Suffix;
 use craq_names::{Key, Seq, Version};
 use craq_plain::lookups::{object_past, object_up_to};
-use craq_versions::{VersionList, WriteRef};
+use craq_versions::{Place, WriteRef};
 
 /// The version and value that are written there.
 fn written<'a>(entries: &'a Suffix, at: &WriteRef) -> (Version, &'a [u8])
@@ -29,7 +29,7 @@ fn written<'a>(entries: &'a Suffix, at: &WriteRef) -> (Version, &'a [u8])
 }
 
 /// The newest version and value in a place: the last of those that it lists, and the settled ones where it lists none.
-fn newest_of<'a>(entries: &'a Suffix, place: &'a VersionList) -> (Version, &'a [u8])
+fn newest_of<'a>(entries: &'a Suffix, place: &'a Place) -> (Version, &'a [u8])
     requires { (values : List (ℕ × List ℕ)) × AllZip (Gives entries.now) place.now.later values }
     ensures object { (values : List (ℕ × List ℕ)) → AllZip (Gives entries.now) place.now.later values → (result.0, result.1.now) ≡ last_value (unwrap_or place.now.settled (0, [])) values }
     ensures short { length result.1.now ≤ 4096 }
@@ -88,7 +88,7 @@ pub fn seen_in<'a>(places: &'a Places, entries: &'a Suffix, listed: Seq, key: &K
 /// The newest version and value in a place and in the entries that are not listed, from the settled ones on, that is at
 /// most so many above a version.
 fn within_place<'a>(
-    place: &'a VersionList,
+    place: &'a Place,
     entries: &'a Suffix,
     listed: Seq,
     key: &Key,

@@ -4,16 +4,16 @@ ghost use Rattle.std.specs.BTreeMap.{IsOrdered, get};
 ghost use Rattle.std.specs.FinMap.Entries.{is_sorted};
 ghost use Rattle.craq_names.specs.Maps.{key_cmp, put_key, same_bytes};
 ghost use Rattle.craq_commands.specs.Objects.{object_of, set_object};
-ghost use Rattle.craq_versions.specs.Versions.{no_versions};
+ghost use Rattle.craq_versions.specs.PlacedVersions.{no_versions};
 ghost use Rattle.craq_settled.specs.Placed.{objects_of, later_of, HasPlace, KeepsLater, KeepsPlaces};
 
 use craq_names::{Copied, Items, Key, Value, Version};
-use craq_versions::VersionList;
+use craq_versions::Place;
 use std::alloc::{AllocError, Global};
 use std::collections::BTreeMap;
 
 /// The places of keys, each with the versions of an object.
-pub type Places = BTreeMap<Key, VersionList>;
+pub type Places = BTreeMap<Key, Place>;
 
 /// The settled version and value of an object; version 0 and no bytes where it is absent. It takes no memory.
 pub fn object_in<'a>(places: &'a Places, key: &Key) -> (Version, &'a [u8])
@@ -39,11 +39,11 @@ pub fn make_place(alloc: Global, places: &mut Places, key: &Key) -> Result<(), A
     if places.contains_key(key) {
         return Ok(());
     }
-    put_empty(places, key.copied(alloc)?, VersionList::new(alloc))
+    put_empty(places, key.copied(alloc)?, Place::new(alloc))
 }
 
 // Puts in a place without versions for a key that has none.
-fn put_empty(places: &mut Places, key: Key, list: VersionList) -> Result<(), AllocError>
+fn put_empty(places: &mut Places, key: Key, list: Place) -> Result<(), AllocError>
     requires absent { get key_cmp places.old key ≡ None }
     requires empty { list ≡ no_versions }
     ensures objects { objects_of places.new.entries ≡ objects_of places.old.entries }
@@ -81,7 +81,7 @@ fn put_object(
     ensures later { OnOk result ((q : List ℕ) → later_of places.old.entries q ≡ [] → later_of places.new.entries q ≡ []) }
     ensures ordered { IsOrdered key_cmp places.new }
 {
-    places.insert(key, VersionList::of(alloc, version, value))?;
+    places.insert(key, Place::of(alloc, version, value))?;
     Ok(())
 }
 

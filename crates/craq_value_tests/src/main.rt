@@ -1,5 +1,5 @@
-//! Tests of names, commands, memberships, versions, entries, kept replies and held pasts with ample memory: prints
-//! what each call answers.
+//! Tests of names, commands, memberships, versions, places, entries, kept replies and held pasts with ample memory:
+//! prints what each call answers.
 #![tactic(auto)]
 
 mod commands;
@@ -8,6 +8,7 @@ mod held;
 mod masters;
 mod names;
 mod objects;
+mod places;
 mod replies;
 
 use std::fmt::Debug;
@@ -23,6 +24,7 @@ fn run<R: AllocGlobal + Print>(rt: &R) -> io::Result<()> {
     commands::run(rt)?;
     masters::run(rt)?;
     objects::run(rt)?;
+    places::run(rt)?;
     entries::run(rt)?;
     replies::run(rt)?;
     held::run(rt)

@@ -1,142 +1,273 @@
 //! The versions of one object in a list; run by `main`.
+ghost use Rattle.std.specs.Prelude.{IsTrue};
+ghost use Rattle.craq_versions.specs.Versions.{CanPush, CanSettle};
+ghost use Rattle.craq_versions.specs.Tables.{held_at};
+
 use crate::say;
-use craq_names::{Refusal, Seq, Value, Version};
-use craq_versions::{VersionList, WriteRef};
+use craq_names::{Key, Refusal, Value, Version};
+use craq_versions::{ObjectTable, VersionList};
 use std::alloc::Global;
 use std::io;
+
+/// Whether the version can be added.
+fn can_push(list: &VersionList<Value>, version: u64) -> bool
+    ensures { IsTrue result → CanPush list.now.versions version }
+{
+    match list.newest() {
+        None => version >= 1,
+        Some((newest, _)) => version >= 1 && newest.get() == version - 1,
+    }
+}
+
+/// Whether the version is held.
+fn can_settle(list: &VersionList<Value>, version: u64) -> bool
+    ensures { IsTrue result → CanSettle list.now.versions list.now.clean version }
+{
+    version >= 1 && list.get(Version::new(version)).is_some()
+}
 
 /// What is asked of the versions of an object.
 #[derive(Clone, Copy)]
 enum Ask {
-    /// The settled version and its value, as a place and as an object.
-    Settled,
-    /// Where the later versions are written, and the newest of them.
-    Later,
-    /// One more version, which the entry at a position writes by its write of an index.
-    Push(u64, usize),
-    Pop,
-    /// Settles this version, with a value of one byte.
-    Settle(u64, u8),
+    Ends,
+    Get(u64),
+    AtMost(u64),
+    Reserve(usize),
+    Push(u64, u8),
+    Settle(u64),
 }
 
-fn push(list: &mut VersionList, position: u64, index: usize) -> Result<(), Refusal> {
-    let position = Seq::new(position);
-    Ok(list.push(WriteRef { position, index })?)
+fn push(
+    alloc: Global,
+    list: &mut VersionList<Value>,
+    version: u64,
+    byte: u8,
+) -> Result<(), Refusal> {
+    if !can_push(list, version) {
+        return Err(Refusal::BadNumber);
+    }
+    Ok(list.push(Version::new(version), Value::new(alloc, &[byte])?)?)
 }
 
-fn settle(alloc: Global, list: &mut VersionList, version: u64, byte: u8) -> Result<(), Refusal> {
-    list.settle(Version::new(version), Value::new(alloc, &[byte])?);
+fn settle(list: &mut VersionList<Value>, version: u64) -> Result<(), Refusal> {
+    if !can_settle(list, version) {
+        return Err(Refusal::BadNumber);
+    }
+    list.settle(Version::new(version));
     Ok(())
 }
 
-fn print_settled<R: Print>(rt: &R, list: &VersionList) -> io::Result<()> {
-    let settled = list.settled();
-    let (version, bytes) = list.object();
-    println!(rt; "settled: {settled:?}, object: {version} {bytes:?}")
-}
-
-/// Each later version by the position of its entry and the index of its write.
-fn print_later<R: Print>(rt: &R, list: &VersionList) -> io::Result<()> {
-    print!(rt; "later:")?;
-    for at in list.later() {
-        let WriteRef { position, index } = *at;
-        print!(rt; " {position}.{index}")?;
-    }
+/// The newest version with its value, and the clean one.
+fn print_ends<R: Print>(rt: &R, list: &VersionList<Value>) -> io::Result<()> {
     let newest = list.newest();
-    println!(rt; ", newest: {newest:?}")
+    let clean = list.clean();
+    let is_empty = list.is_empty();
+    println!(rt; "newest {newest:?}, clean {clean}, empty {is_empty}")
 }
 
-fn answer<R>(rt: &R, list: &mut VersionList, ask: Ask) -> io::Result<()>
+fn print_version<R: Print>(rt: &R, list: &VersionList<Value>, version: u64) -> io::Result<()> {
+    let value = list.get(Version::new(version));
+    println!(rt; "get {version}: {value:?}")
+}
+
+fn print_at_most<R: Print>(rt: &R, list: &VersionList<Value>, bound: u64) -> io::Result<()> {
+    let found = list.at_most(Version::new(bound));
+    println!(rt; "at most {bound}: {found:?}")
+}
+
+fn answer<R>(rt: &R, list: &mut VersionList<Value>, ask: Ask) -> io::Result<()>
 where
     R: AllocGlobal + Print,
 {
     match ask {
-        Ask::Settled => print_settled(rt, list),
-        Ask::Later => print_later(rt, list),
-        Ask::Push(position, index) => say(rt, "push", push(list, position, index)),
-        Ask::Pop => {
-            list.pop();
-            println!(rt; "pop")
-        }
-        Ask::Settle(version, byte) => say(rt, "settle", settle(rt.alloc(), list, version, byte)),
+        Ask::Ends => print_ends(rt, list),
+        Ask::Get(version) => print_version(rt, list, version),
+        Ask::AtMost(bound) => print_at_most(rt, list, bound),
+        Ask::Reserve(additional) => say(rt, "reserve", list.reserve(additional)),
+        Ask::Push(version, byte) => say(rt, "push", push(rt.alloc(), list, version, byte)),
+        Ask::Settle(version) => say(rt, "settle", settle(list, version)),
     }
 }
 
-fn ask_all<R>(rt: &R, list: &mut VersionList, asks: &[Ask]) -> io::Result<()>
-where
-    R: AllocGlobal + Print,
-{
+fn ask_all<R: AllocGlobal + Print>(rt: &R, asks: &[Ask]) -> io::Result<()> {
+    let mut list = VersionList::new(rt.alloc());
     for ask in asks {
-        answer(rt, list, *ask)?;
+        answer(rt, &mut list, *ask)?;
     }
     Ok(())
 }
 
-/// Asks a list that is empty at first.
-fn ask_new<R: AllocGlobal + Print>(rt: &R, asks: &[Ask]) -> io::Result<()> {
-    ask_all(rt, &mut VersionList::new(rt.alloc()), asks)
-}
+static ABSENT: [Ask; 3] = [Ask::Ends, Ask::AtMost(9), Ask::Get(1)];
 
-/// Asks a list that has version 7 settled at first.
-fn ask_settled<R: AllocGlobal + Print>(rt: &R, asks: &[Ask]) -> io::Result<()> {
-    match Value::new(rt.alloc(), b"s") {
-        Ok(value) => {
-            let mut list = VersionList::of(rt.alloc(), Version::new(7), value);
-            ask_all(rt, &mut list, asks)
-        }
-        Err(refusal) => say(rt, "value", refusal),
+static SETTLED: [Ask; 12] = [
+    Ask::Push(4, b'a'),
+    Ask::Push(5, b'b'),
+    Ask::Push(6, b'c'),
+    Ask::Ends,
+    Ask::Settle(5),
+    Ask::Ends,
+    Ask::Get(4),
+    Ask::Get(5),
+    Ask::Get(7),
+    Ask::AtMost(4),
+    Ask::AtMost(5),
+    Ask::AtMost(9),
+];
+
+static RESERVED: [Ask; 4] = [
+    Ask::Reserve(2),
+    Ask::Push(1, b'a'),
+    Ask::Push(2, b'b'),
+    Ask::Ends,
+];
+
+/// Whether the version of the key can be added.
+fn can_push_at(table: &ObjectTable<Value>, key: &Key, version: u64) -> bool
+    ensures { IsTrue result → CanPush (held_at table.now key.now).versions version }
+{
+    match table.list(key) {
+        None => version >= 1,
+        Some(list) => can_push(list, version),
     }
 }
 
-static ABSENT: [Ask; 5] = [Ask::Settled, Ask::Later, Ask::Pop, Ask::Settled, Ask::Later];
+/// Whether the version of the key is held.
+fn can_settle_at(table: &ObjectTable<Value>, key: &Key, version: u64) -> bool
+    ensures { IsTrue result → CanSettle (held_at table.now key.now).versions (held_at table.now key.now).clean version }
+{
+    match table.list(key) {
+        None => false,
+        Some(list) => can_settle(list, version),
+    }
+}
 
-// Written three times before its first version is settled.
-static CREATED: [Ask; 10] = [
-    Ask::Push(11, 0),
-    Ask::Push(12, 3),
-    Ask::Push(14, 1),
-    Ask::Settled,
-    Ask::Later,
-    Ask::Settle(1, b'a'),
-    Ask::Settled,
-    Ask::Later,
-    Ask::Settle(2, b'b'),
-    Ask::Later,
+/// What is asked of a table, of a key of one byte.
+#[derive(Clone, Copy)]
+enum TableAsk {
+    List,
+    ReserveKey,
+    /// Room for the key and for `b`.
+    Reserve,
+    Push(u64, u8),
+    Settle(u64),
+}
+
+fn push_at(
+    alloc: Global,
+    table: &mut ObjectTable<Value>,
+    key: &Key,
+    version: u64,
+    byte: u8,
+) -> Result<(), Refusal> {
+    if !can_push_at(table, key, version) {
+        return Err(Refusal::BadNumber);
+    }
+    let value = Value::new(alloc, &[byte])?;
+    Ok(table.push(key, Version::new(version), value)?)
+}
+
+fn settle_at(table: &mut ObjectTable<Value>, key: &Key, version: u64) -> Result<(), Refusal> {
+    if !can_settle_at(table, key, version) {
+        return Err(Refusal::BadNumber);
+    }
+    table.settle(key, Version::new(version));
+    Ok(())
+}
+
+fn reserve_two(alloc: Global, table: &mut ObjectTable<Value>, key: &Key) -> Result<(), Refusal> {
+    let keys = [Key::new(alloc, b"b")?, Key::new(alloc, key.as_slice())?];
+    Ok(table.reserve(&keys)?)
+}
+
+fn print_list<R: Print>(rt: &R, table: &ObjectTable<Value>, key: &Key) -> io::Result<()> {
+    match table.list(key) {
+        None => println!(rt; "none"),
+        Some(list) => print_ends(rt, list),
+    }
+}
+
+fn answer_at<R>(rt: &R, table: &mut ObjectTable<Value>, key: &Key, ask: TableAsk) -> io::Result<()>
+where
+    R: AllocGlobal + Print,
+{
+    match ask {
+        TableAsk::List => print_list(rt, table, key),
+        TableAsk::ReserveKey => say(rt, "reserve", table.reserve_key(key)),
+        TableAsk::Reserve => say(rt, "reserve", reserve_two(rt.alloc(), table, key)),
+        TableAsk::Push(version, byte) => {
+            say(rt, "push", push_at(rt.alloc(), table, key, version, byte))
+        }
+        TableAsk::Settle(version) => say(rt, "settle", settle_at(table, key, version)),
+    }
+}
+
+fn print_keys<R: Print>(rt: &R, table: &ObjectTable<Value>) -> io::Result<()> {
+    for key in table.keys() {
+        println!(rt; "{key:?}")?;
+    }
+    Ok(())
+}
+
+/// The versions of each key of a table.
+fn print_objects<R: Print>(rt: &R, table: &ObjectTable<Value>) -> io::Result<()> {
+    for (_, list) in table.iter() {
+        print_ends(rt, list)?;
+    }
+    Ok(())
+}
+
+fn ask_table<R>(rt: &R, asks: &[(u8, TableAsk)]) -> io::Result<()>
+where
+    R: AllocGlobal + Print,
+{
+    let mut table = ObjectTable::new(rt.alloc());
+    for (byte, ask) in asks {
+        print!(rt; "key {byte}: ")?;
+        match Key::new(rt.alloc(), &[*byte]) {
+            Ok(key) => answer_at(rt, &mut table, &key, *ask)?,
+            Err(refusal) => say(rt, "key", refusal)?,
+        }
+    }
+    print_keys(rt, &table)?;
+    print_objects(rt, &table)
+}
+
+static SHOWN: [(u8, TableAsk); 6] = [
+    (b'k', TableAsk::List),
+    (b'z', TableAsk::ReserveKey),
+    (b'z', TableAsk::List),
+    (b'k', TableAsk::Push(1, b'x')),
+    (b'k', TableAsk::List),
+    (b'a', TableAsk::List),
 ];
 
-static TAKEN_BACK: [Ask; 9] = [
-    Ask::Settled,
-    Ask::Push(31, 0),
-    Ask::Push(32, 0),
-    Ask::Pop,
-    Ask::Later,
-    Ask::Push(33, 2),
-    Ask::Later,
-    Ask::Settle(8, b'c'),
-    Ask::Settled,
+static TABLE_SETTLED: [(u8, TableAsk); 3] = [
+    (b'b', TableAsk::Push(1, b'x')),
+    (b'b', TableAsk::Settle(1)),
+    (b'b', TableAsk::List),
 ];
 
-// Every later version goes, by a pop or as it is settled, and others come after.
-static EMPTIED: [Ask; 9] = [
-    Ask::Push(51, 0),
-    Ask::Pop,
-    Ask::Later,
-    Ask::Push(52, 0),
-    Ask::Settle(8, b'd'),
-    Ask::Later,
-    Ask::Push(53, 1),
-    Ask::Later,
-    Ask::Settled,
+static RISING: [(u8, TableAsk); 3] = [
+    (b'c', TableAsk::ReserveKey),
+    (b'b', TableAsk::Push(7, b'x')),
+    (b'a', TableAsk::Push(9, b'y')),
 ];
 
-// Settled though no later version is held.
-static SETTLED_AT_ONCE: [Ask; 3] = [Ask::Settle(9, b'e'), Ask::Settled, Ask::Later];
+static TABLE_RESERVED: [(u8, TableAsk); 1] = [(b'a', TableAsk::Reserve)];
 
-/// The versions of one object.
+static TABLE_PUSHED: [(u8, TableAsk); 2] = [
+    (b'a', TableAsk::Reserve),
+    (b'a', TableAsk::Push(1, b'x')),
+];
+
+/// The versions of one object, and those of a table of objects by rising key.
 pub(crate) fn run<R: AllocGlobal + Print>(rt: &R) -> io::Result<()> {
-    ask_new(rt, &ABSENT)?;
-    ask_new(rt, &CREATED)?;
-    ask_settled(rt, &TAKEN_BACK)?;
-    ask_settled(rt, &EMPTIED)?;
-    ask_settled(rt, &SETTLED_AT_ONCE)
+    ask_all(rt, &ABSENT)?;
+    ask_all(rt, &SETTLED)?;
+    ask_all(rt, &RESERVED)?;
+    ask_table(rt, &SHOWN)?;
+    ask_table(rt, &TABLE_SETTLED)?;
+    ask_table(rt, &RISING)?;
+    ask_table(rt, &TABLE_RESERVED)?;
+    ask_table(rt, &TABLE_PUSHED)
 }

@@ -1,1 +1,3 @@
+pub mod PlacedVersions
+pub mod Tables
 pub mod Versions

@@ -1,15 +1,64 @@
--- The versions of one object that a node holds.
-use Rattle.std.specs.Prelude.{ℕ, List, [], Option, None, Some}
-use Rattle.craq_versions.specs.declared.list.WriteRef.{WriteRef}
+-- Versions of one object, each with what it holds (a value, or where one is written): consecutive and rising. At most one is
+-- clean, the first.
+use Rattle.std.specs.Prelude.{◌≡◌, ◌⊎◌, ⊤, ℕ, ◌+◌, ◌≤◌, ◌^◌, ◌<◌, nat_le, Bool, IsTrue, if◌then◌else◌, List, [], ◌∷◌, filter, length, unwrap_or, Option, Some, None, IsSome}
+use Rattle.std.specs.List.{last_or}
+use Rattle.craq_names.specs.Maps.{at_number}
 
-pub record Versions : Type 0 where
-  pub settled : Option (ℕ × List ℕ)  -- the settled version with its value
-  pub later : List WriteRef  -- where the versions after it are written, oldest first
+pub record Versions (V : Type 0) : Type 0 where
+  pub versions : List (ℕ × V)  -- by rising version
+  pub clean : ℕ  -- the clean one, 0 where none is
+  pub room : ℕ  -- how many more take no memory
 
--- no versions
-abbrev pub no_versions : Versions
-no_versions = record { settled = None; later = [] }
+-- items as consecutive versions
+abbrev pub numbered : {V : Type 0} → ℕ → List V → List (ℕ × V)
+numbered first [] = []
+numbered first (held ∷ rest) = (first, held) ∷ numbered (first + 1) rest
 
--- one settled version
-abbrev pub settled_version : ℕ → List ℕ → Versions
-settled_version version value = record { settled = Some (version, value); later = [] }
+-- the newest version and what it holds
+abbrev pub newest_of : {V : Type 0} → List (ℕ × V) → Option (ℕ × V)
+newest_of vs = last_or None vs
+
+-- the newest version that is not above a bound
+abbrev pub newest_within : {V : Type 0} → List (ℕ × V) → ℕ → Option (ℕ × V)
+newest_within [] bound = None
+newest_within (v ∷ vs) bound = if nat_le v.0 bound then Some (unwrap_or (newest_within vs bound) v) else None
+
+-- the versions from this one on
+abbrev pub versions_from : {V : Type 0} → List (ℕ × V) → ℕ → List (ℕ × V)
+versions_from vs version = filter (λ v. nat_le version v.0) vs
+
+-- each version is one above the one before it
+abbrev pub AreConsecutive : {V : Type 0} → List (ℕ × V) → Type 0
+AreConsecutive [] = ⊤
+AreConsecutive (v ∷ []) = ⊤
+AreConsecutive (v ∷ w ∷ vs) = (w.0 ≡ v.0 + 1) × AreConsecutive (w ∷ vs)
+
+-- the first of them, 0 where there is none
+abbrev pub oldest_of : {V : Type 0} → List (ℕ × V) → ℕ
+oldest_of [] = 0
+oldest_of (v ∷ vs) = v.0
+
+-- versions of one object, of which this one is clean
+pub record AreVersions {V : Type 0} (vs : List (ℕ × V)) (clean : ℕ) : Type 0 where
+  pub consecutive : AreConsecutive vs
+  pub from_one : (vs ≡ []) ⊎ (1 ≤ oldest_of vs)
+  pub clean_is_first : (clean ≡ 0) ⊎ ((1 ≤ clean) × (clean ≡ oldest_of vs))
+
+-- the version is one above the newest, or there is none
+abbrev pub Follows : {V : Type 0} → ℕ → Option (ℕ × V) → Type 0
+Follows version None = ⊤
+Follows version (Some newest) = version ≡ newest.0 + 1
+
+-- the version can be added: it is the next, or any from 1 where there is none
+abbrev pub CanPush : {V : Type 0} → List (ℕ × V) → ℕ → Type 0
+CanPush vs version = (1 ≤ version) × Follows version (newest_of vs)
+
+-- the version can become the clean one: it is held, or is clean already
+abbrev pub CanSettle : {V : Type 0} → List (ℕ × V) → ℕ → ℕ → Type 0
+CanSettle vs clean version = (1 ≤ version) × ((version ≤ clean) ⊎ IsSome (at_number vs version))
+
+-- items that are stored as consecutive versions
+pub record IsStored {V : Type 0} (first : ℕ) (has_clean : Bool) (items : List V) : Type 0 where
+  pub from_one : 1 ≤ first
+  pub fits : first + length items ≤ 2 ^ 64
+  pub clean_is_held : IsTrue has_clean → 0 < length items

@@ -1,127 +1,171 @@
-ghost use Rattle.std.specs.Prelude.{◌≡◌, ◌-◌, ◌≤◌, [], ◌∷◌, ◌++◌, None, Some, drop, length, take, unwrap_or, OnOk, OnErr};
-ghost use Rattle.std.specs.List.{last_or};
-ghost use Rattle.std.specs.Option.{option_copied};
-ghost use Rattle.craq_versions.specs.Versions.{no_versions, settled_version};
+ghost use Rattle.std.specs.Prelude.{◌≡◌, ◌≢◌, ◌+◌, ◌-◌, ◌<◌, ◌≤◌, [], ◌∷◌, ◌++◌, ◌==◌, if◌then◌else◌, max, drop, length, IsOk, OnOk, OnErr, IsTrue, ◌↔◌};
+ghost use Rattle.std.specs.Option.{option_copied, option_map};
+ghost use Rattle.std.specs.VecDeque.{deque_len, deque_capacity};
+ghost use Rattle.craq_names.specs.Maps.{at_number};
+ghost use Rattle.craq_versions.specs.Versions.{newest_of, newest_within, versions_from, AreVersions, CanPush, CanSettle};
 
-use craq_names::{Seq, Value, Version};
+use craq_names::Version;
 use std::alloc::{AllocError, Global};
 use std::collections::VecDeque;
 use std::marker::Model;
 
-/// Which write of which entry: the position of the entry, and the index of the write among the entry's writes, from 0.
-#[derive(Clone, Copy, Debug)]
-pub struct WriteRef {
-    pub position: Seq,
-    pub index: usize,
-}
-
-/// The versions of one object that a node holds: the settled one with its value, and for each later one where an entry
-/// writes it, so that its value stands in that entry alone. A later version is dirty until its entry is known to be
-/// committed (clean and dirty versions as in the USENIX ATC 2009 paper).
+/// The versions of one object that a node holds, each with what is held of it, as its value: consecutive and rising. At most
+/// one is clean, the first; those after it are dirty (clean and dirty versions as in the USENIX ATC 2009 paper).
 #[derive(Drop)]
-pub struct VersionList {
-    settled: Option<(Version, Value)>,
-    later: VecDeque<WriteRef>,
+pub struct VersionList<V> {
+    first: u64,
+    has_clean: bool,
+    items: VecDeque<V>,
 }
 
-impl Model for VersionList {
-    ghost use Rattle.craq_versions.specs.Versions.{Versions};
+impl<V> Model for VersionList<V> {
+    ghost use Rattle.std.specs.Prelude.{◌-◌, if◌then◌else◌};
+    ghost use Rattle.std.specs.VecDeque.{deque_len, deque_capacity};
+    ghost use Rattle.craq_versions.specs.Versions.{Versions, numbered, IsStored};
 
-    ghost Value = { Versions };
+    ghost Value = { Versions V };
 
-    ghost view = { λ l. record { settled = l.settled; later = l.later.items } };
+    ghost view = { λ l. record {
+      versions = numbered l.first l.items.items;
+      clean = (if l.has_clean then l.first else 0);
+      room = deque_capacity l.items - deque_len l.items;
+    } };
+
+    ghost invariant = { λ l. IsStored l.first l.has_clean l.items.items };
 }
 
-impl VersionList {
+impl<V: Drop> VersionList<V> {
     /// No versions. It takes no memory.
     pub fn new(alloc: Global) -> Self
-        ensures { result ≡ no_versions }
+        ensures versions { result.versions ≡ [] }
+        ensures clean { result.clean ≡ 0 }
     {
         VersionList {
-            settled: None,
-            later: VecDeque::new(alloc),
+            first: 1,
+            has_clean: false,
+            items: VecDeque::new(alloc),
         }
     }
 
-    /// One settled version. It takes no memory.
-    pub fn of(alloc: Global, version: Version, value: Value) -> Self
-        ensures { result ≡ settled_version version value }
+    /// Whether there are no versions.
+    pub fn is_empty(&self) -> bool
+        ensures { IsTrue result ↔ (self.now.versions ≡ []) }
     {
-        VersionList {
-            settled: Some((version, value)),
-            later: VecDeque::new(alloc),
+        self.items.is_empty()
+    }
+
+    /// The newest version and what is held of it, where there is one. It takes no memory.
+    pub fn newest(&self) -> Option<(Version, &V)>
+        ensures { option_map (λ found. (found.0, found.1.now)) result ≡ newest_of self.now.versions }
+    {
+        match self.items.back() {
+            None => None,
+            Some(held) => Some((
+                Version::new(self.first + (self.items.len() as u64 - 1)),
+                held,
+            )),
         }
     }
 
-    /// The settled version with its value, where there is one. It takes no memory.
-    pub fn settled(&self) -> Option<&(Version, Value)>
-        ensures { option_copied result ≡ self.now.settled }
+    /// The clean version, 0 where none is clean. It takes no memory.
+    pub fn clean(&self) -> Version
+        ensures clean { result ≡ self.now.clean }
+        ensures versions { AreVersions self.now.versions self.now.clean }
     {
-        self.settled.as_ref()
+        Version::new(if self.has_clean { self.first } else { 0 })
     }
 
-    /// The settled version and its value; version 0 and no bytes where there is none. It takes no memory.
-    pub fn object(&self) -> (Version, &[u8])
-        ensures object { (result.0, result.1.now) ≡ unwrap_or self.now.settled (0, []) }
-        ensures short { length result.1.now ≤ 4096 }
+    /// What is held of a version, where it is one of them. It takes no memory.
+    pub fn get(&self, version: Version) -> Option<&V>
+        ensures { option_copied result ≡ at_number self.now.versions version }
     {
-        match &self.settled {
-            None => (Version::new(0), &[]),
-            Some((version, value)) => (*version, value.as_slice()),
+        let version = version.get();
+        if version < self.first {
+            return None;
         }
+        self.items.get((version - self.first) as usize)
     }
 
-    /// Where the newest of the later versions is written, where there is one. It takes no memory.
-    pub fn newest(&self) -> Option<&WriteRef>
-        ensures { option_copied result ≡ last_or None self.now.later }
+    /// The newest version that is not above the bound, and what is held of it. It takes no memory.
+    pub fn at_most(&self, bound: Version) -> Option<(Version, &V)>
+        ensures { option_map (λ found. (found.0, found.1.now)) result ≡ newest_within self.now.versions bound }
     {
-        self.later.back()
+        let bound = bound.get();
+        let count = self.items.len() as u64;
+        if bound < self.first {
+            return None;
+        }
+        if count == 0 {
+            return None;
+        }
+        let index = (bound - self.first).min(count - 1);
+        Some((
+            Version::new(self.first + index),
+            &self.items[index as usize],
+        ))
     }
 
-    /// Where the later versions are written, oldest first. It takes no memory.
-    pub fn later(&self) -> &VecDeque<WriteRef>
-        ensures { result.now.items ≡ self.now.later }
+    /// Makes room for this many more versions, whose `push` then takes no memory. The versions stay in either
+    /// case.
+    pub fn reserve(&mut self, additional: usize) -> Result<(), AllocError>
+        ensures versions { self.new.versions ≡ self.old.versions }
+        ensures clean { self.new.clean ≡ self.old.clean }
+        ensures ok { OnOk result (additional ≤ self.new.room) }
+        ensures room { self.old.room ≤ self.new.room }
+        ensures succeeds { additional ≤ self.old.room → IsOk result }
     {
-        &self.later
+        self.items.reserve(additional)
     }
 
-    /// One more version, which is written there. Where memory is refused the versions stay.
-    pub fn push(&mut self, at: WriteRef) -> Result<(), AllocError>
-        ensures settled { self.new.settled ≡ self.old.settled }
-        ensures ok { OnOk result (self.new.later ≡ self.old.later ++ at ∷ []) }
-        ensures err { OnErr result (self.new.later ≡ self.old.later) }
+    /// One more version, the next, with what is held of it. Where memory is refused the versions stay; where there is room
+    /// it isn't.
+    pub fn push(&mut self, version: Version, held: V) -> Result<(), AllocError>
+        requires { CanPush self.old.versions version }
+        ensures ok { OnOk result (self.new.versions ≡ self.old.versions ++ (version, held) ∷ []) }
+        ensures err { OnErr result (self.new.versions ≡ self.old.versions) }
+        ensures clean { self.new.clean ≡ self.old.clean }
+        ensures were_versions { AreVersions self.old.versions self.old.clean }
+        ensures room { self.old.room ≤ self.new.room + 1 }
+        ensures succeeds { 0 < self.old.room → IsOk result }
     {
-        self.later.reserve(1)?;
-        self.later.push_back_reserved(at);
+        let version = version.get();
+        self.items.reserve(1)?;
+        self.first = first_with(self.items.len(), self.first, version);
+        self.items.push_back_reserved(held);
         Ok(())
     }
 
-    /// Takes the newest of the later versions back, where there is one. It takes no memory.
-    pub fn pop(&mut self)
-        ensures settled { self.new.settled ≡ self.old.settled }
-        ensures later { self.new.later ≡ take (length self.old.later - 1) self.old.later }
+    /// Makes this version the clean one, and lets go those that are older. Nothing changes where it, or a newer
+    /// one, is clean already. It takes no memory.
+    pub fn settle(&mut self, version: Version)
+        requires { CanSettle self.old.versions self.old.clean version }
+        ensures versions { self.new.versions ≡ versions_from self.old.versions version }
+        ensures clean { self.new.clean ≡ max self.old.clean version }
+        ensures some { self.new.versions ≢ [] }
+        ensures room { self.old.room ≤ self.new.room }
     {
-        self.later.pop_back();
-        self.trim();
-    }
-
-    /// Settles this version, with its value: it takes the place of the settled one, and of the oldest of the later
-    /// ones, where there is one. It takes no memory.
-    pub fn settle(&mut self, version: Version, value: Value)
-        ensures settled { self.new.settled ≡ Some (version, value) }
-        ensures later { self.new.later ≡ drop 1 self.old.later }
-    {
-        self.settled = Some((version, value));
-        self.later.pop_front();
-        self.trim();
-    }
-
-    /// Lets go of the memory that later versions stood in, once there are none.
-    fn trim(&mut self)
-        ensures { self.new ≡ self.old }
-    {
-        if self.later.is_empty() {
-            self.later.shrink_to_fit();
+        let version = version.get();
+        if version < self.first {
+            return;
         }
+        let_go(&mut self.items, (version - self.first) as usize);
+        self.first = version;
+        self.has_clean = true;
     }
+}
+
+// The first version, once this one is pushed to so many.
+fn first_with(count: usize, first: u64, pushed: u64) -> u64
+    ensures { result ≡ (if count == 0 then pushed else first) }
+{
+    if count == 0 { pushed } else { first }
+}
+
+// Drops the first of the items, this many. The queue keeps its memory.
+fn let_go<V: Drop>(items: &mut VecDeque<V>, count: usize)
+    requires { count ≤ deque_len items.old }
+    ensures items { items.new.items ≡ drop count items.old.items }
+    ensures capacity { deque_capacity items.new ≡ deque_capacity items.old }
+{
+    items.drain(..count);
 }

@@ -1,5 +1,5 @@
 use Rattle.std.proofs.Common.{List, drop, ap, refl, ◌∙◌}
-use Rattle.craq_versions.specs.declared.list.WriteRef.{WriteRef}
+use Rattle.craq_versions.specs.declared.places.WriteRef.{WriteRef}
 use Rattle.craq_settled.specs.Placed.{count_of}
 use Rattle.craq_settled.proofs.Settling.{first_settled, none_settled}
 use Rattle.craq_settled.proofs.folding.fold_with_room.Goals as goal

@@ -1,7 +1,7 @@
 use Rattle.std.proofs.Common.{◌≡◌, ◌++◌, ◌-◌, ◌+◌, ◌<◌, ◌≤◌, ℕ, List, [], drop, take, unwrap_or, sym, ap, subst, ◌∙◌}
 use Rattle.std.specs.List.{AllZip}
 use Rattle.craq_model.specs.Past.{newest_within, values_after}
-use Rattle.craq_versions.specs.declared.list.WriteRef.{WriteRef}
+use Rattle.craq_versions.specs.declared.places.WriteRef.{WriteRef}
 use Rattle.craq_settled.specs.Listed.{Gives}
 use Rattle.craq_settled.proofs.Found.{above_bound, first_given, values_split, within_bound, within_ends, within_next}
 use Rattle.craq_settled.proofs.lookups.within_place.Goals as goal

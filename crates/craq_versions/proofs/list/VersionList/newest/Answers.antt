@@ -1,7 +1,8 @@
-use Rattle.craq_versions.proofs.Newest.{last_is}
+use Rattle.std.proofs.Common.{refl}
+use Rattle.craq_versions.proofs.Numbered.{newest_is, newest_none}
 use Rattle.craq_versions.proofs.list.VersionList.newest.Goals as goal
 
-pub returns : goal.returns
-returns c =
-    let all = c.self.inside.later.ok.0 in
-    rw (← c.self.view_is) (last_is c.self.inside.later.items c.back.result (rw all at c.back.ensures.variant) (rw all at c.back.ensures.lookup))
+pub returns-in-Some : goal.returns-in-Some
+returns-in-Some g c =
+    rw (← c.self.view_is, c.new.ensures, c.len.ensures)
+    (newest_is c.self.inside.first c.self.inside.items.len c.self.inside.items.items c.in-Some.held.now c.self.inside.items.ok.0 (c.in-Some.ensures.variant.0 refl) c.in-Some.ensures.lookup)

@@ -1,0 +1,261 @@
+-- Values as consecutive versions.
+use Rattle.std.proofs.Common.{◌≡◌, ℕ, zero, suc, ◌+◌, ◌-◌, ◌<◌, ◌≤◌, ◌^◌, ◌⊎◌, inl, inr, Bool, true, false, cond, min, List, [], ◌∷◌, ◌++◌, length, drop, get_or, Option, Some, None, refl, sym, ◌∙◌, ap, subst, arith, rules, length-append, length-drop}
+use Rattle.std.proofs.lemmas.Option.{slice_get_past, slice_get-get_or, slice_get_within}
+use Rattle.std.proofs.lemmas.Bool.{ltb-true, ltb-false}
+use Rattle.std.specs.Borrow.{Bor}
+use Rattle.std.specs.List.{last_or}
+use Rattle.std.specs.Option.{option_copied}
+use Rattle.std.specs.Prelude.{IfSome, is_some, nat_lt, ◌==◌, ◌↔◌, if◌then◌else◌, nat_le, unwrap_or, IsSome, IsTrue, slice_get}
+use Rattle.std.specs.Ordering.{nat_cmp, eq_by_cmp}
+use Rattle.craq_names.specs.Maps.{at_number}
+use Rattle.craq_versions.specs.Versions.{numbered, newest_of, Follows, newest_within, versions_from, AreConsecutive, CanPush, CanSettle, IsStored, AreVersions}
+
+pub length_numbered : {V : Type 0} (first : ℕ) (values : List V) → length (numbered first values) ≡ length values
+length_numbered first [] = refl
+length_numbered first (v ∷ values) = ap suc (length_numbered (first + 1) values)
+
+-- no versions are no values
+pub numbered_none : {V : Type 0} (first : ℕ) (values : List V) → numbered first values ≡ [] → values ≡ []
+numbered_none first [] h = refl
+numbered_none first (v ∷ values) h = cc
+
+-- versions go on where they are
+pub consecutive_numbered : {V : Type 0} (first : ℕ) (values : List V) → AreConsecutive (numbered first values)
+consecutive_numbered first [] = tt
+consecutive_numbered first (v ∷ []) = tt
+consecutive_numbered first (v ∷ w ∷ values) = (refl, consecutive_numbered (first + 1) (w ∷ values))
+
+last_numbered : {V : Type 0} (o : Option (ℕ × V)) (first : ℕ) (v d : V) (values : List V) → last_or o (numbered first (v ∷ values)) ≡ Some (first + length values, get_or (v ∷ values) (length values) d)
+last_numbered o first v d [] = let same : first ≡ first + 0 = omega arith in ap (λ (n : ℕ). Some (n, v)) same
+last_numbered o first v d (w ∷ values) =
+    let same : (first + 1) + length values ≡ first + suc (length values) = omega arith in
+    last_numbered (Some (first, v)) (first + 1) w d values ∙ ap (λ (n : ℕ). Some (n, get_or (w ∷ values) (length values) d)) same
+
+-- the newest version, and what is held of it
+pub newest_numbered : {V : Type 0} (first : ℕ) (values : List V) (d : V) → 0 < length values → newest_of (numbered first values) ≡ Some (first + (length values - 1), get_or values (length values - 1) d)
+newest_numbered first [] d some = absurd (omega arith)
+newest_numbered first (v ∷ values) d some =
+    let same : length values ≡ suc (length values) - 1 = omega arith in
+    last_numbered None first v d values ∙ ap (λ (n : ℕ). Some (first + n, get_or (v ∷ values) n d)) same
+
+-- nothing is the newest where there is nothing
+pub newest_none : {V : Type 0} (first : ℕ) (values : List V) → length values ≡ 0 → None ≡ newest_of (numbered first values)
+newest_none first [] none = refl
+newest_none first (v ∷ values) none = absurd (omega arith)
+
+-- one more
+pub numbered_more : {V : Type 0} (first : ℕ) (values : List V) (v : V) → numbered first (values ++ v ∷ []) ≡ numbered first values ++ (first + length values, v) ∷ []
+numbered_more first [] v = let same : first ≡ first + 0 = omega arith in ap (λ (n : ℕ). (n, v) ∷ []) same
+numbered_more first (w ∷ values) v =
+    let same : (first + 1) + length values ≡ first + suc (length values) = omega arith in
+    ap (λ rest. (first, w) ∷ rest) (numbered_more (first + 1) values v ∙ ap (λ (n : ℕ). numbered (first + 1) values ++ (n, v) ∷ []) same)
+
+tied : (q n : ℕ) → q ≡ n → eq_by_cmp nat_cmp q n ≡ true
+tied q n same = search (rules, same)
+
+apart : (q n : ℕ) → q < n → eq_by_cmp nat_cmp q n ≡ false
+apart q n below = search (rules, below)
+
+apart_above : (q n : ℕ) → n < q → eq_by_cmp nat_cmp q n ≡ false
+apart_above q n above = search (rules, above)
+
+-- a version below the first is not held
+pub found_below : {V : Type 0} (first q : ℕ) (values : List V) → q < first → at_number (numbered first values) q ≡ None
+found_below first q [] below = refl
+found_below first q (v ∷ values) below = ap (λ b. cond b (Some v) (at_number (numbered (first + 1) values) q)) (apart q first below) ∙ found_below (first + 1) q values (omega arith)
+
+-- a version from the first on
+pub found_at : {V : Type 0} (first q : ℕ) (values : List V) → first ≤ q → at_number (numbered first values) q ≡ slice_get values (q - first)
+found_at first q [] from = refl
+found_at first q (v ∷ values) from =
+    let pick : (n : ℕ) → q - first ≡ n → at_number (numbered first (v ∷ values)) q ≡ slice_get (v ∷ values) n = elim [
+      | zero ↦ λ e. ap (λ b. cond b (Some v) (at_number (numbered (first + 1) values) q)) (tied q first (omega arith))
+      | suc n ↦ λ e.
+          let rest : q - (first + 1) ≡ n = omega arith in
+          ap (λ b. cond b (Some v) (at_number (numbered (first + 1) values) q)) (apart_above q first (omega arith)) ∙ found_at (first + 1) q values (omega arith) ∙ ap (slice_get values) rest
+    ] in
+    pick (q - first) refl
+
+le_true : (m n : ℕ) → m ≤ n → nat_le m n ≡ true
+le_true m n le = search (rules, le)
+
+le_false : (m n : ℕ) → n < m → nat_le m n ≡ false
+le_false m n above = search (rules, above)
+
+-- a bound below the first
+pub within_below : {V : Type 0} (first bound : ℕ) (values : List V) → bound < first → newest_within (numbered first values) bound ≡ None
+within_below first bound [] below = refl
+within_below first bound (v ∷ values) below =
+    ap (λ b. cond b (Some (unwrap_or (newest_within (numbered (first + 1) values) bound) (first, v))) None) (le_false first bound below)
+
+-- a bound from the first on
+pub within_at : {V : Type 0} (first bound i : ℕ) (values : List V) (d : V) → first ≤ bound → 0 < length values → i ≡ min (bound - first) (length values - 1) → newest_within (numbered first values) bound ≡ Some (first + i, get_or values i d)
+within_at {V} first bound i [] d from some at = absurd (omega arith)
+within_at {V} first bound i (v ∷ []) d from some at =
+    let zero_at : 0 ≡ i = omega arith in
+    let same : first ≡ first + 0 = omega arith in
+    ap (λ b. cond b (Some (first, v)) None) (le_true first bound from) ∙ ap (λ (n : ℕ). Some (n, v)) same ∙ ap (λ (n : ℕ). Some (first + n, get_or (v ∷ []) n d)) zero_at
+within_at {V} first bound i (v ∷ w ∷ values) d from some at =
+    let open_le = ap (λ b. cond b (Some (unwrap_or (newest_within (numbered (first + 1) (w ∷ values)) bound) (first, v))) None) (le_true first bound from) in
+    let pick : (n : ℕ) → i ≡ n → Some (unwrap_or (newest_within (numbered (first + 1) (w ∷ values)) bound) (first, v)) ≡ Some (first + n, get_or (v ∷ w ∷ values) n d) = elim [
+      | zero ↦ λ e.
+          let same : first ≡ first + 0 = omega arith in
+          ap (λ (o : Option (ℕ × V)). Some (unwrap_or o (first, v))) (within_below (first + 1) bound (w ∷ values) (omega arith)) ∙ ap (λ (n : ℕ). Some (n, v)) same
+      | suc n ↦ λ e.
+          let same : (first + 1) + n ≡ first + suc n = omega arith in
+          ap (λ (o : Option (ℕ × V)). Some (unwrap_or o (first, v))) (within_at (first + 1) bound n (w ∷ values) d (omega arith) (omega arith) (omega arith)) ∙ ap (λ (m : ℕ). Some (m, get_or (w ∷ values) n d)) same
+    ] in
+    open_le ∙ pick i refl ∙ refl
+
+-- all versions are from one that is not above the first on
+pub from_all : {V : Type 0} (first version : ℕ) (values : List V) → version ≤ first → versions_from (numbered first values) version ≡ numbered first values
+from_all first version [] low = refl
+from_all first version (v ∷ values) low =
+    ap (λ b. cond b ((first, v) ∷ versions_from (numbered (first + 1) values) version) (versions_from (numbered (first + 1) values) version)) (le_true version first low) ∙ ap (λ rest. (first, v) ∷ rest) (from_all (first + 1) version values (omega arith))
+
+-- the versions from one on
+pub from_at : {V : Type 0} (first version : ℕ) (values : List V) → first ≤ version → versions_from (numbered first values) version ≡ numbered version (drop (version - first) values)
+from_at {V} first version [] from = let none : (n : ℕ) → drop n (let none : List V = [] in none) ≡ [] = elim [ zero ↦ refl | suc n ↦ refl ] in sym (ap (numbered version) (none (version - first)))
+from_at {V} first version (v ∷ values) from =
+    let pick : (n : ℕ) → version - first ≡ n → versions_from (numbered first (v ∷ values)) version ≡ numbered version (drop n (v ∷ values)) = elim [
+      | zero ↦ λ e.
+          let same : first ≡ version = omega arith in
+          from_all first version (v ∷ values) (omega arith) ∙ ap (λ (n : ℕ). numbered n (v ∷ values)) same
+      | suc n ↦ λ e.
+          let rest : version - (first + 1) ≡ n = omega arith in
+          ap (λ b. cond b ((first, v) ∷ versions_from (numbered (first + 1) values) version) (versions_from (numbered (first + 1) values) version)) (le_false version first (omega arith))
+          ∙ from_at (first + 1) version values (omega arith) ∙ ap (λ (n : ℕ). numbered version (drop n values)) rest
+    ] in
+    pick (version - first) refl
+
+-- the version that comes next
+next_version : {V : Type 0} (first : ℕ) (w : V) (values : List V) (version : ℕ) → Follows version (newest_of (numbered first (w ∷ values))) → version ≡ first + length (w ∷ values)
+next_version {V} first w values version follows =
+    let P : Option (ℕ × V) → Type 0 = λ o. Follows version o in
+    let next : version ≡ (first + (length (w ∷ values) - 1)) + 1 = subst P (newest_numbered first (w ∷ values) w (omega arith)) follows in
+    omega arith
+
+not_zero : (n : ℕ) → (suc n == 0) ≡ false
+not_zero n = search rules
+
+some_more : {V : Type 0} (values : List V) (m n : ℕ) → (if suc (length values) == 0 then m else n) ≡ n
+some_more values m n = ap (λ b. if b then m else n) (not_zero (length values))
+
+-- what stays stored with one more value: at its own version where it is the only one
+pub stored_more : {V : Type 0} (first first' version : ℕ) (has_clean : Bool) (values : List V) (v : V) → IsStored first has_clean values → CanPush (numbered first values) version → version < 2 ^ 64 → first' ≡ (if length values == 0 then version else first) → IsStored first' has_clean (values ++ v ∷ [])
+stored_more first first' version has_clean [] v h can small same =
+    let one : 1 ≤ version = can.0 in
+    record { from_one = omega arith; fits = omega arith; clean_is_held = λ held. omega arith }
+stored_more first first' version has_clean (w ∷ values) v h can small picked =
+    let same : first' ≡ first = picked ∙ some_more values version first in
+    let one : 1 ≤ first = h.from_one in
+    let next : version ≡ first + length (w ∷ values) = next_version first w values version can.1 in
+    record {
+      from_one = omega arith;
+      fits = omega (arith, length-append (w ∷ values) (v ∷ []));
+      clean_is_held = λ held. omega (arith, length-append (w ∷ values) (v ∷ []));
+    }
+
+-- the versions with one more
+pub versions_more : {V : Type 0} (first first' version : ℕ) (values : List V) (v : V) → CanPush (numbered first values) version → first' ≡ (if length values == 0 then version else first) → numbered first' (values ++ v ∷ []) ≡ numbered first values ++ (version, v) ∷ []
+versions_more first first' version [] v can same = ap (λ (n : ℕ). (n, v) ∷ []) same
+versions_more first first' version (w ∷ values) v can picked =
+    let same : first' ≡ first = picked ∙ some_more values version first in
+    let next : first + length (w ∷ values) ≡ version = sym (next_version first w values version can.1) in
+    ap (λ (n : ℕ). numbered n ((w ∷ values) ++ v ∷ [])) same ∙ numbered_more first (w ∷ values) v ∙ ap (λ (n : ℕ). numbered first (w ∷ values) ++ (n, v) ∷ []) next
+
+no_less : (i n : ℕ) → (i < n → false ≡ true) → n ≤ i
+no_less i n h =
+    let split : (b : Bool) → nat_lt i n ≡ b → n ≤ i = elim [ true ↦ λ e. let less : i < n = ltb-true i n e in let clash = h less in cc | false ↦ λ e. ltb-false i n e ] in
+    split (nat_lt i n) refl
+
+clash : true ≡ false → ⊥
+clash e = cc
+
+no_list : {V : Type 0} {v : ℕ × V} {vs : List (ℕ × V)} → v ∷ vs ≡ [] → ⊥
+no_list e = cc
+
+settled_case : {V : Type 0} (first version clean : ℕ) (values : List V) → (version ≤ clean) ⊎ IsSome (at_number (numbered first values) version) → version < first → version ≤ clean
+settled_case first version clean values (inl le) below = le
+settled_case first version clean values (inr held) below =
+    let none : false ≡ true = sym (ap is_some (found_below first version values below)) ∙ held in
+    absurd (clash (sym none))
+
+-- a value that is lent
+pub lent_is : {V : Type 0} (xs : List V) (i : ℕ) (r : Option (Bor V)) → (IsSome r ↔ (i < length xs)) → IfSome r (λ x. x.now ≡ get_or xs i x.now) → option_copied r ≡ slice_get xs i
+lent_is {V} xs i None some at =
+    let past : length xs ≤ i = no_less i (length xs) some.1 in
+    sym (slice_get_past xs i past)
+lent_is {V} xs i (Some x) some at =
+    let within : i < length xs = some.0 refl in
+    ap (λ (v : V). Some v) at ∙ sym (slice_get-get_or xs i x.now within)
+
+-- the value of a version that is looked for
+pub held_is : {V : Type 0} (first version count : ℕ) (values : List V) (r : Option (Bor V)) → count ≡ length values → first ≤ version → (IsSome r ↔ ((version - first) < count)) → IfSome r (λ x. x.now ≡ get_or values (version - first) x.now) → option_copied r ≡ at_number (numbered first values) version
+held_is first version count values r all from some at =
+    let P : ℕ → Type 0 = λ n. IsSome r ↔ ((version - first) < n) in
+    lent_is values (version - first) r (subst P all some) at ∙ sym (found_at first version values from)
+
+-- the newest version, where the last value is lent
+pub newest_is : {V : Type 0} (first count : ℕ) (values : List V) (v : V) → count ≡ length values → 0 < count → v ≡ get_or values (count - 1) v → Some (first + (count - 1), v) ≡ newest_of (numbered first values)
+newest_is {V} first count values v all some at =
+    ap (λ (x : V). Some (first + (count - 1), x)) at ∙ ap (λ (n : ℕ). Some (first + (n - 1), get_or values (n - 1) v)) all ∙ sym (newest_numbered first values v (omega arith))
+
+-- the newest version within a bound, where its value is lent
+pub within_is : {V : Type 0} (first bound count i : ℕ) (values : List V) (v : V) → count ≡ length values → first ≤ bound → 0 < count → i ≡ min (bound - first) (count - 1) → v ≡ get_or values i v → Some (first + i, v) ≡ newest_within (numbered first values) bound
+within_is {V} first bound count i values v all from some at is =
+    ap (λ (v : V). Some (first + i, v)) is ∙ sym (within_at first bound i values v from (omega arith) (omega arith))
+
+-- nothing is within a bound where there is nothing
+pub within_none : {V : Type 0} (first bound : ℕ) (values : List V) → length values ≡ 0 → None ≡ newest_within (numbered first values) bound
+within_none first bound [] none = refl
+within_none first bound (v ∷ values) none = absurd (omega arith)
+
+-- no versions are no values, and the other way round
+pub none_numbered : {V : Type 0} (first : ℕ) (values : List V) (b : Bool) → b ≡ (length values == 0) → IsTrue b ↔ (numbered first values ≡ [])
+none_numbered first [] b e = (λ h. refl, λ h. e)
+none_numbered first (v ∷ values) b e = (λ h. absurd (clash (sym h ∙ e ∙ not_zero (length values))), λ h. absurd (no_list h))
+
+held_within : {V : Type 0} (values : List V) (i : ℕ) → IsSome (slice_get values i) → i < length values
+held_within {V} values i held =
+    let split : (o : Option V) → slice_get values i ≡ o → is_some o ≡ true → i < length values = elim [ None ↦ λ e h. cc | Some x ↦ λ e h. slice_get_within values i x e ] in
+    split (slice_get values i) refl held
+
+settled_at : {V : Type 0} (first version : ℕ) (has_clean : Bool) (values : List V) → IsStored first has_clean values → 1 ≤ version → (version ≤ (if has_clean then first else 0)) ⊎ IsSome (at_number (numbered first values) version) → first ≤ version → version - first < length values
+settled_at first version true values h one (inl le) from = let some : 0 < length values = h.clean_is_held refl in omega arith
+settled_at first version false values h one (inl le) from = omega arith
+settled_at first version has_clean values h one (inr held) from = held_within values (version - first) (ap is_some (sym (found_at first version values from)) ∙ held)
+
+-- a version that may be settled, and is below the first, is clean already
+pub settled_below : {V : Type 0} (first version clean : ℕ) (values : List V) → CanSettle (numbered first values) clean version → version < first → version ≤ clean
+settled_below first version clean values can below = settled_case first version clean values can.1 below
+
+-- a version that may be settled, from the first on, is held
+pub settled_from : {V : Type 0} (first version : ℕ) (has_clean : Bool) (values : List V) → IsStored first has_clean values → CanSettle (numbered first values) (if has_clean then first else 0) version → first ≤ version → version - first < length values
+settled_from first version has_clean values h can from = settled_at first version has_clean values h can.0 can.1 from
+
+-- what stays stored from a version on
+pub stored_from : {V : Type 0} (first version : ℕ) (has_clean : Bool) (values : List V) → IsStored first has_clean values → first ≤ version → version - first < length values → IsStored version true (drop (version - first) values)
+stored_from first version has_clean values h from held =
+    let one : 1 ≤ first = h.from_one in
+    let fits : first + length values ≤ 2 ^ 64 = h.fits in
+    record {
+      from_one = omega arith;
+      fits = omega (arith, length-drop (version - first) values);
+      clean_is_held = λ clean. omega (arith, length-drop (version - first) values);
+    }
+
+-- what is stored are versions, of which the first may be clean
+pub versions_stored : {V : Type 0} (first : ℕ) (has_clean : Bool) (values : List V) → IsStored first has_clean values → AreVersions (numbered first values) (if has_clean then first else 0)
+versions_stored first has_clean [] h =
+    let split : (b : Bool) → (IsTrue b → 0 < 0) → (if b then first else 0) ≡ 0 = elim [ true ↦ λ some. absurd (omega (arith, some refl)) | false ↦ λ some. refl ] in
+    record { consecutive = tt; from_one = inl refl; clean_is_first = inl (split has_clean h.clean_is_held) }
+versions_stored first true (v ∷ values) h =
+    record { consecutive = consecutive_numbered first (v ∷ values); from_one = inr h.from_one; clean_is_first = inr (h.from_one, refl) }
+versions_stored first false (v ∷ values) h =
+    record { consecutive = consecutive_numbered first (v ∷ values); from_one = inr h.from_one; clean_is_first = inl refl }
+
+-- some values are some versions
+pub numbered_some : {V : Type 0} (first : ℕ) (values : List V) → 0 < length values → numbered first values ≡ [] → ⊥
+numbered_some first [] some e = omega arith
+numbered_some first (v ∷ values) some e = no_list e

@@ -1,0 +1,238 @@
+-- A table of lists, once the list of one key is written.
+use Rattle.std.specs.List.{AllByRecursion}
+use Rattle.std.proofs.Common.{map, zero, suc, take, get_or, add-one, ◌≡◌, ℕ, ◌+◌, ◌<◌, ◌≤◌, ◌≢◌, ◌⊎◌, inl, inr, ◌++◌, max, Bool, true, false, cond, List, [], ◌∷◌, Option, Some, None, refl, sym, ◌∙◌, ap, subst, arith}
+use Rattle.std.specs.Prelude.{unwrap_or, is_some, IsSome}
+use Rattle.std.specs.Option.{option_and_then}
+use Rattle.std.specs.Ordering.{is_eq}
+use Rattle.std.specs.declared.cmp.Ordering.{Ordering}
+use Rattle.std.specs.declared.cmp.Ordering.TheVariants.{Less, Equal, Greater}
+use Rattle.std.specs.Cmp.{tied_itself}
+use Rattle.std.specs.Cmp.Lexicographic.{nat_list_cmp_total, texts_ties}
+use Rattle.std.specs.List.Sorted.{IsStrictlySortedBy}
+use Rattle.std.specs.Map.{lookup, keys_of}
+use Rattle.std.specs.BTreeMap.{is_at}
+use Rattle.std.specs.FinMap.{IsAntisymmetric, nat_cmp-IsAntisymmetric, slice_cmp-IsAntisymmetric}
+use Rattle.std.specs.FinMap.Entries.{find}
+use Rattle.craq_names.specs.Maps.{key_cmp, at_key, put_key, same_bytes}
+use Rattle.craq_versions.specs.Versions.{Versions, AreVersions, CanSettle, versions_from}
+use Rattle.craq_names.specs.Places.{filled}
+use Rattle.craq_versions.specs.Tables.{Held, Entries, nothing, held_at, room_at, pushed, settled, unless_empty, held_in, shown, table_of, KeepsRoom, KeepsOthersRoom}
+use Rattle.craq_names.proofs.Places.{find_filled, keys_filled, is_sorted_of, filled_put, filled_same}
+
+abbrev pub list_of : {V : Type 0} → Entries V → List ℕ → Option (Versions V)
+list_of es key = lookup (is_at (key_cmp key)) es
+
+-- one key has this list, and the others theirs
+abbrev pub IsWritten : {V : Type 0} → Entries V → Entries V → List ℕ → Versions V → Type 0
+IsWritten es gs key list = (q : List ℕ) → list_of gs q ≡ cond (is_at (key_cmp key) q) (Some list) (list_of es q)
+
+exact : IsAntisymmetric key_cmp
+exact = slice_cmp-IsAntisymmetric nat_cmp-IsAntisymmetric
+
+found_is : {V : Type 0} (es : Entries V) (key : List ℕ) → find key_cmp key es ≡ list_of es key
+found_is [] key = refl
+found_is (e ∷ es) key = ap (cond (is_at (key_cmp key) e.0) (Some e.1)) (found_is es key)
+
+found_after : {V : Type 0} (es gs : Entries V) (key : List ℕ) (list : Versions V) → IsWritten es gs key list → (q : List ℕ) → find key_cmp q gs ≡ cond (is_at (key_cmp key) q) (Some list) (find key_cmp q es)
+found_after es gs key list at q = found_is gs q ∙ at q ∙ ap (cond (is_at (key_cmp key) q) (Some list)) (sym (found_is es q))
+
+-- what is held of a key
+pub held_found : {V : Type 0} (es : Entries V) (key : List ℕ) → IsStrictlySortedBy key_cmp (keys_of es) → at_key (filled shown es) key ≡ option_and_then shown (list_of es key)
+held_found es key rise = find_filled key_cmp shown nat_list_cmp_total key es (is_sorted_of key_cmp shown es rise) ∙ ap (option_and_then shown) (found_is es key)
+
+-- a list with versions is written
+pub objects_put : {V : Type 0} (es gs : Entries V) (key : List ℕ) (list : Versions V) (held : Held V) → shown list ≡ Some held → IsStrictlySortedBy key_cmp (keys_of es) → IsStrictlySortedBy key_cmp (keys_of gs) → IsWritten es gs key list → filled shown gs ≡ put_key (filled shown es) key held
+objects_put es gs key list held has was is at = filled_put key_cmp shown nat_list_cmp_total exact es gs key list held has was is (found_after es gs key list at)
+
+-- a list is written that shows what the key's list showed
+pub objects_same : {V : Type 0} (es gs : Entries V) (key : List ℕ) (list : Versions V) → shown list ≡ option_and_then shown (list_of es key) → IsStrictlySortedBy key_cmp (keys_of es) → IsStrictlySortedBy key_cmp (keys_of gs) → IsWritten es gs key list → filled shown gs ≡ filled shown es
+objects_same {V} es gs key list same was is at =
+    filled_same key_cmp shown nat_list_cmp_total exact es gs key list (same ∙ sym (ap (option_and_then shown) (found_is es key))) was is (found_after es gs key list at)
+
+abbrev pub room_in : {V : Type 0} → Option (Versions V) → ℕ
+room_in None = 0
+room_in (Some list) = list.room
+
+-- the room of a key is that of its list
+pub room_found : {V : Type 0} (es : Entries V) (key : List ℕ) → room_at (table_of es) key ≡ room_in (list_of es key)
+room_found [] key = refl
+room_found (e ∷ es) key =
+    let split : (b : Bool) → unwrap_or (cond b (Some e.1.room) (at_key (table_of es).rooms key)) 0 ≡ room_in (cond b (Some e.1) (list_of es key)) = elim [ true ↦ refl | false ↦ room_found es key ] in
+    split (is_at (key_cmp key) e.0)
+
+same_bytes_is : (key q : List ℕ) → is_at (key_cmp key) q ≡ same_bytes key q
+same_bytes_is key q = sym (texts_ties key q)
+
+-- the room of each key, once one list is written
+pub room_written : {V : Type 0} (es gs : Entries V) (key : List ℕ) (list : Versions V) → IsWritten es gs key list → (q : List ℕ) → room_at (table_of gs) q ≡ cond (is_at (key_cmp key) q) list.room (room_at (table_of es) q)
+room_written es gs key list at q =
+    let split : (b : Bool) → room_in (cond b (Some list) (list_of es q)) ≡ cond b list.room (room_in (list_of es q)) = elim [ true ↦ refl | false ↦ refl ] in
+    room_found gs q ∙ ap room_in (at q) ∙ split (is_at (key_cmp key) q) ∙ ap (cond (is_at (key_cmp key) q) list.room) (sym (room_found es q))
+
+told_equal : (key q : List ℕ) → is_at (key_cmp key) q ≡ true → key ≡ q
+told_equal key q h =
+    let split : (r : Ordering) → key_cmp key q ≡ r → is_eq r ≡ true → key ≡ q = elim [ Less ↦ λ e h. cc | Equal ↦ λ e h. exact key q e | Greater ↦ λ e h. cc ] in
+    split (key_cmp key q) refl h
+
+-- the key is at itself
+pub own_place : (key : List ℕ) → is_at (key_cmp key) key ≡ true
+own_place key = ap is_eq (tied_itself nat_list_cmp_total key)
+
+-- the room of the key itself
+pub room_here : {V : Type 0} (es gs : Entries V) (key : List ℕ) (list : Versions V) → IsWritten es gs key list → room_at (table_of gs) key ≡ list.room
+room_here es gs key list at = room_written es gs key list at key ∙ ap (λ b. cond b list.room (room_at (table_of es) key)) (own_place key)
+
+-- no key has less room, where the written list has no less
+pub rooms_kept : {V : Type 0} (es gs : Entries V) (key : List ℕ) (list : Versions V) → room_at (table_of es) key ≤ list.room → IsWritten es gs key list → KeepsRoom (table_of es) (table_of gs)
+rooms_kept es gs key list more at q =
+    let P : ℕ → Type 0 = λ n. room_at (table_of es) q ≤ n in
+    let split : (b : Bool) → is_at (key_cmp key) q ≡ b → room_at (table_of es) q ≤ cond b list.room (room_at (table_of es) q) = elim [
+      | true ↦ λ h. let Q : List ℕ → Type 0 = λ k. room_at (table_of es) k ≤ list.room in subst Q (told_equal key q h) more
+      | false ↦ λ h. omega arith
+    ] in
+    subst P (sym (room_written es gs key list at q)) (split (is_at (key_cmp key) q) refl)
+
+-- no other key has less room
+pub others_kept : {V : Type 0} (es gs : Entries V) (key : List ℕ) (list : Versions V) → IsWritten es gs key list → KeepsOthersRoom (table_of es) (table_of gs) key
+others_kept es gs key list at q other =
+    let P : ℕ → Type 0 = λ n. room_at (table_of es) q ≤ n in
+    let apart : is_at (key_cmp key) q ≡ false = same_bytes_is key q ∙ other in
+    let same : room_at (table_of gs) q ≡ room_at (table_of es) q = room_written es gs key list at q ∙ ap (λ b. cond b list.room (room_at (table_of es) q)) apart in
+    omega (arith, same)
+
+-- what is held of a key that has a list
+pub held_versions : {V : Type 0} (es : Entries V) (key : List ℕ) (old : Versions V) → IsStrictlySortedBy key_cmp (keys_of es) → Some old ≡ list_of es key → (held_at (table_of es) key).versions ≡ old.versions
+held_versions {V} es key old rise was =
+    let split : (vs : List (ℕ × V)) → (unwrap_or (unless_empty vs (record { versions = vs; clean = old.clean })) nothing).versions ≡ vs = elim [ [] ↦ refl | v ∷ vs ↦ refl ] in
+    ap (λ (o : Option (Held V)). (unwrap_or o nothing).versions) (held_found es key rise ∙ ap (option_and_then shown) (sym was)) ∙ split old.versions
+
+no_clean : (V : Type 0) (clean : ℕ) → AreVersions {V = V} [] clean → clean ≡ 0
+no_clean V clean h =
+    let split : (clean ≡ 0) ⊎ ((1 ≤ clean) × (clean ≡ 0)) → clean ≡ 0 = elim [ inl e ↦ e | inr e ↦ e.1 ] in
+    split h.clean_is_first
+
+unwrapped : {V : Type 0} (vs : List (ℕ × V)) (clean : ℕ) → AreVersions vs clean → unwrap_or (unless_empty vs (record { versions = vs; clean = clean })) nothing ≡ record { versions = vs; clean = clean }
+unwrapped {V} [] clean h = λ i. record { versions = []; clean = sym (no_clean V clean h) i }
+unwrapped {V} (v ∷ vs) clean h = refl
+
+pub held_here : {V : Type 0} (es : Entries V) (key : List ℕ) (old : Versions V) → IsStrictlySortedBy key_cmp (keys_of es) → Some old ≡ list_of es key → AreVersions old.versions old.clean → held_at (table_of es) key ≡ held_in old
+held_here {V} es key old rise was h =
+    ap (λ (o : Option (Held V)). unwrap_or o nothing) (held_found es key rise ∙ ap (option_and_then shown) (sym was)) ∙ unwrapped old.versions old.clean h
+
+some_shown : {V : Type 0} (list : Versions V) → list.versions ≢ [] → shown list ≡ Some (held_in list)
+some_shown {V} list some =
+    let split : (vs : List (ℕ × V)) → vs ≢ [] → unless_empty vs (held_in list) ≡ Some (held_in list) = elim [ [] ↦ λ no. absurd (no refl) | v ∷ vs ↦ λ no. refl ] in
+    split list.versions some
+
+not_nothing : {V : Type 0} (vs : List (ℕ × V)) (v : ℕ × V) → vs ++ v ∷ [] ≢ []
+not_nothing [] v e = cc
+not_nothing (w ∷ vs) v e = cc
+
+-- the table, once a version is pushed to the list of a key
+pub objects_pushed : {V : Type 0} (es gs : Entries V) (key : List ℕ) (old new : Versions V) (version : ℕ) (value : V) → IsStrictlySortedBy key_cmp (keys_of es) → IsStrictlySortedBy key_cmp (keys_of gs) → Some old ≡ list_of es key → IsWritten es gs key new → AreVersions old.versions old.clean → new.versions ≡ old.versions ++ (version, value) ∷ [] → new.clean ≡ old.clean → (table_of gs).objects ≡ put_key (table_of es).objects key (pushed (held_at (table_of es) key) version value)
+objects_pushed es gs key old new version value rise rises was at h versions clean =
+    let some : new.versions ≢ [] = λ e. not_nothing old.versions (version, value) (sym versions ∙ e) in
+    let same : held_in new ≡ pushed (held_in old) version value = λ i. record { versions = versions i; clean = clean i } in
+    objects_put es gs key new (held_in new) (some_shown new some) rise rises at
+    ∙ ap (put_key (filled shown es) key) (same ∙ ap (λ held. pushed held version value) (sym (held_here es key old rise was h)))
+
+shown_same : {V : Type 0} (old new : Versions V) → new.versions ≡ old.versions → new.clean ≡ old.clean → shown new ≡ shown old
+shown_same old new versions clean = λ i. unless_empty (versions i) (record { versions = versions i; clean = clean i })
+
+-- the table, where the list of a key has the same versions
+pub objects_stay : {V : Type 0} (es gs : Entries V) (key : List ℕ) (old new : Versions V) → IsStrictlySortedBy key_cmp (keys_of es) → IsStrictlySortedBy key_cmp (keys_of gs) → Some old ≡ list_of es key → IsWritten es gs key new → new.versions ≡ old.versions → new.clean ≡ old.clean → (table_of gs).objects ≡ (table_of es).objects
+objects_stay es gs key old new rise rises was at versions clean =
+    objects_same es gs key new (shown_same old new versions clean ∙ ap (option_and_then shown) was) rise rises at
+
+-- the table, once there is an empty list more
+pub objects_placed : {V : Type 0} (es gs : Entries V) (key : List ℕ) (new : Versions V) → IsStrictlySortedBy key_cmp (keys_of es) → IsStrictlySortedBy key_cmp (keys_of gs) → list_of es key ≡ None → IsWritten es gs key new → new.versions ≡ [] → (table_of gs).objects ≡ (table_of es).objects
+objects_placed es gs key new rise rises none at versions =
+    objects_same es gs key new (ap (λ vs. unless_empty vs (held_in new)) versions ∙ sym (ap (option_and_then shown) none)) rise rises at
+
+pub clash : true ≡ false → ⊥
+clash e = cc
+
+nothing_settles : (V : Type 0) (version : ℕ) → CanSettle {V = V} [] 0 version → ⊥
+nothing_settles V version can =
+    let absent : Option V = None in
+    let split : (version ≤ 0) ⊎ IsSome absent → ⊥ = elim [ inl le ↦ omega (arith, can.0, le) | inr held ↦ clash (sym held) ] in
+    split can.1
+
+-- what can be settled in a table can be settled in the key's list
+pub settles_in : {V : Type 0} (es : Entries V) (key : List ℕ) (old : Versions V) (version : ℕ) → IsStrictlySortedBy key_cmp (keys_of es) → Some old ≡ list_of es key → CanSettle (held_at (table_of es) key).versions (held_at (table_of es) key).clean version → (held_at (table_of es) key ≡ held_in old) × CanSettle old.versions old.clean version
+settles_in {V} es key old version rise was can =
+    let held : held_at (table_of es) key ≡ unwrap_or (shown old) nothing = ap (λ (o : Option (Held V)). unwrap_or o nothing) (held_found es key rise ∙ ap (option_and_then shown) (sym was)) in
+    let P : Held V → Type 0 = λ h. CanSettle h.versions h.clean version in
+    let inner = subst P held can in
+    let split : (vs : List (ℕ × V)) → CanSettle (unwrap_or (unless_empty vs (record { versions = vs; clean = old.clean })) nothing).versions (unwrap_or (unless_empty vs (record { versions = vs; clean = old.clean })) nothing).clean version → (unwrap_or (unless_empty vs (record { versions = vs; clean = old.clean })) nothing ≡ record { versions = vs; clean = old.clean }) × CanSettle vs old.clean version = elim [
+      | [] ↦ λ c. absurd (nothing_settles V version c)
+      | v ∷ vs ↦ λ c. (refl, c)
+    ] in
+    let both = split old.versions inner in
+    (held ∙ both.0, both.1)
+
+-- the table, once a version of a key is settled
+pub objects_settled : {V : Type 0} (es gs : Entries V) (key : List ℕ) (old new : Versions V) (version : ℕ) → IsStrictlySortedBy key_cmp (keys_of es) → IsStrictlySortedBy key_cmp (keys_of gs) → held_at (table_of es) key ≡ held_in old → IsWritten es gs key new → new.versions ≡ versions_from old.versions version → new.versions ≢ [] → new.clean ≡ max old.clean version → (table_of gs).objects ≡ put_key (table_of es).objects key (settled (held_at (table_of es) key) version)
+objects_settled es gs key old new version rise rises held at versions some clean =
+    let same : held_in new ≡ settled (held_in old) version = λ i. record { versions = versions i; clean = clean i } in
+    objects_put es gs key new (held_in new) (some_shown new some) rise rises at
+    ∙ ap (put_key (filled shown es) key) (same ∙ ap (λ h. settled h version) (sym held))
+
+-- a key without a list has nothing that can be settled
+pub none_settles : {V : Type 0} (es : Entries V) (key : List ℕ) (version : ℕ) → IsStrictlySortedBy key_cmp (keys_of es) → None ≡ list_of es key → CanSettle (held_at (table_of es) key).versions (held_at (table_of es) key).clean version → ⊥
+none_settles {V} es key version rise none can =
+    let held : held_at (table_of es) key ≡ nothing = ap (λ (o : Option (Held V)). unwrap_or o nothing) (held_found es key rise ∙ ap (option_and_then shown) (sym none)) in
+    let P : Held V → Type 0 = λ h. CanSettle h.versions h.clean version in
+    nothing_settles V version (subst P held can)
+
+-- a key without a list has no room
+pub no_room : {V : Type 0} (es : Entries V) (key : List ℕ) → false ≡ is_some (list_of es key) → 0 < room_at (table_of es) key → ⊥
+no_room {V} es key none room =
+    let split : (o : Option (Versions V)) → false ≡ is_some o → 0 < room_in o → ⊥ = elim [ None ↦ λ e h. omega arith | Some list ↦ λ e h. clash (sym e) ] in
+    let P : ℕ → Type 0 = λ n. 0 < n in
+    split (list_of es key) none (subst P (room_found es key) room)
+
+-- a test that found no list
+pub none_found : {V : Type 0} (es : Entries V) (key : List ℕ) → false ≡ is_some (list_of es key) → list_of es key ≡ None
+none_found {V} es key h =
+    let split : (o : Option (Versions V)) → false ≡ is_some o → o ≡ None = elim [ None ↦ λ h. refl | Some x ↦ λ h. absurd (clash (sym h)) ] in
+    split (list_of es key) h
+
+-- the room of a key that has a list
+pub room_old : {V : Type 0} (es : Entries V) (key : List ℕ) (old : Versions V) → Some old ≡ list_of es key → room_at (table_of es) key ≡ old.room
+room_old es key old was = room_found es key ∙ ap room_in (sym was)
+
+-- a key without a list has no more room than any
+pub no_list_room : {V : Type 0} (es : Entries V) (key : List ℕ) (room : ℕ) → list_of es key ≡ None → room_at (table_of es) key ≤ room
+no_list_room es key room none =
+    let zero_room : room_at (table_of es) key ≡ 0 = room_found es key ∙ ap room_in none in
+    omega arith
+
+-- what a look-up finds: a list with versions, or none
+pub shown_found : {V : Type 0} (es : Entries V) (key : List ℕ) (list : Versions V) → IsStrictlySortedBy key_cmp (keys_of es) → Some list ≡ list_of es key → list.versions ≢ [] → Some (held_in list) ≡ at_key (table_of es).objects key
+shown_found es key list rise was some = sym (some_shown list some) ∙ ap (option_and_then shown) was ∙ sym (held_found es key rise)
+
+pub none_shown : {V : Type 0} (es : Entries V) (key : List ℕ) → IsStrictlySortedBy key_cmp (keys_of es) → None ≡ list_of es key → None ≡ at_key (table_of es).objects key
+none_shown es key rise none = ap (option_and_then shown) none ∙ sym (held_found es key rise)
+
+pub empty_shown : {V : Type 0} (es : Entries V) (key : List ℕ) (list : Versions V) → IsStrictlySortedBy key_cmp (keys_of es) → Some list ≡ list_of es key → list.versions ≡ [] → None ≡ at_key (table_of es).objects key
+empty_shown es key list rise was none = sym (ap (λ vs. unless_empty vs (held_in list)) none) ∙ ap (option_and_then shown) was ∙ sym (held_found es key rise)
+
+take_none : (Q : List ℕ → Type 0) (xs : List (List ℕ)) → AllByRecursion Q (take 0 xs)
+take_none Q [] = tt
+take_none Q (x ∷ xs) = tt
+
+all_to_suc : (P Q : List ℕ → Type 0) (xs : List (List ℕ)) (i : ℕ) (x : List ℕ) → x ≡ get_or xs i x → ((y : List ℕ) → P y → Q y) → Q x → AllByRecursion P (take i xs) → AllByRecursion Q (take (suc i) xs)
+all_to_suc P Q [] i x is more last h = tt
+all_to_suc P Q (y ∷ xs) zero x is more last h = (subst Q is last, take_none Q xs)
+all_to_suc P Q (y ∷ xs) (suc i) x is more last h = (more y h.0, all_to_suc P Q xs i x is more last h.1)
+
+-- all up to one more
+pub all_to_next : (P Q : List ℕ → Type 0) (xs : List (List ℕ)) (i : ℕ) (x : List ℕ) → x ≡ get_or xs i x → ((y : List ℕ) → P y → Q y) → Q x → AllByRecursion P (take i xs) → AllByRecursion Q (take (i + 1) xs)
+all_to_next P Q xs i x is more last h = rw add-one (all_to_suc P Q xs i x is more last h)
+
+-- the keys that have versions rise
+pub rising_keys : {V : Type 0} (es : Entries V) (objects : List (List ℕ × Held V)) → objects ≡ filled shown es → IsStrictlySortedBy key_cmp (keys_of es) → IsStrictlySortedBy key_cmp (map (λ o. o.0) objects)
+rising_keys {V} es objects is rise =
+    let Rises : List (List ℕ × Held V) → Type 0 = λ l. IsStrictlySortedBy key_cmp (map (λ o. o.0) l) in
+    subst Rises (sym is) (keys_filled key_cmp shown es rise)

@@ -1,0 +1,122 @@
+ghost use Rattle.std.specs.Prelude.{◌≡◌, ◌+◌, ◌<◌, ◌≤◌, [], map, IsOk, OnOk, OnErr};
+ghost use Rattle.std.specs.Option.{option_map};
+ghost use Rattle.std.specs.List.{AllByRecursion};
+ghost use Rattle.std.specs.List.Sorted.{IsStrictlySortedBy};
+ghost use Rattle.craq_names.specs.Maps.{at_key, key_cmp, put_key};
+ghost use Rattle.craq_versions.specs.Versions.{CanPush, CanSettle};
+ghost use Rattle.craq_versions.specs.Tables.{held_at, held_in, room_at, pushed, settled, KeepsRoom, KeepsOthersRoom};
+
+use crate::lists::{Lists, place, push_in, reserve_in, settle_in};
+use crate::{Keys, Objects, VersionList};
+use craq_names::{Key, Version};
+use std::alloc::{AllocError, Global};
+use std::collections::BTreeMap;
+use std::marker::Model;
+
+/// The versions of the objects of a chain that a node holds, by key, each with what is held of it. A key for which only room
+/// was made has a list without versions, which no call shows.
+#[derive(Drop)]
+pub struct ObjectTable<V> {
+    lists: Lists<V>,
+    alloc: Global,
+}
+
+impl<V> Model for ObjectTable<V> {
+    ghost use Rattle.std.specs.BTreeMap.{IsOrdered};
+    ghost use Rattle.craq_names.specs.Maps.{key_cmp};
+    ghost use Rattle.craq_versions.specs.Tables.{Table, table_of};
+
+    ghost Value = { Table V };
+
+    ghost view = { λ t. table_of t.lists.entries };
+
+    ghost invariant = { λ t. IsOrdered key_cmp t.lists };
+}
+
+impl<V: Drop> ObjectTable<V> {
+    /// No versions of any key. It takes no memory.
+    pub fn new(alloc: Global) -> Self
+        ensures { result.objects ≡ [] }
+    {
+        ObjectTable {
+            lists: BTreeMap::new(alloc),
+            alloc,
+        }
+    }
+
+    /// Makes room for one more version of the key, whose `push` then takes no memory. The versions stay in
+    /// either case.
+    pub fn reserve_key(&mut self, key: &Key) -> Result<(), AllocError>
+        ensures objects { self.new.objects ≡ self.old.objects }
+        ensures room { KeepsRoom self.old self.new }
+        ensures ok { OnOk result (0 < room_at self.new key.now) }
+        ensures succeeds { 0 < room_at self.old key.now → IsOk result }
+    {
+        place(self.alloc, &mut self.lists, key)?;
+        reserve_in(&mut self.lists, key)
+    }
+
+    /// One more version of the key, the next, with what is held of it. Where memory is refused the versions stay;
+    /// where there is room it isn't.
+    pub fn push(&mut self, key: &Key, version: Version, held: V) -> Result<(), AllocError>
+        requires { CanPush (held_at self.old key.now).versions version }
+        ensures ok { OnOk result (self.new.objects ≡ put_key self.old.objects key.now (pushed (held_at self.old key.now) version held)) }
+        ensures err { OnErr result (self.new.objects ≡ self.old.objects) }
+        ensures room { room_at self.old key.now ≤ room_at self.new key.now + 1 }
+        ensures rooms { KeepsOthersRoom self.old self.new key.now }
+        ensures succeeds { 0 < room_at self.old key.now → IsOk result }
+    {
+        place(self.alloc, &mut self.lists, key)?;
+        push_in(&mut self.lists, key, version, held)
+    }
+
+    /// Makes room for one more version of each of these keys, whose next `push` then takes no memory. The
+    /// versions stay in either case.
+    pub fn reserve(&mut self, keys: &[Key]) -> Result<(), AllocError>
+        ensures objects { self.new.objects ≡ self.old.objects }
+        ensures room { KeepsRoom self.old self.new }
+        ensures ok { OnOk result (AllByRecursion (λ key. 0 < room_at self.new key) keys.now) }
+        ensures succeeds { AllByRecursion (λ key. 0 < room_at self.old key) keys.now → IsOk result }
+    {
+        for key in keys {
+            self.reserve_key(key)?;
+        }
+        Ok(())
+    }
+
+    /// Makes this version of the key the clean one, and lets go those that are older. Nothing changes where it,
+    /// or a newer one, is clean already. It takes no memory.
+    pub fn settle(&mut self, key: &Key, version: Version)
+        requires { CanSettle (held_at self.old key.now).versions (held_at self.old key.now).clean version }
+        ensures objects { self.new.objects ≡ put_key self.old.objects key.now (settled (held_at self.old key.now) version) }
+        ensures room { KeepsRoom self.old self.new }
+    {
+        settle_in(&mut self.lists, key, version);
+    }
+
+    /// The versions of a key, where it has some. It takes no memory.
+    pub fn list(&self, key: &Key) -> Option<&VersionList<V>>
+        ensures { option_map (λ list. held_in list.now) result ≡ at_key self.now.objects key.now }
+    {
+        match self.lists.get(key) {
+            None => None,
+            Some(list) => { if list.is_empty() { None } else { Some(list) } }
+        }
+    }
+
+    /// The keys that have versions, rising, each with its versions. It takes no memory.
+    pub fn iter(&self) -> Objects<'_, V>
+        ensures objects { result ≡ self.now.objects }
+        ensures rising { IsStrictlySortedBy key_cmp (map (λ o. o.0) result) }
+    {
+        Objects::of(self.lists.iter())
+    }
+
+    /// The keys that have versions, rising. It takes no memory.
+    pub fn keys(&self) -> Keys<'_, V>
+        ensures keys { result ≡ map (λ o. o.0) self.now.objects }
+        ensures rising { IsStrictlySortedBy key_cmp result }
+    {
+        Keys::of(self.iter())
+    }
+}

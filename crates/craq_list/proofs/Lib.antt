@@ -1,3 +1,4 @@
 pub mod Folds
 pub mod Forgets
 pub mod Observed
+pub mod Unsettled

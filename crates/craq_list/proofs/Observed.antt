@@ -1,5 +1,6 @@
 -- What is read of what is stored, by the past that it stands for.
 use Rattle.std.proofs.Common.{◌≡◌, ℕ, zero, suc, ◌+◌, ◌-◌, List, [], ◌∷◌, length, take, drop, refl, sym, ap, ◌∙◌, arith}
+use Rattle.std.proofs.lemmas.List.{take-append-drop}
 use Rattle.craq_commands.specs.declared.entry.Entry.{Entry}
 use Rattle.craq_commands.specs.declared.state.State.{State}
 use Rattle.craq_commands.specs.Kept.{Window}
@@ -9,9 +10,9 @@ use Rattle.craq_model.specs.Past.{Past, entries_in, newest_in, clean_in, newest_
 use Rattle.craq_compaction.specs.Compacted.{compacted_in}
 use Rattle.craq_compaction.proofs.Pasts.{compacted_newest, compacted_clean}
 use Rattle.craq_plain.specs.Scans.{last_value}
-use Rattle.craq_plain.specs.Slots.{is_new_in, reply_at, said_in, slots_after, slots_from}
+use Rattle.craq_plain.specs.Slots.{Slots, is_new_in, reply_at, said_in, slots_after, slots_from}
 use Rattle.craq_plain.proofs.Scans.{last_of_values}
-use Rattle.craq_plain.proofs.Windows.{said_after, new_later}
+use Rattle.craq_plain.proofs.Windows.{said_after, new_later, slots_further}
 
 -- the newest version of an object
 pub newest_told : (h : Past) (key : List ℕ) (o : ℕ × List ℕ) → o ≡ object_of (after_entries h.base_state h.entries).objects key → o ≡ object_of (newest_in (compacted_in h)).objects key
@@ -52,22 +53,39 @@ all_within_told h key bound none =
     let clean : h.base_state ≡ clean_in (compacted_in h) = ap (λ (es : List Entry). after_entries h.base_state es) (sym none) ∙ sym (compacted_clean h) in
     within_told h key bound (object_of h.base_state.objects key) h.entries (ap (λ (s : State). object_of s.objects key) clean) (sym (none_before (h.acknowledged - h.base) h.entries none))
 
+-- the slots of a client's window after the settled entries and the others
+pub slots_told : (s : State) (n client first : ℕ) (w : Window) (es settled later : List Entry) (xs ys : Slots) → w ≡ window_of s client → settled ≡ take n es → later ≡ drop n es → first ≡ length w + length settled
+    → xs ≡ slots_after client (length w) settled (slots_from 0 w) → ys ≡ slots_after client first later xs → ys ≡ slots_after client (length (window_of s client)) es (slots_from 0 (window_of s client))
+slots_told s n client first w es settled later xs ys window front rest at before after =
+    after
+    ∙ ap (λ (l : List Entry). slots_after client first l xs) rest
+    ∙ ap (λ (k : ℕ). slots_after client k (drop n es) xs) at
+    ∙ ap (λ (x : Slots). slots_after client (length w + length settled) (drop n es) x) before
+    ∙ ap (λ (l : List Entry). slots_after client (length w + length l) (drop n es) (slots_after client (length w) l (slots_from 0 w))) front
+    ∙ sym (slots_further client (length w) (take n es) (drop n es) (slots_from 0 w))
+    ∙ ap (λ (l : List Entry). slots_after client (length w) l (slots_from 0 w)) (take-append-drop n es)
+    ∙ ap (λ (x : Window). slots_after client (length x) es (slots_from 0 x)) window
+
 -- what is said of a client's number
-pub said_told : (h : Past) (client n : ℕ) (w : Window) (es : List Entry) → w ≡ window_of h.base_state client → es ≡ h.entries
-    → said_in (reply_at w es) (slots_after client (length w) es (slots_from 0 w)) n ≡ said (newest_in (compacted_in h)) client n
-said_told h client n w es e f =
-    ap (λ (x : Window). said_in (reply_at x es) (slots_after client (length x) es (slots_from 0 x)) n) e
-    ∙ ap (λ (xs : List Entry). said_in (reply_at (window_of h.base_state client) xs) (slots_after client (length (window_of h.base_state client)) xs (slots_from 0 (window_of h.base_state client))) n) f
+pub said_told : (h : Past) (client n : ℕ) (w : Window) (es : List Entry) (xs : Slots) → w ≡ window_of h.base_state client → es ≡ h.entries
+    → xs ≡ slots_after client (length (window_of h.base_state client)) h.entries (slots_from 0 (window_of h.base_state client)) → said_in (reply_at w es) xs n ≡ said (newest_in (compacted_in h)) client n
+said_told h client n w es xs e f g =
+    ap (λ (x : Window). said_in (reply_at x es) xs n) e
+    ∙ ap (λ (l : List Entry). said_in (reply_at (window_of h.base_state client) l) xs n) f
+    ∙ ap (λ (x : Slots). said_in (reply_at (window_of h.base_state client) h.entries) x n) g
     ∙ said_after h.base_state h.entries client n
     ∙ sym (ap (λ (s : State). said s client n) (compacted_newest h))
 
 -- whether it is new after further entries
-pub new_told : (h : Past) (later : List Entry) (client n : ℕ) (w : Window) (es : List Entry) → w ≡ window_of h.base_state client → es ≡ h.entries
-    → is_new_in (slots_after client (length w + length es) later (slots_after client (length w) es (slots_from 0 w))) n ≡ is_new_to (after_entries (newest_in (compacted_in h)) later) client n
-new_told h later client n w es e f =
+pub new_told : (h : Past) (later : List Entry) (client n first : ℕ) (w : Window) (es : List Entry) (xs ys : Slots) → w ≡ window_of h.base_state client → es ≡ h.entries → first ≡ length w + length es
+    → xs ≡ slots_after client (length (window_of h.base_state client)) h.entries (slots_from 0 (window_of h.base_state client)) → ys ≡ slots_after client first later xs → is_new_in ys n ≡ is_new_to (after_entries (newest_in (compacted_in h)) later) client n
+new_told h later client n first w es xs ys e f at before after =
     let v : Window = window_of h.base_state client in
-    ap (λ (x : Window). is_new_in (slots_after client (length x + length es) later (slots_after client (length x) es (slots_from 0 x))) n) e
-    ∙ ap (λ (xs : List Entry). is_new_in (slots_after client (length v + length xs) later (slots_after client (length v) xs (slots_from 0 v))) n) f
+    ap (λ (x : Slots). is_new_in x n) after
+    ∙ ap (λ (k : ℕ). is_new_in (slots_after client k later xs) n) at
+    ∙ ap (λ (x : Window). is_new_in (slots_after client (length x + length es) later xs) n) e
+    ∙ ap (λ (l : List Entry). is_new_in (slots_after client (length v + length l) later xs) n) f
+    ∙ ap (λ (x : Slots). is_new_in (slots_after client (length v + length h.entries) later x) n) before
     ∙ new_later h.base_state h.entries later client n
     ∙ sym (ap (λ (s : State). is_new_to (after_entries s later) client n) (compacted_newest h))
 

@@ -1,21 +1,25 @@
-ghost use Rattle.std.specs.Prelude.{◌≡◌, ◌-◌, ◌≤◌, true, length, take, drop};
+ghost use Rattle.std.specs.Prelude.{◌≡◌, ◌+◌, ◌-◌, ◌≤◌, true, length, take, drop};
+ghost use Rattle.arrayvec.specs.ArrayVec.{array_vec_len};
 ghost use Rattle.craq_commands.specs.Objects.{version_of};
-ghost use Rattle.craq_commands.specs.SingleCopy.{after_entries, is_new_to};
+ghost use Rattle.craq_commands.specs.SingleCopy.{after_entries, is_new_to, window_of};
 ghost use Rattle.craq_model.specs.Deliveries.{is_applicable};
 ghost use Rattle.craq_model.specs.Past.{newest_in};
+ghost use Rattle.craq_node_invariant.specs.Sound.{AreInRow};
 ghost use Rattle.craq_compaction.specs.Compacted.{compacted_in};
 ghost use Rattle.craq_compaction.proofs.Pasts.{compacted_twice};
+ghost use Rattle.craq_plain.specs.Slots.{slots_after, slots_from};
 ghost use Rattle.craq_settled.specs.Held.{length_of};
+ghost use Rattle.craq_unsettled.specs.Indexed.{Tells};
 ghost use Rattle.craq_list.specs.Stored.{stored};
 
 use craq_commands::{Entry, Said, State};
 use craq_history::{History, ObjectVersions};
 use craq_names::{ClientId, Items, Key, RequestNo, Seq, Version};
-use craq_plain::lookups::{
-    follows, is_new_past, last_position_of, object_past, object_up_to, said_past,
-};
+use craq_plain::lookups::{follows, object_past, object_up_to};
+use craq_plain::slots::{Slots, add_entries, is_new, said_in, slots_after};
 use craq_plain::states::state_after;
 use craq_settled::{HeldPast, Seen};
+use craq_unsettled::ClientIndex;
 use std::alloc::{AllocError, Global};
 
 /// A past that forgets settled entries. It keeps the state after the first so many entries, and the entries after
@@ -28,9 +32,24 @@ use std::alloc::{AllocError, Global};
 pub struct ListHistory {
     held: HeldPast,
     acknowledged: Seq,
+    clients: ClientIndex,
     alloc: Global,
     ghost based: { held.base ≤ acknowledged },
     ghost within: { acknowledged ≤ length_of held },
+    ghost told_from: { clients.from ≡ acknowledged },
+    ghost told: { Tells clients (drop (acknowledged - held.base) held.entries) },
+}
+
+/// The entries after one position, up to another.
+fn between(held: &HeldPast, from: Seq, to: Seq) -> &[Entry]
+    requires held { held.now.base ≤ from }
+    requires rising { from ≤ to }
+    requires known { to ≤ length_of held.now }
+    ensures entries { result.now ≡ take (to - from) (drop (from - held.now.base) held.now.entries) }
+    ensures count { length result.now ≡ to - from }
+{
+    let count = (to.get() - from.get()) as usize;
+    &held.from(from)[..count]
 }
 
 impl ListHistory {
@@ -65,7 +84,8 @@ impl ListHistory {
 
     /// The entries that are not settled.
     fn unsettled(&self) -> &[Entry]
-        ensures { result.now ≡ drop (self.now.acknowledged - self.now.held.base) self.now.held.entries }
+        ensures entries { result.now ≡ drop (self.now.acknowledged - self.now.held.base) self.now.held.entries }
+        ensures in_row { AreInRow (self.now.acknowledged + 1) result.now }
     {
         self.held.from(self.acknowledged)
     }
@@ -78,12 +98,28 @@ impl ListHistory {
         object_past(newest, bytes, later, key).0
     }
 
+    /// The numbers that are kept for a client after all entries, and where their replies stand.
+    fn slots(&self, client: ClientId) -> Slots
+        ensures slots { result.items ≡ slots_after client (length (window_of self.now.held.state client)) self.now.held.entries (slots_from 0 (window_of self.now.held.state client)) }
+        ensures few { array_vec_len result ≤ 8 }
+    {
+        let window = self.held.window(client);
+        let settled = self.settled();
+        let mut slots = slots_after(window, settled, client);
+        let first = window.len() + settled.len();
+        self.clients
+            .keep_replies(&mut slots, client, self.unsettled(), first);
+        slots
+    }
+
     /// Whether a client's number is new after all entries and these further ones.
     fn is_new_later(&self, later: &[Entry], client: ClientId, number: RequestNo) -> bool
         ensures { result ≡ is_new_to (after_entries (newest_in (⟦<ListHistory as History>⟧.past self.now)) later.now) client number }
     {
-        let window = self.held.window(client);
-        is_new_past(window, self.entries(), later, client, number)
+        let mut slots = self.slots(client);
+        let first = self.held.window(client).len() + self.entries().len();
+        add_entries(&mut slots, client, later, first);
+        is_new(slots.as_slice(), number)
     }
 
     /// Whether an entry fits the state after all entries and these earlier ones.
@@ -113,6 +149,7 @@ impl History for ListHistory {
         ListHistory {
             held: HeldPast::new(alloc),
             acknowledged: Seq::new(0),
+            clients: ClientIndex::new(alloc, Seq::new(0)),
             alloc,
         }
     }
@@ -152,7 +189,13 @@ impl History for ListHistory {
     }
 
     fn said(&self, client: ClientId, number: RequestNo) -> Said<'_> {
-        said_past(self.held.window(client), self.entries(), client, number)
+        let slots = self.slots(client);
+        said_in(
+            slots.as_slice(),
+            self.held.window(client),
+            self.entries(),
+            number,
+        )
     }
 
     fn are_next(&self, entries: &[Entry]) -> bool {
@@ -165,7 +208,7 @@ impl History for ListHistory {
     }
 
     fn position_of(&self, client: ClientId) -> u64 {
-        last_position_of(self.unsettled(), client, self.acknowledged.get())
+        self.clients.newest_of(client, self.unsettled())
     }
 
     fn after(&self, position: u64) -> &[Entry] {
@@ -177,10 +220,15 @@ impl History for ListHistory {
     }
 
     fn append(&mut self, entries: Items<Entry>) -> Result<(), AllocError> {
-        self.held.append(entries)
+        self.held.append(entries)?;
+        let later = self.held.from(self.clients.to());
+        self.clients.add(later);
+        Ok(())
     }
 
     fn acknowledge(&mut self, position: Seq) -> Result<(), AllocError> {
+        let first = between(&self.held, self.acknowledged, position);
+        self.clients.let_go(first);
         self.acknowledged = position;
         self.held.fold(position)
     }
@@ -197,6 +245,7 @@ impl History for ListHistory {
     fn install(&mut self, position: Seq, state: State) -> Result<(), AllocError> {
         self.held = HeldPast::of(self.alloc, position, state)?;
         self.acknowledged = position;
+        self.clients = ClientIndex::new(self.alloc, position);
         Ok(())
     }
 }

@@ -223,7 +223,7 @@ said_after s es client n =
     let w : Window = window_of s client in
     same_said (reply_at w es) (slots_after client (length w) es (slots_from 0 w)) (window_of (after_entries s es) client) (stand_after s es client) n
 
-slots_further : (client i : ℕ) (es fs : List Entry) (xs : Slots) → slots_after client i (es ++ fs) xs ≡ slots_after client (i + length es) fs (slots_after client i es xs)
+pub slots_further : (client i : ℕ) (es fs : List Entry) (xs : Slots) → slots_after client i (es ++ fs) xs ≡ slots_after client (i + length es) fs (slots_after client i es xs)
 unfolding slots_after
 slots_further client i [] fs xs = let z : i + 0 ≡ i = omega arith in ap (λ n. slots_after client n fs xs) (sym z)
 slots_further client i (e ∷ es) fs xs =

@@ -4,7 +4,7 @@
 
 mod history;
 pub mod lookups;
-mod slots;
+pub mod slots;
 pub mod states;
 
 pub use history::PlainHistory;

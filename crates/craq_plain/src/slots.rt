@@ -30,6 +30,13 @@ impl Model for Slot {
 }
 
 impl Slot {
+    /// This number, whose reply stands there.
+    pub fn new(number: RequestNo, index: usize) -> Self
+        ensures { result ≡ (number, index) }
+    {
+        Slot { number, index }
+    }
+
     /// The number.
     fn number(&self) -> RequestNo
         ensures { result ≡ self.now.0 }
@@ -79,7 +86,7 @@ fn put_slot(slots: &mut Slots, slot: Slot)
 }
 
 /// Keeps the slot of a number; a ninth drops the first.
-fn keep_slot(slots: &mut Slots, slot: Slot)
+pub fn keep_slot(slots: &mut Slots, slot: Slot)
     requires { array_vec_len slots.old ≤ 8 }
     ensures slots { slots.new.items ≡ window_with slots.old.items slot.0 slot.1 }
     ensures few { array_vec_len slots.new ≤ 8 }
@@ -99,17 +106,14 @@ fn slots_of(window: &[Kept]) -> Slots
     let mut slots = Slots::new();
     for (number, _) in window {
         let index = slots.len();
-        slots.push(Slot {
-            number: *number,
-            index,
-        });
+        slots.push(Slot::new(*number, index));
     }
     slots
 }
 
 /// Keeps the replies of a client's entries, which stand from this index on.
 #[tactic(auto, unfolding(crate::specs::Slots::slots_after))]
-fn add_entries(slots: &mut Slots, client: ClientId, entries: &[Entry], first: usize)
+pub fn add_entries(slots: &mut Slots, client: ClientId, entries: &[Entry], first: usize)
     requires few { array_vec_len slots.old ≤ 8 }
     requires fits { first + length entries.now < 2 ^ 64 }
     ensures slots { slots.new.items ≡ slots_after client first entries.now slots.old.items }
@@ -118,13 +122,7 @@ fn add_entries(slots: &mut Slots, client: ClientId, entries: &[Entry], first: us
     let mut index = first;
     for entry in entries {
         if entry.client == client {
-            keep_slot(
-                slots,
-                Slot {
-                    number: entry.number,
-                    index,
-                },
-            );
+            keep_slot(slots, Slot::new(entry.number, index));
         }
         index += 1;
     }

@@ -1,0 +1,46 @@
+use Rattle.std.proofs.Common.{◌≡◌, ℕ, ◌+◌, ◌-◌, ◌<◌, ◌≤◌, ◌^◌, List, length, drop, ap, ◌∙◌, arith, length-append, length-drop}
+use Rattle.craq_commands.specs.declared.entry.Entry.{Entry}
+use Rattle.craq_list.proofs.Unsettled.{told_appended}
+use Rattle.craq_list.proofs.history.ListHistoryHistory.append.Goals as goal
+
+pub from-later-requires-clause-held : goal.from-later-requires-clause-held
+from-later-requires-clause-held c =
+    let low = c.args.self.now.told.from in
+    omega (arith, low, c.args.self.now.told_from, c.args.self.now.based, c.to.ensures, c.append.ensures.base)
+
+pub from-later-requires-clause-known : goal.from-later-requires-clause-known
+from-later-requires-clause-known c =
+    let es : List Entry = c.args.self.now.held.entries in
+    let m : ℕ = c.args.self.now.acknowledged - c.args.self.now.held.base in
+    let high = c.args.self.now.told.to in
+    let left : length (drop m es) ≡ length es - m = length-drop m es in
+    let longer : length c.append.new.self.entries ≡ length es + length c.args.entries = ap length c.in_ok-append.ensures.ok ∙ length-append es c.args.entries in
+    omega (arith, high, left, longer, c.args.self.now.told_from, c.args.self.now.based, c.args.self.now.within, c.to.ensures, c.append.ensures.base)
+
+pub add-requires : goal.add-requires
+add-requires c =
+    let es : List Entry = c.args.self.now.held.entries in
+    let m : ℕ = c.args.self.now.acknowledged - c.args.self.now.held.base in
+    let low = c.args.self.now.told.from in
+    let high = c.args.self.now.told.to in
+    let left : length (drop m es) ≡ length es - m = length-drop m es in
+    let longer : length c.append.new.self.entries ≡ length es + length c.args.entries = ap length c.in_ok-append.ensures.ok ∙ length-append es c.args.entries in
+    let rest : length c.from-later.result.now ≡ length c.append.new.self.entries - (c.to.result - c.append.new.self.base) = ap length c.from-later.ensures.entries ∙ length-drop (c.to.result - c.append.new.self.base) c.append.new.self.entries in
+    let fits : c.args.self.now.acknowledged + length (drop m es) + length c.args.entries < 2 ^ 64 = c.requires.fits in
+    record { fits = omega (arith, low, high, left, longer, rest, fits, c.args.self.now.told_from, c.args.self.now.based, c.args.self.now.within, c.to.ensures, c.append.ensures.base) }
+
+pub invariant_of-self-2 : goal.invariant_of-self-2
+invariant_of-self-2 c =
+    let h = c.args.self.now in
+    let longer : length c.append.new.self.entries ≡ length h.held.entries + length c.args.entries = ap length c.in_ok-append.ensures.ok ∙ length-append h.held.entries c.args.entries in
+    let low : c.append.new.self.base ≤ h.acknowledged = omega (arith, h.based, c.append.ensures.base) in
+    let high : h.acknowledged ≤ c.append.new.self.base + length c.append.new.self.entries = omega (arith, h.within, longer, c.append.ensures.base) in
+    record {
+      based = low;
+      within = high;
+      told_from = c.add.ensures.from ∙ h.told_from;
+      told =
+          told_appended h.clients c.add.new.self h.held.base h.acknowledged c.append.new.self.base h.held.entries c.args.entries c.append.new.self.entries c.from-later.result.now h.told_from h.based h.within h.told c.append.ensures.base c.in_ok-append.ensures.ok
+          (c.from-later.ensures.entries ∙ ap (λ (k : ℕ). drop (k - c.append.new.self.base) c.append.new.self.entries) c.to.ensures)
+          c.add.ensures.tells;
+    }

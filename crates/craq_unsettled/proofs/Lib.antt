@@ -1,0 +1,4 @@
+pub mod Placing
+pub mod Through
+pub mod Keeping
+pub mod Telling

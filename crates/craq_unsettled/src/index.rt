@@ -1,0 +1,118 @@
+//! The index that a history keeps of the entries that it doesn't know to be committed: whose they are.
+ghost use Rattle.std.specs.Prelude.{◌≡◌, ◌+◌, ◌-◌, ◌<◌, ◌≤◌, ◌^◌, List, drop, length, take};
+ghost use Rattle.arrayvec.specs.ArrayVec.{array_vec_len};
+ghost use Rattle.craq_commands.specs.declared.entry.Entry.{Entry};
+ghost use Rattle.craq_model.specs.Past.{last_position};
+ghost use Rattle.craq_node_invariant.specs.Sound.{AreInRow};
+ghost use Rattle.craq_plain.specs.Slots.{slots_after};
+ghost use Rattle.craq_unsettled.specs.Indexed.{Tells};
+
+use crate::places::{Places, add_entries, let_entries_go, newest_position};
+use crate::replies::keep_told;
+use craq_commands::Entry;
+use craq_names::{ClientId, Seq};
+use craq_plain::lookups::last_position_of;
+use craq_plain::slots::{self, Slots};
+use std::alloc::Global;
+use std::collections::BTreeMap;
+use std::marker::Model;
+
+/// How many entries at most are not told, while memory is there: a look at so few costs less than a look-up.
+const MOST_UNTOLD: usize = 8;
+
+/// Where clients' entries stand, among entries that come after one position, up to another.
+#[derive(Drop)]
+pub struct ClientIndex {
+    places: Places,
+    from: Seq,
+    to: Seq,
+    alloc: Global,
+}
+
+impl Model for ClientIndex {
+    ghost use Rattle.std.specs.BTreeMap.{IsOrdered};
+    ghost use Rattle.std.specs.Ordering.{nat_cmp};
+    ghost use Rattle.craq_unsettled.specs.Indexed.{Indexed};
+
+    ghost Value = { Indexed };
+
+    ghost view = { λ x. record { from = x.from; to = x.to; places = x.places.entries } };
+
+    ghost invariant = { λ x. IsOrdered nat_cmp x.places };
+}
+
+impl ClientIndex {
+    /// Nothing of the entries after a position. It takes no memory.
+    pub fn new(alloc: Global, from: Seq) -> Self
+        ensures from { result.from ≡ from }
+        ensures tells { (entries : List Entry) → Tells result entries }
+    {
+        ClientIndex {
+            places: BTreeMap::new(alloc),
+            from,
+            to: from,
+            alloc,
+        }
+    }
+
+    /// Up to which position entries are told.
+    pub fn to(&self) -> Seq
+        ensures { result ≡ self.now.to }
+    {
+        self.to
+    }
+
+    /// More entries are told of: those after the told ones, but for the last few, while memory is there.
+    pub fn add(&mut self, later: &[Entry])
+        requires fits { self.old.to + length later.now < 2 ^ 64 }
+        ensures from { self.new.from ≡ self.old.from }
+        ensures tells { (entries : List Entry) → Tells self.old entries → later.now ≡ drop (self.old.to - self.old.from) entries → Tells self.new entries }
+    {
+        let count = later.len().saturating_sub(MOST_UNTOLD);
+        let after = self.to.get();
+        let added = add_entries(self.alloc, &mut self.places, &later[..count], after);
+        self.to = Seq::new(after + added as u64);
+    }
+
+    /// The first of the entries are told no more. It takes no memory.
+    pub fn let_go(&mut self, first: &[Entry])
+        requires fits { self.old.from + length first.now < 2 ^ 64 }
+        requires told { self.old.from ≤ self.old.to }
+        ensures from { self.new.from ≡ self.old.from + length first.now }
+        ensures tells { (entries : List Entry) → Tells self.old entries → length first.now ≤ length entries → first.now ≡ take (length first.now) entries → Tells self.new (drop (length first.now) entries) }
+    {
+        let told = (self.to.get() - self.from.get()) as usize;
+        let known = told.min(first.len());
+        let_entries_go(&mut self.places, &first[..known]);
+        self.from = Seq::new(self.from.get() + first.len() as u64);
+        if self.to.get() < self.from.get() {
+            self.to = self.from;
+        }
+    }
+
+    /// The position of a client's newest entry among the entries; the position before them where it has none.
+    pub fn newest_of(&self, client: ClientId, entries: &[Entry]) -> u64
+        requires tells { Tells self.now entries.now }
+        requires in_row { AreInRow (self.now.from + 1) entries.now }
+        ensures { result ≡ last_position client self.now.from entries.now }
+    {
+        let from = self.from.get();
+        let told = (self.to.get() - from) as usize;
+        let newest = newest_position(&self.places, client, from);
+        last_position_of(&entries[told..], client, newest)
+    }
+
+    /// Keeps the replies of a client's entries among the entries, whose replies stand from an index on.
+    pub fn keep_replies(&self, slots: &mut Slots, client: ClientId, entries: &[Entry], first: usize)
+        requires few { array_vec_len slots.old ≤ 8 }
+        requires tells { Tells self.now entries.now }
+        requires fits { first + length entries.now < 2 ^ 64 }
+        ensures slots { slots.new.items ≡ slots_after client first entries.now slots.old.items }
+        ensures few { array_vec_len slots.new ≤ 8 }
+    {
+        let from = self.from.get();
+        let told = (self.to.get() - from) as usize;
+        keep_told(slots, client, &self.places, &entries[..told], from, first);
+        slots::add_entries(slots, client, &entries[told..], first + told);
+    }
+}

@@ -1,8 +1,7 @@
 -- An acknowledgement gets one member further in a round.
-use Rattle.std.proofs.Common.{◌≡◌, ◌≢◌, ◌⊎◌, inl, inr, ℕ, suc, ◌+◌, ◌≤◌, ◌<◌, ◌==◌, nat_le, nat_lt, Bool, true, false, not, cond, List, [], ◌∷◌, ◌++◌, map, length, Option, Some, None, Result, Ok, Err, refl, ap, sym, subst, ◌∙◌, arith}
+use Rattle.std.proofs.Common.{◌≡◌, ◌≢◌, inl, inr, ℕ, suc, ◌≤◌, ◌<◌, ◌==◌, nat_le, nat_lt, true, not, cond, List, [], ◌∷◌, ◌++◌, length, Option, Some, None, refl, ap, sym, subst, ◌∙◌, arith}
 use Rattle.std.proofs.lemmas.Bool.{cond_both, both_ways, eq-eqb, eqb-true, leb-true, ltb-true, not-true}
 use Rattle.craq_commands.specs.declared.entry.Entry.{Entry}
-use Rattle.craq_model.specs.declared.message.Body.{Body}
 use Rattle.craq_model.specs.declared.message.Body.TheVariants as bodies
 use Rattle.craq_model.specs.declared.message.LinkMessage.{LinkMessage}
 use Rattle.craq_model.specs.declared.step.Out.{Out}
@@ -27,37 +26,28 @@ use Rattle.craq_refinement.proofs.Members.{is_member-same, next_from_predecessor
 use Rattle.craq_refinement.proofs.Nodes.{node_id}
 use Rattle.craq_refinement.proofs.Stages.{Arrived, arrived}
 use Rattle.craq_refinement.proofs.Worlds.{history_length}
-use Rattle.craq_runs.specs.declared.run.Move.TheVariants.{Deliver}
-use Rattle.craq_runs.specs.Chain.{Chain, Progress, chain_step, message_at, node_at, sent_in}
+use Rattle.craq_runs.specs.Chain.{Chain, message_at, node_at, sent_in}
 use Rattle.craq_runs.specs.Runs.{IsRunOf, after_move}
 use Rattle.craq_runs.specs.declared.run.Run.{Run}
 use Rattle.craq_recovery.specs.Recovered.{AreNeighbours, Knows, KnowsCommitted, after_round, chain_after}
 use Rattle.craq_recovery.specs.Rounds.{after_moves_by, round}
 use Rattle.craq_recovery.specs.Taken.{HaveNumbers}
-use Rattle.craq_recovery.proofs.Gains.{Gains, prefix_length}
+use Rattle.craq_recovery.proofs.Gains.{prefix_length}
 use Rattle.craq_recovery.proofs.Hearing.{Informed, knows_at}
-use Rattle.craq_recovery.proofs.Onward.{Onward}
 use Rattle.craq_recovery.proofs.Running.{delivery_turn-runs}
 use Rattle.craq_recovery.proofs.Ids.{none_is_master, not_master}
 use Rattle.craq_recovery.proofs.Sound.{Sound, sound_after}
-use Rattle.craq_recovery.proofs.Travels.{Has, IsKept, Makes, NodeIs, Sends, arrived_here, crosses}
+use Rattle.craq_recovery.proofs.Series.{Has}
+use Rattle.craq_recovery.proofs.Travels.{IsKept, Makes, NodeIs, arrived_here, crosses_one}
 
 -- ---- nodes of the master's epoch
 
--- a ready node of an epoch at least, that knows so much to be committed
-pub record Sender (epoch least : ℕ) (p : Plain) : Type 0 where
-  pub ready : p.ready ≡ true
-  pub late : epoch ≤ p.epoch
-  pub knows : least ≤ p.past.acknowledged
-
-sender_kept : (epoch least : ℕ) → IsKept (Sender epoch least)
-sender_kept epoch least p q g s = record { ready = g.ready s.ready; late = omega (arith, g.epoch, s.late); knows = omega (arith, g.acknowledged, s.knows) }
-
+-- a ready node of an epoch at least
 pub record Receiver (epoch : ℕ) (p : Plain) : Type 0 where
   pub ready : p.ready ≡ true
   pub late : epoch ≤ p.epoch
 
-receiver_kept : (epoch : ℕ) → IsKept (Receiver epoch)
+pub receiver_kept : (epoch : ℕ) → IsKept (Receiver epoch)
 receiver_kept epoch p q g s = record { ready = g.ready s.ready; late = omega (arith, g.epoch, s.late) }
 
 abbrev Knowing : ℕ → Plain → Type 0
@@ -119,7 +109,7 @@ tick_acks Is p to ready late before h =
     (λ r. absurd (both_ways p.ready r ready)))
 
 -- a ready node is in an epoch
-in_epoch : (c : Chain) (id : ℕ) (p : Plain) → IsFollowed c → node_at c.nodes id ≡ Some p → p.ready ≡ true → 0 < p.epoch
+pub in_epoch : (c : Chain) (id : ℕ) (p : Plain) → IsFollowed c → node_at c.nodes id ≡ Some p → p.ready ≡ true → 0 < p.epoch
 in_epoch c id p f at ready =
     let w : World Entry = f.0 in
     let g : Follows c w = f.2 in
@@ -129,22 +119,17 @@ in_epoch c id p f at ready =
     let late : 0 < w.epoch (id_of p) = i.clauses.ready_has_epoch (id_of p) (n.ready ∙ ready) in
     omega (arith, late, n.epoch)
 
-sends_ack : (c : Chain) (from to least : ℕ) → predecessor_in c.members from ≡ Some to → Sends c from (IsAck c.epoch from to least) (Sender c.epoch least)
-sends_ack c from to least before e f on g =
-    let p : Plain = g.node in
-    let s : Sender c.epoch least p = g.holds in
-    let k : Knows e p = knows_at c e from on f (informed g s.late) in
-    let own : id_of p ≡ from = node_id e.nodes from p g.at in
-    let P : List ℕ → Type 0 = λ l. predecessor_in l from ≡ Some to in
-    let Q : ℕ → Type 0 = λ i. predecessor_in p.members i ≡ Some to in
-    let here : predecessor p ≡ Some to = subst Q (sym own) (subst P (sym (k.members ∙ on.members)) before) in
-    let Is : LinkMessage → Type 0 = IsAck c.epoch from to least in
-    tick_acks Is p to s.ready (in_epoch e from p f g.at s.ready) here
-    (one_ack Is p to (record { position = p.past.acknowledged; says = refl; enough = s.knows; made = k.epoch ∙ on.epoch; comes_from = own; goes_to = refl }))
+sends_ack : (c : Chain) (q : Plain) (to : ℕ) → IsFollowed c → node_at c.nodes (id_of q) ≡ Some q → Knows c q → q.ready ≡ true → predecessor_in c.members (id_of q) ≡ Some to
+    → Has (IsAck c.epoch (id_of q) to q.past.acknowledged) (sent_in (tick_sends q))
+sends_ack c q to f at k ready before =
+    let P : List ℕ → Type 0 = λ l. predecessor_in l (id_of q) ≡ Some to in
+    let Is : LinkMessage → Type 0 = IsAck c.epoch (id_of q) to q.past.acknowledged in
+    tick_acks Is q to ready (in_epoch c (id_of q) q f at ready) (subst P (sym k.members) before)
+    (one_ack Is q to (record { position = q.past.acknowledged; says = refl; enough = omega arith; made = k.epoch; comes_from = refl; goes_to = refl }))
 
 -- ---- it arrives
 
-is_id_here : (o : Option ℕ) (id : ℕ) → o ≡ Some id → is_id o id ≡ true
+pub is_id_here : (o : Option ℕ) (id : ℕ) → o ≡ Some id → is_id o id ≡ true
 is_id_here None id h = absurd (cc)
 is_id_here (Some m) id h = let same : m ≡ id = cc in eq-eqb m id same
 
@@ -221,11 +206,9 @@ pub ack_crosses : (count : ℕ) (c : Chain) (p q : Plain) → Sound c → IsFoll
 ack_crosses count c p q s f some at_p at_q kp kq rp rq member after before numbers =
     let least : ℕ = q.past.acknowledged in
     let pe : p.epoch ≡ c.epoch = kp.epoch in
-    let qe : q.epoch ≡ c.epoch = kq.epoch in
-    crosses count c (id_of q) (id_of p) (IsAck c.epoch (id_of q) (id_of p) least) (Sender c.epoch least) (Receiver c.epoch) (Knowing least)
-    (sender_kept c.epoch least) (receiver_kept c.epoch) (knowing_kept least) some member
-    (sends_ack c (id_of q) (id_of p) least before) (λ m is. is.goes_to) (ack_makes c (id_of q) (id_of p) least after) s f
-    (record { node = q; at = at_q; runs = kq.running; holds = record { ready = rq; late = omega (arith, qe); knows = omega arith } })
+    crosses_one count c (id_of q) (id_of p) q (IsAck c.epoch (id_of q) (id_of p) least) (Receiver c.epoch) (Knowing least)
+    (receiver_kept c.epoch) (knowing_kept least) some member at_q kq.running
+    (sends_ack c q (id_of p) f at_q kq rq before) (λ m is. is.goes_to) (ack_makes c (id_of q) (id_of p) least after) s f
     (record { node = p; at = at_p; runs = kp.running; holds = record { ready = rp; late = omega (arith, pe) } })
     numbers
 

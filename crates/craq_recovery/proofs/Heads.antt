@@ -1,7 +1,6 @@
 -- What the last member knows to be committed reaches each member, one member a round.
-use Rattle.std.proofs.Common.{◌≡◌, ◌≢◌, ℕ, zero, suc, ◌+◌, ◌≤◌, ◌==◌, Bool, true, false, cond, ◌||◌, List, [], ◌∷◌, ◌++◌, append_assoc, length, Option, Some, None, slice_get, refl, ap, sym, subst, ◌∙◌, arith}
-use Rattle.std.proofs.lemmas.Bool.{both_ways, cond-true, cond-false, cond_both, eq-eqb, eqb-true, false_from_ne_true, or_parts, or_left, or_right}
-use Rattle.std.proofs.lemmas.List.{length-append}
+use Rattle.std.proofs.Common.{◌≡◌, ℕ, zero, suc, ◌+◌, ◌≤◌, ◌==◌, true, false, List, [], ◌∷◌, ◌++◌, append_assoc, length, Some, slice_get, refl, ap, sym, subst, ◌∙◌, arith}
+use Rattle.std.proofs.lemmas.Bool.{both_ways, cond-true, cond-false, eq-eqb, eqb-true, false_from_ne_true, or_left, or_right}
 use Rattle.std.specs.List.{AllByRecursion}
 use Rattle.craq_commands.specs.declared.entry.Entry.{Entry}
 use Rattle.craq_model.specs.Members.{is_member, last_of, predecessor_in, successor_in}
@@ -41,7 +40,7 @@ self_is : (a : ℕ) → (a == a) ≡ true
 self_is a = eq-eqb a a refl
 
 -- the id stands in the list
-stands : (front : List ℕ) (a : ℕ) (rest : List ℕ) → protocol.is_member (front ++ a ∷ rest) a ≡ true
+pub stands : (front : List ℕ) (a : ℕ) (rest : List ℕ) → protocol.is_member (front ++ a ∷ rest) a ≡ true
 unfolding protocol.is_member
 stands [] a rest = or_left (a == a) (protocol.is_member rest a) (self_is a)
 stands (m ∷ front) a rest = or_right (m == a) (protocol.is_member (front ++ a ∷ rest) a) (stands front a rest)
@@ -53,12 +52,12 @@ other_than m a front rest h =
     let P : ℕ → Type 0 = λ i. protocol.is_member (front ++ a ∷ rest) i ≡ false in
     both_ways (protocol.is_member (front ++ a ∷ rest) a) (subst P same h) (stands front a rest))
 
-successor_there : (front : List ℕ) (a b : ℕ) (rest : List ℕ) → IsDistinct (front ++ a ∷ b ∷ rest) → successor_in (front ++ a ∷ b ∷ rest) a ≡ Some b
+pub successor_there : (front : List ℕ) (a b : ℕ) (rest : List ℕ) → IsDistinct (front ++ a ∷ b ∷ rest) → successor_in (front ++ a ∷ b ∷ rest) a ≡ Some b
 unfolding successor_in
 successor_there [] a b rest d = cond-true (a == a) (Some b) (successor_in (b ∷ rest) a) (self_is a)
 successor_there (m ∷ front) a b rest d = cond-false (m == a) (slice_get (front ++ a ∷ b ∷ rest) 0) (successor_in (front ++ a ∷ b ∷ rest) a) (other_than m a front (b ∷ rest) d.0) ∙ successor_there front a b rest d.1
 
-predecessor_there : (front : List ℕ) (a b : ℕ) (rest : List ℕ) → IsDistinct (front ++ a ∷ b ∷ rest) → predecessor_in (front ++ a ∷ b ∷ rest) b ≡ Some a
+pub predecessor_there : (front : List ℕ) (a b : ℕ) (rest : List ℕ) → IsDistinct (front ++ a ∷ b ∷ rest) → predecessor_in (front ++ a ∷ b ∷ rest) b ≡ Some a
 unfolding predecessor_in
 predecessor_there [] a b rest d = cond-true (b == b) (Some a) (predecessor_in (b ∷ rest) b) (self_is b)
 predecessor_there (m ∷ []) a b rest d = cond-false (a == b) (Some m) (predecessor_in (a ∷ b ∷ rest) b) (other_than a b [] rest d.1.0) ∙ predecessor_there [] a b rest d.1
@@ -114,11 +113,11 @@ later_all : (count : ℕ) (c : Chain) (least : ℕ) (ids : List ℕ) → Good c 
 later_all count c least [] g r k = tt
 later_all count c least (id ∷ ids) g r k = (committed_later count c id least g r.0 k.0, later_all count c least ids g r.1 k.1)
 
-ready_all : (count : ℕ) (c : Chain) (ids : List ℕ) → Good c → AllByRecursion (IsReadyAt c) ids → AllByRecursion (IsReadyAt (after_moves_by after_move c (round after_move count c))) ids
+pub ready_all : (count : ℕ) (c : Chain) (ids : List ℕ) → Good c → AllByRecursion (IsReadyAt c) ids → AllByRecursion (IsReadyAt (after_moves_by after_move c (round after_move count c))) ids
 ready_all count c [] g r = tt
 ready_all count c (id ∷ ids) g r = (ready_later count c id g r.0, ready_all count c ids g r.1)
 
-distinct_members : (c : Chain) → IsFollowed c → IsDistinct c.members
+pub distinct_members : (c : Chain) → IsFollowed c → IsDistinct c.members
 distinct_members c f =
     let w : World Entry = f.0 in
     let g : Follows c w = f.2 in
@@ -162,7 +161,7 @@ one_more count c least front a b rest g is ra rb k numbers =
 -- ---- round after round
 
 -- the last of a part of a list
-all_back : (P : ℕ → Type 0) (front l : List ℕ) → AllByRecursion P (front ++ l) → AllByRecursion P l
+pub all_back : (P : ℕ → Type 0) (front l : List ℕ) → AllByRecursion P (front ++ l) → AllByRecursion P l
 all_back P [] l a = a
 all_back P (m ∷ front) l a = all_back P front l a.1
 

@@ -1,6 +1,6 @@
 -- The membership reaches each member that runs.
-use Rattle.std.proofs.Common.{◌≡◌, ◌≢◌, ◌⊎◌, inl, inr, ⊎_elim, ℕ, zero, suc, ◌+◌, ◌≤◌, ◌==◌, nat_le, Bool, true, false, not, cond, ◌||◌, List, [], ◌∷◌, ◌++◌, map, length, take, drop, append_assoc, Option, Some, None, Result, Ok, Err, refl, ap, sym, subst, ◌∙◌, arith}
-use Rattle.std.proofs.lemmas.Bool.{cond_both, both_ways, eq-eqb, eqb-true, leb-true, not-false, not-true}
+use Rattle.std.proofs.Common.{◌≡◌, ◌≢◌, ◌⊎◌, inl, inr, ⊎_elim, ℕ, suc, ◌+◌, ◌≤◌, ◌==◌, nat_le, Bool, true, false, not, cond, ◌||◌, List, [], ◌∷◌, ◌++◌, map, length, take, drop, append_assoc, Some, None, Result, Ok, Err, refl, ap, sym, subst, ◌∙◌, arith}
+use Rattle.std.proofs.lemmas.Bool.{cond_both, both_ways, eq-eqb, eqb-true, leb-true, not-true}
 use Rattle.std.proofs.lemmas.List.{length-append, take-append-drop}
 use Rattle.std.proofs.Math.Seq.{drop-append_seam}
 use Rattle.std.specs.List.{AllByRecursion}
@@ -8,7 +8,6 @@ use Rattle.craq_names.specs.declared.name.NodeName.{NodeName}
 use Rattle.craq_names.specs.declared.refusal.Refusal.{Refusal}
 use Rattle.craq_names.specs.declared.refusal.Refusal.TheVariants as refusals
 use Rattle.craq_commands.specs.declared.entry.Entry.{Entry}
-use Rattle.craq_model.specs.declared.message.Body.{Body}
 use Rattle.craq_model.specs.declared.message.Body.TheVariants as bodies
 use Rattle.craq_model.specs.declared.message.LinkMessage.{LinkMessage}
 use Rattle.craq_model.specs.declared.step.Why.TheVariants.{OtherEpoch, NotNeighbour}
@@ -16,7 +15,7 @@ use Rattle.craq_model.specs.Deliveries.{body_turn, config_turn, delivery_turn}
 use Rattle.craq_model.specs.Members.{is_member}
 use Rattle.craq_model.specs.Plain.{Plain, id_of}
 use Rattle.craq_model.specs.Settle.{Turn, settling_turn, turn_ignoring}
-use Rattle.craq_protocol.specs.Machine.{World, current_membership}
+use Rattle.craq_protocol.specs.Machine.{World}
 use Rattle.craq_protocol.specs.Members.{membership_of}
 use Rattle.craq_protocol.specs.Promises.{IsSafe}
 use Rattle.craq_protocol.proofs.Reached.{reached_safe}
@@ -24,7 +23,7 @@ use Rattle.craq_refinement.specs.Follows.{Follows, NodeFollows, seen_of}
 use Rattle.craq_refinement.specs.Lines.{IsFollowed}
 use Rattle.craq_refinement.proofs.EachStep.{every_run}
 use Rattle.craq_refinement.proofs.Nodes.{node_here, node_id}
-use Rattle.craq_refinement.proofs.Stages.{Arrived, arrived, moved}
+use Rattle.craq_refinement.proofs.Stages.{Arrived, arrived}
 use Rattle.craq_runs.specs.declared.run.Move.{Move}
 use Rattle.craq_runs.specs.declared.run.Move.TheVariants.{Deliver, Tick}
 use Rattle.craq_runs.specs.declared.run.Run.{Run}
@@ -33,7 +32,7 @@ use Rattle.craq_runs.specs.Runs.{IsRunOf, after_move, after_moves, progressed}
 use Rattle.craq_recovery.specs.Rounds.{after_moves_by, arrivals, arrivals_of, hops, round, ticks, ticks_of}
 use Rattle.craq_recovery.specs.Recovered.{AllRun, HaveHeard, HearsAt, Knows}
 use Rattle.craq_recovery.specs.Taken.{HaveNumbers, IsTaken}
-use Rattle.craq_recovery.proofs.Gains.{Gains, Goes, Later, followed_moves, gains_on, goes_move, later_here, later_moves}
+use Rattle.craq_recovery.proofs.Gains.{Gains, Goes, Later, followed_moves, goes_move, later_here, later_moves}
 use Rattle.craq_recovery.proofs.Onward.{IsTravel, Onward, onward_move, onward_moves, onward_on, onward_self, sound_moves}
 use Rattle.craq_recovery.proofs.Running.{delivery_turn-runs}
 use Rattle.craq_recovery.proofs.Sound.{Sound, sound_after, sound_move}

@@ -1,5 +1,5 @@
 -- What a node sends bears the node's chain.
-use Rattle.std.proofs.Common.{◌≡◌, ℕ, ◌+◌, ◌==◌, nat_le, nat_lt, Bool, true, false, not, cond, ◌||◌, ◌&&◌, List, [], ◌∷◌, ◌++◌, map, is_some, max, Option, Some, None, Result, Ok, Err, refl}
+use Rattle.std.proofs.Common.{◌≡◌, ℕ, ◌+◌, ◌==◌, nat_le, nat_lt, Bool, true, false, not, cond, ◌||◌, ◌&&◌, List, [], ◌∷◌, ◌++◌, map, is_some, Option, Some, None, Result, Ok, Err, refl}
 use Rattle.std.specs.Prelude.{⊤}
 use Rattle.std.specs.List.{AllByRecursion}
 use Rattle.craq_names.specs.Limits.{greatest}
@@ -27,15 +27,15 @@ use Rattle.craq_model.specs.declared.message.LinkMessage.{LinkMessage}
 use Rattle.craq_model.specs.declared.message.StatePart.{StatePart}
 use Rattle.craq_model.specs.declared.step.Out.{Out}
 use Rattle.craq_model.specs.declared.step.Out.TheVariants as outs
-use Rattle.craq_model.specs.declared.step.Why.TheVariants.{OtherEpoch, NotNeighbour, OutOfOrder, AlreadyHave, NotReadyHere, UnknownTicket, TooFar}
+use Rattle.craq_model.specs.declared.step.Why.TheVariants.{OtherEpoch, NotNeighbour, OutOfOrder, AlreadyHave, NotReadyHere, TooFar}
 use Rattle.craq_model.specs.declared.waiting.WaitingRead.{WaitingRead}
 use Rattle.craq_model.specs.Members.{is_id, is_member, last_of, first_of}
-use Rattle.craq_model.specs.Parts.{gathered_position, gathering_for, is_in_order, is_whole, joined_state, with_part}
-use Rattle.craq_model.specs.Plain.{Plain, id_of, is_first, is_last, is_tail, length_of, newest, newest_object, position_of, predecessor, successor, with_entries, acknowledging, clean}
-use Rattle.craq_model.specs.Sends.{catch_up, copy_bodies, entry_bodies, queries, ready_sends, send, send_all, tick_sends, to_neighbour, unready_sends}
+use Rattle.craq_model.specs.Parts.{gathering_for, is_in_order, is_whole, joined_state, with_part}
+use Rattle.craq_model.specs.Plain.{Plain, id_of, is_first, is_last, is_tail, length_of, newest, newest_object, position_of, predecessor, successor, with_entries, acknowledging}
+use Rattle.craq_model.specs.Sends.{catch_up, entry_bodies, queries, ready_sends, send, send_all, tick_sends, to_neighbour, unready_sends}
 use Rattle.craq_model.specs.Settle.{Given, Turn, turn_with, turn_ignoring, all_committed, all_given, answer_outs, is_reached, readiness_turn, settling_turn, update_given, without_reached}
-use Rattle.craq_model.specs.Asks.{accepted_ask_turn, accepted_turn, answered_turn, ask_turn, asked_objects, committed_if_last, entry_of, is_clean, is_full, new_update_turn, read_turn, reply_turn, update_turn, waiting_read_turn, with_entry}
-use Rattle.craq_model.specs.Deliveries.{ack_turn, acknowledgement_turn, answering_version, appending_turn, are_applicable, blank_turn, body_turn, config_turn, copy_turn, delivery_turn, due_updates, entries_above, entries_turn, fill_bodies, final_position, first_position, floor_turn, forwarding_turn, gathered_turn, gathering_turn, is_outdated, later_updates, part_turn, query_turn, read_with, taken_entries_turn, told_version_turn, turn_in_epoch, version_turn, with_copy}
+use Rattle.craq_model.specs.Asks.{accepted_ask_turn, answered_turn, ask_turn, asked_objects, committed_if_last, entry_of, is_clean, is_full, new_update_turn, read_turn, reply_turn, update_turn, waiting_read_turn, with_entry}
+use Rattle.craq_model.specs.Deliveries.{ack_turn, acknowledgement_turn, appending_turn, are_applicable, blank_turn, body_turn, config_turn, copy_turn, delivery_turn, due_updates, entries_above, entries_turn, fill_bodies, final_position, first_position, floor_turn, forwarding_turn, gathered_turn, gathering_turn, is_outdated, part_turn, query_turn, read_with, taken_entries_turn, told_version_turn, turn_in_epoch, version_turn, with_copy}
 use Rattle.craq_model.specs.Node.{event_turn, is_for}
 use Rattle.craq_runs.specs.Chain.{sent_in}
 

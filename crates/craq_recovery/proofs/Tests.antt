@@ -1,10 +1,10 @@
 -- The test whether a chain has recovered says just that.
-use Rattle.std.proofs.Common.{◌≡◌, ℕ, ◌==◌, Bool, true, false, ◌&&◌, List, [], ◌∷◌, Option, Some, None, refl, ap, sym, subst, ◌∙◌}
+use Rattle.std.proofs.Common.{◌≡◌, ℕ, ◌==◌, true, ◌&&◌, List, [], ◌∷◌, Option, Some, None, refl, ap, ◌∙◌}
 use Rattle.std.proofs.lemmas.Bool.{and_parts, eqb-true}
 use Rattle.std.specs.List.{AllByRecursion}
 use Rattle.craq_model.specs.Plain.{Plain}
 use Rattle.craq_runs.specs.Chain.{Chain, node_at}
-use Rattle.craq_recovery.specs.Recovered.{HasRecovered, IsServing, ServesAt, are_same, has_recovered, is_none, is_serving, serve_all}
+use Rattle.craq_recovery.specs.Recovered.{HasRecovered, ServesAt, are_same, has_recovered, is_none, is_serving, serve_all}
 
 same_ids : (ms ns : List ℕ) → are_same ms ns ≡ true → ms ≡ ns
 same_ids [] [] h = refl

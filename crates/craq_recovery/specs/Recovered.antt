@@ -1,12 +1,13 @@
 -- A chain that has recovered.
-use Rattle.std.specs.Prelude.{◌≡◌, ◌≤◌, ℕ, ◌==◌, Bool, true, false, ◌&&◌, List, [], ◌∷◌, Option, Some, None}
+use Rattle.std.specs.Prelude.{◌≡◌, ◌≤◌, ℕ, ◌==◌, Bool, true, false, ◌&&◌, List, [], ◌∷◌, length, Option, Some, None}
 use Rattle.std.specs.List.{AllByRecursion}
 use Rattle.craq_model.specs.Members.{predecessor_in, successor_in}
-use Rattle.craq_model.specs.Plain.{Plain, id_of}
+use Rattle.craq_model.specs.Plain.{Plain, id_of, length_of}
 use Rattle.craq_runs.specs.Chain.{Chain, is_running, node_at, opening_chain}
 use Rattle.craq_runs.specs.Runs.{after_move, after_moves}
 use Rattle.craq_runs.specs.declared.run.Run.{Run}
-use Rattle.craq_recovery.specs.Rounds.{after_moves_by, round}
+use Rattle.craq_recovery.specs.Rounds.{after_moves_by, after_rounds, round}
+use Rattle.craq_recovery.specs.Taken.{HaveNumbers, HaveNumbersFor}
 
 -- the node runs, knows the master's membership and is ready, and nobody waits at it
 pub record IsServing (c : Chain) (p : Plain) : Type 0 where
@@ -59,6 +60,24 @@ chain_after chain run = after_moves (opening_chain chain run.members) run.moves
 abbrev pub after_round : ℕ → Chain → Chain
 after_round count c = after_moves_by after_move c (round after_move count c)
 
+-- after as many rounds as it has members, each of so many hops
+abbrev pub after_as_many : ℕ → Chain → Chain
+after_as_many count c = after_rounds after_move count (length c.members) c
+
+-- none of their moves is refused for want of numbers
+abbrev pub HaveNumbersForAsMany : ℕ → Chain → Type 0
+HaveNumbersForAsMany count c = HaveNumbersFor count (length c.members) c
+
+-- after as many rounds as it has members, then as many again, and one more
+abbrev pub after_all_rounds : ℕ → Chain → Chain
+after_all_rounds count c = after_round count (after_as_many count (after_as_many count c))
+
+-- none of their moves is refused for want of numbers
+pub record HaveNumbersForAll (count : ℕ) (c : Chain) : Type 0 where
+  pub first : HaveNumbersForAsMany count c
+  pub second : HaveNumbersForAsMany count (after_as_many count c)
+  pub last : HaveNumbers (after_as_many count (after_as_many count c)) (round after_move count (after_as_many count (after_as_many count c)))
+
 -- each member runs
 abbrev pub AllRun : Chain → Type 0
 AllRun c = AllByRecursion (λ id. is_running (node_at c.nodes id) ≡ true) c.members
@@ -91,6 +110,35 @@ pub record KnowsCommitted (c : Chain) (id count : ℕ) : Type 0 where
   pub node : Plain
   pub at : node_at c.nodes id ≡ Some node
   pub knows : count ≤ node.past.acknowledged
+
+-- the node of an id runs and is ready, whatever membership it knows
+pub record RunsReady (c : Chain) (id : ℕ) : Type 0 where
+  pub node : Plain
+  pub at : node_at c.nodes id ≡ Some node
+  pub running : node.running ≡ true
+  pub ready : node.ready ≡ true
+
+-- so does each member
+abbrev pub AllRunReady : Chain → Type 0
+AllRunReady c = AllByRecursion (RunsReady c) c.members
+
+-- the node of an id holds so many entries at least
+pub record HoldsEntries (c : Chain) (id count : ℕ) : Type 0 where
+  pub node : Plain
+  pub at : node_at c.nodes id ≡ Some node
+  pub holds : count ≤ length_of node
+
+-- no update waits at the node of an id
+pub record NoUpdateWaits (c : Chain) (id : ℕ) : Type 0 where
+  pub node : Plain
+  pub at : node_at c.nodes id ≡ Some node
+  pub none : node.waiting_updates ≡ []
+
+-- no read waits at the node of an id
+pub record NoReadWaits (c : Chain) (id : ℕ) : Type 0 where
+  pub node : Plain
+  pub at : node_at c.nodes id ≡ Some node
+  pub none : node.waiting_reads ≡ []
 
 -- the node of an id is ready, runs, and knows the master's membership
 pub record IsReadyAt (c : Chain) (id : ℕ) : Type 0 where

@@ -2,14 +2,15 @@
 //! Laws: functions without bodies, whose contracts are the theorems.
 #![tactic(auto)]
 
-ghost use Rattle.std.specs.Prelude.{◌≡◌, ℕ, length, suc, true};
+ghost use Rattle.std.specs.Prelude.{◌≡◌, ◌≢◌, ℕ, length, suc, true};
 ghost use Rattle.std.specs.List.{AllByRecursion};
-ghost use Rattle.craq_model.specs.Members.{last_of};
-ghost use Rattle.craq_model.specs.Plain.{Plain, id_of};
+ghost use Rattle.craq_model.specs.Members.{first_of, last_of};
+ghost use Rattle.craq_model.specs.Plain.{Plain, id_of, length_of};
 ghost use Rattle.craq_runs.specs.Chain.{Chain};
 ghost use Rattle.craq_runs.specs.Runs.{IsRunOf, after_move};
+ghost use Rattle.craq_runs.specs.Typed.{IsTypedRunOf};
 ghost use Rattle.craq_runs.specs.declared.run.Run.{Run};
-ghost use Rattle.craq_recovery.specs.Recovered.{AllReady, AllRun, AreNeighbours, HasRecovered, HaveHeard, KnowsCommitted, after_round, chain_after, has_recovered};
+ghost use Rattle.craq_recovery.specs.Recovered.{AllReady, AllRun, AllRunReady, AreNeighbours, HasRecovered, HaveHeard, HaveNumbersForAll, HaveNumbersForAsMany, HoldsEntries, IsReadyAt, KnowsCommitted, NoReadWaits, NoUpdateWaits, after_all_rounds, after_as_many, after_round, chain_after, has_recovered};
 ghost use Rattle.craq_recovery.specs.Rounds.{after_rounds, round};
 ghost use Rattle.craq_recovery.specs.Taken.{AreTakenInTurn, HaveNumbers, HaveNumbersFor};
 
@@ -36,6 +37,15 @@ pub fn acknowledgements_flow()
         → KnowsCommitted (after_round (suc count) (chain_after chain run)) (id_of p) q.past.acknowledged }
 {}
 
+/// Entries get at least one member further in a round of at least one hop: a ready successor then holds as many entries as its
+/// ready predecessor did before.
+pub fn entries_flow()
+    ensures { (chain : ℕ) (run : Run) (count : ℕ) (p q : Plain) → IsTypedRunOf chain run
+        → AreNeighbours (chain_after chain run) p q → p.ready ≡ true → q.ready ≡ true
+        → HaveNumbers (chain_after chain run) (round after_move (suc count) (chain_after chain run))
+        → HoldsEntries (after_round (suc count) (chain_after chain run)) (id_of q) (length_of p) }
+{}
+
 /// Where each member is ready and knows the membership, what the last member knows to be committed reaches each member in as
 /// many rounds as there are members.
 pub fn acknowledgements_reach_the_head()
@@ -43,6 +53,50 @@ pub fn acknowledgements_reach_the_head()
         → KnowsCommitted (chain_after chain run) (last_of (chain_after chain run).members) least
         → HaveNumbersFor (suc count) (length (chain_after chain run).members) (chain_after chain run)
         → AllByRecursion (λ id. KnowsCommitted (after_rounds after_move (suc count) (length (chain_after chain run).members) (chain_after chain run)) id least) (chain_after chain run).members }
+{}
+
+/// Where each member is ready and knows the membership, the entries that the first member holds reach each member in as many
+/// rounds as there are members.
+pub fn entries_reach_the_tail()
+    ensures { (chain : ℕ) (run : Run) (count least : ℕ) → IsTypedRunOf chain run → AllReady (chain_after chain run)
+        → HoldsEntries (chain_after chain run) (first_of (chain_after chain run).members) least
+        → HaveNumbersFor (suc count) (length (chain_after chain run).members) (chain_after chain run)
+        → AllByRecursion (λ id. HoldsEntries (after_rounds after_move (suc count) (length (chain_after chain run).members) (chain_after chain run)) id least) (chain_after chain run).members }
+{}
+
+/// Where each member is ready and knows the membership, no update waits any more after as many rounds as there are members and
+/// as many again: in the first the entries reach the last member, and in the others it is known that they are committed.
+pub fn updates_wait_no_longer()
+    ensures { (chain : ℕ) (run : Run) (count : ℕ) → IsTypedRunOf chain run → AllReady (chain_after chain run)
+        → HaveNumbersForAsMany (suc count) (chain_after chain run)
+        → HaveNumbersForAsMany (suc count) (after_as_many (suc count) (chain_after chain run))
+        → AllByRecursion (NoUpdateWaits (after_as_many (suc count) (after_as_many (suc count) (chain_after chain run)))) (chain_after chain run).members }
+{}
+
+/// In a round of at least two hops each read that waits at a ready member is answered, where the last member is ready too and
+/// both know the membership: no read waits there then. Of reads at the last member itself this law says nothing.
+pub fn reads_wait_no_longer()
+    ensures { (chain : ℕ) (run : Run) (count id : ℕ) → IsTypedRunOf chain run → IsReadyAt (chain_after chain run) id
+        → IsReadyAt (chain_after chain run) (last_of (chain_after chain run).members) → id ≢ last_of (chain_after chain run).members
+        → HaveNumbers (chain_after chain run) (round after_move (suc (suc count)) (chain_after chain run))
+        → NoReadWaits (after_round (suc (suc count)) (chain_after chain run)) id }
+{}
+
+/// A chain whose members are all ready and know the membership recovers: in rounds of at least two hops, as many as it has
+/// members, as many again, and one more, whatever waited at its nodes and whatever was lost before.
+pub fn ready_chains_recover()
+    ensures { (chain : ℕ) (run : Run) (count : ℕ) → IsTypedRunOf chain run → AllReady (chain_after chain run)
+        → HaveNumbersForAll (suc (suc count)) (chain_after chain run)
+        → HasRecovered (after_all_rounds (suc (suc count)) (chain_after chain run)) }
+{}
+
+/// A chain whose members all run and are ready recovers in one round more, whatever memberships they know: after the first
+/// round each knows the master's.
+pub fn running_ready_chains_recover()
+    ensures { (chain : ℕ) (run : Run) (count : ℕ) → IsTypedRunOf chain run → AllRunReady (chain_after chain run)
+        → HaveNumbers (chain_after chain run) (round after_move (suc (suc count)) (chain_after chain run))
+        → HaveNumbersForAll (suc (suc count)) (after_round (suc (suc count)) (chain_after chain run))
+        → HasRecovered (after_all_rounds (suc (suc count)) (after_round (suc (suc count)) (chain_after chain run))) }
 {}
 
 /// A chain that passes the test has recovered.

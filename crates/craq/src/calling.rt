@@ -5,7 +5,7 @@ use craq_front::{Stream, exchange};
 use craq_line::{Asked, CallLine};
 use craq_model::{Answer, Ask};
 use craq_names::{NodeId, Pass, Refusal};
-use craq_play::{print_answer, print_refusal, read_of, update_of};
+use craq_words::{print_answer, print_refusal, read_of, update_of};
 use std::alloc::{AllocError, Global};
 use std::io::ErrorKind;
 use std::net::{Net, TcpListener, TcpStream};

@@ -1,4 +1,3 @@
-pub mod Asked
 pub mod Explained
 pub mod Moves
 pub mod Printed

@@ -9,7 +9,7 @@ use Rattle.craq_runs.specs.declared.run.Move.{Move}
 use Rattle.craq_runs.specs.declared.run.Move.TheVariants as moves
 use Rattle.craq_script.specs.declared.line.Line.{Line}
 use Rattle.craq_script.specs.declared.line.Line.TheVariants as lines
-use Rattle.craq_play.specs.Asked.{update_of, read_of}
+use Rattle.craq_words.specs.Asked.{update_of, read_of}
 
 -- an ask of a node; there is chain 0 alone
 abbrev pub asked_move : ℕ → Result Ask Refusal → Result (Option Move) Refusal

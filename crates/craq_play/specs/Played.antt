@@ -10,7 +10,8 @@ use Rattle.craq_chain.specs.Chained.{Chained, after_taking, chain_of, mover, ope
 use Rattle.craq_play.specs.Explained.{explanation_text}
 use Rattle.craq_script.specs.declared.line.Line.{Line}
 use Rattle.craq_script.specs.Texts.{script_of}
-use Rattle.craq_play.specs.Printed.{step_text, refusal_text}
+use Rattle.craq_words.specs.Printed.{refusal_text}
+use Rattle.craq_play.specs.Printed.{step_text}
 use Rattle.craq_play.specs.Moves.{move_of}
 
 -- a taken move prints its step, and a refused one its refusal

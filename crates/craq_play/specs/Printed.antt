@@ -1,15 +1,7 @@
 -- What is printed of the steps of a chain. Texts are lists of the codes of characters.
-use Rattle.std.specs.Prelude.{ℕ, ◌+◌, ◌/◌, ◌%◌, false, List, [], ◌∷◌, ◌++◌, codes, Option, Some, None}
-use Rattle.std.specs.Fmt.{decimal, digit_glyph}
-use Rattle.std.specs.List.{flat_map}
-use Rattle.craq_names.specs.declared.refusal.Refusal.{Refusal}
-use Rattle.craq_names.specs.declared.refusal.Refusal.TheVariants as refusals
-use Rattle.craq_names.specs.Refused.{number_of}
+use Rattle.std.specs.Prelude.{ℕ, ◌+◌, List, [], ◌∷◌, ◌++◌, codes, Option, Some, None}
+use Rattle.std.specs.Fmt.{decimal}
 use Rattle.craq_commands.specs.declared.entry.Entry.{Entry}
-use Rattle.craq_commands.specs.declared.reply.Reply.{Reply}
-use Rattle.craq_commands.specs.declared.reply.Reply.TheVariants as replies
-use Rattle.craq_model.specs.declared.ask.Answer.{Answer}
-use Rattle.craq_model.specs.declared.ask.Answer.TheVariants as answers
 use Rattle.craq_model.specs.declared.message.Body.{Body}
 use Rattle.craq_model.specs.declared.message.Body.TheVariants as bodies
 use Rattle.craq_model.specs.declared.message.StatePart.{StatePart}
@@ -19,35 +11,7 @@ use Rattle.craq_model.specs.declared.step.Out.TheVariants as outs
 use Rattle.craq_model.specs.declared.step.Step.{Step}
 use Rattle.craq_model.specs.declared.step.Why.{Why}
 use Rattle.craq_model.specs.declared.step.Why.TheVariants as whys
-
--- two hexadecimal digits in lower case
-abbrev pub byte_text : ℕ → List ℕ
-byte_text b = digit_glyph false (b / 16) ∷ digit_glyph false (b % 16) ∷ []
-
--- `0x` and the bytes
-unfoldable pub value_text : List ℕ → List ℕ
-value_text bytes = codes "0x" ++ flat_map byte_text bytes
-
--- ` VERSION:VALUE` of an object
-abbrev pub object_text : ℕ × List ℕ → List ℕ
-object_text object = codes " " ++ decimal object.0 ++ codes ":" ++ value_text object.1
-
--- the reply to an update
-unfoldable pub reply_text : Reply → List ℕ
-reply_text (replies.Written version) = codes "written " ++ decimal version
-reply_text (replies.Mismatch version) = codes "mismatch " ++ decimal version
-reply_text replies.TooLong = codes "toolong"
-reply_text replies.NotANumber = codes "notanumber"
-reply_text replies.Overflow = codes "overflow"
-reply_text replies.Underflow = codes "underflow"
-reply_text (replies.Done objects) = codes "done" ++ flat_map object_text objects
-reply_text (replies.CompareFailed place) = codes "comparefailed " ++ decimal place
-reply_text (replies.Stale last) = codes "stale " ++ decimal last
-
--- an answer
-unfoldable pub answer_text : Answer → List ℕ
-answer_text (answers.Update reply) = reply_text reply
-answer_text (answers.Read version value) = codes "read " ++ decimal version ++ codes " " ++ value_text value
+use Rattle.craq_words.specs.Printed.{answer_text}
 
 -- entries in one message, by the positions of the first and the last
 unfoldable pub batch_text : List Entry → List ℕ
@@ -105,12 +69,3 @@ done_text node sent None (out ∷ others) = outs_text node sent (out ∷ others)
 -- a step of a node, after so many messages were sent
 unfoldable pub step_text : ℕ → ℕ → Step → List ℕ
 step_text node sent step = done_text node sent step.ignored step.outs
-
--- what stands behind a refusal's number: the head that was not asked
-abbrev pub head_text : Refusal → List ℕ
-head_text (refusals.NotHead head) = codes " " ++ decimal head
-head_text other = []
-
--- a refused move
-unfoldable pub refusal_text : Refusal → List ℕ
-refusal_text refusal = codes "refused " ++ decimal (number_of refusal) ++ head_text refusal ++ codes "\n"

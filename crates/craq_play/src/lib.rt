@@ -3,7 +3,6 @@
 //! Code that runs in the program.
 #![tactic(auto)]
 
-mod asking;
 mod explanation;
 mod fault;
 mod moving;
@@ -12,12 +11,12 @@ mod plain_core;
 mod playing;
 mod printing;
 
-pub use asking::{read_of, update_of};
 pub use craq_script::Script;
+pub use craq_words::{print_answer, print_refusal, print_reply, read_of, update_of};
 pub use explanation::explanation_text;
 pub use fault::PlayFault;
 pub use moving::move_of;
 pub use on_cells::play;
 pub use plain_core::PlainCore;
 pub use playing::{opened, play_line, play_move};
-pub use printing::{print_answer, print_refusal, print_reply, print_step};
+pub use printing::{print_message, print_step, word_of};

@@ -1,13 +1,13 @@
 //! The move of a script's line, or its refusal; called for each line before the chain is.
 ghost use Rattle.std.specs.Prelude.{◌≡◌, Ok};
-ghost use Rattle.craq_play.specs.Asked.{Answers};
+ghost use Rattle.craq_words.specs.Asked.{Answers};
 ghost use Rattle.craq_play.specs.Moves.{asked_move, move_of};
 
-use crate::asking::{read_of, update_of};
 use craq_model::Ask;
 use craq_names::{NodeId, Refusal};
 use craq_runs::Move;
 use craq_script::Line;
+use craq_words::{read_of, update_of};
 use std::alloc::Global;
 
 /// The ask of a node, where it goes to the one chain. `UnknownChain` where it goes to another.

@@ -2,14 +2,15 @@
 ghost use Rattle.std.specs.Prelude.{◌≡◌, ◌++◌, ◌∷◌, [], ◌≤◌, List, IfErr, IfOk, OnOk, string_bytes};
 ghost use Rattle.craq_runs.specs.declared.run.Taken.{Taken};
 ghost use Rattle.craq_play.specs.Moves.{move_of};
-ghost use Rattle.craq_play.specs.Printed.{refusal_text, step_text};
+ghost use Rattle.craq_words.specs.Printed.{refusal_text};
+ghost use Rattle.craq_play.specs.Printed.{step_text};
 ghost use Rattle.craq_play.specs.Played.{after_line, after_one, line_text, move_text, played, played_text};
 ghost use Rattle.craq_play.specs.OnCells.{EndsPlay, PlaysOnCells};
 
 use crate::PlayFault;
 use crate::moving::move_of;
 use crate::playing::{first_ids, opened, print_explanation};
-use crate::printing::{print_refusal, print_step};
+use crate::printing::print_step;
 use craq_chain::ChainCore;
 use craq_locked::LockedChain;
 use craq_model::Step;
@@ -18,6 +19,7 @@ use craq_node::Core;
 use craq_runs::{Move, Run};
 use craq_script::{Line, Script};
 use craq_seat::Receipt;
+use craq_words::print_refusal;
 use std::alloc::{AllocError, Global};
 use std::sync::Wait;
 

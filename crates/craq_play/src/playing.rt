@@ -16,13 +16,14 @@ ghost use Rattle.craq_play.specs.Played.{
 
 use crate::explanation::explanation_text;
 use crate::moving::move_of;
-use crate::printing::{print_refusal, print_step};
+use crate::printing::print_step;
 use craq_chain::ChainCore;
 use craq_explain::explain_run_of;
 use craq_names::{ChainId, NodeId, Refusal};
 use craq_node::Core;
 use craq_runs::{Move, Run};
 use craq_script::Line;
+use craq_words::print_refusal;
 use std::alloc::{AllocError, Global};
 
 /// The ids from 1 to the count.

@@ -1,100 +1,13 @@
-//! Replies, answers, messages, steps and refusals as printed text, as `specs/Printed` has it.
+//! Messages and steps as printed text, as `specs/Printed` has it.
 ghost use Rattle.std.specs.Prelude.{◌≡◌, ◌+◌, ◌<◌, ◌^◌, ◌++◌, length, OnOk, string_bytes};
-ghost use Rattle.std.specs.List.{flat_map};
 ghost use Rattle.craq_model.specs.Deliveries.{final_position, first_position};
-ghost use Rattle.craq_play.specs.Printed.{byte_text, value_text, object_text, reply_text, answer_text, batch_text, part_text, message_text, out_text, sent_after, outs_text, why_text, step_text, refusal_text};
+ghost use Rattle.craq_play.specs.Printed.{batch_text, part_text, message_text, out_text, sent_after, outs_text, why_text, step_text};
 
-use craq_commands::{Entry, Reply};
-use craq_model::{Answer, Body, LinkMessage, Out, StatePart, Step, Why};
-use craq_names::{NodeId, Refusal, Value, Version};
+use craq_commands::Entry;
+use craq_model::{Body, LinkMessage, Out, StatePart, Step, Why};
+use craq_names::NodeId;
+use craq_words::print_answer;
 use std::alloc::AllocError;
-
-/// Prints two hexadecimal digits in lower case for each byte.
-fn print_bytes(text: &mut String, bytes: &[u8]) -> Result<(), AllocError>
-    ensures { OnOk result (string_bytes text.new ≡ string_bytes text.old ++ flat_map byte_text bytes.now) }
-{
-    for byte in bytes {
-        print_byte(text, *byte)?;
-    }
-    Ok(())
-}
-
-/// Prints the byte as two hexadecimal digits in lower case.
-fn print_byte(text: &mut String, byte: u8) -> Result<(), AllocError>
-    ensures { OnOk result (string_bytes text.new ≡ string_bytes text.old ++ byte_text byte) }
-{
-    write!(text, "{byte:02x}")
-}
-
-/// Prints the value's bytes: `0x` and two hexadecimal digits in lower case for each.
-#[tactic(auto, unfolding(crate::specs::Printed::value_text))]
-fn print_value(text: &mut String, value: &Value) -> Result<(), AllocError>
-    ensures { OnOk result (string_bytes text.new ≡ string_bytes text.old ++ value_text value.now) }
-{
-    text.push_str("0x")?;
-    print_bytes(text, value.as_slice())
-}
-
-/// Prints the objects that a transaction read: a space, the version, a colon and the value of each.
-fn print_objects(text: &mut String, objects: &[(Version, Value)]) -> Result<(), AllocError>
-    ensures { OnOk result (string_bytes text.new ≡ string_bytes text.old ++ flat_map object_text objects.now) }
-{
-    for object in objects {
-        let version = object.0.get();
-        write!(text, " {version}:")?;
-        print_value(text, &object.1)?;
-    }
-    Ok(())
-}
-
-/// Prints the reply to an update. It fails for want of memory alone, and nothing is known of the text then.
-#[tactic(auto, unfolding(crate::specs::Printed::reply_text))]
-pub fn print_reply(text: &mut String, reply: &Reply) -> Result<(), AllocError>
-    ensures { OnOk result (string_bytes text.new ≡ string_bytes text.old ++ reply_text reply.now) }
-{
-    match reply {
-        Reply::Written(version) => {
-            let version = version.get();
-            write!(text, "written {version}")
-        }
-        Reply::Mismatch(version) => {
-            let version = version.get();
-            write!(text, "mismatch {version}")
-        }
-        Reply::TooLong => text.push_str("toolong"),
-        Reply::NotANumber => text.push_str("notanumber"),
-        Reply::Overflow => text.push_str("overflow"),
-        Reply::Underflow => text.push_str("underflow"),
-        Reply::Done(objects) => {
-            text.push_str("done")?;
-            print_objects(text, objects.as_slice())
-        }
-        Reply::CompareFailed(place) => {
-            let place = *place;
-            write!(text, "comparefailed {place}")
-        }
-        Reply::Stale(last) => {
-            let last = last.get();
-            write!(text, "stale {last}")
-        }
-    }
-}
-
-/// Prints an answer: the reply to an update, or `read`, the version and the value. It fails for want of memory alone, and nothing is
-/// known of the text then.
-#[tactic(auto, unfolding(crate::specs::Printed::answer_text))]
-pub fn print_answer(text: &mut String, answer: &Answer) -> Result<(), AllocError>
-    ensures { OnOk result (string_bytes text.new ≡ string_bytes text.old ++ answer_text answer.now) }
-{
-    match answer {
-        Answer::Update(reply) => print_reply(text, reply),
-        Answer::Read { version, value } => {
-            let version = version.get();
-            write!(text, "read {version} ")?;
-            print_value(text, value)
-        }
-    }
-}
 
 /// The position of the first entry; 0 where there is none.
 fn first_position(entries: &[Entry]) -> u64
@@ -138,9 +51,9 @@ fn print_part(text: &mut String, part: &StatePart) -> Result<(), AllocError>
     write!(text, "part {position} {number}/{count}")
 }
 
-/// Prints what a message says, in short: its kind and its numbers.
+/// Prints what a message says, in short: its kind and its numbers. It fails for want of memory alone, and nothing is known of the text then.
 #[tactic(auto, unfolding(crate::specs::Printed::message_text))]
-fn print_message(text: &mut String, message: &LinkMessage) -> Result<(), AllocError>
+pub fn print_message(text: &mut String, message: &LinkMessage) -> Result<(), AllocError>
     ensures { OnOk result (string_bytes text.new ≡ string_bytes text.old ++ message_text message.now.epoch message.now.body) }
 {
     match &message.body {
@@ -232,7 +145,7 @@ fn print_outs(text: &mut String, node: NodeId, sent: u64, outs: &[Out]) -> Resul
 }
 
 /// The word for why a message was ignored.
-const fn word_of(why: Why) -> &'static str
+pub const fn word_of(why: Why) -> &'static str
     ensures { result.now ≡ why_text why }
 {
     match why {
@@ -266,19 +179,4 @@ pub fn print_step(text: &mut String, node: NodeId, sent: u64, step: &Step) -> Re
         return Err(AllocError);
     }
     print_outs(text, node, sent, outs)
-}
-
-/// Prints that a move was refused: `refused`, the number of the refusal, and after 9 the head. It fails for want of memory alone, and
-/// nothing is known of the text then.
-#[tactic(auto, unfolding(crate::specs::Printed::refusal_text))]
-pub fn print_refusal(text: &mut String, refusal: &Refusal) -> Result<(), AllocError>
-    ensures { OnOk result (string_bytes text.new ≡ string_bytes text.old ++ refusal_text refusal.now) }
-{
-    let number = (*refusal).number();
-    write!(text, "refused {number}")?;
-    if let Refusal::NotHead(head) = refusal {
-        let head = head.get();
-        write!(text, " {head}")?;
-    }
-    text.push_str("\n")
 }

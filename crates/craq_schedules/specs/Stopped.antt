@@ -2,6 +2,7 @@
 use Rattle.std.specs.Prelude.{ℕ, zero, suc, ◌+◌, ◌==◌, nat_le, Bool, if◌then◌else◌, List, [], ◌∷◌, ◌++◌, length, codes, Result, Ok, Err}
 use Rattle.std.specs.Fmt.{decimal}
 use Rattle.craq_names.specs.declared.refusal.Refusal.{Refusal}
+use Rattle.craq_names.specs.declared.refusal.Refusal.TheVariants as refusals
 use Rattle.craq_runs.specs.declared.explanation.Explanation.{Explanation}
 use Rattle.craq_runs.specs.declared.run.Move.TheVariants as moves
 use Rattle.craq_runs.specs.declared.run.Run.{Run}
@@ -21,6 +22,15 @@ count_taken w = length w.run.moves
 abbrev pub after_lines : Chained → List Line → Chained
 after_lines w [] = w
 after_lines w (line ∷ lines) = after_lines (after_line w (move_of line)) lines
+
+-- the chain after the lines of a script, or which line is outside the grammar
+abbrev pub chain_of_lines : ℕ → Result (List Line) ℕ → Result Chained Refusal
+chain_of_lines nodes (Ok lines) = Ok (after_lines (opening nodes) lines)
+chain_of_lines nodes (Err line) = Err (refusals.BadScript line)
+
+-- a new chain of so many nodes after a script
+abbrev pub chain_after : ℕ → List ℕ → Result Chained Refusal
+chain_after nodes script = chain_of_lines nodes (script_of script)
 
 -- the chain after lines, up to so many taken moves
 abbrev pub up_to : ℕ → Chained → List Line → Chained

@@ -7,4 +7,4 @@ mod stopping;
 mod verdict;
 
 pub use drawing::draw;
-pub use stopping::stops;
+pub use stopping::{chain_after, stops};

@@ -2,9 +2,10 @@
 ghost use Rattle.std.specs.Prelude.{◌≡◌, ◌≤◌, ◌+◌, ◌++◌, Bool, length, IfOk, OnOk, string_bytes};
 ghost use Rattle.craq_runs.specs.declared.explanation.Explanation.{Explanation};
 ghost use Rattle.craq_runs.specs.declared.run.Run.{Run};
+ghost use Rattle.craq_words.specs.Asked.{Answers};
 ghost use Rattle.craq_play.specs.Moves.{move_of};
 ghost use Rattle.craq_play.specs.Played.{Plays, after_line, after_one};
-ghost use Rattle.craq_schedules.specs.Stopped.{after_lines, cut_line, cut_text, delivered, stopped, stops_text, up_to, without_node};
+ghost use Rattle.craq_schedules.specs.Stopped.{after_lines, chain_after, cut_line, cut_text, delivered, stopped, stops_text, up_to, without_node};
 ghost use Rattle.craq_schedules.specs.Verdicts.{AnswersAsCheck};
 
 use crate::verdict::{Verdict, print_verdict, verdict_of};
@@ -62,6 +63,24 @@ fn take_lines<C: Core>(
         take_line(alloc, chain, line)?;
     }
     Ok(())
+}
+
+/// The chain after a script, on one chain of the nodes from 1 to the count, 1 the head. A refused line changes nothing, and `explain`
+/// is no move.
+///
+/// `BadScript` with the first line that is outside the grammar; `Memory` where a growth was refused. (This project's profile.)
+pub fn chain_after<C: Core>(
+    alloc: Global,
+    nodes: u32,
+    script: &[u8],
+) -> Result<ChainCore<C>, Refusal>
+    requires { (1 ≤ nodes) × (nodes ≤ 8) }
+    ensures { Answers (λ w. w) result (chain_after nodes script.now) }
+{
+    let script = Script::read(alloc, script)?;
+    let mut chain: ChainCore<C> = opened(alloc, nodes)?;
+    take_lines(alloc, &mut chain, script.lines.as_slice())?;
+    Ok(chain)
 }
 
 /// Takes the moves of lines, in order, until so many were taken. It fails for want of memory alone.

@@ -13,4 +13,4 @@ mod words;
 pub use line::{Change, Line, MiniItem, ScriptObject, UpdateLine};
 pub use misread::Misread;
 pub use script::Script;
-pub use spelling::number_up_to;
+pub use spelling::{GREATEST_NODE, item_of, mode_of, number_up_to, object_of, value_of};

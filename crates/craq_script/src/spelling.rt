@@ -12,8 +12,8 @@ use std::alloc::Global;
 /// The greatest number of 16 bits.
 const GREATEST_CHAIN: u64 = 65535;
 
-/// The greatest number of 32 bits.
-pub(crate) const GREATEST_NODE: u64 = 4294967295;
+/// The greatest id of a node: the greatest number of 32 bits.
+pub const GREATEST_NODE: u64 = 4294967295;
 
 /// The first place of the character.
 fn place_of(text: &[u8], at: u8) -> Option<usize>
@@ -123,7 +123,7 @@ fn key_of(alloc: Global, word: &[u8]) -> Result<Items<u8>, Misread>
 
 /// The object that the word names.
 #[tactic(auto, unfolding(crate::specs::Words::object_of))]
-pub(crate) fn object_of(alloc: Global, word: &[u8]) -> Result<ScriptObject, Misread>
+pub fn object_of(alloc: Global, word: &[u8]) -> Result<ScriptObject, Misread>
     ensures { Gives (λ x. x) result (object_of word.now) }
 {
     match cut(word, b'/') {
@@ -183,7 +183,7 @@ fn hexadecimal_bytes(alloc: Global, digits: &[u8]) -> Result<Items<u8>, Misread>
 
 /// The bytes of a VALUE.
 #[tactic(auto, unfolding(crate::specs::Words::value_of))]
-pub(crate) fn value_of(alloc: Global, word: &[u8]) -> Result<Items<u8>, Misread>
+pub fn value_of(alloc: Global, word: &[u8]) -> Result<Items<u8>, Misread>
     ensures { Gives (λ x. x) result (value_of word.now) }
 {
     if let Some(digits) = word.strip_prefix(b"0x".as_slice()) {
@@ -197,7 +197,7 @@ pub(crate) fn value_of(alloc: Global, word: &[u8]) -> Result<Items<u8>, Misread>
 
 /// The mode of a read.
 #[tactic(auto, unfolding(crate::specs::Words::mode_of))]
-pub(crate) fn mode_of(word: &[u8]) -> Result<ReadMode, Misread>
+pub fn mode_of(word: &[u8]) -> Result<ReadMode, Misread>
     ensures { Gives (λ x. x) result (mode_of word.now) }
 {
     if word == b"strong".as_slice() {
@@ -253,7 +253,7 @@ fn write_of(alloc: Global, text: &[u8]) -> Result<MiniItem, Misread>
 
 /// An item of a transaction.
 #[tactic(auto, unfolding(crate::specs::Words::item_of))]
-pub(crate) fn item_of(alloc: Global, word: &[u8]) -> Result<MiniItem, Misread>
+pub fn item_of(alloc: Global, word: &[u8]) -> Result<MiniItem, Misread>
     ensures { Gives (λ x. x) result (item_of word.now) }
 {
     let Some((kind, text)) = cut(word, b':') else {

@@ -23,7 +23,7 @@ use Rattle.craq_script.specs.declared.line.Line.{Line}
 use Rattle.craq_script.specs.declared.line.Line.TheVariants as lines
 use Rattle.craq_script.specs.declared.line.ScriptObject.{ScriptObject}
 use Rattle.craq_script.specs.declared.line.UpdateLine.{UpdateLine}
-use Rattle.craq_play.specs.Asked.{command_of, has_key, is_value, lists_of, numbered, objects_named, read_of, transaction_command, update_of, values_given}
+use Rattle.craq_words.specs.Asked.{command_of, has_key, is_value, lists_of, numbered, objects_named, read_of, transaction_command, update_of, values_given}
 use Rattle.craq_play.specs.Moves.{asked_move, move_of}
 
 -- what holds of a result holds of it behind a test that refuses

@@ -2,7 +2,7 @@
 ghost use Rattle.std.specs.Prelude.{◌≡◌, map, IfOk};
 ghost use Rattle.std.specs.List.{list_all, flat_map};
 ghost use Rattle.craq_commands.specs.Transaction.{mini_of};
-ghost use Rattle.craq_play.specs.Asked.{has_key, is_value, item_object, item_value, objects_named, values_given, named, item_compare, item_read, item_write, lists_of, command_of, update_of, read_of, Answers};
+ghost use Rattle.craq_words.specs.Asked.{has_key, is_value, item_object, item_value, objects_named, values_given, named, item_compare, item_read, item_write, lists_of, command_of, update_of, read_of, Answers};
 
 use craq_commands::{Command, Mini, ReadMode, Update};
 use craq_model::Ask;

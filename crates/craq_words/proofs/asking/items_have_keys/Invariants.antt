@@ -1,7 +1,7 @@
 use Rattle.std.proofs.Common.{◌≡◌, map, drop}
 use Rattle.std.specs.List.{list_all}
-use Rattle.craq_play.specs.Asked.{has_key, item_object}
-use Rattle.craq_play.proofs.asking.items_have_keys.Given as goal
+use Rattle.craq_words.specs.Asked.{has_key, item_object}
+use Rattle.craq_words.proofs.asking.items_have_keys.Given as goal
 
 -- it hangs on the items that are left
 abbrev pub invariant-loop-item : goal.invariant-loop-item

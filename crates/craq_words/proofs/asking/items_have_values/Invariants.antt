@@ -1,7 +1,7 @@
 use Rattle.std.proofs.Common.{◌≡◌, drop}
 use Rattle.std.specs.List.{list_all, flat_map}
-use Rattle.craq_play.specs.Asked.{is_value, item_value}
-use Rattle.craq_play.proofs.asking.items_have_values.Given as goal
+use Rattle.craq_words.specs.Asked.{is_value, item_value}
+use Rattle.craq_words.proofs.asking.items_have_values.Given as goal
 
 -- it hangs on the items that are left
 abbrev pub invariant-loop-item : goal.invariant-loop-item

@@ -14,10 +14,10 @@ MOST_LINES = 60
 CUT = re.compile(rb"cut (\d+) committed \d+ valid true\n")
 
 
-def choices_of(seed):
-    """The choices of a seed: the upper bits of the numbers of a linear congruential generator (that of ANSI C's example of rand)."""
+def choices_of(seed, count=CHOICES):
+    """So many choices of a seed: the upper bits of the numbers of a linear congruential generator (that of ANSI C's example of rand)."""
     x, found = seed, []
-    for _ in range(CHOICES):
+    for _ in range(count):
         x = (1103515245 * x + 12345) % 2**31
         found.append(x // 65536)
     return ",".join(map(str, found))

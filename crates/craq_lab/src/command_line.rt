@@ -38,6 +38,17 @@ pub enum Asked<'a> {
         file: &'a str,
         node: &'a str,
     },
+    /// To draw what the script of this file does.
+    Picture {
+        nodes: Nodes,
+        file: &'a str,
+    },
+    /// To play the script of this file, and check the explanation in another file against it.
+    Check {
+        nodes: Nodes,
+        file: &'a str,
+        explanation: &'a str,
+    },
     /// Nothing: the command line names no command.
     Nothing,
 }
@@ -135,6 +146,34 @@ removal on arrives once, in the order sent, until none is left or 10000 arrived.
 where L updates are committed then, and `valid false` says that the check of the explanation
 fails. Status: as of play.";
 
+const PICTURE_ABOUT: &str = "Play a script, and print a picture of what it does";
+
+const PICTURE_HELP: &str =
+    "Printed is an SVG picture, for a browser or a page: a column for the master and for each node, a row
+for each move (each line that was not refused), an arrow for each message from where it was sent to where
+it was taken. A message that was ignored is dotted, with the reason; one that was never delivered ends in
+the air. `answer T @P` answers the ask of ticket T: a single copy answers so after the first P updates of
+the list. Right of the columns stands how many updates are committed after the move.
+
+Status: as of play.
+
+Example:
+  printf 'put 1 1 1 k a\ndeliver 1\ndeliver 2\n' > script; craq_lab picture --nodes 2 script > run.svg";
+
+const CHECK_ABOUT: &str = "Play a script, and check an explanation of what it does";
+
+const CHECK_HELP: &str =
+    "EXPLANATION is a file with an explanation as `explain` of a script prints it: an object of JSON with the
+members asks, lens and places. Printed is `true` where it holds of what the script does, and `false` where
+it does not: each committed update was asked, the list only grows, no request comes twice, and each strong
+answer is what a single copy answers after so many updates, at some moment from its ask to its answer.
+
+Status: as of play; 2 where EXPLANATION is none, with the place: `not UTF-8 at byte B`, `not JSON at line L
+column C`, `no array: MEMBER`, or `bad item: MEMBER[I]`, with I counted from 0.
+
+Example:
+  craq_lab play script | tail -n 1 > explanation; craq_lab check script explanation";
+
 /// How many nodes the chain has: `[--nodes N]`.
 fn nodes_arg<'a>(alloc: Global) -> Arg<'a> {
     Arg::new(alloc, "nodes")
@@ -206,6 +245,22 @@ fn stops_command<'a>(alloc: Global) -> Result<Command<'a>, AllocError> {
     command.arg(node)
 }
 
+/// `picture [--nodes N] [--core CORE] FILE`.
+fn picture_command<'a>(alloc: Global) -> Result<Command<'a>, AllocError> {
+    let command = command_with_nodes(alloc, "picture", PICTURE_ABOUT, PICTURE_HELP)?;
+    command.arg(script_arg(alloc))
+}
+
+/// `check [--nodes N] [--core CORE] FILE EXPLANATION`.
+fn check_command<'a>(alloc: Global) -> Result<Command<'a>, AllocError> {
+    let command = command_with_nodes(alloc, "check", CHECK_ABOUT, CHECK_HELP)?;
+    let command = command.arg(script_arg(alloc))?;
+    let explanation = Arg::new(alloc, "EXPLANATION")
+        .required(true)
+        .help("The explanation, as JSON");
+    command.arg(explanation)
+}
+
 /// `craq_lab COMMAND ..`, with no command yet.
 fn bare_command<'a>(alloc: Global) -> Command<'a> {
     Command::new(alloc, "craq_lab")
@@ -222,17 +277,31 @@ fn whole_command<'a>(alloc: Global) -> Result<Command<'a>, AllocError> {
     with_schedules(alloc, command)
 }
 
-/// The command with `draw` and `stops` as its last commands.
+/// The command with all commands but `play` as its last ones.
 fn with_schedules<'a>(alloc: Global, command: Command<'a>) -> Result<Command<'a>, AllocError> {
     let draw = draw_command(alloc)?;
     let command = command.subcommand(draw)?;
     with_stops(alloc, command)
 }
 
-/// The command with `stops` as its last command.
+/// The command with `stops` and the commands that look at a whole run as its last commands.
 fn with_stops<'a>(alloc: Global, command: Command<'a>) -> Result<Command<'a>, AllocError> {
     let stops = stops_command(alloc)?;
-    command.subcommand(stops)
+    let command = command.subcommand(stops)?;
+    with_picture(alloc, command)
+}
+
+/// The command with `picture` and `check` as its last commands.
+fn with_picture<'a>(alloc: Global, command: Command<'a>) -> Result<Command<'a>, AllocError> {
+    let picture = picture_command(alloc)?;
+    let command = command.subcommand(picture)?;
+    with_check(alloc, command)
+}
+
+/// The command with `check` as its last command.
+fn with_check<'a>(alloc: Global, command: Command<'a>) -> Result<Command<'a>, AllocError> {
+    let check = check_command(alloc)?;
+    command.subcommand(check)
 }
 
 /// The nodes that the words after a command's name ask for.
@@ -261,6 +330,15 @@ fn asked_of<'a>(name: &str, given: &ArgMatches<'a>) -> Asked<'a> {
             nodes,
             file: file.unwrap_or(""),
             node: given.get_str("NODE").unwrap_or(""),
+        },
+        "picture" => Asked::Picture {
+            nodes,
+            file: file.unwrap_or(""),
+        },
+        "check" => Asked::Check {
+            nodes,
+            file: file.unwrap_or(""),
+            explanation: given.get_str("EXPLANATION").unwrap_or(""),
         },
         _ => Asked::Play { nodes, file },
     }

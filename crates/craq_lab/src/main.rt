@@ -1,19 +1,24 @@
 //! The program: `craq_lab play [--nodes N] [--core CORE] [FILE]`,
-//! `craq_lab draw [--nodes N] [--core CORE] FILE CHOICES`, `craq_lab stops [--nodes N] [--core CORE] FILE NODE`.
+//! `craq_lab draw [--nodes N] [--core CORE] FILE CHOICES`, `craq_lab stops [--nodes N] [--core CORE] FILE NODE`,
+//! `craq_lab picture [--nodes N] [--core CORE] FILE`, `craq_lab check [--nodes N] [--core CORE] FILE EXPLANATION`.
 #![tactic(auto)]
 
 ghost use Rattle.std.specs.Prelude.{◌≤◌};
 
 mod command_line;
 mod numbers;
+mod runs;
 
 use clap::Error;
 use command_line::{Asked, CoreKind, Nodes, asked_by};
+use craq_claim::{Misread, explanation_of};
 use craq_list::ListCore;
 use craq_names::{NodeId, Refusal};
 use craq_node::Core;
 use craq_play::{PlainCore, PlayFault, play};
+use craq_runs::Explanation;
 use craq_schedules::{draw, stops};
+use runs::{picture, verdict};
 use std::alloc::Global;
 use std::env::Env;
 use std::io::{ErrorKind, Read};
@@ -108,6 +113,8 @@ enum Way<'a> {
     Play,
     Draw(&'a [u32]),
     Stops(NodeId),
+    Picture,
+    Check(&'a Explanation),
 }
 
 /// What a script prints on a chain of so many nodes, each a core of this type.
@@ -126,6 +133,10 @@ fn played<C: Core, R: AllocGlobal + Wait>(
             draw::<C>(alloc, nodes, script, choices).map_err(PlayFault::Refused)
         }
         Way::Stops(node) => stops::<C>(alloc, nodes, script, *node).map_err(PlayFault::Refused),
+        Way::Picture => picture::<C>(alloc, nodes, script).map_err(PlayFault::Refused),
+        Way::Check(explanation) => {
+            verdict::<C>(alloc, nodes, script, explanation).map_err(PlayFault::Refused)
+        }
     }
 }
 
@@ -175,6 +186,34 @@ where
     }
 }
 
+/// Tells why a file was not read as an explanation, and gives the status.
+fn report_misread<R>(rt: &R, file: &str, misread: &Misread) -> io::Result<u8>
+where
+    R: AllocGlobal + Eprint,
+{
+    if *misread == Misread::Memory {
+        eprintln!(rt; "no memory")?;
+        return Ok(NO_MEMORY);
+    }
+    eprintln!(rt; "{file}: {misread}")?;
+    Ok(BAD_INPUT)
+}
+
+/// Plays the script of a file, and checks the explanation in another file against it. Gives the status.
+fn check_file<R>(rt: &R, nodes: Nodes, file: &str, claimed: &str) -> io::Result<u8>
+where
+    R: AllocGlobal + Files + Input + Print + Eprint + Wait,
+{
+    let bytes = match bytes_of(rt, Some(claimed)) {
+        Ok(bytes) => bytes,
+        Err(error) => return report_unread(rt, Some(claimed), error.kind()),
+    };
+    match explanation_of(rt.alloc(), bytes.as_slice()) {
+        Ok(explanation) => play_file(rt, nodes, Some(file), &Way::Check(&explanation)),
+        Err(misread) => report_misread(rt, claimed, &misread),
+    }
+}
+
 /// Tells what is wrong with the words of the command line, or prints the help that they ask for. Gives
 /// the status.
 fn report_words<R>(rt: &R, error: &Error) -> io::Result<u8>
@@ -204,6 +243,14 @@ where
             },
         ) => draw_file(rt, nodes, file, choices),
         Ok(Asked::Stops { nodes, file, node }) => stops_file(rt, nodes, file, node),
+        Ok(Asked::Picture { nodes, file }) => play_file(rt, nodes, Some(file), &Way::Picture),
+        Ok(
+            Asked::Check {
+                nodes,
+                file,
+                explanation,
+            },
+        ) => check_file(rt, nodes, file, explanation),
         Ok(Asked::Nothing) => Ok(BAD_INPUT),
         Err(error) => report_words(rt, &error),
     }

@@ -1,0 +1,73 @@
+//! Why a text is no explanation, and where.
+ghost use Rattle.std.specs.Prelude.{◌≡◌};
+ghost use Rattle.craq_claim.specs.declared.misread.Misread.TheVariants.{Memory};
+
+use std::alloc::AllocError;
+use std::fmt;
+
+/// A member of an explanation.
+#[derive(Clone, Copy, Debug, PartialEq, Eq)]
+pub enum Member {
+    Asks,
+    Lens,
+    Places,
+}
+
+impl fmt::Display for Member {
+    fn fmt<W: fmt::Write>(&self, f: &mut fmt::Formatter<W>) -> fmt::Result {
+        f.write_str(match self {
+            Member::Asks => "asks",
+            Member::Lens => "lens",
+            Member::Places => "places",
+        })
+    }
+}
+
+/// Why bytes were not read as an explanation.
+#[derive(Clone, Copy, Debug, PartialEq, Eq)]
+pub enum Misread {
+    /// A growth was refused.
+    Memory,
+    /// The bytes from this place on, counted from 0, are not UTF-8.
+    NotText(usize),
+    /// The text is not JSON at this line and column, each counted from 1.
+    NotJson { line: usize, column: usize },
+    /// The member is missing, or no array.
+    NoArray(Member),
+    /// The item of this place in the member, counted from 0, is not what stands there in an explanation.
+    BadItem(Member, usize),
+}
+
+impl From<AllocError> for Misread {
+    ghost from_gives = { λ _ e. e ≡ Memory };
+
+    fn from(_e: AllocError) -> Misread {
+        Misread::Memory
+    }
+}
+
+impl fmt::Display for Misread {
+    fn fmt<W: fmt::Write>(&self, f: &mut fmt::Formatter<W>) -> fmt::Result {
+        match self {
+            Misread::Memory => f.write_str("no memory"),
+            Misread::NotText(place) => {
+                let place = *place;
+                write!(f, "not UTF-8 at byte {place}")
+            }
+            Misread::NotJson { line, column } => {
+                let line = *line;
+                let column = *column;
+                write!(f, "not JSON at line {line} column {column}")
+            }
+            Misread::NoArray(member) => {
+                let member = *member;
+                write!(f, "no array: {member}")
+            }
+            Misread::BadItem(member, place) => {
+                let member = *member;
+                let place = *place;
+                write!(f, "bad item: {member}[{place}]")
+            }
+        }
+    }
+}

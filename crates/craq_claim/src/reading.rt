@@ -1,0 +1,133 @@
+//! Reading an explanation.
+ghost use Rattle.std.specs.Prelude.{◌≡◌, map, Some, IfOk, IfSome};
+ghost use Rattle.serde_json.specs.View.{items_view, view};
+ghost use Rattle.serde_json.specs.Data.{Data, array};
+ghost use Rattle.serde_json.specs.Find.{get};
+ghost use Rattle.serde_json.specs.Read.{read};
+ghost use Rattle.craq_play.specs.Explained.{count_data, place_data};
+ghost use Rattle.craq_claim.specs.Told.{IsTold};
+
+use crate::{Member, Misread};
+use craq_names::{Items, NodeId, Seq, Ticket};
+use craq_runs::{Explanation, Place};
+use serde_json::{Error, Value};
+use std::alloc::Global;
+use std::str;
+
+/// The array that a member of an explanation is. `NoArray` where it is missing, or is none.
+fn array_of<'a>(value: &'a Value, name: &str, member: Member) -> Result<&'a [Value], Misread>
+    ensures { IfOk result (λ items. get name.now (view value.now) ≡ Some (array (items_view items.now))) }
+{
+    match value.get(name) {
+        Some(Value::Array(items)) => Ok(items.as_slice()),
+        _ => Err(Misread::NoArray(member)),
+    }
+}
+
+/// The counts that the items of a member are. `BadItem` with the first that is no whole number of 64 bits.
+#[tactic(auto, using(crate::proofs::Numbers::is_count))]
+fn counts_of(alloc: Global, items: &[Value], member: Member) -> Result<Items<u64>, Misread>
+    ensures { IfOk result (λ counts. map view items.now ≡ map count_data counts) }
+{
+    let mut counts = Items::new(alloc);
+    for (index, item) in items.iter().enumerate() {
+        match item.as_u64() {
+            Some(count) => counts.push(count)?,
+            None => return Err(Misread::BadItem(member, index)),
+        }
+    }
+    Ok(counts)
+}
+
+/// The place that a node, a ticket and a position are; none where one of them is not in its range.
+#[tactic(auto, using(crate::proofs::Numbers::is_count))]
+fn place_of(node: &Value, ticket: &Value, position: &Value) -> Option<Place>
+    ensures node { IfSome result (λ p. view node.now ≡ count_data p.node) }
+    ensures ticket { IfSome result (λ p. view ticket.now ≡ count_data p.ticket) }
+    ensures position { IfSome result (λ p. view position.now ≡ count_data p.position) }
+{
+    let node = node.as_u64()?;
+    let ticket = ticket.as_u64()?;
+    let position = position.as_u64()?;
+    if node > u64::from(u32::MAX) {
+        return None;
+    }
+    Some(Place {
+        node: NodeId::new(node as u32),
+        ticket: Ticket::new(ticket),
+        position: Seq::new(position),
+    })
+}
+
+/// The place that an item is: an array of its node, ticket and position.
+fn place_in(item: &Value) -> Option<Place>
+    ensures { IfSome result (λ p. view item.now ≡ place_data p) }
+{
+    let Value::Array(items) = item else {
+        return None;
+    };
+    match items.as_slice() {
+        [node, ticket, position] => place_of(node, ticket, position),
+        _ => None,
+    }
+}
+
+/// The places that the items of the last member are. `BadItem` with the first that is none.
+fn places_of(alloc: Global, items: &[Value]) -> Result<Items<Place>, Misread>
+    ensures { IfOk result (λ places. map view items.now ≡ map place_data places) }
+{
+    let mut places = Items::new(alloc);
+    for (index, item) in items.iter().enumerate() {
+        match place_in(item) {
+            Some(place) => places.push(place)?,
+            None => return Err(Misread::BadItem(Member::Places, index)),
+        }
+    }
+    Ok(places)
+}
+
+/// The explanation that a JSON value is.
+fn explanation_in(alloc: Global, value: &Value) -> Result<Explanation, Misread>
+    ensures { IfOk result (λ e. IsTold (view value.now) e) }
+{
+    let asks = array_of(value, "asks", Member::Asks)?;
+    let lens = array_of(value, "lens", Member::Lens)?;
+    let places = array_of(value, "places", Member::Places)?;
+    Ok(Explanation {
+        asks: counts_of(alloc, asks, Member::Asks)?,
+        lens: counts_of(alloc, lens, Member::Lens)?,
+        places: places_of(alloc, places)?,
+    })
+}
+
+/// Why a text was not read as JSON, and where.
+fn misread_by(error: &Error) -> Misread {
+    if error.is_memory() {
+        return Misread::Memory;
+    }
+    Misread::NotJson {
+        line: error.line(),
+        column: error.column(),
+    }
+}
+
+/// The explanation that bytes spell as JSON, in the form that `explain` prints: an object with the arrays of numbers `asks` and
+/// `lens`, and the array `places` of arrays of a node, a ticket and a position. White space is as JSON has it, other members are not
+/// looked at, and of a name that comes twice the last counts. Whether the explanation holds of a run is not asked here.
+///
+/// Refused, the first that fits: `NotText` where the bytes are not UTF-8; `NotJson` with the line and the column where the text is no
+/// JSON; `NoArray` with the first of `asks`, `lens` and `places` that is missing or no array; `BadItem` with the first item, of the
+/// members in this order, that is no whole number from 0 to 2^64 - 1, or no array of three of them of which the first, a node's id, is below 2^32.
+/// `Memory` where a growth was refused. (This project's profile.)
+pub fn explanation_of(alloc: Global, bytes: &[u8]) -> Result<Explanation, Misread>
+    ensures { IfOk result (λ e. (d : Data) × (read bytes.now ≡ Some d) × IsTold d e) }
+{
+    let text = match str::from_utf8(bytes) {
+        Ok(text) => text,
+        Err(error) => return Err(Misread::NotText(error.valid_up_to())),
+    };
+    match Value::from_str(alloc, text) {
+        Ok(value) => explanation_in(alloc, &value),
+        Err(error) => Err(misread_by(&error)),
+    }
+}

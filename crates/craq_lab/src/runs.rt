@@ -1,0 +1,36 @@
+//! What is printed of a whole run: its picture, or whether an explanation of it holds.
+ghost use Rattle.std.specs.Prelude.{◌≤◌};
+
+use craq_chain::ChainCore;
+use craq_check::check;
+use craq_explain::explain_run_of;
+use craq_names::Refusal;
+use craq_node::Core;
+use craq_picture::picture_of;
+use craq_runs::Explanation;
+use craq_schedules::chain_after;
+use std::alloc::Global;
+
+/// The picture of what a script does on a chain of so many nodes. Refused as `chain_after` is.
+pub fn picture<C: Core>(alloc: Global, nodes: u32, script: &[u8]) -> Result<String, Refusal>
+    requires { (1 ≤ nodes) × (nodes ≤ 8) }
+{
+    let chain: ChainCore<C> = chain_after(alloc, nodes, script)?;
+    let explanation = explain_run_of(alloc, chain.chain(), chain.run())?;
+    Ok(picture_of(alloc, chain.run(), &explanation)?)
+}
+
+/// Whether an explanation holds of what a script does on a chain of so many nodes: `true` or `false`, on a line. Refused as
+/// `chain_after` is.
+pub fn verdict<C: Core>(
+    alloc: Global,
+    nodes: u32,
+    script: &[u8],
+    explanation: &Explanation,
+) -> Result<String, Refusal>
+    requires { (1 ≤ nodes) × (nodes ≤ 8) }
+{
+    let chain: ChainCore<C> = chain_after(alloc, nodes, script)?;
+    let holds = check(alloc, chain.run(), explanation)?;
+    Ok(format!(in alloc; "{holds}\n")?)
+}

@@ -1,0 +1,187 @@
+//! The arrows: each message from where it was sent to each place where it was taken, or into the air.
+use crate::layout::{Layout, Point, first_out, sent_at};
+use crate::pen::{Side, draw_cross, draw_line, draw_text};
+use crate::{Arrival, Arrow, Sent};
+use craq_model::{LinkMessage, Why};
+use craq_play::{print_message, word_of};
+use craq_runs::Taken;
+use std::alloc::{AllocError, Global};
+
+/// How far a message that was lost goes down.
+const FALL: u64 = 12;
+
+/// A place beside another one, so far toward a third.
+fn beside(x: u64, other: u64, by: u64) -> u64 {
+    if x < other {
+        x.saturating_add(by)
+    } else {
+        x.saturating_sub(by)
+    }
+}
+
+/// The side of a place that is toward another one.
+fn side_toward(x: u64, other: u64) -> Side {
+    if x < other { Side::Right } else { Side::Left }
+}
+
+/// The side of a place that is away from another one.
+fn side_away(x: u64, other: u64) -> Side {
+    if x < other { Side::Left } else { Side::Right }
+}
+
+/// Draws a message's number and what it says, at its start.
+fn draw_message(
+    alloc: Global,
+    svg: &mut String,
+    number: u64,
+    message: &LinkMessage,
+    start: Point,
+    end: u64,
+) -> Result<(), AllocError> {
+    let mut words = String::new(alloc);
+    write!(words, "m{number} ")?;
+    print_message(&mut words, message)?;
+    let at = Point {
+        x: beside(start.x, end, 9),
+        y: start.y.saturating_sub(4),
+    };
+    draw_text(svg, "label", at, side_toward(start.x, end), words.as_str())
+}
+
+/// Draws a message's number where it was taken, and why it was ignored if it was, on the far side of the column.
+fn draw_end(
+    alloc: Global,
+    svg: &mut String,
+    number: u64,
+    start: u64,
+    end: Point,
+    ignored: Option<Why>,
+) -> Result<(), AllocError> {
+    let mut words = String::new(alloc);
+    write!(words, "m{number}")?;
+    let at = Point {
+        x: if end.x < start {
+            end.x.saturating_sub(9)
+        } else {
+            end.x.saturating_add(9)
+        },
+        y: end.y.saturating_sub(2),
+    };
+    let side = side_away(end.x, start);
+    match ignored {
+        None => draw_text(svg, "who", at, side, words.as_str()),
+        Some(why) => {
+            let word = word_of(why);
+            write!(words, " {word}")?;
+            draw_text(svg, "why", at, side, words.as_str())
+        }
+    }
+}
+
+/// Draws a message from its start to where it was taken.
+fn draw_arrival(
+    alloc: Global,
+    svg: &mut String,
+    layout: &Layout<'_>,
+    sent: &Sent,
+    start: Point,
+    arrival: &Arrival,
+) -> Result<(), AllocError> {
+    let end = Point {
+        x: layout.across(sent.to),
+        y: layout.down(arrival.row),
+    };
+    let tip = Point {
+        x: beside(end.x, start.x, 5),
+        y: end.y,
+    };
+    draw_end(alloc, svg, sent.number, start.x, end, arrival.ignored)?;
+    let class = if arrival.ignored.is_none() {
+        "message"
+    } else {
+        "ignored"
+    };
+    draw_line(svg, class, start, tip)
+}
+
+/// Draws the start of a message that was never taken.
+fn draw_lost(svg: &mut String, start: Point, end: u64) -> Result<(), AllocError> {
+    let far = start.x.max(end).saturating_sub(start.x.min(end));
+    let tip = Point {
+        x: beside(start.x, end, (far / 2).saturating_add(20).min(105)),
+        y: start.y.saturating_add(FALL),
+    };
+    draw_line(svg, "lost", start, tip)?;
+    draw_cross(svg, "cross", tip)
+}
+
+/// Draws the lines of a message.
+fn draw_lines(
+    alloc: Global,
+    svg: &mut String,
+    layout: &Layout<'_>,
+    arrow: &Arrow,
+    start: Point,
+) -> Result<(), AllocError> {
+    if arrow.arrivals.is_empty() {
+        return draw_lost(svg, start, layout.across(arrow.sent.to));
+    }
+    for arrival in arrow.arrivals.as_slice() {
+        draw_arrival(alloc, svg, layout, &arrow.sent, start, arrival)?;
+    }
+    Ok(())
+}
+
+/// The move of a number, from 1.
+fn move_at(moves: &[Taken], number: u64) -> Option<&Taken> {
+    if number == 0 {
+        return None;
+    }
+    moves.get((number - 1) as usize)
+}
+
+/// Where a message starts.
+fn start_of(layout: &Layout<'_>, sent: &Sent, taken: &Taken) -> Point {
+    let first = first_out(&taken.chosen);
+    Point {
+        x: layout.across(sent.from),
+        y: layout.out_down(sent.row, first, sent.place),
+    }
+}
+
+/// Draws the lines of all messages, below their labels.
+pub(crate) fn draw_all_lines(
+    alloc: Global,
+    svg: &mut String,
+    layout: &Layout<'_>,
+    moves: &[Taken],
+    arrows: &[Arrow],
+) -> Result<(), AllocError> {
+    for arrow in arrows {
+        if let Some(taken) = move_at(moves, arrow.sent.row) {
+            let start = start_of(layout, &arrow.sent, taken);
+            draw_lines(alloc, svg, layout, arrow, start)?;
+        }
+    }
+    Ok(())
+}
+
+/// Draws what all messages say.
+pub(crate) fn draw_all_labels(
+    alloc: Global,
+    svg: &mut String,
+    layout: &Layout<'_>,
+    moves: &[Taken],
+    arrows: &[Arrow],
+) -> Result<(), AllocError> {
+    for arrow in arrows {
+        if let Some(taken) = move_at(moves, arrow.sent.row) {
+            let start = start_of(layout, &arrow.sent, taken);
+            if let Some(message) = sent_at(taken, arrow.sent.place) {
+                let end = layout.across(arrow.sent.to);
+                draw_message(alloc, svg, arrow.sent.number, message, start, end)?;
+            }
+        }
+    }
+    Ok(())
+}

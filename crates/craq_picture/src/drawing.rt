@@ -1,0 +1,244 @@
+//! The drawing of a run as a value, before any text or place on paper.
+ghost use Rattle.std.specs.Prelude.{◌≡◌, ◌++◌, List, length, map, IfOk, OnOk};
+ghost use Rattle.std.specs.List.{sum_by};
+ghost use Rattle.craq_runs.specs.Seen.{node_of, receiver_of};
+ghost use Rattle.craq_runs.specs.Chain.{sent_in};
+ghost use Rattle.craq_runs.specs.declared.run.Taken.{Taken};
+ghost use Rattle.craq_picture.specs.Drawn.{arrivals_from, arrow_of, arrows_of, columns_of, joined_in, receivers_of, rows_from, sends_from, sends_in};
+
+use craq_model::{Out, Why};
+use craq_names::{Items, NodeId};
+use craq_runs::{Explanation, Move, Run, Taken};
+use std::alloc::{AllocError, Global};
+
+/// A message that was sent.
+#[derive(Clone, Copy)]
+pub struct Sent {
+    /// Its number, from 1 in the order of sending.
+    pub number: u64,
+    /// The number of the move that sent it, from 1.
+    pub row: u64,
+    /// Its place among the outs of this move's step, from 0.
+    pub place: u64,
+    pub from: NodeId,
+    pub to: NodeId,
+}
+
+/// A message that was taken.
+#[derive(Clone, Copy)]
+pub struct Arrival {
+    /// The number of the move that delivered it, from 1.
+    pub row: u64,
+    /// Why it was ignored, if it was.
+    pub ignored: Option<Why>,
+}
+
+/// A message from where it was sent to each place where it was taken: nowhere, once or several times.
+#[derive(Drop)]
+pub struct Arrow {
+    pub sent: Sent,
+    pub arrivals: Items<Arrival>,
+}
+
+/// A move.
+#[derive(Clone, Copy)]
+pub struct Row {
+    /// The node at which it happened; 0 is the master.
+    pub node: NodeId,
+    /// How many updates were committed after it.
+    pub committed: u64,
+}
+
+/// A run as columns, rows and arrows.
+#[derive(Drop)]
+pub struct Drawing {
+    /// The master, the members before the first move, and each node that joined.
+    pub columns: Items<NodeId>,
+    /// A row for each move.
+    pub rows: Items<Row>,
+    /// An arrow for each message, in the order of sending.
+    pub arrows: Items<Arrow>,
+}
+
+/// Adds what is sent among the outs of the step of a row.
+fn add_sends(sends: &mut Vec<Sent>, row: u64, outs: &[Out]) -> Result<(), AllocError>
+    ensures { OnOk result (sends.new.items ≡ sends.old.items ++ sends_in (length sends.old.items) row 0 outs.now) }
+{
+    for (place, out) in outs.iter().enumerate() {
+        if let Out::Send { to: _, message } = out {
+            let sent = Sent {
+                number: sends.len() as u64 + 1,
+                row,
+                place: place as u64,
+                from: message.sender,
+                to: message.receiver,
+            };
+            sends.push(sent)?;
+        }
+    }
+    Ok(())
+}
+
+/// What the moves send, in order.
+fn sends_of(alloc: Global, moves: &[Taken]) -> Result<Vec<Sent>, AllocError>
+    ensures { IfOk result (λ sends. sends.items ≡ sends_from 0 1 moves.now) }
+{
+    let mut sends = Vec::new(alloc);
+    for (index, taken) in moves.iter().enumerate() {
+        add_sends(&mut sends, index as u64 + 1, taken.step.outs.as_slice())?;
+    }
+    Ok(sends)
+}
+
+/// Each arrival of the message of this number.
+fn arrivals_of(alloc: Global, moves: &[Taken], number: u64) -> Result<Items<Arrival>, AllocError>
+    ensures { IfOk result (λ arrivals. arrivals ≡ arrivals_from number 1 moves.now) }
+{
+    let mut arrivals = Items::new(alloc);
+    for (index, taken) in moves.iter().enumerate() {
+        if let Move::Deliver(delivered) = &taken.chosen
+            && *delivered == number
+        {
+            arrivals.push(Arrival {
+                row: index as u64 + 1,
+                ignored: taken.step.ignored,
+            })?;
+        }
+    }
+    Ok(arrivals)
+}
+
+/// An arrow for each message that was sent.
+fn arrows_of(alloc: Global, moves: &[Taken], sends: &[Sent]) -> Result<Items<Arrow>, AllocError>
+    ensures { IfOk result (λ arrows. arrows ≡ map (arrow_of moves.now) sends.now) }
+{
+    let mut arrows = Items::new(alloc);
+    for sent in sends {
+        let arrivals = arrivals_of(alloc, moves, sent.number)?;
+        arrows.push(Arrow {
+            sent: *sent,
+            arrivals,
+        })?;
+    }
+    Ok(arrows)
+}
+
+/// Whom each message was sent to, in the order of sending.
+fn receivers_of(alloc: Global, sends: &[Sent]) -> Result<Vec<NodeId>, AllocError>
+    ensures { IfOk result (λ receivers. receivers.items ≡ receivers_of sends.now) }
+{
+    sends.iter().map(|sent| sent.to).collect(alloc)
+}
+
+/// Whom the message of a number was sent to; 0 where there is none.
+fn receiver(receivers: &[NodeId], number: u64) -> NodeId
+    ensures { result ≡ receiver_of receivers.now number }
+{
+    if number == 0 {
+        return NodeId::new(0);
+    }
+    match receivers.get((number - 1) as usize) {
+        Some(node) => *node,
+        None => NodeId::new(0),
+    }
+}
+
+/// At which node a move happens; a message arrives at its receiver.
+fn node_of(receivers: &[NodeId], chosen: &Move) -> NodeId
+    ensures { result ≡ node_of receivers.now chosen.now }
+{
+    match chosen {
+        Move::Ask { node, ask: _ } => *node,
+        Move::Deliver(number) => receiver(receivers, *number),
+        Move::Tick(node) => *node,
+        Move::Stop(node) => *node,
+        Move::Remove(_) => NodeId::new(0),
+        Move::Join(_) => NodeId::new(0),
+    }
+}
+
+/// A row for each move.
+fn rows_of(
+    alloc: Global,
+    moves: &[Taken],
+    receivers: &[NodeId],
+    lens: &[u64],
+) -> Result<Items<Row>, AllocError>
+    ensures { IfOk result (λ rows. rows ≡ rows_from receivers.now lens.now 0 moves.now) }
+{
+    let mut rows = Items::new(alloc);
+    for (index, taken) in moves.iter().enumerate() {
+        let committed = lens.get(index).copied().unwrap_or(0);
+        rows.push(Row {
+            node: node_of(receivers, &taken.chosen),
+            committed,
+        })?;
+    }
+    Ok(rows)
+}
+
+/// The master, the opening members, and each node that joined.
+fn columns_of(alloc: Global, run: &Run) -> Result<Items<NodeId>, AllocError>
+    ensures { IfOk result (λ columns. columns ≡ columns_of run.now) }
+{
+    let mut columns = Items::new(alloc);
+    columns.push(NodeId::new(0))?;
+    add_members(&mut columns, run.members.as_slice())?;
+    add_joined(&mut columns, run.moves.as_slice())?;
+    Ok(columns)
+}
+
+/// Adds these nodes.
+fn add_members(columns: &mut Items<NodeId>, members: &[NodeId]) -> Result<(), AllocError>
+    ensures { OnOk result (columns.new ≡ columns.old ++ members.now) }
+{
+    for member in members {
+        columns.push(*member)?;
+    }
+    Ok(())
+}
+
+/// Adds each node that joins.
+fn add_joined(columns: &mut Items<NodeId>, moves: &[Taken]) -> Result<(), AllocError>
+    ensures { OnOk result (columns.new ≡ columns.old ++ joined_in moves.now) }
+{
+    for taken in moves {
+        if let Move::Join(node) = &taken.chosen {
+            columns.push(*node)?;
+        }
+    }
+    Ok(())
+}
+
+/// The drawing of a run: a column for the master and for each node, a row for each move with how many updates were
+/// committed after it by the explanation, and an arrow for each message that was sent, from the row that sent it to the rows
+/// that took it.
+///
+/// It fails for want of memory alone. It looks at each move once for each message.
+#[tactic(auto, using(crate::proofs::Counts::each_message, crate::proofs::Counts::each_move))]
+pub fn drawing_of(
+    alloc: Global,
+    run: &Run,
+    explanation: &Explanation,
+) -> Result<Drawing, AllocError>
+    ensures columns { IfOk result (λ d. d.columns ≡ columns_of run.now) }
+    ensures arrows { IfOk result (λ d. d.arrows ≡ arrows_of run.now.moves) }
+    ensures rows { IfOk result (λ d. d.rows ≡ rows_from (receivers_of (sends_from 0 1 run.now.moves)) explanation.now.lens 0 run.now.moves) }
+    ensures each_message { IfOk result (λ d. length d.arrows ≡ sum_by (λ (t : Taken). length (sent_in t.step.outs)) run.now.moves) }
+    ensures each_move { IfOk result (λ d. length d.rows ≡ length run.now.moves) }
+{
+    let moves = run.moves.as_slice();
+    let sends = sends_of(alloc, moves)?;
+    let sends = sends.as_slice();
+    let receivers = receivers_of(alloc, sends)?;
+    Ok(Drawing {
+        columns: columns_of(alloc, run)?,
+        rows: rows_of(
+            alloc,
+            moves,
+            receivers.as_slice(),
+            explanation.lens.as_slice(),
+        )?,
+        arrows: arrows_of(alloc, moves, sends)?,
+    })
+}

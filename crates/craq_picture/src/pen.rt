@@ -1,0 +1,124 @@
+//! The shapes of SVG that a picture is drawn with.
+use crate::layout::Point;
+use std::alloc::AllocError;
+
+/// The most characters of a label.
+const MOST: usize = 34;
+
+/// On which side of its place a label stands.
+#[derive(Clone, Copy)]
+pub(crate) enum Side {
+    Left,
+    Right,
+    Middle,
+}
+
+/// The word of SVG for a side.
+fn anchor_of(side: Side) -> &'static str {
+    match side {
+        Side::Left => "end",
+        Side::Right => "start",
+        Side::Middle => "middle",
+    }
+}
+
+/// Writes a character of a text, with SVG's own signs spelled out.
+fn write_character(svg: &mut String, character: char) -> Result<(), AllocError> {
+    match character {
+        '<' => svg.push_str("&lt;"),
+        '>' => svg.push_str("&gt;"),
+        '&' => svg.push_str("&amp;"),
+        other => svg.push(other),
+    }
+}
+
+/// Writes a text, its first 34 characters where it has more.
+fn write_text(svg: &mut String, text: &str) -> Result<(), AllocError> {
+    for character in text.chars().take(MOST) {
+        write_character(svg, character)?;
+    }
+    if text.len() > MOST {
+        svg.push_str("..")?;
+    }
+    Ok(())
+}
+
+/// Begins a text of this class at a place.
+fn open_text(svg: &mut String, class: &str, at: Point, side: Side) -> Result<(), AllocError> {
+    let x = at.x;
+    let y = at.y;
+    let anchor = anchor_of(side);
+    write!(
+        svg,
+        "<text class=\"{class}\" x=\"{x}\" y=\"{y}\" text-anchor=\"{anchor}\">"
+    )
+}
+
+/// Draws a text of this class at a place; of a long one the first 34 characters.
+pub(crate) fn draw_text(
+    svg: &mut String,
+    class: &str,
+    at: Point,
+    side: Side,
+    text: &str,
+) -> Result<(), AllocError> {
+    open_text(svg, class, at, side)?;
+    write_text(svg, text)?;
+    svg.push_str("</text>\n")
+}
+
+/// Draws words of this program, without signs of SVG's own, right of a place.
+pub(crate) fn draw_note(svg: &mut String, at: Point, note: &str) -> Result<(), AllocError> {
+    open_text(svg, "faint", at, Side::Right)?;
+    svg.push_str(note)?;
+    svg.push_str("</text>\n")
+}
+
+/// Draws a line of this class.
+pub(crate) fn draw_line(
+    svg: &mut String,
+    class: &str,
+    from: Point,
+    to: Point,
+) -> Result<(), AllocError> {
+    let x = from.x;
+    let y = from.y;
+    write!(svg, "<path class=\"{class}\" d=\"M{x} {y}")?;
+    let x = to.x;
+    let y = to.y;
+    write!(svg, "L{x} {y}\"/>\n")
+}
+
+/// Draws a disc of this class.
+pub(crate) fn draw_dot(svg: &mut String, class: &str, at: Point) -> Result<(), AllocError> {
+    let x = at.x;
+    let y = at.y;
+    write!(
+        svg,
+        "<circle class=\"{class}\" cx=\"{x}\" cy=\"{y}\" r=\"4\"/>\n"
+    )
+}
+
+/// Draws a cross of this class.
+pub(crate) fn draw_cross(svg: &mut String, class: &str, at: Point) -> Result<(), AllocError> {
+    let left = at.x.saturating_sub(5);
+    let top = at.y.saturating_sub(5);
+    write!(
+        svg,
+        "<path class=\"{class}\" d=\"M{left} {top}l10 10m0 -10l-10 10\"/>\n"
+    )
+}
+
+/// Draws a box of this class.
+pub(crate) fn draw_box(
+    svg: &mut String,
+    class: &str,
+    at: Point,
+    width: u64,
+    height: u64,
+) -> Result<(), AllocError> {
+    let x = at.x;
+    let y = at.y;
+    write!(svg, "<rect class=\"{class}\" x=\"{x}\" y=\"{y}\" ")?;
+    write!(svg, "width=\"{width}\" height=\"{height}\"/>\n")
+}

@@ -1,5 +1,5 @@
 //! The two calls of the crate: the answer of a receipt that is the caller's own, and the pass after it.
-ghost use Rattle.std.specs.Prelude.{◌≡◌, max, IfOk, IsTrue};
+ghost use Rattle.std.specs.Prelude.{◌≡◌, ◌⊎◌, ◌↔◌, max, Err, IfOk, IfErr, IsTrue};
 ghost use Rattle.craq_calls.specs.Calls.{IsCallOf};
 
 use craq_model::{Answer, Ask};
@@ -9,7 +9,7 @@ use std::alloc::Global;
 
 /// Whether the receipt is of this ask at this node, shown with this pass.
 fn is_of(receipt: &CallReceipt, node: &NodeName, ask: &Ask, pass: Pass) -> bool
-    ensures { IsTrue result → IsCallOf node.now ask.now pass receipt.now.answer receipt.now }
+    ensures { IsTrue result ↔ IsCallOf node.now ask.now pass receipt.now.answer receipt.now }
 {
     receipt.asked().node == node.node
         && receipt.answered().node == node.node
@@ -21,7 +21,7 @@ fn is_of(receipt: &CallReceipt, node: &NodeName, ask: &Ask, pass: Pass) -> bool
 
 /// The answer to this ask at this node, shown with this pass, as the receipt of the call has it, in memory of its own.
 ///
-/// Refused: `Closed` where the receipt is another call's; then `Memory` where a growth was refused.
+/// Refused: `Closed` exactly where the receipt is another call's, as `IsCallOf` says; then `Memory` where a growth was refused.
 pub fn answer_of_call(
     alloc: Global,
     receipt: &CallReceipt,
@@ -29,7 +29,9 @@ pub fn answer_of_call(
     ask: &Ask,
     pass: Pass,
 ) -> Result<Answer, Refusal>
-    ensures { IfOk result (λ answer. IsCallOf node.now ask.now pass answer receipt.now) }
+    ensures ok { IfOk result (λ answer. IsCallOf node.now ask.now pass answer receipt.now) }
+    ensures closed { (result ≡ Err Refusal.Closed) ↔ ¬ (IsCallOf node.now ask.now pass receipt.now.answer receipt.now) }
+    ensures err { IfErr result (λ e. (e ≡ Refusal.Closed) ⊎ (e ≡ Refusal.Memory)) }
 {
     if !is_of(receipt, node, ask, pass) {
         return Err(Refusal::Closed);

@@ -1,28 +1,38 @@
 -- What a door tells of a turn is a turn.
-use Rattle.std.proofs.Common.{◌≡◌, List, Ok, Err, inl, inr, sym, subst}
-use Rattle.std.specs.Prelude.{Bool}
+use Rattle.std.proofs.Common.{◌≡◌, ℕ, List, Ok, Err, inl, inr, refl, sym, subst}
 use Rattle.craq_names.specs.declared.refusal.Refusal.{Refusal}
+use Rattle.craq_names.specs.declared.refusal.Refusal.TheVariants.{BadFrame, Memory}
 use Rattle.craq_frames.specs.declared.ask.ClientMessage.{ClientMessage}
+use Rattle.craq_frames.specs.declared.ask.ClientMessage.TheVariants as messages
 use Rattle.craq_frames.specs.declared.answer.ClientReply.{ClientReply}
 use Rattle.craq_frames.specs.declared.answer.ClientReply.TheVariants as replies
+use Rattle.craq_front.specs.Door.{IsAllowed}
 use Rattle.craq_seat.specs.Calls.{Called}
-use Rattle.craq_door.specs.Turns.{HasAtMostOneCall, IsTold, IsToldFor, IsTurn}
+use Rattle.craq_door.specs.Turns.{CanRefuse, IsAnswered, IsReplied, IsTold, IsToldFor}
 
--- at most one call is made in a turn
-one_call : (keeps : Bool) (old : List Called) (m : ClientMessage) (r : ClientReply) (new : List Called) → IsTurn keeps old m r new → HasAtMostOneCall keeps old new
-one_call keeps old m (replies.Update pass reply) new h = inr (h.0, h.1.1)
-one_call keeps old m (replies.Read pass version value) new h = inr (h.0, h.1.1)
-one_call keeps old m (replies.Refused refusal) new h = h
-one_call keeps old m (replies.Status text) new h = inl h.1
+-- a reply that is no refusal is a turn
+replied : (tells : List ℕ → Type 0) (old : List Called) (m : ClientMessage) (r : ClientReply) (new : List Called) → IsReplied tells old m r new → IsAnswered tells old m r new
+replied tells old m (replies.Update pass reply) new h = h
+replied tells old m (replies.Read pass version value) new h = h
+replied tells old m (replies.Status text) new h = h
+replied tells old m (replies.Refused refusal) new h = absurd h
 
-told_for_turn : (keeps : Bool) (old : List Called) (m : ClientMessage) (r told : ClientReply) (new : List Called) → IsTurn keeps old m r new → IsToldFor r told → IsTurn keeps old m told new
-told_for_turn keeps old m r told new h (inl same) = subst (λ (x : ClientReply). IsTurn keeps old m x new) (sym same.1) h
-told_for_turn keeps old m r told new h (inr other) = subst (λ (x : ClientReply). IsTurn keeps old m x new) (sym other.1) (one_call keeps old m r new h)
+-- a message that came to a reply
+pub told_turn : (tells : List ℕ → Type 0) (old : List Called) (m : ClientMessage) (r told : ClientReply) (new : List Called) → IsReplied tells old m r new → IsTold (Ok r) told → IsAnswered tells old m told new
+told_turn tells old m r told new h (inl same) = subst (λ (x : ClientReply). IsAnswered tells old m x new) (sym same.1) (replied tells old m r new h)
+told_turn tells old m r told new h (inr other) = subst (λ (x : ClientReply). IsAnswered tells old m x new) (sym other.1) (inr (refl, (r, other.0, h)))
 
--- a message that came to a reply by a turn
-pub told_turn : (keeps : Bool) (old : List Called) (m : ClientMessage) (r told : ClientReply) (new : List Called) → IsTurn keeps old m r new → IsTold (Ok r) told → IsTurn keeps old m told new
-told_turn keeps old m r told new h t = told_for_turn keeps old m r told new h t
+-- want of memory may be told
+memory_is_allowed : IsAllowed (replies.Refused Memory)
+memory_is_allowed = record { rules = tt; short = tt }
+
+-- where a refusal can come that no door allows, BadFrame can come in its place
+can_be_bad : (m : ClientMessage) (e : Refusal) → CanRefuse m e → (IsAllowed (replies.Refused e) → ⊥) → CanRefuse m BadFrame
+can_be_bad (messages.Update node pass update) e h never = tt
+can_be_bad (messages.Read node pass mode object) e h never = tt
+can_be_bad messages.Status e h never = absurd (never (subst (λ (x : Refusal). IsAllowed (replies.Refused x)) (sym h) memory_is_allowed))
 
 -- a message that was refused, with the receipts as they were
-pub told_refusal : (keeps : Bool) (old : List Called) (m : ClientMessage) (e : Refusal) (told : ClientReply) (new : List Called) → new ≡ old → IsTold (Err e) told → IsTurn keeps old m told new
-told_refusal keeps old m e told new same t = told_for_turn keeps old m (replies.Refused e) told new (inl same) t
+pub told_refusal : (tells : List ℕ → Type 0) (old : List Called) (m : ClientMessage) (e : Refusal) (told : ClientReply) (new : List Called) → CanRefuse m e → new ≡ old → IsTold (Err e) told → IsAnswered tells old m told new
+told_refusal tells old m e told new can same (inl is) = subst (λ (x : ClientReply). IsAnswered tells old m x new) (sym is.1) (inl (can, same))
+told_refusal tells old m e told new can same (inr other) = subst (λ (x : ClientReply). IsAnswered tells old m x new) (sym other.1) (inl (can_be_bad m e can other.0, same))

@@ -1,7 +1,7 @@
 -- What the door of a store answers.
-use Rattle.std.specs.Prelude.{◌≡◌, ◌⊎◌, ℕ, Bool, if◌then◌else◌, List, [], ◌∷◌, ◌++◌, max, Result, Ok, Err}
+use Rattle.std.specs.Prelude.{◌≡◌, ◌⊎◌, ⊤, ℕ, Bool, if◌then◌else◌, List, [], ◌∷◌, ◌++◌, max, Result, Ok, Err}
 use Rattle.craq_names.specs.declared.refusal.Refusal.{Refusal}
-use Rattle.craq_names.specs.declared.refusal.Refusal.TheVariants.{BadFrame}
+use Rattle.craq_names.specs.declared.refusal.Refusal.TheVariants.{BadFrame, Memory}
 use Rattle.craq_model.specs.declared.ask.Answer.{Answer}
 use Rattle.craq_model.specs.declared.ask.Answer.TheVariants as answers
 use Rattle.craq_model.specs.declared.ask.Ask.{Ask}
@@ -29,25 +29,42 @@ pub record IsReplyOf (message : ClientMessage) (reply : ClientReply) (c : Called
   pub asked : message ≡ message_of c.call.asked.node c.call.pass c.call.ask
   pub answered : reply ≡ reply_of (max c.call.pass c.answered.stamp) c.answer
 
--- the receipts after a call: its own stands behind those of earlier calls if receipts are kept
-abbrev pub after_call : Bool → List Called → Called → List Called
-after_call keeps old c = if keeps then old ++ c ∷ [] else old
+-- the receipts that a door still has as a turn begins: those of earlier turns, if they are kept
+abbrev pub kept : Bool → List Called → List Called
+kept keeps receipts = if keeps then receipts else []
 
--- the reply is that of a call, whose receipt is kept if receipts are
-abbrev pub IsCalled : Bool → List Called → ClientMessage → ClientReply → List Called → Type 0
-IsCalled keeps old message reply new = (c : Called) × (IsReplyOf message reply c × (new ≡ after_call keeps old c))
+-- the reply is that of a call whose receipt came in this turn: it stands behind those that the door had
+abbrev pub IsCalled : List Called → ClientMessage → ClientReply → List Called → Type 0
+IsCalled old message reply new = (c : Called) × (IsReplyOf message reply c × (new ≡ old ++ c ∷ []))
 
--- the receipts are as they were, or there is one more call
-abbrev pub HasAtMostOneCall : Bool → List Called → List Called → Type 0
-HasAtMostOneCall keeps old new = (new ≡ old) ⊎ ((c : Called) × (new ≡ after_call keeps old c))
+-- what a message comes to, where it is not refused: an answer is that of a call; a status is told where it is asked for, has a
+-- text that was told, and is no call
+abbrev pub IsReplied : (List ℕ → Type 0) → List Called → ClientMessage → ClientReply → List Called → Type 0
+IsReplied tells old message (replies.Update pass reply) new = IsCalled old message (replies.Update pass reply) new
+IsReplied tells old message (replies.Read pass version value) new = IsCalled old message (replies.Read pass version value) new
+IsReplied tells old message (replies.Status text) new = (message ≡ messages.Status) × tells text × (new ≡ old)
+IsReplied tells old message (replies.Refused refusal) new = ⊥
 
--- a reply with an answer is that of a call; a status is told where it is asked for, and is no call; a call whose reply no
--- door allows is refused too
-abbrev pub IsTurn : Bool → List Called → ClientMessage → ClientReply → List Called → Type 0
-IsTurn keeps old message (replies.Update pass reply) new = IsCalled keeps old message (replies.Update pass reply) new
-IsTurn keeps old message (replies.Read pass version value) new = IsCalled keeps old message (replies.Read pass version value) new
-IsTurn keeps old message (replies.Refused refusal) new = HasAtMostOneCall keeps old new
-IsTurn keeps old message (replies.Status text) new = (message ≡ messages.Status) × (new ≡ old)
+-- which refusals can come in the place of a reply: a status is refused for want of memory alone
+abbrev pub CanRefuse : ClientMessage → Refusal → Type 0
+CanRefuse (messages.Update node pass update) refusal = ⊤
+CanRefuse (messages.Read node pass mode object) refusal = ⊤
+CanRefuse messages.Status refusal = refusal ≡ Memory
+
+-- nothing was answered, and no receipt came; or, as BadFrame, a reply came that no door allows
+abbrev pub IsRefused : (List ℕ → Type 0) → List Called → ClientMessage → Refusal → List Called → Type 0
+IsRefused tells old message refusal new =
+    (CanRefuse message refusal × (new ≡ old))
+    ⊎ ((refusal ≡ BadFrame) × ((reply : ClientReply) × (¬ IsAllowed reply) × IsReplied tells old message reply new))
+
+-- a turn of a door that has these receipts as it begins
+abbrev pub IsAnswered : (List ℕ → Type 0) → List Called → ClientMessage → ClientReply → List Called → Type 0
+IsAnswered tells old message (replies.Refused refusal) new = IsRefused tells old message refusal new
+IsAnswered tells old message reply new = IsReplied tells old message reply new
+
+-- a turn of a door that keeps its receipts or not, where a status has a text that was told
+abbrev pub IsTurn : (List ℕ → Type 0) → Bool → List Called → ClientMessage → ClientReply → List Called → Type 0
+IsTurn tells keeps old message reply new = IsAnswered tells (kept keeps old) message reply new
 
 -- the reply is told as it is where a door may give it, and refused in its place where not
 abbrev pub IsToldFor : ClientReply → ClientReply → Type 0

@@ -1,6 +1,6 @@
 //! `DoorCalls`: the receipts of a door's calls, and the reply with the answer of one.
-ghost use Rattle.std.specs.Prelude.{◌≡◌, ◌<◌, [], vec_capacity, vec_len, true, OnOk};
-ghost use Rattle.craq_door.specs.Turns.{IsCalled, message_of, reply_of};
+ghost use Rattle.std.specs.Prelude.{◌≡◌, ◌<◌, [], ◌∷◌, ◌++◌, vec_capacity, vec_len, OnOk};
+ghost use Rattle.craq_door.specs.Turns.{IsReplyOf, kept, message_of, reply_of};
 
 use craq_calls::pass_after;
 use craq_frames::ClientReply;
@@ -12,9 +12,10 @@ use std::alloc::{AllocError, Global};
 /// The calls of one door.
 #[derive(Drop)]
 pub struct DoorCalls {
-    /// Whether their receipts are kept.
+    /// Whether the receipts of earlier turns are kept.
     pub keeps: bool,
-    /// The receipts of the calls so far, in order, where they are kept.
+    /// The receipts of the calls, in order: of all turns where they are kept, else of the last turn alone. A desk alone
+    /// makes receipts, and they are not copied, so a receipt more is that of a call more.
     pub receipts: Vec<CallReceipt>,
 }
 
@@ -44,32 +45,53 @@ impl DoorCalls {
         }
     }
 
-    /// Makes room for the receipt of one more call, where receipts are kept. Refused where a growth is; the receipts
-    /// stay as they are in either case.
+    /// A turn begins: the receipts of earlier turns go unless they are kept. It takes no memory.
+    pub fn begin(&mut self)
+        ensures keeps { self.new.keeps ≡ self.old.keeps }
+        ensures receipts { self.new.receipts.items ≡ kept self.old.keeps self.old.receipts.items }
+    {
+        if !self.keeps {
+            self.receipts.clear();
+        }
+    }
+
+    /// Makes room for the receipt of one more call. Refused where a growth is; the receipts stay as they are in either
+    /// case.
     pub fn make_room(&mut self) -> Result<(), AllocError>
         ensures keeps { self.new.keeps ≡ self.old.keeps }
         ensures receipts { self.new.receipts.items ≡ self.old.receipts.items }
-        ensures room { OnOk result (self.new.keeps ≡ true → vec_len self.new.receipts < vec_capacity self.new.receipts) }
+        ensures room { OnOk result (vec_len self.new.receipts < vec_capacity self.new.receipts) }
     {
-        if self.keeps {
-            self.receipts.reserve(1)?;
-        }
+        self.receipts.reserve(1)?;
         Ok(())
     }
 
     /// The reply to a call with this receipt: its answer, and the pass that the client has after it, the larger of the
-    /// pass that it showed and the stamp of the answer. The receipt is kept, behind the others, where receipts are. It
-    /// takes no memory.
+    /// pass that it showed and the stamp of the answer. The receipt stands behind the others from then on. It takes no
+    /// memory.
     pub fn reply_to(&mut self, answer: Answer, receipt: CallReceipt) -> ClientReply
         requires answered { answer ≡ receipt.answer }
-        requires room { self.old.keeps ≡ true → vec_len self.old.receipts < vec_capacity self.old.receipts }
+        requires room { vec_len self.old.receipts < vec_capacity self.old.receipts }
         ensures keeps { self.new.keeps ≡ self.old.keeps }
-        ensures called { IsCalled self.old.keeps self.old.receipts.items (message_of receipt.call.asked.node receipt.call.pass receipt.call.ask) result self.new.receipts.items }
+        ensures reply { IsReplyOf (message_of receipt.call.asked.node receipt.call.pass receipt.call.ask) result receipt }
+        ensures receipts { self.new.receipts.items ≡ self.old.receipts.items ++ receipt ∷ [] }
     {
         let pass = pass_after(receipt.pass(), &receipt);
-        if self.keeps {
-            self.receipts.push_reserved(receipt);
-        }
+        self.receipts.push_reserved(receipt);
         reply_of(answer, pass)
+    }
+
+    /// The receipts of all calls, in order, where they are kept; else none. It takes no memory.
+    pub fn into_receipts(self) -> Vec<CallReceipt>
+        ensures { result.items ≡ kept self.keeps self.receipts.items }
+    {
+        let DoorCalls {
+            keeps,
+            mut receipts,
+        } = self;
+        if !keeps {
+            receipts.clear();
+        }
+        receipts
     }
 }

@@ -1,7 +1,7 @@
 //! `CallDoor`: the messages of one client, answered by calls of what is served.
-ghost use Rattle.std.specs.Prelude.{◌≡◌, [], IfOk, OnErr};
+ghost use Rattle.std.specs.Prelude.{◌≡◌, ℕ, List, [], IfErr, IfOk, OnErr};
 ghost use Rattle.craq_calls.specs.Calls.{IsCallOf};
-ghost use Rattle.craq_door.specs.Turns.{message_of, IsCalled, IsTurn};
+ghost use Rattle.craq_door.specs.Turns.{message_of, kept, CanRefuse, IsCalled, IsReplied, IsTurn};
 
 use crate::{DoorCalls, told};
 use craq_frames::{ClientMessage, ClientReply, Text};
@@ -13,12 +13,16 @@ use std::alloc::{AllocError, Global};
 
 /// What a door reaches: a store that is called.
 pub trait Callee: Drop {
+    /// Which texts of a status it may tell.
+    ghost tells: { Self → List ℕ → Type 0 };
+
     /// Asks a node, with this pass: the answer, and the receipt of the call. Refused as the store refuses the call.
     fn call(&self, node: NodeName, pass: Pass, ask: Ask) -> Result<(Answer, CallReceipt), Refusal>
         ensures { IfOk result (λ r. IsCallOf node ask pass r.0 r.1) };
 
     /// The chains and their members. It fails for want of memory alone.
-    fn status(&self) -> Result<Text, AllocError>;
+    fn status(&self) -> Result<Text, AllocError>
+        ensures { IfOk result (λ text. tells self.now text) };
 }
 
 /// The door by which the client of one connection calls.
@@ -44,8 +48,10 @@ impl<C: Callee> CallDoor<C> {
 
     /// Asks a node of the chain of the ask's first object, with this pass. The room for the call's receipt is made first.
     fn call(&mut self, node: NodeId, pass: Pass, ask: Ask) -> Result<ClientReply, Refusal>
-        ensures called { IfOk result (λ reply. IsCalled self.old.calls.keeps self.old.calls.receipts.items (message_of node pass ask) reply self.new.calls.receipts.items) }
+        ensures called { IfOk result (λ reply. IsCalled self.old.calls.receipts.items (message_of node pass ask) reply self.new.calls.receipts.items) }
         ensures same { OnErr result (self.new.calls.receipts.items ≡ self.old.calls.receipts.items) }
+        ensures keeps { self.new.calls.keeps ≡ self.old.calls.keeps }
+        ensures callee { self.new.callee ≡ self.old.callee }
     {
         self.calls.make_room()?;
         let name = NodeName {
@@ -58,8 +64,11 @@ impl<C: Callee> CallDoor<C> {
 
     /// What a message comes to.
     fn reply(&mut self, message: ClientMessage) -> Result<ClientReply, Refusal>
-        ensures turn { IfOk result (λ reply. IsTurn self.old.calls.keeps self.old.calls.receipts.items message reply self.new.calls.receipts.items) }
+        ensures replied { IfOk result (λ reply. IsReplied (C.tells self.old.callee) self.old.calls.receipts.items message reply self.new.calls.receipts.items) }
+        ensures refused { IfErr result (λ e. CanRefuse message e) }
         ensures same { OnErr result (self.new.calls.receipts.items ≡ self.old.calls.receipts.items) }
+        ensures keeps { self.new.calls.keeps ≡ self.old.calls.keeps }
+        ensures callee { self.new.callee ≡ self.old.callee }
     {
         match message {
             ClientMessage::Update { node, pass, update } => {
@@ -78,10 +87,12 @@ impl<C: Callee> CallDoor<C> {
 
 impl<C: Callee> Door for CallDoor<C> {
     ghost turn = { λ old message reply new.
-        IsTurn old.calls.keeps old.calls.receipts.items message reply new.calls.receipts.items };
+        IsTurn (C.tells old.callee) old.calls.keeps old.calls.receipts.items message reply new.calls.receipts.items
+        × (new.calls.keeps ≡ old.calls.keeps) × (new.callee ≡ old.callee) };
 
     #[tactic(auto, using(crate::proofs::Turning::told_turn, crate::proofs::Turning::told_refusal))]
     fn ask(&mut self, message: ClientMessage) -> ClientReply {
+        self.calls.begin();
         told(self.reply(message))
     }
 }

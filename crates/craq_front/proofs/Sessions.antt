@@ -10,7 +10,7 @@ use Rattle.craq_frames.specs.Frame.{frame, payload_limit}
 use Rattle.craq_codec.specs.NumberSpelling.{number}
 use Rattle.std.specs.Int.{w32}
 use Rattle.craq_front.proofs.Lengths.{len32}
-use Rattle.craq_front.specs.Serving.{Turn, Replies, RepliesEach, Served, idle, neither, reader, writer, Session, Next, Batch}
+use Rattle.craq_front.specs.Serving.{Turn, Replies, RepliesEach, Served, idle, neither, reader, writer, IsUsedUp, Session, Next, Batch}
 
 -- ---- whole frames and their replies
 
@@ -150,14 +150,14 @@ write_failed turn a b c read input left written due n k m (Err _) h t = absurd t
 
 -- a refusal of the batch, after what was due was written
 pub batch_refused : {D : Type 0} (turn : Turn D) (a b c : D) (read input left written due : List ℕ) (n k : ℕ) (e : Refusal)
-    → Served turn a read input written n b → Batch turn b input left due k c (Err e) → Session turn a read (written ++ due) c neither (Err e)
-batch_refused turn a b c read input left written due n k refusals.FrameTooLong h t =
+    → (e ≡ refusals.Exhausted → IsUsedUp (n + k) read) → Served turn a read input written n b → Batch turn b input left due k c (Err e) → Session turn a read (written ++ due) c neither (Err e)
+batch_refused turn a b c read input left written due n k refusals.FrameTooLong many h t =
     (t.0, n + k, written ++ t.1, t.2, served_then turn a b c read input t.0 written t.1 n k h t.3, t.4, ap (λ (x : List ℕ). written ++ x) t.5 ∙ sym (append_assoc written t.1 t.2))
-batch_refused turn a b c read input left written due n k refusals.Memory h t =
+batch_refused turn a b c read input left written due n k refusals.Memory many h t =
     (t.0, n + k, t.1, served_then turn a b t.1 read input t.0 written due n k h t.2, t.3)
-batch_refused turn a b c read input left written due n k refusals.Exhausted h t =
-    (t.0, n + k, served_then turn a b c read input t.0 written due n k h t.1)
-batch_refused turn a b c read input left written due n k _ h t = absurd t
+batch_refused turn a b c read input left written due n k refusals.Exhausted many h t =
+    (t.0, n + k, served_then turn a b c read input t.0 written due n k h t.1, many refl)
+batch_refused turn a b c read input left written due n k _ many h t = absurd t
 
 -- less than a frame is left where a read failed
 pub read_failed : {D : Type 0} (turn : Turn D) (a b c : D) (read input left written due : List ℕ) (n k : ℕ)
@@ -190,6 +190,10 @@ next_refused turn a b c input rest left due more n refusals.FrameTooLong h t =
 next_refused turn a b c input rest left due more n refusals.Memory h t =
     (rest, b, subst (λ (x : List ℕ). Served turn a input rest x n b) (sym (ap (λ (x : List ℕ). due ++ x) t.1 ∙ append-nil due)) h, t.0)
 next_refused turn a b c input rest left due more n _ h t = absurd t
+
+-- no count ends with the next frame
+pub next_goes_on : {D : Type 0} (turn : Turn D) (a b : D) (input rest due : List ℕ) (e : Refusal) → e ≡ refusals.Exhausted → Next turn a input rest due b (Err e) → ⊥
+next_goes_on turn a b input rest due e used t = subst (λ (x : Refusal). Next turn a input rest due b (Err x)) used t
 
 -- the end of the input
 pub ended_so : {D : Type 0} (turn : Turn D) (a b c : D) (read input left written due items : List ℕ) (n k frames : ℕ) (r : Result ℕ Refusal)

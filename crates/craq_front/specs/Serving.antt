@@ -1,5 +1,5 @@
 -- What a server reads and writes: frames of payloads in, and a frame of a reply out for each of them.
-use Rattle.std.specs.Prelude.{◌≡◌, ◌≤◌, ◌<◌, ◌⊎◌, ℕ, Bool, true, false, List, [], ◌∷◌, ◌++◌, length, Result, Ok, Err}
+use Rattle.std.specs.Prelude.{◌≡◌, ◌+◌, ◌-◌, ◌^◌, ◌≤◌, ◌<◌, ◌⊎◌, ℕ, Bool, true, false, List, [], ◌∷◌, ◌++◌, length, Result, Ok, Err}
 use Rattle.std.specs.List.{flat_map, AllByRecursion}
 use Rattle.craq_names.specs.declared.refusal.Refusal.{Refusal}
 use Rattle.craq_names.specs.declared.refusal.Refusal.TheVariants as refusals
@@ -98,6 +98,10 @@ write_faults neither = 0
 write_faults reader = 0
 write_faults writer = 1
 
+-- n frames and the bytes that were read are 2^64 - 1 together, or more
+abbrev pub IsUsedUp : ℕ → List ℕ → Type 0
+IsUsedUp n read = 2 ^ 64 - 1 ≤ n + length read
+
 -- what was read and written when `serve` answers so
 abbrev pub Session : {D : Type 0} → Turn D → D → List ℕ → List ℕ → D → Fault → Result ℕ Refusal → Type 0
 -- all frames that were read are answered, and no byte is left
@@ -112,7 +116,7 @@ Session turn old read written new neither (Err refusals.FrameTooLong) =
 Session {D} turn old read written new neither (Err refusals.Memory) =
     (rest : List ℕ) × (n : ℕ) × (mid : D) × Served turn old read rest written n mid × BeginsNext turn mid rest new
 Session turn old read written new neither (Err refusals.Exhausted) =
-    (rest : List ℕ) × (n : ℕ) × Served turn old read rest written n new
+    (rest : List ℕ) × (n : ℕ) × Served turn old read rest written n new × IsUsedUp n read
 -- less than a frame is left where a read failed
 Session turn old read written new reader (Err refusals.Io) =
     (rest : List ℕ) × (n : ℕ) × Served turn old read rest written n new × IsPartial rest

@@ -1,5 +1,5 @@
 //! `serve`: the replies to all that a connection brings, in order; the server's loop for one client.
-ghost use Rattle.std.specs.Prelude.{◌≡◌, ◌≢◌, ◌+◌, ◌-◌, ◌^◌, ◌<◌, ℕ, List, [], ◌++◌, Ok, Err, IfOk, OnOk, OnErr};
+ghost use Rattle.std.specs.Prelude.{◌≡◌, ◌≢◌, ◌+◌, ◌-◌, ◌^◌, ◌<◌, ℕ, List, [], ◌++◌, false, Ok, Err, IfOk, OnOk, OnErr};
 ghost use Rattle.std.specs.Io.KnownBytes.{Appends, Consumes, IsAtEnd};
 ghost use Rattle.craq_frames.specs.Frame.{frame};
 ghost use Rattle.craq_frames.specs.Versions.{SpellsAnswered};
@@ -66,15 +66,18 @@ fn answer_next<D: Door>(alloc: Global, buffers: &mut Buffers, door: &mut D) -> R
 }
 
 /// Answers the next frames, until less than a frame is left (true) or many bytes are due (false), and counts them.
+/// `Exhausted` once the count is 2^64 - 1. Where nothing was due, many bytes are due only after a frame was answered.
 fn answer_batch<D: Door>(
     alloc: Global,
     buffers: &mut Buffers,
     door: &mut D,
     frames: &mut u64,
 ) -> Result<bool, Refusal>
-    ensures { (due : List ℕ) × (n : ℕ) × (buffers.new.output.items ≡ buffers.old.output.items ++ due)
+    ensures batch { (due : List ℕ) × (n : ℕ) × (buffers.new.output.items ≡ buffers.old.output.items ++ due)
         × (frames.new ≡ frames.old + n)
         × Batch D.turn door.old buffers.old.input.items buffers.new.input.items due n door.new result }
+    ensures exhausted { result ≡ Err Refusal.Exhausted → frames.new ≡ 2 ^ 64 - 1 }
+    ensures more { result ≡ Ok false → buffers.old.output.items ≡ [] → frames.old < frames.new }
 {
     while !buffers.is_full() {
         if *frames == u64::MAX {
@@ -99,8 +102,8 @@ fn answer_batch<D: Door>(
 /// - `Closed` where the input ends inside a frame.
 /// - `Io` where a read or a write failed and the stream counted it: after a read the replies to all whole frames are
 ///   written, after a write a beginning of the replies. No failed call is tried again.
-/// - `Memory` where a growth was refused, and `Exhausted` after 2^64 - 1 frames or turns of reading and writing: the whole
-///   replies to all earlier frames are written.
+/// - `Memory` where a growth was refused, and `Exhausted` only once the frames that were answered and the bytes that were
+///   read are 2^64 - 1 together, or more: the whole replies to all earlier frames are written.
 ///
 /// After each of these the connection is over. The counts of failed calls have to be below 2^64 - 1 (this project's
 /// profile).
@@ -125,7 +128,7 @@ pub fn serve<R: Source, W: Sink, D: Door>(
 {
     let mut buffers = Buffers::new(alloc);
     let mut frames = 0u64;
-    for _ in 0..u64::MAX {
+    for _turn in 0..u64::MAX {
         let batch = answer_batch(alloc, &mut buffers, door, &mut frames);
         buffers.flush(writer)?;
         let is_drained = batch?;

@@ -24,6 +24,9 @@ where
     C: Core,
     G: Gate,
 {
+    // Nothing is said of the texts of a running store's status.
+    ghost tells = { λ store text. Unit {0} };
+
     fn call(&self, node: NodeName, pass: Pass, ask: Ask) -> Result<(Answer, CallReceipt), Refusal> {
         let mut client = self.store.client(pass)?;
         client.call(&self.rt, node, ask)

@@ -1,11 +1,11 @@
-use Rattle.std.proofs.Common.{ℕ, ◌≡◌, ◌+◌, List, [], ◌++◌, sym, ap, ◌∙◌, append_assoc, arith}
+use Rattle.std.proofs.Common.{ℕ, ◌≡◌, ◌+◌, List, [], ◌++◌, sym, ap, ◌∙◌, append_assoc, refl, arith}
 use Rattle.std.proofs.lemmas.List.{append-nil}
-use Rattle.craq_front.proofs.Sessions.{served_none, served_then, served_shorter, next_refused}
+use Rattle.craq_front.proofs.Sessions.{served_none, served_then, served_shorter, next_refused, next_goes_on}
 use Rattle.craq_front.proofs.serving.answer_batch.Goals as goal
 
 pub loop-alloc-init : goal.loop-alloc-init
 loop-alloc-init g c =
-    ([], 0, sym (append-nil c.args.buffers.now.output.items), omega arith, served_none g.D.Door.turn c.args.door.now c.args.buffers.now.input.items)
+    ([], 0, sym (append-nil c.args.buffers.now.output.items), omega arith, λ same. refl, served_none g.D.Door.turn c.args.door.now c.args.buffers.now.input.items)
 
 pub loop-alloc-smaller : goal.loop-alloc-smaller
 loop-alloc-smaller g c =
@@ -23,16 +23,21 @@ loop-alloc-preserved g c =
       n + 1,
       h.1 ∙ ap (λ (x : List ℕ). x ++ h.0) i.2 ∙ append_assoc c.args.buffers.now.output.items i.0 h.0,
       counted,
-      served_then g.D.Door.turn c.args.door.now c.loop-alloc.door c.answer_next.new.door c.args.buffers.now.input.items c.loop-alloc.buffers.input.items c.answer_next.new.buffers.input.items i.0 h.0 n 1 i.4 h.2,
+      λ same. absurd (omega (arith, counted, same)),
+      served_then g.D.Door.turn c.args.door.now c.loop-alloc.door c.answer_next.new.door c.args.buffers.now.input.items c.loop-alloc.buffers.input.items c.answer_next.new.buffers.input.items i.0 h.0 n 1 i.5 h.2,
     )
 
-pub returns-in-Err : goal.returns-in-Err
-returns-in-Err g c =
+pub returns-in-Err-clause-batch : goal.returns-in-Err-clause-batch
+returns-in-Err-clause-batch g c =
     let i = c.loop-alloc.invariant in
     let h = c.in-Err.ensures in (
       i.0 ++ h.0,
       i.1,
       h.1 ∙ ap (λ (x : List ℕ). x ++ h.0) i.2 ∙ append_assoc c.args.buffers.now.output.items i.0 h.0,
       i.3,
-      next_refused g.D.Door.turn c.args.door.now c.loop-alloc.door c.answer_next.new.door c.args.buffers.now.input.items c.loop-alloc.buffers.input.items c.answer_next.new.buffers.input.items i.0 h.0 i.1 c.in-Err.refusal i.4 h.2,
+      next_refused g.D.Door.turn c.args.door.now c.loop-alloc.door c.answer_next.new.door c.args.buffers.now.input.items c.loop-alloc.buffers.input.items c.answer_next.new.buffers.input.items i.0 h.0 i.1 c.in-Err.refusal i.5 h.2,
     )
+
+pub returns-in-Err-clause-exhausted : goal.returns-in-Err-clause-exhausted
+returns-in-Err-clause-exhausted g c =
+    λ used. absurd (next_goes_on g.D.Door.turn c.loop-alloc.door c.answer_next.new.door c.loop-alloc.buffers.input.items c.answer_next.new.buffers.input.items c.in-Err.ensures.0 c.in-Err.refusal (cc) c.in-Err.ensures.2)

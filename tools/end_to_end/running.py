@@ -1,6 +1,7 @@
 """Starts the two programs, and counts what passed."""
 import re
 import resource
+import select
 import socket
 import subprocess
 import tempfile
@@ -58,13 +59,14 @@ class Server:
     It ends after `connections` of them, so each one that is made has to be counted, by `connect` or by `counts`.
     """
 
-    def __init__(self, craqd, plan, connections, journal=True, files=None):
+    def __init__(self, craqd, plan, connections, journal=True, files=None, env=None):
         self.left = connections
         self.file = text_file(plan)
         words = [craqd, *(["--journal"] if journal else []), "--connections", str(connections), self.file.name, "127.0.0.1:0"]
-        self.process = subprocess.Popen(words, stdin=subprocess.DEVNULL, stdout=subprocess.PIPE, stderr=subprocess.PIPE,
+        self.process = subprocess.Popen(words, stdin=subprocess.DEVNULL, stdout=subprocess.PIPE, stderr=subprocess.PIPE, env=env,
                                         preexec_fn=limited(resource.RLIMIT_NOFILE, files))
-        self.first = self.process.stdout.readline().decode()
+        tells, _, _ = select.select([self.process.stdout], [], [], PATIENCE)
+        self.first = self.process.stdout.readline().decode() if tells else ""
         found = re.fullmatch(r"listening ([1-9][0-9]*)\n", self.first)
         self.port = int(found[1]) if found else 0
         self.answered = {}

@@ -1,0 +1,259 @@
+"""craqd among clients that send what is no request, or a part of one: after each of them it answers another client at once, and
+within a second it has as many threads and open files as before, and hardly more memory.
+
+Of a thousand waits one may be longer than a second, since a machine may pause; none is longer than ten.
+What may be said to bytes is read from docs/use/BYTES.md by asked.py. A changed byte often makes another request, which is then
+done: so the server's objects grow by some thousands, and what it is given to grow by in memory allows for those.
+"""
+import os
+import random
+import re
+import socket
+import time
+
+import asked
+import running
+from asked import example
+
+# How many seconds another client waits for its answers, and threads, files and memory for being back; and how many at most.
+AT_ONCE, PATIENCE = 1.0, 10.0
+# One of so many waits may be longer.
+OFTEN = 1_000
+# How many MiB the server may have grown by after all.
+GROWTH = 24
+GARBAGE = (b"\xff" * 64, b"\0" * 64, random.Random(3).randbytes(64))
+QUIET = 0.1
+
+
+class Other:
+    """The other client: it counts up an object that nobody else writes, and reads it at the tail."""
+
+    def __init__(self, server):
+        self.client, self.count = example.Client(server.address, 2, tries=1), 0
+
+    def is_answered(self):
+        """Whether it is answered rightly."""
+        self.count += 1
+        wrote, read = self.client.inc("other", node=1), self.client.read("other", node=3)
+        return wrote == example.Written(self.count) and read == example.Read(self.count, self.count.to_bytes(8, "big"))
+
+
+class Attacked:
+    """A server, the other client, and what the server has where nobody attacks it."""
+
+    def __init__(self, checks, craqd):
+        self.checks, self.attacks, self.waits = checks, 0, []
+        self.server = running.Server(craqd, running.PLAN, 2**32 - 1, journal=False)
+        self.other = Other(self.server)
+        for _ in range(200):
+            self.other.is_answered()
+        self.before, self.memory = self.has(), self.server.memory()
+
+    def has(self):
+        """How many threads and open files it has."""
+        with open(f"/proc/{self.server.process.pid}/status", encoding="ascii", errors="replace") as it:
+            threads = int(re.search(r"Threads:\s+(\d+)", it.read())[1])
+        return threads, len(os.listdir(f"/proc/{self.server.process.pid}/fd"))
+
+    def connect(self):
+        """A connection from one of some addresses, since each has only so many ports and a port rests for a minute."""
+        self.attacks += 1
+        made = socket.create_connection(("127.0.0.1", self.server.port), running.PATIENCE, (f"127.0.0.{2 + self.attacks % 100}", 0))
+        made.setsockopt(socket.IPPROTO_TCP, socket.TCP_NODELAY, 1)
+        return made
+
+    def goes_on(self, what):
+        """It answers the other client."""
+        began = time.monotonic()
+        self.checks.that(self.other.is_answered(), f"after {what} another client is answered")
+        self.waits.append(time.monotonic() - began)
+
+    def waited(self, holds):
+        """Waits until that holds, ten seconds at most, and counts how long that took."""
+        began = time.monotonic()
+        while not holds() and time.monotonic() < began + PATIENCE:
+            time.sleep(0.002)
+        self.waits.append(time.monotonic() - began)
+
+    def comes_back(self, what):
+        """What it has is what it had."""
+        self.waited(lambda: self.has() == self.before)
+        self.checks.same(f"threads and files after {what}", self.has(), self.before)
+
+    def is_small(self, what):
+        """It has hardly more memory."""
+        self.waited(lambda: self.server.memory() <= self.memory + GROWTH)
+        grown = self.server.memory() - self.memory
+        self.checks.that(grown <= GROWTH, f"after {what} it has {grown:.0f} MiB more than before")
+
+    def said_to(self, sent):
+        """All that it says to these bytes and the end of them."""
+        with self.connect() as made:
+            try:
+                made.sendall(sent)
+                made.shutdown(socket.SHUT_WR)
+            except OSError:
+                pass
+            said = b""
+            try:
+                while more := made.recv(65536):
+                    said += more
+            except ConnectionError:
+                pass
+            return said
+
+    def hears(self, what, sent):
+        """It says to these bytes what it may, and is as before."""
+        said = self.said_to(sent)
+        self.checks.that(asked.are_replies(said, sent), f"{what}, {sent[:80].hex()}: found {said[:80].hex()}")
+        self.goes_on(what)
+        self.comes_back(what)
+
+    def ends(self):
+        """It still runs, and nobody waited long; then it is ended."""
+        self.checks.that(self.server.runs(), "the server runs to the end")
+        late = sum(it > AT_ONCE for it in self.waits)
+        self.checks.that(late * OFTEN <= len(self.waits) and max(self.waits) <= PATIENCE, f"{late} of {len(self.waits)} waits were longer than {AT_ONCE} s, one {max(self.waits):.1f} s")
+        self.other.client.close()
+        self.server.kill()
+
+
+def cut(attacked, requests):
+    """Every part of each request that begins where it begins, and then the end, silence, or garbage; gives how many."""
+    made = 0
+    for payload in requests:
+        frame, what = asked.framed(payload), f"a part of {payload[:2].hex()} .. {payload[-12:].hex()}"
+        for size in range(len(frame) + 1):
+            attacked.hears(f"{what}, {size} bytes and the end", frame[:size])
+            for garbage in GARBAGE:
+                attacked.hears(f"{what}, {size} bytes and garbage", frame[:size] + garbage)
+        silent = [attacked.connect() for _ in frame]
+        for size, it in enumerate(silent):
+            it.sendall(frame[:size])
+        time.sleep(QUIET)
+        attacked.goes_on(f"{what} and silence, in {len(silent)} connections at once")
+        for size, it in enumerate(silent):
+            is_silent(attacked, f"{what}, {size} bytes and silence", it)
+        attacked.comes_back(f"{what} and silence")
+        attacked.is_small(what)
+        made += (len(GARBAGE) + 1) * (len(frame) + 1) + len(frame)
+    return made
+
+
+def is_silent(attacked, what, made):
+    """Nothing was said to this connection; it is closed."""
+    made.setblocking(False)
+    try:
+        said = made.recv(1)
+    except BlockingIOError:
+        said = None
+    attacked.checks.same(what, said, None)
+    made.close()
+
+
+class Kept:
+    """A connection that sends one frame after another, and reads one reply to each."""
+
+    def __init__(self, attacked):
+        self.attacked, self.made = attacked, attacked.connect()
+
+    def asks(self, what, payload):
+        """The reply to this payload is one that it may get, and the other client is answered."""
+        try:
+            self.made.sendall(asked.framed(payload))
+            said = taken(self.made, int.from_bytes(taken(self.made, 4), "big"))
+        except (OSError, EOFError) as failure:
+            said = repr(failure).encode()
+            self.made.close()
+            self.made = self.attacked.connect()
+        self.attacked.checks.that(asked.is_reply(said, payload), f"{what}, {payload[:80].hex()}: found {said[:80].hex()}")
+        self.attacked.goes_on(what)
+
+    def close(self):
+        self.made.close()
+        self.attacked.comes_back("a connection of many frames")
+
+
+def taken(made, size):
+    got = b""
+    while len(got) < size:
+        more = made.recv(size - len(got))
+        if not more:
+            raise EOFError("the server closed the connection")
+        got += more
+    return got
+
+
+def one_of_each(requests):
+    """One request of each kind: of all with the same version, kind and command the first, but none that another version has too."""
+    found = {}
+    for payload in requests:
+        found.setdefault((payload[1], payload[30:31] if payload[1] == asked.UPDATE else payload[14:15]), payload)
+    return list(found.values())
+
+
+def changes(frame, places, values):
+    """The frame with the byte at each of these places set to each of these values, after what that is."""
+    for at in places:
+        for value in values:
+            yield f"byte {at} set to {value}", frame[:at] + bytes([value]) + frame[at + 1:]
+
+
+def changed(attacked, requests, values):
+    """Each byte of each request set to each value: those of the length in connections of their own; gives how many."""
+    made = 0
+    for payload in requests:
+        frame, of = asked.framed(payload), f"of {payload[:2].hex()} .. {payload[-12:].hex()}"
+        for what, other in changes(frame, range(4), values):
+            attacked.hears(f"{what} {of}", other)
+        kept = Kept(attacked)
+        for what, other in changes(frame, range(4, len(frame)), values):
+            kept.asks(f"{what} {of}", other[4:])
+        kept.close()
+        attacked.is_small(f"changes {of}")
+        made += len(frame) * len(values)
+    return made
+
+
+def drawn(draw, requests):
+    """A payload that is drawn: random bytes, or a request that was changed in a few places, cut, or made longer."""
+    pick = draw.randrange(4)
+    if pick == 0:
+        return draw.randbytes(draw.randrange(300))
+    if pick == 1:
+        return bytes([draw.randint(1, 2), draw.randint(1, 4)]) + draw.randbytes(draw.randrange(300))
+    it = bytearray(draw.choice(requests))
+    if pick == 2:
+        for _ in range(draw.randint(1, 4)):
+            it[draw.randrange(len(it))] = draw.choice([0, 1, 2, 127, 128, 254, draw.randrange(256)])
+        return bytes(it)
+    at = draw.randrange(len(it))
+    return bytes(it[:at]) + draw.randbytes(draw.randrange(4)) + bytes(it[at + draw.randrange(4):])
+
+
+def random_frames(attacked, requests, count):
+    """So many frames with payloads that are drawn; gives how many."""
+    draw, kept = random.Random(4), Kept(attacked)
+    for at in range(count):
+        kept.asks(f"random frame {at}", drawn(draw, requests))
+    kept.close()
+    attacked.is_small("random frames")
+    return count
+
+
+def tried(checks, craqd, whole):
+    """All of them, and what was tried, in words. Where not all is wanted, some of each."""
+    requests = asked.requests()
+    checks.that(len({it[:2] for it in requests}) == 7, "docs/use/BYTES.md has requests of each version and kind")
+    each = one_of_each(requests)
+    attacked = Attacked(checks, craqd)
+    try:
+        cuts = cut(attacked, requests if whole else each[:1] + each[-2:])
+        bytes_set = changed(attacked, each, range(256) if whole else (0, 1, 2, 3, 4, 5, 8, 9, 16, 17, 127, 128, 129, 254, 255))
+        frames = random_frames(attacked, requests, 10_000 if whole else 1_000)
+        grown = attacked.server.memory() - attacked.memory
+        attacked.ends()
+    finally:
+        attacked.server.kill()
+    waits = f"another client was answered {attacked.other.count} times; the longest of {len(attacked.waits)} waits had {max(attacked.waits):.3f} s"
+    return f"{cuts} cut requests, {bytes_set} changed bytes, {frames} random frames; {waits}, and {grown:.1f} MiB were added"

@@ -1,0 +1,298 @@
+"""A soak: for some minutes processes ask a server of 64 chains, lose replies and ask again, and random scripts are played.
+
+The server runs once with journals, which are audited in its end, and once without, where its memory may not grow, since the clients
+and their objects stay the same. Each process has some connections, one client each, and looks at all that a client can see:
+
+- the versions of an object that one client alone writes follow one another, and a read of it gives what was put
+- the versions that all clients were given of an object that they count up together are 1, 2, 3 and so on, each given once
+- no strong read is older than any answer, of any process, that ended before it was asked
+- an update that is asked again with its number has the reply that it had, whether that was lost or not
+
+A running server lets no client stop, remove or join a node. These come up in the random scripts, with lost, late and repeated
+messages: both cores print the same, and the verdict on schedules that are drawn of them is true. A script for which that fails is
+kept as a file that `craq_lab play` reads.
+"""
+import multiprocessing
+import random
+import tempfile
+import time
+
+import playing
+import running
+import schedules
+import scripts
+from asked import example
+
+CHAINS, NODES = 64, (1, 2, 3)
+# How many processes ask, how many connections each has at a time, and how often each may connect in all.
+PROCESSES, ATONCE, CONNECTS = 3, 4, 400
+ASKS, LOST, KEPT = 8, 0.005, 8
+OPEN = (example.STOPPED, example.PENDING_FULL, example.MEMORY, example.CLOSED)
+# How many seconds a server runs with journals at most: they grow by some 10 MiB a second.
+JOURNALED = 120
+# How many MiB a server without journals may grow by from the second tenth of its time on.
+GROWTH = 24
+# How many processes play scripts, how far apart their seeds begin, and how many schedules are drawn of a script.
+PLAYERS, FAR, DRAWS = 2, 1_000_000, 3
+
+
+def plan():
+    return "".join(f'[[chain]]\nname = "c{at}"\nnodes = {list(NODES)}\n\n' for at in range(CHAINS))
+
+
+class Seen:
+    """What one process asked, was told, and found wrong."""
+
+    def __init__(self):
+        self.faults, self.counted = [], {chain: [] for chain in range(CHAINS)}
+        self.asked, self.answered = [0] * CHAINS, [0] * CHAINS
+        self.lost = self.repeated = 0
+
+    def that(self, holds, what):
+        if not holds and len(self.faults) < 20:
+            self.faults.append(what)
+
+
+class Writer:
+    """A client with a connection. It writes an object of its own in each chain."""
+
+    def __init__(self, address, id, draw, seen, newest, budget):
+        self.address, self.id, self.draw, self.seen, self.newest, self.budget = address, id, draw, seen, newest, budget
+        self.connection, self.shown = None, 0
+        self.numbers, self.own = [0] * CHAINS, [[] for _ in range(CHAINS)]
+        self.replies = [{} for _ in range(CHAINS)]
+        # The asks that are under way, what they will put, and how often they were sent.
+        self.payload, self.asks, self.coming, self.sent, self.chain = b"", [], [], 0, 0
+
+    def key(self):
+        return f"own-{self.id}"
+
+    def next_number(self, chain):
+        self.numbers[chain] += 1
+        return self.numbers[chain]
+
+    def update(self, chain, number, command):
+        return example.update_request(NODES[0], self.shown, self.id, number, command)
+
+    def chosen(self, chain):
+        """What is asked next: a kind of ask, what it needs to be looked at, and its request."""
+        pick = self.draw.random()
+        if pick < 0.3:
+            number = self.next_number(chain)
+            value = b"%d/%d" % (self.id, number)
+            return "put", (number, value), self.update(chain, number, example.put(chain, self.key(), value))
+        if pick < 0.45:
+            number = self.next_number(chain)
+            return "count", number, self.update(chain, number, example.increment(chain, "shared", 1))
+        if pick < 0.5 and self.replies[chain]:
+            number = self.draw.choice(sorted(self.replies[chain])[-KEPT // 2:])
+            self.seen.repeated += 1
+            return "again", number, self.update(chain, number, example.put(chain, "never", b""))
+        node = self.draw.choice(NODES)
+        if pick < 0.75:
+            return "own", None, example.read_request(node, 0, example.STRONG, chain, self.key())
+        return "shared", self.newest[chain], example.read_request(node, 0, example.STRONG, chain, "shared")
+
+    def begin(self):
+        """Chooses some asks of one chain."""
+        self.chain = self.draw.randrange(CHAINS)
+        self.asks = [self.chosen(self.chain) for _ in range(self.draw.randint(1, ASKS // 2))]
+        self.coming = [needed[1] for kind, needed, _ in self.asks if kind == "put"]
+        self.sent = 0
+        self.payload = example.many([it[2] for it in self.asks])
+
+    def send(self):
+        if not self.connection:
+            self.connection = example.Connection(self.address)
+            self.budget -= 1
+        self.connection.send(self.payload)
+        self.sent += 1
+        self.seen.asked[self.chain] += len(self.asks)
+
+    def may_lose(self):
+        """Now and then the reply is not waited for, and the same is asked again."""
+        if self.budget > 1 and self.draw.random() < LOST:
+            self.seen.lost += 1
+            self.connection.close()
+            self.connection = None
+            self.send()
+
+    def receive(self):
+        """Takes the replies, and asks again what was refused for the moment."""
+        for _ in range(20):
+            replies = example.replies_of(self.connection.receive())
+            told = [it for _, it in replies]
+            if len(told) == len(self.asks) and not any(isinstance(it, example.Refused) and it.number in OPEN for it in told):
+                break
+            time.sleep(0.01)
+            self.send()
+        self.shown = max([self.shown] + [shown for shown, _ in replies if shown is not None])
+        self.seen.answered[self.chain] += len(told)
+        for ask, it in zip(self.asks, told):
+            self.look(*ask[:2], it)
+
+    def look(self, kind, needed, told):
+        """Looks at one reply."""
+        chain, own, seen = self.chain, self.own[self.chain], self.seen
+        where = f"client {self.id}, chain {chain}, {kind} {needed}: {told}"
+        if kind == "put":
+            number, value = needed
+            own.append(value)
+            seen.that(told == example.Written(len(own)), f"{where}, wanted version {len(own)}")
+            self.keep(number, told)
+        elif kind == "count":
+            seen.that(isinstance(told, example.Written), where)
+            if isinstance(told, example.Written):
+                seen.counted[chain].append(told.version)
+                self.newest[chain] = max(self.newest[chain], told.version)
+            self.keep(needed, told)
+        elif kind == "again":
+            seen.that(told == self.replies[chain].get(needed, told), f"{where}, wanted {self.replies[chain].get(needed)}")
+        elif kind == "own":
+            seen.that(told in self.own_reads(), f"{where}, wanted version {len(own)}")
+        else:
+            value = told.version.to_bytes(8, "big") if isinstance(told, example.Read) and told.version else b""
+            seen.that(isinstance(told, example.Read) and told.version >= needed and told.value == value, where)
+            if isinstance(told, example.Read):
+                self.newest[chain] = max(self.newest[chain], told.version)
+
+    def own_reads(self):
+        """What may be read of this client's object: its newest; where the same was asked before, also what it puts then."""
+        own = self.own[self.chain]
+        values = (own[-1:] or [b""]) + (self.coming[len(self.coming) - self.left_to_put():] if self.sent > 1 else [])
+        return [example.Read(len(own) + at, it) for at, it in enumerate(values)]
+
+    def left_to_put(self):
+        """How many of the values that are put in this payload were not looked at yet."""
+        own = self.own[self.chain]
+        return sum(it not in own[-len(self.coming):] for it in self.coming) if self.coming else 0
+
+    def keep(self, number, told):
+        kept = self.replies[self.chain]
+        kept[number] = told
+        for old in sorted(kept)[:-KEPT]:
+            del kept[old]
+
+
+def asking(at, address, newest, until, given):
+    """One process: it asks until that time, and gives what it saw."""
+    seen = Seen()
+    try:
+        draw = random.Random(at)
+        writers = [Writer(address, at * ATONCE + it, draw, seen, newest, CONNECTS // ATONCE) for it in range(ATONCE)]
+        while time.monotonic() < until and not seen.faults:
+            for it in writers:
+                it.begin()
+                it.send()
+            for it in writers:
+                it.may_lose()
+                it.receive()
+        for it in writers:
+            it.connection.close()
+        left = sum(it.budget for it in writers)
+    except Exception as failure:
+        seen.faults.append(repr(failure))
+        left = 0
+    given.put((seen, left))
+
+
+def looked_at(checks, seen):
+    """What all processes saw together."""
+    for it in seen:
+        checks.same("what a process of the soak found wrong", it.faults, [])
+    for chain in range(CHAINS):
+        versions = sorted(version for it in seen for version in it.counted[chain])
+        checks.same(f"the versions that all were given in chain {chain}", versions, list(range(1, len(versions) + 1)))
+
+
+def memory_of(server, until):
+    """The most memory that the server has in the second tenth of its time, and the most in the last tenth."""
+    began = time.monotonic()
+    early = late = 0.0
+    while (now := time.monotonic()) < until and server.runs():
+        passed = (now - began) / (until - began)
+        early = max(early, server.memory()) if 0.1 <= passed < 0.2 else early
+        late = max(late, server.memory()) if passed >= 0.9 else late
+        time.sleep(0.2)
+    return early, late
+
+
+def served(checks, craqd, seconds, journal):
+    """One server that is asked for so long; gives how many asks were answered, in words."""
+    server = running.Server(craqd, plan(), PROCESSES * CONNECTS + 1, journal=journal)
+    try:
+        newest, given, until = multiprocessing.Array("Q", CHAINS, lock=False), multiprocessing.Queue(), time.monotonic() + seconds
+        some = [multiprocessing.Process(target=asking, args=(at, server.address, newest, until, given), daemon=True) for at in range(PROCESSES)]
+        for it in some:
+            it.start()
+        early, late = memory_of(server, until)
+        found = [given.get(timeout=running.PATIENCE * 3) for _ in some]
+        for it in some:
+            it.join()
+        seen = [it for it, _ in found]
+        server.counts(PROCESSES * CONNECTS - sum(left for _, left in found))
+        looked_at(checks, seen)
+        if not journal:
+            checks.that(late <= early + GROWTH, f"a server without journals grows from {early:.0f} to {late:.0f} MiB")
+        ends(checks, server, seen, journal)
+    finally:
+        server.kill()
+    asks, lost, again = (sum(map(count, seen)) for count in (lambda it: sum(it.answered), lambda it: it.lost, lambda it: it.repeated))
+    return f"{asks} asks answered {'with' if journal else 'without'} journals, {lost} replies lost, {again} updates repeated, {early:.0f} to {late:.0f} MiB"
+
+
+def ends(checks, server, seen, journal):
+    """The connections that are left are made; then each chain is audited."""
+    while server.left > 0 and server.runs():
+        server.connect().close()
+    out, err = server.process.communicate(timeout=running.PATIENCE * 30)
+    checks.same("how the server of the soak ends", (server.process.returncode, err.decode()), (0, ""))
+    audits = out.decode().splitlines()
+    checks.same("how many chains are audited", len(audits), CHAINS if journal else 0)
+    for chain, line in enumerate(audits):
+        answered, asked = sum(it.answered[chain] for it in seen), sum(it.asked[chain] for it in seen)
+        merged = int(line.rpartition(" ")[2]) if line.startswith("audit merged ") else -1
+        checks.that(answered <= merged <= asked, f"chain {chain}: {line}, of {answered} answers to {asked} asks")
+
+
+def script_of(craq_lab, seed):
+    """A random script: its text, whether all is well, how often nodes stop and join in it, and how many schedules were drawn."""
+    kind = scripts.KINDS[seed % len(scripts.KINDS)]
+    text, (plain, other) = scripts.played(craq_lab, kind, seed)
+    is_well = plain.status == 0 and not plain.errors and plain == other
+    for at in range(DRAWS):
+        words = ["draw", "--nodes", str(kind.nodes), "/dev/stdin", schedules.choices_of(seed * DRAWS + at)]
+        plain, other = playing.on_both(craq_lab, words, text)
+        is_well = is_well and plain == other and plain.output.endswith(b"valid true\n")
+    return text, is_well, text.count(b"\nstop "), text.count(b"\njoin ")
+
+
+def scripted(craq_lab, seed, until, given):
+    """Random scripts until that time: how many, stops, joins, and the names of files with those that failed."""
+    count = stops = joins = 0
+    failed = []
+    while time.monotonic() < until:
+        text, is_well, stopped, joined = script_of(craq_lab, seed + count)
+        count, stops, joins = count + 1, stops + stopped, joins + joined
+        if not is_well:
+            with tempfile.NamedTemporaryFile(prefix=f"hostile-{seed + count - 1}-", suffix=".script", delete=False) as it:
+                it.write(text)
+                failed.append(it.name)
+    given.put((count, stops, joins, failed))
+
+
+def tried(checks, craq_lab, craqd, minutes):
+    """The soak, and what was tried, in words."""
+    seed, given, until = int(time.time()), multiprocessing.Queue(), time.monotonic() + minutes * 60
+    beside = [multiprocessing.Process(target=scripted, args=(craq_lab, seed + at * FAR, until, given), daemon=True) for at in range(PLAYERS)]
+    for it in beside:
+        it.start()
+    journaled = min(minutes * 30, JOURNALED)
+    told = [served(checks, craqd, journaled, True), served(checks, craqd, minutes * 60 - journaled, False)]
+    played = [given.get(timeout=minutes * 60 + running.PATIENCE * 30) for _ in beside]
+    for it in beside:
+        it.join()
+    count, stops, joins = (sum(it[at] for it in played) for at in range(3))
+    checks.same("scripts of the soak that failed", [name for it in played for name in it[3]], [])
+    checks.that(min(it[0] for it in played) > 0, "the soak plays scripts")
+    return "; ".join([*told, f"{count} scripts from seed {seed} on, {stops} stops and {joins} joins in them, {DRAWS * count} schedules"])

@@ -5,6 +5,7 @@ ghost use Rattle.std.specs.Cmp.{partial_equiv_from_equiv};
 ghost use Rattle.std.specs.Cmp.Lexicographic.{pointwise, slice_cmp, nat_list_eq_equiv, nat_list_cmp_total, texts_ties, texts_po};
 
 use crate::Refusal;
+use crate::order::{are_equal, order_of};
 use std::alloc::{AllocError, Global};
 use std::cmp::Ordering;
 use std::marker::Model;
@@ -76,7 +77,7 @@ impl PartialEq for Key {
     ghost laws = { partial_equiv_from_equiv nat_list_eq_equiv };
 
     fn eq(&self, other: &Self) -> bool {
-        self.bytes == other.bytes
+        are_equal(&self.bytes, &other.bytes)
     }
 }
 
@@ -104,7 +105,7 @@ impl Ord for Key {
     ghost matches_eq = { texts_ties };
 
     fn cmp(&self, other: &Self) -> Ordering {
-        self.bytes.cmp(&other.bytes)
+        order_of(&self.bytes, &other.bytes)
     }
 }
 

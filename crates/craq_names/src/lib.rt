@@ -8,6 +8,7 @@ mod list;
 mod map;
 mod name;
 mod number;
+mod order;
 mod refusal;
 mod same;
 

@@ -1,0 +1,46 @@
+//! Comparing bytes one by one: keys are short, so a plain loop is faster than a scan by groups. `Key` alone calls it.
+ghost use Rattle.std.specs.Prelude.{◌≡◌, nat_eq};
+ghost use Rattle.std.specs.Ordering.{nat_cmp};
+ghost use Rattle.std.specs.Cmp.Lexicographic.{pointwise, slice_cmp};
+
+use std::cmp::Ordering;
+
+/// The order of two lists of bytes: their first bytes that differ decide, or else the shorter one stands first.
+pub(crate) fn order_of(bytes: &[u8], others: &[u8]) -> Ordering
+    ensures { result ≡ slice_cmp nat_cmp bytes.now others.now }
+{
+    let mut left = bytes.iter();
+    let mut right = others.iter();
+    while let Some(byte) = left.next() {
+        let Some(other) = right.next() else {
+            return Ordering::Greater;
+        };
+        if byte != other {
+            return byte.cmp(other);
+        }
+    }
+    match right.next() {
+        Some(_) => Ordering::Less,
+        None => Ordering::Equal,
+    }
+}
+
+/// Whether two lists of bytes are as long, with the same byte at each place.
+pub(crate) fn are_equal(bytes: &[u8], others: &[u8]) -> bool
+    ensures { result ≡ pointwise nat_eq bytes.now others.now }
+{
+    if bytes.len() != others.len() {
+        return false;
+    }
+    let mut left = bytes.iter();
+    let mut right = others.iter();
+    while let Some(byte) = left.next() {
+        let Some(other) = right.next() else {
+            return false;
+        };
+        if byte != other {
+            return false;
+        }
+    }
+    right.next().is_none()
+}

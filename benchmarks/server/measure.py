@@ -4,7 +4,8 @@
     benchmarks/server/measure.py CRAQD [--redis REDIS_SERVER] [--rounds N] [--connections N] [--seconds N] [--journal]
 
 CRAQD is the program as ./build made it, REDIS_SERVER `redis-server` where it is not named. The load client, load.rs, is built by
-`rustc -O`. Each figure is of a fresh server; the rounds are taken in turn, and of each the median is printed.
+`rustc -O`. Each figure is of a fresh server; the rounds are taken in turn, and of each the median is printed. On a terminal a
+line on standard error tells how far it is.
 """
 import argparse
 import os
@@ -82,9 +83,11 @@ def main():
             "redis": lambda room: redis(options.redis, room),
         }
         found = {}
-        for _ in range(options.rounds):
-            for mix, _ in MIXES:
+        for turn in range(options.rounds):
+            for mix, name in MIXES:
                 for kind, start in servers.items():
+                    if sys.stderr.isatty():
+                        sys.stderr.write(f"\rround {turn + 1} of {options.rounds}: {name}, {kind}{'':20}\r")
                     found.setdefault((mix, kind), []).append(measured(load, kind, start, mix, options))
     print(f"{options.connections} connections, {options.seconds:g} s, {options.rounds} rounds, load average {os.getloadavg()[0]:.1f}, {os.cpu_count()} processors\n")
     print("| Asked | Server | Replies | A second | Median, µs | 99th percentile, µs | Processor time a reply, µs | Times redis |")

@@ -1,3 +1,4 @@
+//! The kept replies of one client.
 ghost use Rattle.std.specs.Prelude.{◌≡◌, ◌<◌, ◌≤◌, ◌↔◌, [], length, IsOk, OnOk, OnErr, IsTrue};
 ghost use Rattle.craq_commands.specs.Kept.{keep};
 

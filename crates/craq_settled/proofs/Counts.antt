@@ -5,7 +5,7 @@ use Rattle.std.specs.Prelude.{if◌then◌else◌}
 use Rattle.craq_names.specs.Maps.{same_bytes}
 use Rattle.craq_commands.specs.declared.entry.Write.{Write}
 use Rattle.craq_model.specs.Past.{values_in}
-use Rattle.craq_versions.specs.declared.places.WriteRef.{WriteRef}
+use Rattle.craq_settled.specs.declared.places.Place.{Place}
 use Rattle.craq_settled.specs.Placed.{count_of}
 
 -- the first of some writes gives one, or none
@@ -39,18 +39,18 @@ count_to_suc (v ∷ ws) (suc i) w key low is =
 pub count_next : (ws : List Write) (i : ℕ) (w : Write) (key : List ℕ) → i < length ws → w ≡ get_or ws i w → count_of (take (i + 1) ws) key ≡ count_of (take i ws) key + (if same_bytes w.key key then 1 else 0)
 count_next ws i w key low is = ap (λ (n : ℕ). count_of (take n ws) key) (add-one i) ∙ count_to_suc ws i w key low is
 
-take_fewer : (m n : ℕ) (l : List WriteRef) → m ≤ n → take m (take n l) ≡ take m l
+take_fewer : (m n : ℕ) (l : List (ℕ × Place)) → m ≤ n → take m (take n l) ≡ take m l
 take_fewer zero n l few = refl
 take_fewer (suc m) zero l few = absurd (omega (arith, few))
 take_fewer (suc m) (suc n) [] few = refl
-take_fewer (suc m) (suc n) (r ∷ l) few = ap (λ (t : List WriteRef). r ∷ t) (take_fewer m n l (omega (arith, few)))
+take_fewer (suc m) (suc n) (r ∷ l) few = ap (λ (t : List (ℕ × Place)). r ∷ t) (take_fewer m n l (omega (arith, few)))
 
 -- so many of the newest are gone, and then some more
-pub gone_twice : (l r : List WriteRef) (k c : ℕ) → r ≡ take (length l - k) l → take (length r - c) r ≡ take (length l - (k + c)) l
+pub gone_twice : (l r : List (ℕ × Place)) (k c : ℕ) → r ≡ take (length l - k) l → take (length r - c) r ≡ take (length l - (k + c)) l
 gone_twice l r k c is =
     let n : ℕ = length l - k in
     let few : n ≤ length l = omega arith in
     let all : length (take n l) ≡ n = length-take-le n l few in
     let fewer : n - c ≤ n = omega arith in
     let sum : n - c ≡ length l - (k + c) = omega arith in
-    ap (λ (x : List WriteRef). take (length x - c) x) is ∙ ap (λ (m : ℕ). take (m - c) (take n l)) all ∙ take_fewer (n - c) n l fewer ∙ ap (λ (m : ℕ). take m l) sum
+    ap (λ (x : List (ℕ × Place)). take (length x - c) x) is ∙ ap (λ (m : ℕ). take (m - c) (take n l)) all ∙ take_fewer (n - c) n l fewer ∙ ap (λ (m : ℕ). take m l) sum

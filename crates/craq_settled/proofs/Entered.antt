@@ -1,10 +1,10 @@
 -- Where entries give an object a version, as they are gone through.
 use Rattle.std.proofs.Common.{◌≡◌, ℕ, zero, suc, ◌+◌, ◌-◌, ◌<◌, ◌≤◌, List, [], ◌∷◌, ◌++◌, length, take, drop, get_or, refl, sym, ◌∙◌, ap, arith, append_assoc, length-append}
-use Rattle.std.proofs.lemmas.List.{get_or-drop, length-drop, take-append-le}
+use Rattle.std.proofs.lemmas.List.{append-nil, get_or-drop, length-drop, take-append-le}
 use Rattle.craq_commands.specs.declared.entry.Entry.{Entry}
 use Rattle.craq_node_invariant.specs.Sound.{AreInRow}
 use Rattle.craq_log.specs.Suffixed.{Suffixed, length_of}
-use Rattle.craq_versions.specs.declared.places.WriteRef.{WriteRef}
+use Rattle.craq_settled.specs.declared.places.Place.{Place}
 use Rattle.craq_settled.specs.Listed.{AreListed, written_in, written_after}
 use Rattle.craq_settled.specs.Placed.{Placed, KeepsLater, later_of}
 use Rattle.craq_settled.proofs.Placing.{none_more}
@@ -18,8 +18,8 @@ entered_to_suc base (d ∷ es) zero e key low is =
     sym (none_more (written_in (base + 1) 0 d.writes key)) ∙ ap (λ (x : Entry). written_in (base + 1) 0 x.writes key) (sym is) ∙ ap (λ (n : ℕ). written_in n 0 e.writes key) here
 entered_to_suc base (d ∷ es) (suc n) e key low is =
     let there : (base + 1) + n + 1 ≡ base + suc n + 1 = omega arith in
-    let first : List WriteRef = written_in (base + 1) 0 d.writes key in
-    ap (λ (l : List WriteRef). first ++ l) (entered_to_suc (base + 1) es n e key (omega (arith, low)) is ∙ ap (λ (p : ℕ). written_after (base + 1) (take n es) key ++ written_in p 0 e.writes key) there)
+    let first : List (ℕ × Place) = written_in (base + 1) 0 d.writes key in
+    ap (λ (l : List (ℕ × Place)). first ++ l) (entered_to_suc (base + 1) es n e key (omega (arith, low)) is ∙ ap (λ (p : ℕ). written_after (base + 1) (take n es) key ++ written_in p 0 e.writes key) there)
     ∙ sym (append_assoc first (written_after (base + 1) (take n es) key) (written_in (base + suc n + 1) 0 e.writes key))
 
 -- nothing more is listed
@@ -54,7 +54,7 @@ listed_next ps qs s done front e listed low rest row is more =
       from = low_enough;
       to = high_enough;
       later = λ q.
-          more q ∙ ap (λ (l : List WriteRef). l ++ written_in e.position 0 e.writes q) (listed.later q)
+          more q ∙ ap (λ (l : List (ℕ × Place)). l ++ written_in e.position 0 e.writes q) (listed.later q)
           ∙ ap (λ (p : ℕ). written_after s.base (take n s.entries) q ++ written_in p 0 e.writes q) (sym here)
           ∙ sym (entered_to_suc s.base s.entries n e q few its)
           ∙ ap (λ (m : ℕ). written_after s.base (take m s.entries) q) one;
@@ -85,6 +85,10 @@ listed_before ps s t more done base entries listed =
       later = λ q. listed.later q ∙ ap (λ (b : ℕ). written_after b (take (done - s.base) s.entries) q) (sym base) ∙ ap (λ (l : List Entry). written_after t.base l q) taken;
     }
 
+-- what was listed is, where the entries stay
+pub listed_same : (ps : Placed) (s t : Suffixed) (done : ℕ) → t.base ≡ s.base → t.entries ≡ s.entries → AreListed ps s done → AreListed ps t done
+listed_same ps s t done base entries listed = listed_before ps s t [] done base (entries ∙ sym (append-nil s.entries)) listed
+
 none_of_none : (n : ℕ) (base : ℕ) (key : List ℕ) → [] ≡ written_after base (take n []) key
 unfolding written_after
 none_of_none zero base key = refl
@@ -100,3 +104,10 @@ none_listed ps s listed base none empty =
       to = to;
       later = λ q. empty q ∙ none_of_none (listed - s.base) s.base q ∙ ap (λ (es : List Entry). written_after s.base (take (listed - s.base) es) q) (sym none);
     }
+
+-- there is a next entry
+pub front_some : (s : Suffixed) (done : ℕ) (front : List Entry) {t : Placed} → AreListed t s done → done < length_of s → front ≡ drop (done - s.base) s.entries → 0 < length front
+front_some s done front listed low rest =
+    let from = listed.from in
+    let long : length front ≡ length s.entries - (done - s.base) = ap length rest ∙ length-drop (done - s.base) s.entries in
+    omega arith

@@ -37,7 +37,7 @@ in_parts s [] (suc n) m = ap (after_entries s) (take_nothing m ∙ sym (take_not
 in_parts s (e ∷ es) (suc n) m = let k : suc (n + m) ≡ suc n + m = omega arith in in_parts (after_entry s e) es n m ∙ ap (λ (i : ℕ). after_entries s (take i (e ∷ es))) k
 
 -- the first is folded
-one_folded : (s t : State) (old new : Suffixed) (e : Entry) → t ≡ after_entry s e → IsFirstOf e old new → AreFolded s old t new
+pub one_folded : (s t : State) (old new : Suffixed) (e : Entry) → t ≡ after_entry s e → IsFirstOf e old new → AreFolded s old t new
 one_folded s t old new e one first =
     let base = first.base in
     let k : 1 ≡ new.base - old.base = omega arith in
@@ -46,23 +46,9 @@ one_folded s t old new e one first =
       entries = ap (λ (l : List Entry). drop 1 l) (sym first.entries) ∙ ap (λ (i : ℕ). drop i old.entries) k;
     }
 
--- a list of one item
-pub only : (ws : List Write) (w : Write) → 1 ≤ length ws → length ws < 2 → w ≡ get_or ws 0 w → ws ≡ w ∷ []
-only [] w some few is = absurd (omega (arith, some))
-only (v ∷ []) w some few is = ap (λ (x : Write). x ∷ []) (sym is)
-only (v ∷ u ∷ ws) w some few is = absurd (omega (arith, few))
-
 -- the entry that is taken out is the one that was looked at
 pub taken_is : (old new : Suffixed) (first entry : Entry) → take 1 old.entries ≡ first ∷ [] → IsFirstOf entry old new → entry ≡ first
 taken_is old new first entry looked is = ap (λ (l : List Entry). get_or l 0 entry) (sym (ap (λ (l : List Entry). take 1 l) is.entries) ∙ looked)
-
--- the first is folded into the place of the one object that it writes
-pub folded_in_place : (m n : Objects) (kept mid more : List (ℕ × Window)) (old new : Suffixed) (e : Entry) (w : Write) → IsFirstOf e old new → e.writes ≡ w ∷ [] → n ≡ set_object m w.key w.version w.value
-    → mid ≡ kept → more ≡ put_number mid e.client (keep (unwrap_or (at_number mid e.client) []) e.number e.reply) → AreFolded (state_at m kept) old (state_at n more) new
-folded_in_place m n kept mid more old new e w first writes written same keeps =
-    one_folded (state_at m kept) (state_at n more) old new e
-    (after_is m n kept more e (written ∙ ap (λ (l : List Write). with_writes m l) (sym writes)) (keeps ∙ ap (λ (k : List (ℕ × Window)). put_number k e.client (keep (unwrap_or (at_number k e.client) []) e.number e.reply)) same))
-    first
 
 -- more are folded
 pub more_folded : (s t u : State) (old mid new : Suffixed) → old.base ≤ mid.base → mid.base ≤ new.base → AreFolded s old t mid → AreFolded t mid u new → AreFolded s old u new

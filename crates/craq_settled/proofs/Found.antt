@@ -1,5 +1,5 @@
 -- The newest of what is written, and the newest that is not above a bound.
-use Rattle.std.proofs.Common.{◌≡◌, ℕ, ◌+◌, ◌-◌, ◌<◌, ◌≤◌, Bool, true, false, cond, List, [], ◌∷◌, ◌++◌, take, drop, Option, Some, None, unwrap_or, refl, sym, ◌∙◌, ap, subst, append_assoc, arith}
+use Rattle.std.proofs.Common.{◌≡◌, ℕ, ◌+◌, ◌-◌, ◌<◌, ◌≤◌, Bool, true, false, cond, List, [], ◌∷◌, ◌++◌, map, take, drop, Option, Some, None, unwrap_or, refl, sym, ◌∙◌, ap, subst, append_assoc, arith}
 use Rattle.std.proofs.lemmas.List.{take-append-drop}
 use Rattle.std.specs.List.{AllZip, last_or}
 use Rattle.std.specs.Prelude.{nat_le}
@@ -8,36 +8,95 @@ use Rattle.craq_log.specs.Suffixed.{Suffixed}
 use Rattle.craq_model.specs.Past.{newest_within, values_in, values_after}
 use Rattle.craq_plain.specs.Scans.{last_value}
 use Rattle.craq_plain.proofs.Scans.{last_value-append}
-use Rattle.craq_versions.specs.declared.places.WriteRef.{WriteRef}
-use Rattle.craq_settled.specs.Listed.{Gives}
+use Rattle.craq_versions.specs.Versions.{newest_of}
+use Rattle.craq_settled.specs.declared.places.Place.{Place}
+use Rattle.craq_settled.specs.declared.places.Place.TheVariants.{Settled, Written}
+use Rattle.craq_settled.specs.declared.places.WriteRef.{WriteRef}
+use Rattle.craq_settled.specs.Listed.{Gives, GivenThere, IsGiven, Stands, StandsThere}
+use Rattle.craq_settled.specs.Placed.{later_from, later_in, newest_version, number_of, settled_in, settled_there}
 
 clash : {A : Type 0} (x : A) → Some x ≡ None → ⊥
 clash x h = cc
 
-none_last : (x : WriteRef) (xs : List WriteRef) → last_or (Some x) xs ≡ None → ⊥
+none_last : (x : ℕ × Place) (xs : List (ℕ × Place)) → last_or (Some x) xs ≡ None → ⊥
 none_last x [] h = clash x h
 none_last x (y ∷ xs) h = none_last y xs h
 
--- where the places list nothing, nothing is written
-pub none_given : (s : Suffixed) (first : ℕ × List ℕ) (xs : List WriteRef) (vs : List (ℕ × List ℕ)) → None ≡ last_or None xs → AllZip (Gives s) xs vs → first ≡ last_value first vs
-unfolding last_value
-none_given s first [] [] h all = refl
-none_given s first [] (v ∷ vs) h all = absurd all
-none_given s first (x ∷ xs) vs h all = absurd (none_last x xs (sym h))
+-- what is given stands there
+stands : (s : Suffixed) (v : ℕ × Place) (value : ℕ × List ℕ) → IsGiven s v value → Stands s v value
+stands s v value h =
+    let split : (p : Place) → GivenThere s v.0 p value → StandsThere s v.0 p value = elim [ Settled bytes ↦ λ h. absurd h | Written at ↦ λ h. h ] in
+    split v.1 h
 
-last_from : (s : Suffixed) (x r : WriteRef) (v : ℕ × List ℕ) (xs : List WriteRef) (vs : List (ℕ × List ℕ)) → Some r ≡ last_or (Some x) xs → Gives s x v → AllZip (Gives s) xs vs → Gives s r (last_value v vs)
+last_from : (s : Suffixed) (x r : ℕ × Place) (v : ℕ × List ℕ) (xs : List (ℕ × Place)) (vs : List (ℕ × List ℕ)) → Some r ≡ last_or (Some x) xs → Stands s x v → AllZip (IsGiven s) xs vs → Stands s r (last_value v vs)
 unfolding last_value
-last_from s x r v [] [] h one all = let same : x ≡ r = ap (λ (o : Option WriteRef). unwrap_or o x) (sym h) in subst (λ (y : WriteRef). Gives s y v) same one
+last_from s x r v [] [] h one all = let same : x ≡ r = ap (λ (o : Option (ℕ × Place)). unwrap_or o x) (sym h) in subst (λ (y : ℕ × Place). Stands s y v) same one
 last_from s x r v [] (u ∷ vs) h one all = absurd all
 last_from s x r v (y ∷ xs) [] h one all = absurd all
-last_from s x r v (y ∷ xs) (u ∷ vs) h one all = last_from s y r u xs vs h all.0 all.1
+last_from s x r v (y ∷ xs) (u ∷ vs) h one all = last_from s y r u xs vs h (stands s y u all.0) all.1
 
--- the last that they list gives the last value
-pub last_given : (s : Suffixed) (first : ℕ × List ℕ) (r : WriteRef) (xs : List WriteRef) (vs : List (ℕ × List ℕ)) → Some r ≡ last_or None xs → AllZip (Gives s) xs vs → Gives s r (last_value first vs)
+-- the newest of some versions has the last value
+pub newest_stands : (s : Suffixed) (vs : List (ℕ × Place)) (r : ℕ × Place) (values : List (ℕ × List ℕ)) → Some r ≡ newest_of vs → AllZip (IsGiven s) (later_in vs) values → Stands s r (last_value (unwrap_or (settled_in vs) (0, [])) values)
 unfolding last_value
-last_given s first r [] vs h all = absurd (clash r h)
-last_given s first r (x ∷ xs) [] h all = absurd all
-last_given s first r (x ∷ xs) (v ∷ vs) h all = last_from s x r v xs vs h all.0 all.1
+newest_stands s [] r values h all = absurd (clash r h)
+newest_stands s (v ∷ vs) r values h all = split v.0 v.1 vs values h all
+  where
+    split : (n : ℕ) (p : Place) (vs : List (ℕ × Place)) (values : List (ℕ × List ℕ)) → Some r ≡ last_or (Some (n, p)) vs → AllZip (IsGiven s) (later_from p ((n, p) ∷ vs) vs) values → Stands s r (last_value (unwrap_or (settled_there n p) (0, [])) values)
+    split n (Settled bytes) vs values h all = last_from s (n, Settled bytes) r (n, bytes) vs values h refl all
+    split n (Written at) vs [] h all = absurd all
+    split n (Written at) vs (u ∷ us) h all = last_from s (n, Written at) r u vs us h (stands s (n, Written at) u all.0) all.1
+
+-- where there are no versions, nothing is given
+pub newest_none : (s : Suffixed) (vs : List (ℕ × Place)) (values : List (ℕ × List ℕ)) → None ≡ newest_of vs → AllZip (IsGiven s) (later_in vs) values → (0, []) ≡ last_value (unwrap_or (settled_in vs) (0, [])) values
+unfolding last_value
+newest_none s [] [] h all = refl
+newest_none s [] (u ∷ us) h all = absurd all
+newest_none s (v ∷ vs) values h all = absurd (none_last v vs (sym h))
+
+number_stands : (s : Suffixed) (v : ℕ × Place) (value : ℕ × List ℕ) → Stands s v value → v.0 ≡ value.0
+number_stands s v value h =
+    let split : (p : Place) → StandsThere s v.0 p value → v.0 ≡ value.0 = elim [ Settled bytes ↦ λ h. ap (λ (x : ℕ × List ℕ). x.0) h | Written at ↦ λ h. h.0 ] in
+    split v.1 h
+
+-- the newest version is that of the last value
+pub newest_number : (s : Suffixed) (vs : List (ℕ × Place)) (values : List (ℕ × List ℕ)) → AllZip (IsGiven s) (later_in vs) values → newest_version vs ≡ (last_value (unwrap_or (settled_in vs) (0, [])) values).0
+newest_number s vs values all =
+    let found : ℕ × List ℕ = last_value (unwrap_or (settled_in vs) (0, [])) values in
+    let split : (o : Option (ℕ × Place)) → o ≡ newest_of vs → number_of o ≡ found.0 = elim [
+      | None ↦ λ e. ap (λ (x : ℕ × List ℕ). x.0) (newest_none s vs values e all)
+      | Some r ↦ λ e. number_stands s r found (newest_stands s vs r values e all)
+    ] in
+    split (newest_of vs) refl
+
+-- where entries write the versions whose values stand in these places
+abbrev pub ref_before : Place → List WriteRef → List WriteRef
+ref_before (Settled bytes) rs = rs
+ref_before (Written at) rs = at ∷ rs
+
+abbrev pub refs_in : List Place → List WriteRef
+refs_in [] = []
+refs_in (p ∷ ps) = ref_before p (refs_in ps)
+
+abbrev pub places_in : List (ℕ × Place) → List Place
+places_in vs = map (λ (v : ℕ × Place). v.1) vs
+
+refs_of_later : (s : Suffixed) (vs : List (ℕ × Place)) (values : List (ℕ × List ℕ)) → AllZip (IsGiven s) vs values → AllZip (Gives s) (refs_in (places_in vs)) values
+refs_of_later s [] [] all = tt
+refs_of_later s [] (u ∷ us) all = absurd all
+refs_of_later s (v ∷ vs) [] all = absurd all
+refs_of_later s (v ∷ vs) (u ∷ us) all =
+    let rest = refs_of_later s vs us all.1 in
+    let split : (p : Place) → GivenThere s v.0 p u → AllZip (Gives s) (ref_before p (refs_in (places_in vs))) (u ∷ us) = elim [ Settled bytes ↦ λ h. absurd h | Written at ↦ λ h. (h.1, rest) ] in
+    split v.1 all.0
+
+-- they give the values of the later versions
+pub refs_given : (s : Suffixed) (vs : List (ℕ × Place)) (values : List (ℕ × List ℕ)) → AllZip (IsGiven s) (later_in vs) values → AllZip (Gives s) (refs_in (places_in vs)) values
+refs_given s [] values all = refs_of_later s [] values all
+refs_given s (v ∷ vs) values all = split v.0 v.1 vs all
+  where
+    split : (n : ℕ) (p : Place) (vs : List (ℕ × Place)) → AllZip (IsGiven s) (later_from p ((n, p) ∷ vs) vs) values → AllZip (Gives s) (refs_in (places_in ((n, p) ∷ vs))) values
+    split n (Settled bytes) vs all = refs_of_later s vs values all
+    split n (Written at) vs all = refs_of_later s ((n, Written at) ∷ vs) values all
 
 -- the values of entries one after another
 pub values-append : (es fs : List Entry) (key : List ℕ) → values_after (es ++ fs) key ≡ values_after es key ++ values_after fs key
@@ -86,3 +145,12 @@ above_bound v version above h = grind (arith, h)
 
 pub within_bound : (v version above : ℕ) → v - version ≤ above → nat_le v (version + above) ≡ true
 within_bound v version above h = grind (arith, h)
+
+-- a settled place gives nothing more
+pub settled_given : (s : Suffixed) (p : Place) (bytes : List ℕ) (all rest : List Place) (vs : List (ℕ × List ℕ)) → p ≡ Settled bytes → all ≡ p ∷ rest → AllZip (Gives s) (refs_in all) vs → AllZip (Gives s) (refs_in rest) vs
+settled_given s p bytes all rest vs is step every = subst (λ (l : List WriteRef). AllZip (Gives s) l vs) (ap refs_in step ∙ ap (λ (x : Place). ref_before x (refs_in rest)) is) every
+
+-- a written one gives the first of the values
+pub written_given : (s : Suffixed) (p : Place) (at : WriteRef) (all rest : List Place) (vs : List (ℕ × List ℕ)) → p ≡ Written at → all ≡ p ∷ rest → AllZip (Gives s) (refs_in all) vs
+    → (v : ℕ × List ℕ) × (more : List (ℕ × List ℕ)) × (vs ≡ v ∷ more) × Gives s at v × AllZip (Gives s) (refs_in rest) more
+written_given s p at all rest vs is step every = first_given s at (refs_in all) (refs_in rest) vs (ap refs_in step ∙ ap (λ (x : Place). ref_before x (refs_in rest)) is) every

@@ -7,4 +7,6 @@ pub mod Written
 pub mod Entered
 pub mod Looked
 pub mod Found
+pub mod Following
+pub mod Applicable
 pub mod Settling

@@ -1,4 +1,4 @@
--- What is written where the places of objects say so.
+-- What is given where the versions of objects say so.
 use Rattle.std.proofs.Common.{◌≡◌, ℕ, zero, suc, ◌+◌, ◌-◌, Bool, true, false, cond, List, [], ◌∷◌, ◌++◌, take, Some, None, refl, sym, ◌∙◌, ap, subst, arith}
 use Rattle.std.specs.List.{AllZip}
 use Rattle.std.specs.Prelude.{slice_get}
@@ -7,12 +7,11 @@ use Rattle.craq_commands.specs.declared.entry.Entry.{Entry}
 use Rattle.craq_commands.specs.declared.entry.Write.{Write}
 use Rattle.craq_log.specs.Suffixed.{Suffixed}
 use Rattle.craq_model.specs.Past.{values_in, values_after}
-use Rattle.craq_versions.specs.PlacedVersions.{PlacedVersions}
-use Rattle.craq_versions.specs.declared.places.WriteRef.{WriteRef}
-use Rattle.craq_settled.specs.Listed.{AreListed, Gives, written_in, written_after}
-use Rattle.craq_settled.specs.Placed.{Placed, later_in, place_of}
+use Rattle.craq_settled.specs.declared.places.Place.{Place}
+use Rattle.craq_settled.specs.Listed.{AreListed, Gives, IsGiven, version_at, written_in, written_after}
+use Rattle.craq_settled.specs.Placed.{Placed, later_in, versions_of}
 
-zip-append : (s : Suffixed) (xs ys : List WriteRef) (us vs : List (ℕ × List ℕ)) → AllZip (Gives s) xs us → AllZip (Gives s) ys vs → AllZip (Gives s) (xs ++ ys) (us ++ vs)
+zip-append : (s : Suffixed) (xs ys : List (ℕ × Place)) (us vs : List (ℕ × List ℕ)) → AllZip (IsGiven s) xs us → AllZip (IsGiven s) ys vs → AllZip (IsGiven s) (xs ++ ys) (us ++ vs)
 zip-append s [] ys [] vs first second = second
 zip-append s [] ys (u ∷ us) vs first second = absurd first
 zip-append s (x ∷ xs) ys [] vs first second = absurd first
@@ -20,13 +19,12 @@ zip-append s (x ∷ xs) ys (u ∷ us) vs first second = (first.0, zip-append s x
 
 -- the writes of an entry, from an index on
 seen_in : (s : Suffixed) (k : ℕ) (e : Entry) (p i : ℕ) (ws : List Write) (key : List ℕ) → p ≡ s.base + k + 1 → slice_get s.entries k ≡ Some e → ((j : ℕ) (w : Write) → slice_get ws j ≡ Some w → slice_get e.writes (i + j) ≡ Some w)
-    → AllZip (Gives s) (written_in p i ws key) (values_in ws key)
+    → AllZip (IsGiven s) (written_in p i ws key) (values_in ws key)
 unfolding written_in values_in
 seen_in s k e p i [] key at is within = tt
 seen_in s k e p i (w ∷ ws) key at is within =
     let here : i + 0 ≡ i = omega arith in
-    let r : WriteRef = record { position = p; index = i } in
-    let one : Gives s r (w.version, w.value) = record {
+    let gives : Gives s (record { position = p; index = i }) (w.version, w.value) = record {
       earlier = k;
       entry = e;
       write = w;
@@ -35,13 +33,14 @@ seen_in s k e p i (w ∷ ws) key at is within =
       its_write = subst (λ (n : ℕ). slice_get e.writes n ≡ Some w) here (within 0 w refl);
       given = refl;
     } in
+    let one : IsGiven s (version_at p i w) (w.version, w.value) = (refl, gives) in
     let rest = seen_in s k e p (i + 1) ws key at is (λ j x h. let there : i + suc j ≡ i + 1 + j = omega arith in subst (λ (n : ℕ). slice_get e.writes n ≡ Some x) there (within (suc j) x h)) in
-    let split : (b : Bool) → AllZip (Gives s) (cond b (r ∷ written_in p (i + 1) ws key) (written_in p (i + 1) ws key)) (cond b ((w.version, w.value) ∷ values_in ws key) (values_in ws key)) = elim [ true ↦ (one, rest) | false ↦ rest ] in
+    let split : (b : Bool) → AllZip (IsGiven s) (cond b (version_at p i w ∷ written_in p (i + 1) ws key) (written_in p (i + 1) ws key)) (cond b ((w.version, w.value) ∷ values_in ws key) (values_in ws key)) = elim [ true ↦ (one, rest) | false ↦ rest ] in
     split (same_bytes w.key key)
 
 -- the entries from one on
 seen_after : (s : Suffixed) (b k : ℕ) (es : List Entry) (key : List ℕ) → b ≡ s.base + k → ((j : ℕ) (e : Entry) → slice_get es j ≡ Some e → slice_get s.entries (k + j) ≡ Some e)
-    → AllZip (Gives s) (written_after b es key) (values_after es key)
+    → AllZip (IsGiven s) (written_after b es key) (values_after es key)
 unfolding written_after values_after
 seen_after s b k [] key at within = tt
 seen_after s b k (e ∷ es) key at within =
@@ -59,25 +58,22 @@ got_of_taken (suc n) (d ∷ es) zero e h = h
 got_of_taken (suc n) (d ∷ es) (suc j) e h = got_of_taken n es j e h
 
 -- the first of the entries
-pub seen : (s : Suffixed) (n : ℕ) (key : List ℕ) → AllZip (Gives s) (written_after s.base (take n s.entries) key) (values_after (take n s.entries) key)
+pub seen : (s : Suffixed) (n : ℕ) (key : List ℕ) → AllZip (IsGiven s) (written_after s.base (take n s.entries) key) (values_after (take n s.entries) key)
 seen s n key =
     let none : s.base ≡ s.base + 0 = omega arith in
     seen_after s s.base 0 (take n s.entries) key none (λ j e h. let same : j ≡ 0 + j = omega arith in subst (λ (m : ℕ). slice_get s.entries m ≡ Some e) same (got_of_taken n s.entries j e h))
 
--- of an object that has a place
-pub seen_in_place : (ps : Placed) (s : Suffixed) (listed : ℕ) (key : List ℕ) (v : PlacedVersions) → AreListed ps s listed → Some v ≡ place_of ps key → AllZip (Gives s) v.later (values_after (take (listed - s.base) s.entries) key)
-seen_in_place ps s listed key v are was =
+-- of an object whose versions are these
+pub seen_listed : (t : Placed) (s : Suffixed) (listed : ℕ) (key : List ℕ) (vs : List (ℕ × Place)) → AreListed t s listed → vs ≡ versions_of t key → AllZip (IsGiven s) (later_in vs) (values_after (take (listed - s.base) s.entries) key)
+seen_listed t s listed key vs are is =
     let n : ℕ = listed - s.base in
-    let same : v.later ≡ written_after s.base (take n s.entries) key = ap later_in was ∙ are.later key in
-    subst (λ (l : List WriteRef). AllZip (Gives s) l (values_after (take n s.entries) key)) (sym same) (seen s n key)
+    let same : later_in vs ≡ written_after s.base (take n s.entries) key = ap later_in is ∙ are.later key in
+    subst (λ (l : List (ℕ × Place)). AllZip (IsGiven s) l (values_after (take n s.entries) key)) (sym same) (seen s n key)
 
-none_of_none : (s : Suffixed) (vs : List (ℕ × List ℕ)) → AllZip (Gives s) [] vs → vs ≡ []
+none_of_none : (s : Suffixed) (vs : List (ℕ × List ℕ)) → AllZip (IsGiven s) [] vs → vs ≡ []
 none_of_none s [] all = refl
 none_of_none s (v ∷ vs) all = absurd all
 
 -- of one that has none
-pub none_in_no_place : (ps : Placed) (s : Suffixed) (listed : ℕ) (key : List ℕ) → AreListed ps s listed → None ≡ place_of ps key → values_after (take (listed - s.base) s.entries) key ≡ []
-none_in_no_place ps s listed key are none =
-    let n : ℕ = listed - s.base in
-    let same : [] ≡ written_after s.base (take n s.entries) key = ap later_in none ∙ are.later key in
-    none_of_none s (values_after (take n s.entries) key) (subst (λ (l : List WriteRef). AllZip (Gives s) l (values_after (take n s.entries) key)) (sym same) (seen s n key))
+pub none_listed_of : (t : Placed) (s : Suffixed) (listed : ℕ) (key : List ℕ) → AreListed t s listed → [] ≡ versions_of t key → values_after (take (listed - s.base) s.entries) key ≡ []
+none_listed_of t s listed key are none = none_of_none s (values_after (take (listed - s.base) s.entries) key) (seen_listed t s listed key [] are none)

@@ -1,206 +1,349 @@
--- Objects in places, once the place of one key is written.
-use Rattle.std.proofs.Common.{◌≡◌, ℕ, zero, suc, ◌-◌, Bool, true, false, cond, List, [], ◌∷◌, ◌++◌, length, take, drop, Option, Some, None, refl, sym, ◌∙◌, ap, subst, arith}
-use Rattle.std.specs.Prelude.{unwrap_or, is_some, IsSome, if◌then◌else◌}
+-- Objects of a table, once the versions of one are changed.
+use Rattle.std.proofs.Common.{◌≡◌, ℕ, zero, suc, ◌+◌, ◌-◌, ◌<◌, ◌≤◌, Bool, true, false, cond, T, List, [], ◌∷◌, ◌++◌, length, map, take, drop, Option, Some, None, refl, sym, ◌∙◌, ap, subst, arith, rules}
+use Rattle.std.specs.Prelude.{unwrap_or, is_some, IsSome, if◌then◌else◌, nat_le}
 use Rattle.std.specs.Option.{option_and_then}
-use Rattle.std.specs.Ordering.{is_eq}
+use Rattle.std.specs.Ordering.{is_eq, eq_by_cmp, nat_cmp}
 use Rattle.std.specs.declared.cmp.Ordering.{Ordering}
 use Rattle.std.specs.declared.cmp.Ordering.TheVariants.{Less, Equal, Greater}
-use Rattle.std.specs.Cmp.{tied_itself}
+use Rattle.std.specs.Cmp.{eq_by_cmp_equiv, tied_itself}
 use Rattle.std.specs.Cmp.Lexicographic.{nat_list_cmp_total, texts_ties}
 use Rattle.std.specs.List.Sorted.{IsStrictlySortedBy}
-use Rattle.std.specs.Map.{keys_of}
-use Rattle.std.specs.BTreeMap.{is_at}
 use Rattle.std.specs.FinMap.{IsAntisymmetric, nat_cmp-IsAntisymmetric, slice_cmp-IsAntisymmetric}
-use Rattle.std.specs.FinMap.Entries.{find}
-use Rattle.craq_names.specs.Maps.{key_cmp, at_key, put_key, same_bytes}
-use Rattle.craq_names.proofs.Places.{find_filled, is_sorted_of, filled_put, filled_same}
-use Rattle.craq_commands.specs.Objects.{object_of}
-use Rattle.craq_versions.specs.PlacedVersions.{PlacedVersions, no_versions}
-use Rattle.craq_versions.specs.declared.places.WriteRef.{WriteRef}
-use Rattle.craq_settled.specs.Placed.{Placed, shown, objects_of, place_of, later_in, later_of, HasPlace, KeepsLater, KeepsPlaces}
+use Rattle.std.specs.FinMap.Entries.{find, find-put, is_sorted, is_sorted-put, same_entries}
+use Rattle.craq_names.specs.Maps.{key_cmp, at_key, at_number, put_key, same_bytes}
+use Rattle.craq_names.proofs.Places.{find_filled, is_sorted_filled, is_sorted_of}
+use Rattle.craq_commands.specs.Objects.{Objects, object_of}
+use Rattle.craq_versions.specs.Tables.{Held, held_at, held_in, nothing, popped, pushed, settled_as}
+use Rattle.craq_versions.specs.Versions.{Versions, CanPush, AreConsecutive, AreVersions, versions_from, without_newest}
+use Rattle.craq_settled.specs.declared.places.Place.{Place}
+use Rattle.craq_settled.specs.declared.places.Place.TheVariants.{Settled, Written}
+use Rattle.craq_settled.specs.declared.places.WriteRef.{WriteRef}
+use Rattle.craq_settled.specs.Placed.{Placed, shown, has_some, later_from, later_in, later_of, objects_of, settled_in, versions_of, IsRising, KeepsLater, StartsAt}
 
 -- one key has these versions, and the others theirs
-abbrev pub IsWritten : Placed → Placed → List ℕ → PlacedVersions → Type 0
-IsWritten ps qs key v = (q : List ℕ) → place_of qs q ≡ cond (is_at (key_cmp key) q) (Some v) (place_of ps q)
+abbrev pub IsChanged : Placed → Placed → List ℕ → List (ℕ × Place) → Type 0
+IsChanged t u key vs = (q : List ℕ) → versions_of u q ≡ cond (same_bytes key q) vs (versions_of t q)
 
 exact : IsAntisymmetric key_cmp
 exact = slice_cmp-IsAntisymmetric nat_cmp-IsAntisymmetric
 
-found_is : (ps : Placed) (key : List ℕ) → find key_cmp key ps ≡ place_of ps key
-found_is [] key = refl
-found_is (p ∷ ps) key = ap (cond (is_at (key_cmp key) p.0) (Some p.1)) (found_is ps key)
-
-found_after : (ps qs : Placed) (key : List ℕ) (v : PlacedVersions) → IsWritten ps qs key v → (q : List ℕ) → find key_cmp q qs ≡ cond (is_at (key_cmp key) q) (Some v) (find key_cmp q ps)
-found_after ps qs key v at q = found_is qs q ∙ at q ∙ ap (cond (is_at (key_cmp key) q) (Some v)) (sym (found_is ps q))
-
--- what stands at a key
-object_found : (ps : Placed) (key : List ℕ) → IsStrictlySortedBy key_cmp (keys_of ps) → at_key (objects_of ps) key ≡ option_and_then shown (place_of ps key)
-object_found ps key rise = find_filled key_cmp shown nat_list_cmp_total key ps (is_sorted_of key_cmp shown ps rise) ∙ ap (option_and_then shown) (found_is ps key)
-
-pub object_here : (ps : Placed) (key : List ℕ) (v : PlacedVersions) → IsStrictlySortedBy key_cmp (keys_of ps) → Some v ≡ place_of ps key → unwrap_or v.settled (0, []) ≡ object_of (objects_of ps) key
-unfolding object_of
-object_here ps key v rise was = sym (ap (λ (o : Option (ℕ × List ℕ)). unwrap_or o (0, [])) (object_found ps key rise ∙ ap (option_and_then shown) (sym was)))
-
-pub no_object : (ps : Placed) (key : List ℕ) → IsStrictlySortedBy key_cmp (keys_of ps) → None ≡ place_of ps key → (0, []) ≡ object_of (objects_of ps) key
-unfolding object_of
-no_object ps key rise was = sym (ap (λ (o : Option (ℕ × List ℕ)). unwrap_or o (0, [])) (object_found ps key rise ∙ ap (option_and_then shown) (sym was)))
-
--- a version is settled in its place
-pub objects_put : (ps qs : Placed) (key : List ℕ) (v : PlacedVersions) (object : ℕ × List ℕ) → v.settled ≡ Some object → IsStrictlySortedBy key_cmp (keys_of ps) → IsStrictlySortedBy key_cmp (keys_of qs) → IsWritten ps qs key v → objects_of qs ≡ put_key (objects_of ps) key object
-objects_put ps qs key v object is was rises at = filled_put key_cmp shown nat_list_cmp_total exact ps qs key v object is was rises (found_after ps qs key v at)
-
--- the settled version of a place stays
-pub objects_same : (ps qs : Placed) (key : List ℕ) (v : PlacedVersions) → v.settled ≡ option_and_then shown (place_of ps key) → IsStrictlySortedBy key_cmp (keys_of ps) → IsStrictlySortedBy key_cmp (keys_of qs) → IsWritten ps qs key v → objects_of qs ≡ objects_of ps
-objects_same ps qs key v same was is at =
-    filled_same key_cmp shown nat_list_cmp_total exact ps qs key v (same ∙ sym (ap (option_and_then shown) (found_is ps key))) was is (found_after ps qs key v at)
-
--- it stays where another version is added to the place, or taken from it
-pub objects_stay : (ps qs : Placed) (key : List ℕ) (v w : PlacedVersions) → Some v ≡ place_of ps key → w.settled ≡ v.settled → IsStrictlySortedBy key_cmp (keys_of ps) → IsStrictlySortedBy key_cmp (keys_of qs) → IsWritten ps qs key w → objects_of qs ≡ objects_of ps
-objects_stay ps qs key v w was same before after at = objects_same ps qs key w (same ∙ ap (option_and_then shown) was) before after at
-
--- there is an empty place more
-pub objects_placed : (ps qs : Placed) (key : List ℕ) (v : PlacedVersions) → v ≡ no_versions → IsStrictlySortedBy key_cmp (keys_of ps) → IsStrictlySortedBy key_cmp (keys_of qs) → place_of ps key ≡ None → IsWritten ps qs key v → objects_of qs ≡ objects_of ps
-objects_placed ps qs key v empty was is none at = objects_same ps qs key v (ap (λ (x : PlacedVersions). x.settled) empty ∙ sym (ap (option_and_then shown) none)) was is at
-
--- no key loses its place
-pub places_kept : (ps qs : Placed) (key : List ℕ) (v : PlacedVersions) → IsWritten ps qs key v → KeepsPlaces ps qs
-places_kept ps qs key v at q h =
-    let P : Option PlacedVersions → Type 0 = λ o. IsSome o in
-    let split : (b : Bool) → IsSome (cond b (Some v) (place_of ps q)) = elim [ true ↦ refl | false ↦ h ] in
-    subst P (sym (at q)) (split (is_at (key_cmp key) q))
-
--- and the key has one
-pub place_made : (ps qs : Placed) (key : List ℕ) (v : PlacedVersions) → IsWritten ps qs key v → HasPlace qs key
-place_made ps qs key v at =
-    let own : is_at (key_cmp key) key ≡ true = ap is_eq (tied_itself nat_list_cmp_total key) in
-    ap is_some (at key ∙ ap (λ b. cond b (Some v) (place_of ps key)) own)
-
-clash : true ≡ false → ⊥
+pub clash : true ≡ false → ⊥
 clash e = cc
-
--- a test that found no place, or one
-pub none_found : (ps : Placed) (key : List ℕ) → false ≡ is_some (place_of ps key) → place_of ps key ≡ None
-none_found ps key h =
-    let split : (o : Option PlacedVersions) → false ≡ is_some o → o ≡ None = elim [ None ↦ λ h. refl | Some x ↦ λ h. absurd (clash (sym h)) ] in
-    split (place_of ps key) h
-
-pub no_place : (ps : Placed) (key : List ℕ) → None ≡ place_of ps key → HasPlace ps key → ⊥
-no_place ps key none h = clash (sym h ∙ sym (ap is_some none))
 
 equal : (r : Ordering) → is_eq r ≡ true → r ≡ Equal
 equal Less p = cc
 equal Equal p = refl
 equal Greater p = cc
 
--- the later versions of each object, once those of one are changed
-pub later_changed : (ps qs : Placed) (key : List ℕ) (v : PlacedVersions) (f : List WriteRef → List WriteRef) → IsWritten ps qs key v → v.later ≡ f (later_of ps key) → (q : List ℕ) → later_of qs q ≡ cond (same_bytes key q) (f (later_of ps q)) (later_of ps q)
-later_changed ps qs key v f at is q =
-    let split : (b : Bool) → is_at (key_cmp key) q ≡ b → later_in (cond b (Some v) (place_of ps q)) ≡ cond b (f (later_of ps q)) (later_of ps q) = elim [
-      | true ↦ λ e. let same : key ≡ q = exact key q (equal (key_cmp key q) e) in is ∙ ap (λ (k : List ℕ). f (later_of ps k)) same
+-- keys of the same bytes are one
+pub same_is : (key q : List ℕ) → same_bytes key q ≡ true → key ≡ q
+same_is key q same = exact key q (equal (key_cmp key q) (sym (texts_ties key q) ∙ same))
+
+pub own : (key : List ℕ) → same_bytes key key ≡ true
+own key = texts_ties key key ∙ ap is_eq (tied_itself nat_list_cmp_total key)
+
+-- two ways to compare keys, in either order
+same_either_way : (key q : List ℕ) → eq_by_cmp key_cmp q key ≡ same_bytes key q
+same_either_way key q = (eq_by_cmp_equiv nat_list_cmp_total).symm q key ∙ sym (texts_ties key q)
+
+-- a key is written
+pub changed : (t u : Placed) (key : List ℕ) (h : Held Place) → u.objects ≡ put_key t.objects key h → IsChanged t u key h.versions
+changed t u key h is q =
+    let split : (b : Bool) → (unwrap_or (cond b (Some h) (at_key t.objects q)) nothing).versions ≡ cond b h.versions (versions_of t q) = elim [ true ↦ refl | false ↦ refl ] in
+    ap (λ (m : List (List ℕ × Held Place)). (unwrap_or (at_key m q) nothing).versions) is
+    ∙ ap (λ (o : Option (Held Place)). (unwrap_or o nothing).versions) (find-put key_cmp nat_list_cmp_total q key h t.objects)
+    ∙ split (eq_by_cmp key_cmp q key) ∙ ap (λ b. cond b h.versions (versions_of t q)) (same_either_way key q)
+
+pub rising_put : (t u : Placed) (key : List ℕ) (h : Held Place) → u.objects ≡ put_key t.objects key h → IsRising t → IsRising u
+rising_put t u key h is rise = subst (λ (m : List (List ℕ × Held Place)). T (is_sorted key_cmp m)) (sym is) (is_sorted-put key_cmp nat_list_cmp_total key h t.objects rise)
+
+pub rising_same : (t u : Placed) → u.objects ≡ t.objects → IsRising t → IsRising u
+rising_same t u is rise = subst (λ (m : List (List ℕ × Held Place)). T (is_sorted key_cmp m)) (sym is) rise
+
+pub rising_popped : (u : Placed) → IsStrictlySortedBy key_cmp (map (λ (o : List ℕ × Held Place). o.0) u.objects) → IsRising u
+rising_popped u rise = is_sorted_of key_cmp shown u.objects rise
+
+pub versions_same : (t u : Placed) → u.objects ≡ t.objects → (q : List ℕ) → versions_of u q ≡ versions_of t q
+versions_same t u is q = ap (λ (m : List (List ℕ × Held Place)). (unwrap_or (at_key m q) nothing).versions) is
+
+pub later_same : (t u : Placed) → u.objects ≡ t.objects → KeepsLater t u
+later_same t u is q = ap later_in (versions_same t u is q)
+
+pub objects_same : (t u : Placed) → u.objects ≡ t.objects → objects_of u ≡ objects_of t
+objects_same t u is = search (rules, is)
+
+-- what is settled of a key
+pub object_found : (t : Placed) (key : List ℕ) → IsRising t → at_key (objects_of t) key ≡ settled_in (versions_of t key)
+object_found t key rise =
+    let split : (o : Option (Held Place)) → option_and_then shown o ≡ settled_in (unwrap_or o nothing).versions = elim [ None ↦ refl | Some h ↦ refl ] in
+    find_filled key_cmp shown nat_list_cmp_total key t.objects rise ∙ split (at_key t.objects key)
+
+pub object_here : (t : Placed) (key : List ℕ) → IsRising t → unwrap_or (settled_in (versions_of t key)) (0, []) ≡ object_of (objects_of t) key
+unfolding object_of
+object_here t key rise = sym (ap (λ (o : Option (ℕ × List ℕ)). unwrap_or o (0, [])) (object_found t key rise))
+
+-- what a look-up finds
+pub found_here : (t : Placed) (key : List ℕ) (list : Versions Place) → Some (held_in list) ≡ at_key t.objects key → list.versions ≡ versions_of t key
+found_here t key list is = ap (λ (o : Option (Held Place)). (unwrap_or o nothing).versions) is
+
+pub none_here : (t : Placed) (key : List ℕ) → None ≡ at_key t.objects key → [] ≡ versions_of t key
+none_here t key is = ap (λ (o : Option (Held Place)). (unwrap_or o nothing).versions) is
+
+pub listed_here : (t : Placed) (key : List ℕ) (list : Versions Place) → IsRising t → Some (held_in list) ≡ at_key t.objects key → unwrap_or (settled_in list.versions) (0, []) ≡ object_of (objects_of t) key
+listed_here t key list rise is = ap (λ (vs : List (ℕ × Place)). unwrap_or (settled_in vs) (0, [])) (found_here t key list is) ∙ object_here t key rise
+
+pub absent_here : (t : Placed) (key : List ℕ) → IsRising t → None ≡ at_key t.objects key → (0, []) ≡ object_of (objects_of t) key
+absent_here t key rise is = ap (λ (vs : List (ℕ × Place)). unwrap_or (settled_in vs) (0, [])) (none_here t key is) ∙ object_here t key rise
+
+-- the objects, where it is known what is settled of each key
+objects_are : (t : Placed) (m : Objects) → IsRising t → T (is_sorted key_cmp m) → ((q : List ℕ) → settled_in (versions_of t q) ≡ at_key m q) → objects_of t ≡ m
+objects_are t m rise sorted each =
+    same_entries key_cmp nat_list_cmp_total exact (objects_of t) m (is_sorted_filled key_cmp shown t.objects rise) sorted (λ q. object_found t q rise ∙ each q)
+
+-- they stay where what is settled does
+pub objects_stay : (t u : Placed) → IsRising t → IsRising u → ((q : List ℕ) → settled_in (versions_of u q) ≡ settled_in (versions_of t q)) → objects_of u ≡ objects_of t
+objects_stay t u was is each = objects_are u (objects_of t) is (is_sorted_filled key_cmp shown t.objects was) (λ q. each q ∙ sym (object_found t q was))
+
+-- a version of a key is settled
+pub objects_put : (t u : Placed) (key : List ℕ) (vs : List (ℕ × Place)) (object : ℕ × List ℕ) → settled_in vs ≡ Some object → IsRising t → IsRising u → IsChanged t u key vs → objects_of u ≡ put_key (objects_of t) key object
+objects_put t u key vs object has was is at =
+    let sorted = is_sorted_filled key_cmp shown t.objects was in
+    objects_are u (put_key (objects_of t) key object) is (is_sorted-put key_cmp nat_list_cmp_total key object (objects_of t) sorted) (λ q.
+    let split : (b : Bool) → settled_in (cond b vs (versions_of t q)) ≡ cond b (Some object) (at_key (objects_of t) q) = elim [ true ↦ has | false ↦ sym (object_found t q was) ] in
+    ap settled_in (at q) ∙ split (same_bytes key q) ∙ ap (λ b. cond b (Some object) (at_key (objects_of t) q)) (sym (same_either_way key q)) ∙ sym (find-put key_cmp nat_list_cmp_total q key object (objects_of t)))
+
+-- what is settled of each key, once the versions of one are changed behind the settled one
+pub settled_changed : (t u : Placed) (key : List ℕ) (vs : List (ℕ × Place)) → settled_in vs ≡ settled_in (versions_of t key) → IsChanged t u key vs → (q : List ℕ) → settled_in (versions_of u q) ≡ settled_in (versions_of t q)
+settled_changed t u key vs same at q =
+    let split : (b : Bool) → same_bytes key q ≡ b → settled_in (cond b vs (versions_of t q)) ≡ settled_in (versions_of t q) = elim [
+      | true ↦ λ e. same ∙ ap (λ (k : List ℕ). settled_in (versions_of t k)) (same_is key q e)
       | false ↦ λ e. refl
     ] in
-    ap later_in (at q) ∙ split (is_at (key_cmp key) q) refl ∙ ap (λ b. cond b (f (later_of ps q)) (later_of ps q)) (sym (texts_ties key q))
+    ap settled_in (at q) ∙ split (same_bytes key q) refl
+
+-- the later versions of each key then
+pub later_changed : (t u : Placed) (key : List ℕ) (vs : List (ℕ × Place)) (f : List (ℕ × Place) → List (ℕ × Place)) → IsChanged t u key vs → later_in vs ≡ f (later_of t key) → (q : List ℕ) → later_of u q ≡ cond (same_bytes key q) (f (later_of t q)) (later_of t q)
+later_changed t u key vs f at is q =
+    let split : (b : Bool) → same_bytes key q ≡ b → later_in (cond b vs (versions_of t q)) ≡ cond b (f (later_of t q)) (later_of t q) = elim [
+      | true ↦ λ e. is ∙ ap (λ (k : List ℕ). f (later_of t k)) (same_is key q e)
+      | false ↦ λ e. refl
+    ] in
+    ap later_in (at q) ∙ split (same_bytes key q) refl
 
 -- the oldest of them is gone
-pub oldest_gone : (b : Bool) (l : List WriteRef) → cond b (drop 1 l) l ≡ drop (if b then 1 else 0) l
+pub oldest_gone : (b : Bool) (l : List (ℕ × Place)) → cond b (drop 1 l) l ≡ drop (if b then 1 else 0) l
 oldest_gone true l = refl
 oldest_gone false l = refl
 
-all_taken : (l : List WriteRef) → take (length l) l ≡ l
+all_taken : (l : List (ℕ × Place)) → take (length l) l ≡ l
 all_taken [] = refl
-all_taken (r ∷ l) = ap (λ (t : List WriteRef). r ∷ t) (all_taken l)
+all_taken (r ∷ l) = ap (λ (t : List (ℕ × Place)). r ∷ t) (all_taken l)
 
 -- the newest is gone
-pub newest_gone : (b : Bool) (l : List WriteRef) → cond b (take (length l - 1) l) l ≡ take (length l - (if b then 1 else 0)) l
+pub newest_gone : (b : Bool) (l : List (ℕ × Place)) → cond b (take (length l - 1) l) l ≡ take (length l - (if b then 1 else 0)) l
 newest_gone true l = refl
 newest_gone false l = let all : length l ≡ length l - 0 = omega arith in sym (all_taken l) ∙ ap (λ n. take n l) all
 
-pub none_more : (l : List WriteRef) → l ≡ l ++ []
-none_more [] = refl
-none_more (r ∷ l) = ap (λ (t : List WriteRef). r ∷ t) (none_more l)
-
--- there is one more
-pub one_more : (b : Bool) (at : WriteRef) (l : List WriteRef) → cond b (l ++ at ∷ []) l ≡ l ++ (if b then at ∷ [] else [])
-one_more true at l = refl
-one_more false at l = none_more l
-
--- an empty place changes none
-pub later_placed : (ps qs : Placed) (key : List ℕ) (v : PlacedVersions) → v ≡ no_versions → place_of ps key ≡ None → IsWritten ps qs key v → KeepsLater ps qs
-later_placed ps qs key v empty none at q =
-    let split : (b : Bool) → cond b (later_of ps q) (later_of ps q) ≡ later_of ps q = elim [ true ↦ refl | false ↦ refl ] in
-    later_changed ps qs key v (λ l. l) at (ap (λ (x : PlacedVersions). x.later) empty ∙ sym (ap later_in none)) q ∙ split (same_bytes key q)
-
--- nor does the place of a settled version alone
-pub later_none : (ps qs : Placed) (key : List ℕ) (v : PlacedVersions) → v.later ≡ [] → IsWritten ps qs key v → (q : List ℕ) → later_of ps q ≡ [] → later_of qs q ≡ []
-later_none ps qs key v none at q h =
-    let split : (b : Bool) → cond b [] (later_of ps q) ≡ [] = elim [ true ↦ refl | false ↦ h ] in
-    later_changed ps qs key v (λ l. []) at none q ∙ split (same_bytes key q)
-
--- a key without a place has no later versions
-absent_later : (ps : Placed) (key q : List ℕ) → None ≡ place_of ps key → same_bytes key q ≡ true → later_of ps q ≡ []
-absent_later ps key q none same =
-    let here : key ≡ q = exact key q (equal (key_cmp key q) (sym (texts_ties key q) ∙ same)) in
-    sym (ap (λ (k : List ℕ). later_of ps k) here) ∙ sym (ap later_in none)
-
-take_none : (n : ℕ) (l : List WriteRef) → l ≡ [] → l ≡ take n l
-take_none zero l e = e
-take_none (suc n) l e = e ∙ sym (ap (λ (t : List WriteRef). take (suc n) t) e)
-
--- none of them is gone where the key has no place
-pub nothing_gone : (ps qs : Placed) (key : List ℕ) → qs ≡ ps → None ≡ place_of ps key → (q : List ℕ) → later_of qs q ≡ take (length (later_of ps q) - (if same_bytes key q then 1 else 0)) (later_of ps q)
-nothing_gone ps qs key same none q =
-    let l : List WriteRef = later_of ps q in
-    let split : (b : Bool) → same_bytes key q ≡ b → l ≡ take (length l - (if b then 1 else 0)) l = elim [
-      | true ↦ λ e. take_none (length l - 1) l (absent_later ps key q none e)
-      | false ↦ λ e. newest_gone false l
-    ] in
-    ap (λ (x : Placed). later_of x q) same ∙ split (same_bytes key q) refl
-
--- one more version, or none where memory is refused
-pub later_more : (ps qs : Placed) (key : List ℕ) (v w : PlacedVersions) (at : WriteRef) → Some v ≡ place_of ps key → w.later ≡ v.later ++ at ∷ [] → IsWritten ps qs key w → (q : List ℕ) → later_of qs q ≡ later_of ps q ++ (if same_bytes key q then at ∷ [] else [])
-later_more ps qs key v w at was more writes q =
-    later_changed ps qs key w (λ l. l ++ at ∷ []) writes (more ∙ ap (λ (o : Option PlacedVersions). later_in o ++ at ∷ []) was) q ∙ one_more (same_bytes key q) at (later_of ps q)
-
-pub later_kept : (ps qs : Placed) (key : List ℕ) (v w : PlacedVersions) → Some v ≡ place_of ps key → w.later ≡ v.later → IsWritten ps qs key w → KeepsLater ps qs
-later_kept ps qs key v w was same writes q =
-    let split : (b : Bool) → cond b (later_of ps q) (later_of ps q) ≡ later_of ps q = elim [ true ↦ refl | false ↦ refl ] in
-    later_changed ps qs key w (λ l. l) writes (same ∙ ap later_in was) q ∙ split (same_bytes key q)
-
--- what is added to what was kept is added to what was
-pub more_of_kept : (ps qs rs : Placed) (added : List ℕ → List WriteRef) → KeepsLater ps qs → ((q : List ℕ) → later_of rs q ≡ later_of qs q ++ added q) → (q : List ℕ) → later_of rs q ≡ later_of ps q ++ added q
-more_of_kept ps qs rs added kept more q = more q ∙ ap (λ (l : List WriteRef). l ++ added q) (kept q)
-
-pub kept_twice : (ps qs rs : Placed) → KeepsLater ps qs → KeepsLater qs rs → KeepsLater ps rs
-kept_twice ps qs rs first second q = second q ∙ first q
-
--- none of them is gone
-pub none_gone : (l : List WriteRef) → l ≡ take (length l - 0) l
+-- none is
+pub none_gone : (l : List (ℕ × Place)) → l ≡ take (length l - 0) l
 none_gone l = newest_gone false l
 
--- a place without a settled version leaves the objects as they are
-pub objects_unsettled : (ps qs : Placed) (key : List ℕ) (v : PlacedVersions) → v.settled ≡ None → IsStrictlySortedBy key_cmp (keys_of ps) → IsStrictlySortedBy key_cmp (keys_of qs) → place_of ps key ≡ None → IsWritten ps qs key v → objects_of qs ≡ objects_of ps
-objects_unsettled ps qs key v none was is absent at = objects_same ps qs key v (none ∙ sym (ap (option_and_then shown) absent)) was is at
+pub none_more : (l : List (ℕ × Place)) → l ≡ l ++ []
+none_more [] = refl
+none_more (r ∷ l) = ap (λ (t : List (ℕ × Place)). r ∷ t) (none_more l)
 
-added_if : (b : Bool) (added l : List WriteRef) → cond b (l ++ added) l ≡ l ++ (if b then added else [])
-added_if true added l = refl
-added_if false added l = none_more l
+-- there is one more
+one_more : (b : Bool) (x : ℕ × Place) (l : List (ℕ × Place)) → cond b (l ++ x ∷ []) l ≡ l ++ (if b then x ∷ [] else [])
+one_more true x l = refl
+one_more false x l = none_more l
 
--- its later versions are those of the key
-pub later_put : (ps qs : Placed) (key : List ℕ) (v : PlacedVersions) → place_of ps key ≡ None → IsWritten ps qs key v → (q : List ℕ) → later_of qs q ≡ later_of ps q ++ (if same_bytes key q then v.later else [])
-later_put ps qs key v absent writes q =
-    later_changed ps qs key v (λ l. l ++ v.later) writes (sym (ap (λ (o : Option PlacedVersions). later_in o ++ v.later) absent)) q ∙ added_if (same_bytes key q) v.later (later_of ps q)
+settled_first : (v : ℕ × Place) (vs ws : List (ℕ × Place)) → settled_in (v ∷ vs) ≡ settled_in (v ∷ ws)
+settled_first v vs ws = refl
 
--- a key without a place has none in the same places
-pub absent_there : (ps qs : Placed) (key k : List ℕ) → qs ≡ ps → k ≡ key → None ≡ place_of ps key → place_of qs k ≡ None
-absent_there ps qs key k same is none = ap (λ (x : Placed). place_of x k) same ∙ ap (λ (n : List ℕ). place_of ps n) is ∙ sym none
+settled_more : (vs : List (ℕ × Place)) (n : ℕ) (at : WriteRef) → settled_in (vs ++ (n, Written at) ∷ []) ≡ settled_in vs
+settled_more [] n at = refl
+settled_more (v ∷ vs) n at = settled_first v (vs ++ (n, Written at) ∷ []) vs
 
--- one more version of a key that had no place
-pub first_more : (ps qs rs : Placed) (key k : List ℕ) (at : WriteRef) (later : List WriteRef) → qs ≡ ps → k ≡ key → later ≡ at ∷ [] → ((q : List ℕ) → later_of rs q ≡ later_of qs q ++ (if same_bytes k q then later else []))
-    → (q : List ℕ) → later_of rs q ≡ later_of ps q ++ (if same_bytes key q then at ∷ [] else [])
-first_more ps qs rs key k at later same is one more q =
-    more q ∙ ap (λ (x : Placed). later_of x q ++ (if same_bytes k q then later else [])) same ∙ ap (λ (n : List ℕ). later_of ps q ++ (if same_bytes n q then later else [])) is
-    ∙ ap (λ (l : List WriteRef). later_of ps q ++ (if same_bytes key q then l else [])) one
+later_more : (vs : List (ℕ × Place)) (n : ℕ) (at : WriteRef) → later_in (vs ++ (n, Written at) ∷ []) ≡ later_in vs ++ (n, Written at) ∷ []
+later_more [] n at = refl
+later_more (v ∷ vs) n at =
+    let x : ℕ × Place = (n, Written at) in
+    let split : (p : Place) → later_from p (v ∷ (vs ++ x ∷ [])) (vs ++ x ∷ []) ≡ later_from p (v ∷ vs) vs ++ x ∷ [] = elim [ Settled value ↦ refl | Written r ↦ refl ] in
+    split v.1
 
--- what is kept of the same places
-pub kept_of_same : (ps qs rs : Placed) → qs ≡ ps → KeepsLater qs rs → KeepsLater ps rs
-kept_of_same ps qs rs same kept q = kept q ∙ ap (λ (x : Placed). later_of x q) same
+-- a later version is added to those of a key
+pub versions_pushed : (t u : Placed) (key : List ℕ) (n : ℕ) (at : WriteRef) → u.objects ≡ put_key t.objects key (pushed (held_at t key) n (Written at)) → (q : List ℕ) → versions_of u q ≡ versions_of t q ++ (if same_bytes key q then (n, Written at) ∷ [] else [])
+versions_pushed t u key n at is q =
+    let x : ℕ × Place = (n, Written at) in
+    let split : (b : Bool) → same_bytes key q ≡ b → cond b (versions_of t key ++ x ∷ []) (versions_of t q) ≡ versions_of t q ++ (if b then x ∷ [] else []) = elim [
+      | true ↦ λ e. ap (λ (k : List ℕ). versions_of t k ++ x ∷ []) (same_is key q e)
+      | false ↦ λ e. none_more (versions_of t q)
+    ] in
+    changed t u key (pushed (held_at t key) n (Written at)) is q ∙ split (same_bytes key q) refl
+
+pub later_pushed : (t u : Placed) (key : List ℕ) (n : ℕ) (at : WriteRef) → u.objects ≡ put_key t.objects key (pushed (held_at t key) n (Written at)) → (q : List ℕ) → later_of u q ≡ later_of t q ++ (if same_bytes key q then (n, Written at) ∷ [] else [])
+later_pushed t u key n at is q =
+    let x : ℕ × Place = (n, Written at) in
+    later_changed t u key (versions_of t key ++ x ∷ []) (λ l. l ++ x ∷ []) (changed t u key (pushed (held_at t key) n (Written at)) is) (later_more (versions_of t key) n at) q ∙ one_more (same_bytes key q) x (later_of t q)
+
+pub objects_pushed : (t u : Placed) (key : List ℕ) (n : ℕ) (at : WriteRef) → IsRising t → u.objects ≡ put_key t.objects key (pushed (held_at t key) n (Written at)) → objects_of u ≡ objects_of t
+objects_pushed t u key n at rise is =
+    let h : Held Place = pushed (held_at t key) n (Written at) in
+    objects_stay t u rise (rising_put t u key h is rise) (settled_changed t u key h.versions (settled_more (versions_of t key) n at) (changed t u key h is))
+
+-- the newest version of a key is taken back
+abbrev pub IsPopped : Placed → Placed → List ℕ → Type 0
+IsPopped t u key = (q : List ℕ) → held_at u q ≡ (if same_bytes key q then popped (held_at t q) else held_at t q)
+
+popped_is : (t u : Placed) (key : List ℕ) → IsPopped t u key → IsChanged t u key (without_newest (versions_of t key))
+popped_is t u key at q =
+    let split : (b : Bool) → same_bytes key q ≡ b → (if b then popped (held_at t q) else held_at t q).versions ≡ cond b (without_newest (versions_of t key)) (versions_of t q) = elim [
+      | true ↦ λ e. ap (λ (k : List ℕ). without_newest (versions_of t k)) (sym (same_is key q e))
+      | false ↦ λ e. refl
+    ] in
+    ap (λ (h : Held Place). h.versions) (at q) ∙ split (same_bytes key q) refl
+
+settled_taken : (k : ℕ) (v : ℕ × Place) (vs : List (ℕ × Place)) → settled_in (take (suc k) (v ∷ vs)) ≡ settled_in (v ∷ vs)
+settled_taken k v vs = refl
+
+written_taken : (k n : ℕ) (at : WriteRef) (vs : List (ℕ × Place)) → (settled_in (take k ((n, Written at) ∷ vs)) ≡ None) × (later_in (take k ((n, Written at) ∷ vs)) ≡ take k ((n, Written at) ∷ vs))
+written_taken zero n at vs = (refl, refl)
+written_taken (suc k) n at vs = (refl, refl)
+
+-- what is settled stays, and of the later versions the newest is gone
+without_is : (vs : List (ℕ × Place)) → has_some (later_in vs) ≡ true → (settled_in (without_newest vs) ≡ settled_in vs) × (later_in (without_newest vs) ≡ take (length (later_in vs) - 1) (later_in vs))
+without_is [] some = absurd (clash (sym some))
+without_is (v ∷ vs) some = split v.0 v.1 vs some
+  where
+    split : (n : ℕ) (p : Place) (vs : List (ℕ × Place)) → has_some (later_from p ((n, p) ∷ vs) vs) ≡ true → (settled_in (without_newest ((n, p) ∷ vs)) ≡ settled_in ((n, p) ∷ vs)) × (later_in (without_newest ((n, p) ∷ vs)) ≡ take (length (later_from p ((n, p) ∷ vs) vs) - 1) (later_from p ((n, p) ∷ vs) vs))
+    split n (Written at) vs some = written_taken (length ((n, Written at) ∷ vs) - 1) n at vs
+    split n (Settled value) [] some = absurd (clash (sym some))
+    split n (Settled value) (w ∷ ws) some =
+        let v : ℕ × Place = (n, Settled value) in
+        let one : length (v ∷ w ∷ ws) - 1 ≡ suc (length ws) = omega arith in
+        let two : length ws ≡ length (w ∷ ws) - 1 = omega arith in
+        (ap (λ (k : ℕ). settled_in (take k (v ∷ w ∷ ws))) one, ap (λ (k : ℕ). later_in (take k (v ∷ w ∷ ws))) one ∙ ap (λ (k : ℕ). take k (w ∷ ws)) two)
+
+pub objects_popped : (t u : Placed) (key : List ℕ) → IsRising t → IsRising u → IsPopped t u key → has_some (later_of t key) ≡ true → objects_of u ≡ objects_of t
+objects_popped t u key was is at some = objects_stay t u was is (settled_changed t u key (without_newest (versions_of t key)) (without_is (versions_of t key) some).0 (popped_is t u key at))
+
+pub later_popped : (t u : Placed) (key : List ℕ) → IsPopped t u key → has_some (later_of t key) ≡ true → (q : List ℕ) → later_of u q ≡ take (length (later_of t q) - (if same_bytes key q then 1 else 0)) (later_of t q)
+later_popped t u key at some q =
+    later_changed t u key (without_newest (versions_of t key)) (λ l. take (length l - 1) l) (popped_is t u key at) (without_is (versions_of t key) some).1 q ∙ newest_gone (same_bytes key q) (later_of t q)
+
+none_taken : (n : ℕ) (l : List (ℕ × Place)) → has_some l ≡ false → l ≡ take n l
+none_taken zero [] e = refl
+none_taken (suc n) [] e = refl
+none_taken n (v ∷ l) e = absurd (clash e)
+
+-- none is gone where the key has no later versions
+pub nothing_popped : (t : Placed) (key : List ℕ) → has_some (later_of t key) ≡ false → (q : List ℕ) → later_of t q ≡ take (length (later_of t q) - (if same_bytes key q then 1 else 0)) (later_of t q)
+nothing_popped t key none q =
+    let l : List (ℕ × Place) = later_of t q in
+    let split : (b : Bool) → same_bytes key q ≡ b → l ≡ take (length l - (if b then 1 else 0)) l = elim [
+      | true ↦ λ e. none_taken (length l - 1) l (ap (λ (k : List ℕ). has_some (later_of t k)) (sym (same_is key q e)) ∙ none)
+      | false ↦ λ e. newest_gone false l
+    ] in
+    split (same_bytes key q) refl
+
+le_true : (m n : ℕ) → m ≤ n → nat_le m n ≡ true
+le_true m n le = search (rules, le)
+
+le_false : (m n : ℕ) → n < m → nat_le m n ≡ false
+le_false m n above = search (rules, above)
+
+tied : (q n : ℕ) → q ≡ n → eq_by_cmp nat_cmp q n ≡ true
+tied q n same = search (rules, same)
+
+from_low : (b : ℕ) (v : ℕ × Place) (vs : List (ℕ × Place)) → AreConsecutive (v ∷ vs) → b ≤ v.0 → versions_from (v ∷ vs) b ≡ v ∷ vs
+from_low b v [] row low = ap (λ t. cond t (v ∷ []) []) (le_true b v.0 low)
+from_low b v (w ∷ vs) row low =
+    let next : w.0 ≡ v.0 + 1 = row.0 in
+    ap (λ t. cond t (v ∷ versions_from (w ∷ vs) b) (versions_from (w ∷ vs) b)) (le_true b v.0 low) ∙ ap (λ (l : List (ℕ × Place)). v ∷ l) (from_low b w vs row.1 (omega (arith, low, next)))
+
+-- the versions after the first
+from_next : (v : ℕ × Place) (vs : List (ℕ × Place)) → AreConsecutive (v ∷ vs) → versions_from (v ∷ vs) (v.0 + 1) ≡ vs
+from_next v [] row = ap (λ t. cond t (v ∷ []) []) (le_false (v.0 + 1) v.0 (omega arith))
+from_next v (w ∷ vs) row =
+    let next : w.0 ≡ v.0 + 1 = row.0 in
+    ap (λ t. cond t (v ∷ versions_from (w ∷ vs) (v.0 + 1)) (versions_from (w ∷ vs) (v.0 + 1))) (le_false (v.0 + 1) v.0 (omega arith)) ∙ from_low (v.0 + 1) w vs row.1 (omega (arith, next))
+
+-- the later versions, once the oldest of them is settled
+without_oldest : (vs : List (ℕ × Place)) (version : ℕ) → AreConsecutive vs → StartsAt version (later_in vs) → versions_from vs (version + 1) ≡ drop 1 (later_in vs)
+without_oldest [] version row starts = absurd starts
+without_oldest (v ∷ vs) version row starts = split v.0 v.1 vs row starts
+  where
+    split : (n : ℕ) (p : Place) (vs : List (ℕ × Place)) → AreConsecutive ((n, p) ∷ vs) → StartsAt version (later_from p ((n, p) ∷ vs) vs) → versions_from ((n, p) ∷ vs) (version + 1) ≡ drop 1 (later_from p ((n, p) ∷ vs) vs)
+    split n (Written at) vs row starts = ap (λ (k : ℕ). versions_from ((n, Written at) ∷ vs) (k + 1)) (sym starts) ∙ from_next (n, Written at) vs row
+    split n (Settled value) [] row starts = absurd starts
+    split n (Settled value) (w ∷ ws) row starts =
+        let next : w.0 ≡ n + 1 = row.0 in
+        let here : w.0 ≡ version = starts in
+        ap (λ t. cond t ((n, Settled value) ∷ versions_from (w ∷ ws) (version + 1)) (versions_from (w ∷ ws) (version + 1))) (le_false (version + 1) n (omega (arith, next, here)))
+        ∙ ap (λ (k : ℕ). versions_from (w ∷ ws) (k + 1)) (sym here) ∙ from_next w ws row.1
+
+-- the oldest later version is one of the versions
+pub holds_oldest : (vs : List (ℕ × Place)) (version : ℕ) → StartsAt version (later_in vs) → IsSome (at_number vs version)
+holds_oldest [] version starts = absurd starts
+holds_oldest (v ∷ vs) version starts = split v.0 v.1 vs starts
+  where
+    split : (n : ℕ) (p : Place) (vs : List (ℕ × Place)) → StartsAt version (later_from p ((n, p) ∷ vs) vs) → IsSome (at_number ((n, p) ∷ vs) version)
+    split n (Written at) vs starts = ap (λ b. is_some (cond b (Some (Written at)) (at_number vs version))) (tied version n (sym starts))
+    split n (Settled value) [] starts = absurd starts
+    split n (Settled value) (w ∷ ws) starts =
+        let rest : is_some (at_number (w ∷ ws) version) ≡ true = ap (λ b. is_some (cond b (Some w.1) (at_number ws version))) (tied version w.0 (sym starts)) in
+        let either : (b : Bool) → is_some (cond b (Some (Settled value)) (at_number (w ∷ ws) version)) ≡ true = elim [ true ↦ refl | false ↦ rest ] in
+        either (eq_by_cmp nat_cmp version n)
+
+-- it is settled
+pub later_settled : (t u : Placed) (key : List ℕ) (version : ℕ) (value : List ℕ) → u.objects ≡ put_key t.objects key (settled_as (held_at t key) version (Settled value)) → AreVersions (held_at t key).versions (held_at t key).clean → StartsAt version (later_of t key)
+    → (q : List ℕ) → later_of u q ≡ drop (if same_bytes key q then 1 else 0) (later_of t q)
+later_settled t u key version value is row starts q =
+    let h : Held Place = settled_as (held_at t key) version (Settled value) in
+    later_changed t u key h.versions (drop 1) (changed t u key h is) (without_oldest (versions_of t key) version row.consecutive starts) q ∙ oldest_gone (same_bytes key q) (later_of t q)
+
+pub objects_settled : (t u : Placed) (key : List ℕ) (version : ℕ) (value : List ℕ) → IsRising t → u.objects ≡ put_key t.objects key (settled_as (held_at t key) version (Settled value)) → objects_of u ≡ put_key (objects_of t) key (version, value)
+objects_settled t u key version value rise is =
+    let h : Held Place = settled_as (held_at t key) version (Settled value) in
+    objects_put t u key h.versions (version, value) refl rise (rising_put t u key h is rise) (changed t u key h is)
+
+-- the first version of a key is settled
+first_versions : (vs : List (ℕ × Place)) (x : ℕ × Place) → vs ≡ [] → vs ++ x ∷ [] ≡ x ∷ []
+first_versions vs x none = ap (λ (l : List (ℕ × Place)). l ++ x ∷ []) none
+
+pub objects_first : (t u : Placed) (key : List ℕ) (version : ℕ) (value : List ℕ) → IsRising t → versions_of t key ≡ [] → u.objects ≡ put_key t.objects key (pushed (held_at t key) version (Settled value)) → objects_of u ≡ put_key (objects_of t) key (version, value)
+objects_first t u key version value rise none is =
+    let h : Held Place = pushed (held_at t key) version (Settled value) in
+    objects_put t u key h.versions (version, value) (ap settled_in (first_versions (versions_of t key) (version, Settled value) none)) rise (rising_put t u key h is rise) (changed t u key h is)
+
+pub later_first : (t u : Placed) (key : List ℕ) (version : ℕ) (value : List ℕ) → versions_of t key ≡ [] → u.objects ≡ put_key t.objects key (pushed (held_at t key) version (Settled value)) → (q : List ℕ) → later_of t q ≡ [] → later_of u q ≡ []
+later_first t u key version value none is q h =
+    let all : Held Place = pushed (held_at t key) version (Settled value) in
+    let split : (b : Bool) → cond b [] (later_of t q) ≡ [] = elim [ true ↦ refl | false ↦ h ] in
+    later_changed t u key all.versions (λ l. []) (changed t u key all is) (ap later_in (first_versions (versions_of t key) (version, Settled value) none)) q ∙ split (same_bytes key q)
+
+-- a key of which nothing is settled, and nothing comes later, has no versions
+pub no_versions : (vs : List (ℕ × Place)) → None ≡ settled_in vs → later_in vs ≡ [] → vs ≡ []
+no_versions [] none empty = refl
+no_versions (v ∷ vs) none empty = split v.0 v.1 vs none empty
+  where
+    some_is : {A : Type 0} (x : A) → None ≡ Some x → ⊥
+    some_is x e = cc
+
+    list_is : (v : ℕ × Place) (vs : List (ℕ × Place)) → v ∷ vs ≡ [] → ⊥
+    list_is v vs e = cc
+
+    split : (n : ℕ) (p : Place) (vs : List (ℕ × Place)) → None ≡ settled_in ((n, p) ∷ vs) → later_from p ((n, p) ∷ vs) vs ≡ [] → (n, p) ∷ vs ≡ []
+    split n (Settled value) vs none empty = absurd (some_is (n, value) none)
+    split n (Written at) vs none empty = absurd (list_is (n, Written at) vs empty)
+
+-- any version from 1 can be the first
+pub first_can : (vs : List (ℕ × Place)) (version : ℕ) → vs ≡ [] → 1 ≤ version → CanPush vs version
+first_can vs version none one = subst (λ (l : List (ℕ × Place)). CanPush l version) (sym none) (one, tt)
+
+empty_at : (m : List (List ℕ × Held Place)) (q : List ℕ) → m ≡ [] → (unwrap_or (at_key m q) nothing).versions ≡ []
+empty_at m q none = ap (λ (x : List (List ℕ × Held Place)). (unwrap_or (at_key x q) nothing).versions) none
+
+-- a new table
+pub new_is_empty : (t : Placed) → t.objects ≡ [] → (objects_of t ≡ []) × ((q : List ℕ) → later_of t q ≡ []) × IsRising t
+new_is_empty t none = (search (rules, none), λ q. ap later_in (empty_at t.objects q none), subst (λ (m : List (List ℕ × Held Place)). T (is_sorted key_cmp m)) (sym none) tt)

@@ -17,3 +17,11 @@ clash h = cc
 pub not_err : {T E P : Type 0} (r : Result T E) → is_err r ≡ false → OnOk r P → P
 not_err (Ok x) h p = p
 not_err (Err e) h p = absurd (clash h)
+
+pub either : {T E P : Type 0} (r : Result T E) → OnOk r P → OnErr r P → P
+either (Ok x) p q = p
+either (Err e) p q = q
+
+pub always : {T E P : Type 0} (r : Result T E) → P → OnOk r P
+always (Ok x) p = p
+always (Err e) p = tt

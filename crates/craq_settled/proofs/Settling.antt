@@ -8,31 +8,22 @@ use Rattle.craq_commands.specs.declared.entry.Entry.{Entry}
 use Rattle.craq_commands.specs.declared.entry.Write.{Write}
 use Rattle.craq_log.specs.Suffixed.{Suffixed, IsFirstOf, length_of}
 use Rattle.craq_model.specs.Past.{values_in, values_after}
-use Rattle.craq_versions.specs.PlacedVersions.{PlacedVersions}
-use Rattle.craq_versions.specs.declared.places.WriteRef.{WriteRef}
+use Rattle.craq_settled.specs.declared.places.Place.{Place}
 use Rattle.craq_settled.specs.Listed.{AreListed, LaterAreSettled, written_in, written_after}
 use Rattle.craq_settled.specs.Placed.{Placed, KeepsLater, LaterWithout, count_of, later_of}
 use Rattle.craq_settled.proofs.Counts.{count_first, count_none}
-use Rattle.craq_settled.proofs.Placing.{IsWritten, later_changed, oldest_gone}
 use Rattle.craq_settled.proofs.Written.{length_written}
 
 -- the first of the writes that are left is settled
-pub write_settled : (a b c : List WriteRef) (rest left : List Write) (w : Write) (key : List ℕ) → rest ≡ w ∷ left → drop (count_of rest key) b ≡ a → c ≡ drop (if same_bytes w.key key then 1 else 0) b → drop (count_of left key) c ≡ a
+pub write_settled : (a b c : List (ℕ × Place)) (rest left : List Write) (w : Write) (key : List ℕ) → rest ≡ w ∷ left → drop (count_of rest key) b ≡ a → c ≡ drop (if same_bytes w.key key then 1 else 0) b → drop (count_of left key) c ≡ a
 write_settled a b c rest left w key step before now =
     let one : ℕ = (if same_bytes w.key key then 1 else 0) in
-    ap (λ (l : List WriteRef). drop (count_of left key) l) now ∙ drop-drop (count_of left key) one b
+    ap (λ (l : List (ℕ × Place)). drop (count_of left key) l) now ∙ drop-drop (count_of left key) one b
     ∙ ap (λ (n : ℕ). drop n b) (sym (count_first w left key)) ∙ ap (λ (ws : List Write). drop (count_of ws key) b) (sym step) ∙ before
 
 -- no write is left
-pub writes_settled : (a b : List WriteRef) (rest : List Write) (key : List ℕ) → rest ≡ [] → drop (count_of rest key) b ≡ a → b ≡ a
+pub writes_settled : (a b : List (ℕ × Place)) (rest : List Write) (key : List ℕ) → rest ≡ [] → drop (count_of rest key) b ≡ a → b ≡ a
 writes_settled a b rest key none all = ap (λ (n : ℕ). drop n b) (sym (count_none key)) ∙ ap (λ (ws : List Write). drop (count_of ws key) b) (sym none) ∙ all
-
--- no entry is folded
-pub none_settled : (ps qs : Placed) (old new : Suffixed) → new.base ≡ old.base → KeepsLater ps qs → LaterAreSettled ps old qs new
-unfolding values_after
-none_settled ps qs old new base kept key =
-    let none : 0 ≡ new.base - old.base = omega arith in
-    kept key ∙ ap (λ (n : ℕ). drop (length (values_after (take n old.entries) key)) (later_of ps key)) none
 
 -- the first is
 pub first_settled : (ps qs : Placed) (old new : Suffixed) (e : Entry) → IsFirstOf e old new → LaterWithout e.writes ps qs → LaterAreSettled ps old qs new
@@ -45,46 +36,9 @@ first_settled ps qs old new e first without key =
     ∙ ap (λ (es : List Entry). drop (length (values_after (take 1 es) key)) (later_of ps key)) (sym first.entries)
     ∙ ap (λ (n : ℕ). drop (length (values_after (take n old.entries) key)) (later_of ps key)) one
 
-count_only : (w : Write) (key : List ℕ) → (if same_bytes w.key key then 1 else 0) ≡ count_of (w ∷ []) key
-count_only w key =
-    let one : ℕ = (if same_bytes w.key key then 1 else 0) in
-    let sum : one + 0 ≡ one = omega arith in
-    sym (count_first w [] key ∙ ap (λ (n : ℕ). one + n) (count_none key) ∙ sum)
-
--- the first is, into the place of the one object that it writes
-pub settled_in_place : (ps qs : Placed) (old new : Suffixed) (e : Entry) (w : Write) (v : PlacedVersions) → IsFirstOf e old new → e.writes ≡ w ∷ [] → IsWritten ps qs w.key v → v.later ≡ drop 1 (later_of ps w.key) → LaterAreSettled ps old qs new
-settled_in_place ps qs old new e w v first writes at is =
-    first_settled ps qs old new e first (λ key.
-    later_changed ps qs w.key v (drop 1) at is key ∙ oldest_gone (same_bytes w.key key) (later_of ps key)
-    ∙ ap (λ (n : ℕ). drop n (later_of ps key)) (count_only w key)
-    ∙ ap (λ (ws : List Write). drop (count_of ws key) (later_of ps key)) (sym writes))
-
 take_nothing : (n : ℕ) → take {A = Entry} n [] ≡ []
 take_nothing zero = refl
 take_nothing (suc n) = refl
-
--- what entries write, in two parts
-values_in_parts : (es : List Entry) (n m : ℕ) (key : List ℕ) → values_after (take n es) key ++ values_after (take m (drop n es)) key ≡ values_after (take (n + m) es) key
-unfolding values_after
-values_in_parts es zero m key = let k : m ≡ 0 + m = omega arith in ap (λ (i : ℕ). values_after (take i es) key) k
-values_in_parts [] (suc n) m key = ap (λ (l : List Entry). values_after l key) (take_nothing m ∙ sym (take_nothing (suc n + m)))
-values_in_parts (e ∷ es) (suc n) m key =
-    let k : suc (n + m) ≡ suc n + m = omega arith in
-    append_assoc (values_in e.writes key) (values_after (take n es) key) (values_after (take m (drop n es)) key)
-    ∙ ap (λ (vs : List (ℕ × List ℕ)). values_in e.writes key ++ vs) (values_in_parts es n m key) ∙ ap (λ (i : ℕ). values_after (take i (e ∷ es)) key) k
-
--- more are folded
-pub more_settled : (ps qs rs : Placed) (old mid new : Suffixed) → old.base ≤ mid.base → mid.base ≤ new.base → mid.entries ≡ drop (mid.base - old.base) old.entries → LaterAreSettled ps old qs mid → LaterAreSettled qs mid rs new → LaterAreSettled ps old rs new
-more_settled ps qs rs old mid new low high left before after key =
-    let n : ℕ = mid.base - old.base in
-    let m : ℕ = new.base - mid.base in
-    let all : n + m ≡ new.base - old.base = omega arith in
-    let first : List (ℕ × List ℕ) = values_after (take n old.entries) key in
-    let second : List (ℕ × List ℕ) = values_after (take m (drop n old.entries)) key in
-    after key ∙ ap (λ (l : List WriteRef). drop (length (values_after (take m mid.entries) key)) l) (before key)
-    ∙ ap (λ (es : List Entry). drop (length (values_after (take m es) key)) (drop (length first) (later_of ps key))) left
-    ∙ drop-drop (length second) (length first) (later_of ps key)
-    ∙ ap (λ (i : ℕ). drop i (later_of ps key)) (sym (length-append first second) ∙ ap length (values_in_parts old.entries n m key) ∙ ap (λ (i : ℕ). length (values_after (take i old.entries) key)) all)
 
 -- of the first m of some entries, without what the first n of them write
 written_left : (base : ℕ) (es : List Entry) (n m : ℕ) (key : List ℕ) → n ≤ length es → drop (length (values_after (take n es) key)) (written_after base (take m es) key) ≡ written_after (base + n) (take (m - n) (drop n es)) key
@@ -98,13 +52,13 @@ written_left base (e ∷ es) (suc n) zero key few =
     let none : 0 ≡ zero - suc n = omega arith in
     drop-nil (length (values_in e.writes key ++ values_after (take n es) key)) ∙ ap (λ (k : ℕ). written_after (base + suc n) (take k (drop n es)) key) none
 written_left base (e ∷ es) (suc n) (suc m) key few =
-    let first : List WriteRef = written_in (base + 1) 0 e.writes key in
-    let rest : List WriteRef = written_after (base + 1) (take m es) key in
+    let first : List (ℕ × Place) = written_in (base + 1) 0 e.writes key in
+    let rest : List (ℕ × Place) = written_after (base + 1) (take m es) key in
     let more : ℕ = length (values_after (take n es) key) in
     let there : base + 1 + n ≡ base + suc n = omega arith in
     let left : m - n ≡ suc m - suc n = omega arith in
     ap (λ (k : ℕ). drop k (first ++ rest)) (length-append (values_in e.writes key) (values_after (take n es) key) ∙ ap (λ (k : ℕ). k + more) (sym (length_written (base + 1) 0 e.writes key)))
-    ∙ sym (drop-drop more (length first) (first ++ rest)) ∙ ap (λ (l : List WriteRef). drop more l) (drop-append_seam first rest)
+    ∙ sym (drop-drop more (length first) (first ++ rest)) ∙ ap (λ (l : List (ℕ × Place)). drop more l) (drop-append_seam first rest)
     ∙ written_left (base + 1) es n m key (omega (arith, few))
     ∙ ap (λ (b : ℕ). written_after b (take (m - n) (drop n es)) key) there ∙ ap (λ (k : ℕ). written_after (base + suc n) (take k (drop n es)) key) left
 
@@ -124,14 +78,16 @@ listed_left ps qs old new listed now low high from to same left before settled =
       from = from;
       to = end;
       later = λ key.
-          settled key ∙ ap (λ (l : List WriteRef). drop (length (values_after (take n old.entries) key)) l) (before.later key)
+          settled key ∙ ap (λ (l : List (ℕ × Place)). drop (length (values_after (take n old.entries) key)) l) (before.later key)
           ∙ written_left old.base old.entries n m key few
           ∙ ap (λ (b : ℕ). written_after b (take (m - n) (drop n old.entries)) key) here
           ∙ ap (λ (k : ℕ). written_after new.base (take k (drop n old.entries)) key) more
           ∙ ap (λ (es : List Entry). written_after new.base (take (now - new.base) es) key) (sym left);
     }
 
--- one entry is folded at most
-pub at_most_one : {T E : Type 0} (r : Result T E) (a b : ℕ) → OnOk r (b ≡ a + 1) → OnErr r (b ≡ a) → a ≤ b
-at_most_one (Ok x) a b one none = omega (arith, one)
-at_most_one (Err e) a b one none = omega (arith, none)
+-- the entries once the first is taken out
+pub left_is : (old new : Suffixed) (e : Entry) → IsFirstOf e old new → new.entries ≡ drop (new.base - old.base) old.entries
+left_is old new e first =
+    let base = first.base in
+    let one : 1 ≡ new.base - old.base = omega arith in
+    ap (λ (l : List Entry). drop 1 l) (sym first.entries) ∙ ap (λ (n : ℕ). drop n old.entries) one

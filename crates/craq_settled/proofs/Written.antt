@@ -3,24 +3,24 @@ use Rattle.std.proofs.Common.{◌≡◌, ℕ, zero, suc, ◌+◌, ◌-◌, ◌<�
 use Rattle.std.specs.Prelude.{if◌then◌else◌}
 use Rattle.craq_names.specs.Maps.{same_bytes}
 use Rattle.craq_commands.specs.declared.entry.Write.{Write}
-use Rattle.craq_versions.specs.declared.places.WriteRef.{WriteRef}
-use Rattle.craq_settled.specs.Listed.{written_in}
+use Rattle.craq_settled.specs.declared.places.Place.{Place}
+use Rattle.craq_settled.specs.Listed.{version_at, written_in}
 use Rattle.craq_settled.specs.Placed.{count_of}
 use Rattle.craq_settled.proofs.Counts.{count_first, count_none}
 use Rattle.craq_settled.proofs.Placing.{none_more}
 
-abbrev pub one_at : ℕ → ℕ → Write → List ℕ → List WriteRef
-one_at position index w key = if same_bytes w.key key then record { position = position; index = index } ∷ [] else []
+abbrev pub one_at : ℕ → ℕ → Write → List ℕ → List (ℕ × Place)
+one_at position index w key = if same_bytes w.key key then version_at position index w ∷ [] else []
 
 written_first : (p k : ℕ) (w : Write) (ws : List Write) (key : List ℕ) → written_in p k (w ∷ ws) key ≡ one_at p k w key ++ written_in p (k + 1) ws key
 unfolding written_in
 written_first p k w ws key =
-    let r : WriteRef = record { position = p; index = k } in
-    let rest : List WriteRef = written_in p (k + 1) ws key in
+    let r : ℕ × Place = version_at p k w in
+    let rest : List (ℕ × Place) = written_in p (k + 1) ws key in
     let split : (b : Bool) → cond b (r ∷ rest) rest ≡ (if b then r ∷ [] else []) ++ rest = elim [ true ↦ refl | false ↦ refl ] in
     split (same_bytes w.key key)
 
-pub written_none : (l : List WriteRef) (p : ℕ) (key : List ℕ) → l ≡ l ++ written_in p 0 [] key
+pub written_none : (l : List (ℕ × Place)) (p : ℕ) (key : List ℕ) → l ≡ l ++ written_in p 0 [] key
 unfolding written_in
 written_none l p key = none_more l
 
@@ -33,36 +33,36 @@ written_to_suc p k (v ∷ ws) zero w key low is =
 written_to_suc p k (v ∷ ws) (suc i) w key low is =
     let there : (k + 1) + i ≡ k + suc i = omega arith in
     written_first p k v (take (suc i) ws) key
-    ∙ ap (λ (l : List WriteRef). one_at p k v key ++ l) (written_to_suc p (k + 1) ws i w key (omega (arith, low)) is ∙ ap (λ (n : ℕ). written_in p (k + 1) (take i ws) key ++ one_at p n w key) there)
+    ∙ ap (λ (l : List (ℕ × Place)). one_at p k v key ++ l) (written_to_suc p (k + 1) ws i w key (omega (arith, low)) is ∙ ap (λ (n : ℕ). written_in p (k + 1) (take i ws) key ++ one_at p n w key) there)
     ∙ sym (append_assoc (one_at p k v key) (written_in p (k + 1) (take i ws) key) (one_at p (k + suc i) w key))
-    ∙ ap (λ (l : List WriteRef). l ++ one_at p (k + suc i) w key) (sym (written_first p k v (take i ws) key))
+    ∙ ap (λ (l : List (ℕ × Place)). l ++ one_at p (k + suc i) w key) (sym (written_first p k v (take i ws) key))
 
 -- one more write is listed
-pub written_next : (a b c : List WriteRef) (p : ℕ) (ws : List Write) (i : ℕ) (w : Write) (key : List ℕ) → i < length ws → w ≡ get_or ws i w → b ≡ a ++ written_in p 0 (take i ws) key → c ≡ b ++ one_at p i (get_or ws i w) key → c ≡ a ++ written_in p 0 (take (i + 1) ws) key
+pub written_next : (a b c : List (ℕ × Place)) (p : ℕ) (ws : List Write) (i : ℕ) (w : Write) (key : List ℕ) → i < length ws → w ≡ get_or ws i w → b ≡ a ++ written_in p 0 (take i ws) key → c ≡ b ++ one_at p i w key → c ≡ a ++ written_in p 0 (take (i + 1) ws) key
 written_next a b c p ws i w key low is before more =
     let here : 0 + i ≡ i = omega arith in
-    more ∙ ap (λ (x : Write). b ++ one_at p i x key) (sym is) ∙ ap (λ (l : List WriteRef). l ++ one_at p i w key) before ∙ append_assoc a (written_in p 0 (take i ws) key) (one_at p i w key)
-    ∙ ap (λ (l : List WriteRef). a ++ l) (sym (ap (λ (n : ℕ). written_in p 0 (take n ws) key) (add-one i) ∙ written_to_suc p 0 ws i w key low is ∙ ap (λ (n : ℕ). written_in p 0 (take i ws) key ++ one_at p n w key) here))
+    more ∙ ap (λ (l : List (ℕ × Place)). l ++ one_at p i w key) before ∙ append_assoc a (written_in p 0 (take i ws) key) (one_at p i w key)
+    ∙ ap (λ (l : List (ℕ × Place)). a ++ l) (sym (ap (λ (n : ℕ). written_in p 0 (take n ws) key) (add-one i) ∙ written_to_suc p 0 ws i w key low is ∙ ap (λ (n : ℕ). written_in p 0 (take i ws) key ++ one_at p n w key) here))
 
 pub length_written : (p k : ℕ) (ws : List Write) (key : List ℕ) → length (written_in p k ws key) ≡ count_of ws key
 unfolding written_in
 length_written p k [] key = sym (count_none key)
 length_written p k (w ∷ ws) key =
-    let split : (b : Bool) → length (if b then (let r : WriteRef = record { position = p; index = k } in r) ∷ [] else []) ≡ (if b then 1 else 0) = elim [ true ↦ refl | false ↦ refl ] in
+    let split : (b : Bool) → length (if b then version_at p k w ∷ [] else []) ≡ (if b then 1 else 0) = elim [ true ↦ refl | false ↦ refl ] in
     ap length (written_first p k w ws key) ∙ length-append (one_at p k w key) (written_in p (k + 1) ws key)
     ∙ ap (λ (n : ℕ). n + length (written_in p (k + 1) ws key)) (split (same_bytes w.key key))
     ∙ ap (λ (n : ℕ). (if same_bytes w.key key then 1 else 0) + n) (length_written p (k + 1) ws key) ∙ sym (count_first w ws key)
 
-take_front : (l r : List WriteRef) → take (length l) (l ++ r) ≡ l
+take_front : (l r : List (ℕ × Place)) → take (length l) (l ++ r) ≡ l
 take_front [] r = refl
-take_front (x ∷ l) r = ap (λ (t : List WriteRef). x ∷ t) (take_front l r)
+take_front (x ∷ l) r = ap (λ (t : List (ℕ × Place)). x ∷ t) (take_front l r)
 
 -- what was listed is taken back
-pub taken_back : (a b c : List WriteRef) (p : ℕ) (ws : List Write) (key : List ℕ) → b ≡ a ++ written_in p 0 ws key → c ≡ take (length b - count_of ws key) b → c ≡ a
+pub taken_back : (a b c : List (ℕ × Place)) (p : ℕ) (ws : List Write) (key : List ℕ) → b ≡ a ++ written_in p 0 ws key → c ≡ take (length b - count_of ws key) b → c ≡ a
 taken_back a b c p ws key before is =
-    let w : List WriteRef = written_in p 0 ws key in
+    let w : List (ℕ × Place) = written_in p 0 ws key in
     let n : ℕ = count_of ws key in
     let more : length w ≡ n = length_written p 0 ws key in
     let sum : length (a ++ w) ≡ length a + length w = length-append a w in
     let left : length (a ++ w) - n ≡ length a = omega (arith, more, sum) in
-    is ∙ ap (λ (l : List WriteRef). take (length l - n) l) before ∙ ap (λ (m : ℕ). take m (a ++ w)) left ∙ take_front a w
+    is ∙ ap (λ (l : List (ℕ × Place)). take (length l - n) l) before ∙ ap (λ (m : ℕ). take m (a ++ w)) left ∙ take_front a w

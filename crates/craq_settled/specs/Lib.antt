@@ -1,4 +1,5 @@
 pub mod Folded
+pub mod Followed
 pub mod Placed
 pub mod Listed
 pub mod Held

@@ -5,20 +5,26 @@ use Rattle.craq_commands.specs.declared.entry.Entry.{Entry}
 use Rattle.craq_commands.specs.declared.entry.Write.{Write}
 use Rattle.craq_model.specs.Past.{values_after}
 use Rattle.craq_log.specs.Suffixed.{Suffixed, length_of}
-use Rattle.craq_versions.specs.declared.places.WriteRef.{WriteRef}
+use Rattle.craq_settled.specs.declared.places.Place.{Place}
+use Rattle.craq_settled.specs.declared.places.Place.TheVariants.{Settled, Written}
+use Rattle.craq_settled.specs.declared.places.WriteRef.{WriteRef}
 use Rattle.craq_settled.specs.Placed.{Placed, later_of}
 
--- where the writes of an entry give an object a version, from the write of an index on
-unfoldable pub written_in : ℕ → ℕ → List Write → List ℕ → List WriteRef
-written_in position index [] key = []
-written_in position index (w ∷ ws) key = if same_bytes w.key key then record { position = position; index = index } ∷ written_in position (index + 1) ws key else written_in position (index + 1) ws key
+-- the version that a write gives, and where it stands
+abbrev pub version_at : ℕ → ℕ → Write → ℕ × Place
+version_at position index w = (w.version, Written (record { position = position; index = index }))
 
--- where entries after a position do
-unfoldable pub written_after : ℕ → List Entry → List ℕ → List WriteRef
+-- the versions that the writes of an entry give an object, from the write of an index on, and where they stand
+unfoldable pub written_in : ℕ → ℕ → List Write → List ℕ → List (ℕ × Place)
+written_in position index [] key = []
+written_in position index (w ∷ ws) key = if same_bytes w.key key then version_at position index w ∷ written_in position (index + 1) ws key else written_in position (index + 1) ws key
+
+-- those that entries after a position give it
+unfoldable pub written_after : ℕ → List Entry → List ℕ → List (ℕ × Place)
 written_after base [] key = []
 written_after base (e ∷ es) key = written_in (base + 1) 0 e.writes key ++ written_after (base + 1) es key
 
--- the places say of each object where the entries up to a position write it
+-- the later versions of each object are those that the entries up to a position give it
 pub record AreListed (ps : Placed) (entries : Suffixed) (listed : ℕ) : Type 0 where
   pub from : entries.base ≤ listed
   pub to : listed ≤ length_of entries
@@ -37,3 +43,19 @@ pub record Gives (s : Suffixed) (at : WriteRef) (value : ℕ × List ℕ) : Type
   pub its_entry : slice_get s.entries earlier ≡ Some entry
   pub its_write : slice_get entry.writes at.index ≡ Some write
   pub given : value ≡ (write.version, write.value)
+
+abbrev pub StandsThere : Suffixed → ℕ → Place → ℕ × List ℕ → Type 0
+StandsThere s version (Settled bytes) value = (version, bytes) ≡ value
+StandsThere s version (Written at) value = (version ≡ value.0) × Gives s at value
+
+-- this version and value are those whose value stands there
+abbrev pub Stands : Suffixed → ℕ × Place → ℕ × List ℕ → Type 0
+Stands s v value = StandsThere s v.0 v.1 value
+
+abbrev pub GivenThere : Suffixed → ℕ → Place → ℕ × List ℕ → Type 0
+GivenThere s version (Settled bytes) value = ⊥
+GivenThere s version (Written at) value = (version ≡ value.0) × Gives s at value
+
+-- an entry gives this version and value, and the value stands there
+abbrev pub IsGiven : Suffixed → ℕ × Place → ℕ × List ℕ → Type 0
+IsGiven s v value = GivenThere s v.0 v.1 value

@@ -1,7 +1,6 @@
--- Objects by key, each with the versions that are held of it.
-use Rattle.std.specs.Prelude.{◌≡◌, ℕ, ◌-◌, List, [], IsSome, Option, None, Some, drop, length, take}
-use Rattle.std.specs.Map.{lookup}
-use Rattle.std.specs.BTreeMap.{is_at}
+-- Objects by key, each with its versions, and where their values stand.
+use Rattle.std.specs.Prelude.{◌≡◌, ℕ, ◌-◌, Bool, true, false, T, List, [], ◌∷◌, Option, None, Some, drop, length, take}
+use Rattle.std.specs.FinMap.Entries.{is_sorted}
 use Rattle.craq_names.specs.Maps.{key_cmp}
 use Rattle.craq_names.specs.Places.{filled}
 use Rattle.craq_commands.specs.declared.entry.Write.{Write}
@@ -9,47 +8,77 @@ use Rattle.craq_commands.specs.declared.state.State.{State}
 use Rattle.craq_commands.specs.Kept.{Window}
 use Rattle.craq_commands.specs.Objects.{Objects}
 use Rattle.craq_model.specs.Past.{values_in}
-use Rattle.craq_versions.specs.PlacedVersions.{PlacedVersions}
-use Rattle.craq_versions.specs.declared.places.WriteRef.{WriteRef}
+use Rattle.craq_versions.specs.Tables.{Held, Table, held_at}
+use Rattle.craq_versions.specs.Versions.{newest_of}
+use Rattle.craq_settled.specs.declared.places.Place.{Place}
+use Rattle.craq_settled.specs.declared.places.Place.TheVariants.{Settled, Written}
 
--- places by rising key
+-- versions by rising key
 abbrev pub Placed : Type 0
-Placed = List (List ℕ × PlacedVersions)
+Placed = Table Place
 
-abbrev pub shown : PlacedVersions → Option (ℕ × List ℕ)
-shown v = v.settled
+-- a version and its value, where it is settled
+abbrev pub settled_there : ℕ → Place → Option (ℕ × List ℕ)
+settled_there version (Settled value) = Some (version, value)
+settled_there version (Written at) = None
 
--- the objects whose settled versions stand in the places
+-- the settled version and its value: the first may be settled
+abbrev pub settled_in : List (ℕ × Place) → Option (ℕ × List ℕ)
+settled_in [] = None
+settled_in (v ∷ vs) = settled_there v.0 v.1
+
+abbrev pub later_from : Place → List (ℕ × Place) → List (ℕ × Place) → List (ℕ × Place)
+later_from (Settled value) all rest = rest
+later_from (Written at) all rest = all
+
+-- the versions after the settled one
+abbrev pub later_in : List (ℕ × Place) → List (ℕ × Place)
+later_in [] = []
+later_in (v ∷ vs) = later_from v.1 (v ∷ vs) vs
+
+abbrev pub has_some : List (ℕ × Place) → Bool
+has_some [] = false
+has_some (v ∷ vs) = true
+
+abbrev pub shown : Held Place → Option (ℕ × List ℕ)
+shown h = settled_in h.versions
+
+-- the objects whose settled versions stand in the table
 abbrev pub objects_of : Placed → Objects
-objects_of ps = filled shown ps
+objects_of t = filled shown t.objects
 
 -- the state of these objects and kept replies
 abbrev pub state_at : Objects → List (ℕ × Window) → State
 state_at objects kept = record { objects = objects; kept = kept }
 
--- what stands in the place of a key
-abbrev pub place_of : Placed → List ℕ → Option PlacedVersions
-place_of ps key = lookup (is_at (key_cmp key)) ps
+-- the versions of an object
+abbrev pub versions_of : Placed → List ℕ → List (ℕ × Place)
+versions_of t key = (held_at t key).versions
 
--- the key has a place, be it empty
-abbrev pub HasPlace : Placed → List ℕ → Type 0
-HasPlace ps key = IsSome (place_of ps key)
+-- those after the settled one
+abbrev pub later_of : Placed → List ℕ → List (ℕ × Place)
+later_of t key = later_in (versions_of t key)
 
--- no key loses its place
-abbrev pub KeepsPlaces : Placed → Placed → Type 0
-KeepsPlaces ps qs = (key : List ℕ) → HasPlace ps key → HasPlace qs key
+abbrev pub number_of : Option (ℕ × Place) → ℕ
+number_of None = 0
+number_of (Some v) = v.0
 
-abbrev pub later_in : Option PlacedVersions → List WriteRef
-later_in None = []
-later_in (Some v) = v.later
+-- the newest of some versions, 0 where there is none
+abbrev pub newest_version : List (ℕ × Place) → ℕ
+newest_version vs = number_of (newest_of vs)
 
--- where the later versions of an object are written
-abbrev pub later_of : Placed → List ℕ → List WriteRef
-later_of ps key = later_in (place_of ps key)
+-- the first of some versions is this one
+abbrev pub StartsAt : ℕ → List (ℕ × Place) → Type 0
+StartsAt version [] = ⊥
+StartsAt version (v ∷ vs) = v.0 ≡ version
+
+-- each key stands once, and in order
+abbrev pub IsRising : Placed → Type 0
+IsRising t = T (is_sorted key_cmp t.objects)
 
 -- each object has the later versions that it had
 abbrev pub KeepsLater : Placed → Placed → Type 0
-KeepsLater ps qs = (key : List ℕ) → later_of qs key ≡ later_of ps key
+KeepsLater t u = (key : List ℕ) → later_of u key ≡ later_of t key
 
 -- how many versions writes give an object
 abbrev pub count_of : List Write → List ℕ → ℕ
@@ -57,8 +86,8 @@ count_of ws key = length (values_in ws key)
 
 -- of each object the oldest of its later versions are gone, as many as these writes give it
 abbrev pub LaterWithout : List Write → Placed → Placed → Type 0
-LaterWithout ws ps qs = (key : List ℕ) → later_of qs key ≡ drop (count_of ws key) (later_of ps key)
+LaterWithout ws t u = (key : List ℕ) → later_of u key ≡ drop (count_of ws key) (later_of t key)
 
 -- the newest of them are gone
 abbrev pub LaterTakenBack : List Write → Placed → Placed → Type 0
-LaterTakenBack ws ps qs = (key : List ℕ) → later_of qs key ≡ take (length (later_of ps key) - count_of ws key) (later_of ps key)
+LaterTakenBack ws t u = (key : List ℕ) → later_of u key ≡ take (length (later_of t key) - count_of ws key) (later_of t key)

@@ -1,45 +1,34 @@
 //! Folds entries into objects and kept replies.
-ghost use Rattle.std.specs.Prelude.{◌≡◌, ◌+◌, ◌<◌, ◌≤◌, [], ◌∷◌, OnOk, OnErr, length, take};
-ghost use Rattle.std.specs.BTreeMap.{IsOrdered};
-ghost use Rattle.std.specs.List.{AllByRecursion};
-ghost use Rattle.craq_names.specs.Maps.{key_cmp};
-ghost use Rattle.craq_commands.specs.declared.entry.Write.{Write};
+ghost use Rattle.std.specs.Prelude.{◌≡◌, ℕ, ◌+◌, ◌<◌, ◌≤◌, List, [], ◌∷◌, OnOk, OnErr, length, take};
+ghost use Rattle.craq_commands.specs.declared.entry.Entry.{Entry};
+ghost use Rattle.craq_commands.specs.Objects.{version_of};
 ghost use Rattle.craq_commands.specs.SingleCopy.{after_entry, with_writes};
 ghost use Rattle.craq_log.specs.Suffixed.{length_of};
+ghost use Rattle.craq_model.specs.Past.{values_in, values_after};
 ghost use Rattle.craq_replies.specs.Replies.{room_at};
 ghost use Rattle.craq_settled.specs.Folded.{AreFolded};
-ghost use Rattle.craq_settled.specs.Listed.{LaterAreSettled};
-ghost use Rattle.craq_settled.specs.Placed.{objects_of, state_at, HasPlace, KeepsLater, LaterWithout};
+ghost use Rattle.craq_settled.specs.Followed.{AreNext, Begins};
+ghost use Rattle.craq_settled.specs.Listed.{AreListed};
+ghost use Rattle.craq_settled.specs.Placed.{objects_of, later_of, state_at, IsRising, LaterWithout};
 
-use crate::in_place::{first_of, fold_in_place};
-use crate::objects::{Places, make_place, settle_object};
+use crate::listing::list_next;
+use crate::objects::settle_object;
+use crate::places::Place;
 use craq_commands::{Entry, Write};
 use craq_log::Suffix;
 use craq_names::{Items, Seq};
 use craq_replies::ReplyTable;
+use craq_versions::ObjectTable;
 use std::alloc::{AllocError, Global};
 
-/// Makes sure that each written object has a place.
-fn make_places(alloc: Global, places: &mut Places, writes: &[Write]) -> Result<(), AllocError>
-    requires { IsOrdered key_cmp places.old }
-    ensures objects { objects_of places.new.entries ≡ objects_of places.old.entries }
-    ensures later { KeepsLater places.old.entries places.new.entries }
-    ensures placed { OnOk result (AllByRecursion (λ (w : Write). HasPlace places.new.entries w.key) writes.now) }
-    ensures ordered { IsOrdered key_cmp places.new }
-{
-    for write in writes {
-        make_place(alloc, places, &write.key)?;
-    }
-    Ok(())
-}
-
-/// Settles what is written of objects that have places, in order. Their values are moved, and it takes no memory.
-fn settle_objects(places: &mut Places, writes: Items<Write>)
-    requires ordered { IsOrdered key_cmp places.old }
-    requires placed { AllByRecursion (λ (w : Write). HasPlace places.old.entries w.key) writes }
-    ensures objects { objects_of places.new.entries ≡ with_writes (objects_of places.old.entries) writes }
-    ensures later { LaterWithout writes places.old.entries places.new.entries }
-    ensures ordered { IsOrdered key_cmp places.new }
+/// Settles what is written of objects, whose oldest later versions these are, in order. Their values are moved, and it takes
+/// no memory.
+fn settle_objects(table: &mut ObjectTable<Place>, writes: Items<Write>)
+    requires rising { IsRising table.old }
+    requires listed { (q : List ℕ) → Begins (values_in writes q) (later_of table.old q) }
+    ensures objects { objects_of table.new ≡ with_writes (objects_of table.old) writes }
+    ensures later { LaterWithout writes table.old table.new }
+    ensures rising { IsRising table.new }
 {
     for write in writes.into_vec() {
         let Write {
@@ -47,37 +36,18 @@ fn settle_objects(places: &mut Places, writes: Items<Write>)
             version,
             value,
         } = write;
-        settle_object(places, &key, version, value);
+        settle_object(table, &key, version, value);
     }
 }
 
-/// Makes sure that an entry can be folded without memory.
-fn make_room(
-    alloc: Global,
-    places: &mut Places,
-    replies: &mut ReplyTable,
-    entry: &Entry,
-) -> Result<(), AllocError>
-    requires { IsOrdered key_cmp places.old }
-    ensures objects { objects_of places.new.entries ≡ objects_of places.old.entries }
-    ensures kept { replies.new.kept ≡ replies.old.kept }
-    ensures later { KeepsLater places.old.entries places.new.entries }
-    ensures placed { OnOk result (AllByRecursion (λ (w : Write). HasPlace places.new.entries w.key) entry.now.writes) }
-    ensures room { OnOk result (0 < room_at replies.new entry.now.client) }
-    ensures ordered { IsOrdered key_cmp places.new }
-{
-    make_places(alloc, places, entry.writes.as_slice())?;
-    replies.reserve(entry.client)
-}
-
-/// Folds an entry for which room was made: its values are moved. It takes no memory.
-fn fold_one(places: &mut Places, replies: &mut ReplyTable, entry: Entry)
-    requires ordered { IsOrdered key_cmp places.old }
-    requires placed { AllByRecursion (λ (w : Write). HasPlace places.old.entries w.key) entry.writes }
+/// Folds an entry that is listed, and for whose reply there is room: its values are moved. It takes no memory.
+fn fold_one(table: &mut ObjectTable<Place>, replies: &mut ReplyTable, entry: Entry)
+    requires rising { IsRising table.old }
+    requires listed { (q : List ℕ) → Begins (values_in entry.writes q) (later_of table.old q) }
     requires room { 0 < room_at replies.old entry.client }
-    ensures state { state_at (objects_of places.new.entries) replies.new.kept ≡ after_entry (state_at (objects_of places.old.entries) replies.old.kept) entry }
-    ensures later { LaterWithout entry.writes places.old.entries places.new.entries }
-    ensures ordered { IsOrdered key_cmp places.new }
+    ensures state { state_at (objects_of table.new) replies.new.kept ≡ after_entry (state_at (objects_of table.old) replies.old.kept) entry }
+    ensures later { LaterWithout entry.writes table.old table.new }
+    ensures rising { IsRising table.new }
 {
     let Entry {
         client,
@@ -86,75 +56,96 @@ fn fold_one(places: &mut Places, replies: &mut ReplyTable, entry: Entry)
         writes,
         ..
     } = entry;
-    settle_objects(places, writes);
+    settle_objects(table, writes);
     replies.keep(client, number, reply).unwrap();
 }
 
-/// Folds the first of some entries once there is room for it, and takes it out. Where memory is refused the entries stay.
-fn fold_with_room(
-    alloc: Global,
-    places: &mut Places,
-    replies: &mut ReplyTable,
-    entries: &mut Suffix,
-) -> Result<(), AllocError>
-    requires ordered { IsOrdered key_cmp places.old }
-    requires some { 1 ≤ length entries.old.entries }
-    ensures ok { OnOk result (entries.new.base ≡ entries.old.base + 1) }
-    ensures err { OnErr result (entries.new.base ≡ entries.old.base) }
-    ensures folded { AreFolded (state_at (objects_of places.old.entries) replies.old.kept) entries.old (state_at (objects_of places.new.entries) replies.new.kept) entries.new }
-    ensures later { LaterAreSettled places.old.entries entries.old places.new.entries entries.new }
-    ensures ordered { IsOrdered key_cmp places.new }
+/// The first of some entries.
+fn first_of(entries: &Suffix) -> &Entry
+    requires { 1 ≤ length entries.now.entries }
+    ensures { take 1 entries.now.entries ≡ result.now ∷ [] }
 {
-    make_room(alloc, places, replies, first_of(entries))?;
-    if let Some(entry) = entries.take_first(alloc) {
-        fold_one(places, replies, entry);
+    &entries.from(entries.base())[0]
+}
+
+/// Makes sure that the first of some entries is listed, and that there is room for its reply. Where memory is refused what
+/// is seen stays.
+fn make_room(
+    table: &mut ObjectTable<Place>,
+    replies: &mut ReplyTable,
+    entries: &Suffix,
+    listed: &mut Seq,
+) -> Result<(), AllocError>
+    requires rising { IsRising table.old }
+    requires some { 1 ≤ length entries.now.entries }
+    requires listed { AreListed table.old entries.now listed.old }
+    requires next { (q : List ℕ) → AreNext (version_of (objects_of table.old) q) (values_after entries.now.entries q) }
+    ensures first { OnOk result (entries.now.base < listed.new) }
+    ensures room { OnOk result ((e : Entry) → take 1 entries.now.entries ≡ e ∷ [] → 0 < room_at replies.new e.client) }
+    ensures objects { objects_of table.new ≡ objects_of table.old }
+    ensures kept { replies.new.kept ≡ replies.old.kept }
+    ensures listed { AreListed table.new entries.now listed.new }
+    ensures rising { IsRising table.new }
+{
+    replies.reserve(first_of(entries).client)?;
+    if listed.get() > entries.base().get() {
+        return Ok(());
     }
-    Ok(())
+    list_next(table, entries, listed)
 }
 
 /// Folds the first of some entries, and takes it out. Where memory is refused the entries stay.
 fn fold_first(
     alloc: Global,
-    places: &mut Places,
+    table: &mut ObjectTable<Place>,
     replies: &mut ReplyTable,
     entries: &mut Suffix,
+    listed: &mut Seq,
 ) -> Result<(), AllocError>
-    requires ordered { IsOrdered key_cmp places.old }
+    requires rising { IsRising table.old }
     requires some { 1 ≤ length entries.old.entries }
+    requires listed { AreListed table.old entries.old listed.old }
+    requires next { (q : List ℕ) → AreNext (version_of (objects_of table.old) q) (values_after entries.old.entries q) }
     ensures ok { OnOk result (entries.new.base ≡ entries.old.base + 1) }
     ensures err { OnErr result (entries.new.base ≡ entries.old.base) }
-    ensures folded { AreFolded (state_at (objects_of places.old.entries) replies.old.kept) entries.old (state_at (objects_of places.new.entries) replies.new.kept) entries.new }
-    ensures later { LaterAreSettled places.old.entries entries.old places.new.entries entries.new }
-    ensures ordered { IsOrdered key_cmp places.new }
+    ensures folded { AreFolded (state_at (objects_of table.old) replies.old.kept) entries.old (state_at (objects_of table.new) replies.new.kept) entries.new }
+    ensures listed { AreListed table.new entries.new listed.new }
+    ensures next { (q : List ℕ) → AreNext (version_of (objects_of table.new) q) (values_after entries.new.entries q) }
+    ensures rising { IsRising table.new }
 {
-    if fold_in_place(alloc, places, replies, entries)? {
-        return Ok(());
+    make_room(table, replies, entries, listed)?;
+    if let Some(entry) = entries.take_first(alloc) {
+        fold_one(table, replies, entry);
     }
-    fold_with_room(alloc, places, replies, entries)
+    Ok(())
 }
 
 /// Folds entries in order, up to a position, and takes them out. It stops at the first growth that is refused: the entries
 /// from that one on stay, and the next call begins with it.
 pub fn fold(
     alloc: Global,
-    places: &mut Places,
+    table: &mut ObjectTable<Place>,
     replies: &mut ReplyTable,
     entries: &mut Suffix,
+    listed: &mut Seq,
     position: Seq,
 ) -> Result<(), AllocError>
-    requires ordered { IsOrdered key_cmp places.old }
+    requires rising { IsRising table.old }
     requires from { entries.old.base ≤ position }
     requires to { position ≤ length_of entries.old }
+    requires listed { AreListed table.old entries.old listed.old }
+    requires next { (q : List ℕ) → AreNext (version_of (objects_of table.old) q) (values_after entries.old.entries q) }
     ensures ok { OnOk result (entries.new.base ≡ position) }
     ensures err { OnErr result (entries.new.base < position) }
     ensures from { entries.old.base ≤ entries.new.base }
     ensures to { entries.new.base ≤ position }
-    ensures folded { AreFolded (state_at (objects_of places.old.entries) replies.old.kept) entries.old (state_at (objects_of places.new.entries) replies.new.kept) entries.new }
-    ensures later { LaterAreSettled places.old.entries entries.old places.new.entries entries.new }
-    ensures ordered { IsOrdered key_cmp places.new }
+    ensures folded { AreFolded (state_at (objects_of table.old) replies.old.kept) entries.old (state_at (objects_of table.new) replies.new.kept) entries.new }
+    ensures listed { AreListed table.new entries.new listed.new }
+    ensures next { (q : List ℕ) → AreNext (version_of (objects_of table.new) q) (values_after entries.new.entries q) }
+    ensures rising { IsRising table.new }
 {
     while entries.base().get() < position.get() {
-        fold_first(alloc, places, replies, entries)?;
+        fold_first(alloc, table, replies, entries, listed)?;
     }
     Ok(())
 }

@@ -1,4 +1,5 @@
-ghost use Rattle.std.specs.Prelude.{◌≡◌, ◌+◌, ◌-◌, ◌<◌, ◌≤◌, ◌^◌, ◌++◌, T, ℕ, [], IfOk, OnOk, OnErr, drop, length, take};
+//! `HeldPast`, what a past that forgets holds. `craq_list` alone calls it.
+ghost use Rattle.std.specs.Prelude.{◌≡◌, ◌+◌, ◌-◌, ◌<◌, ◌≤◌, ◌^◌, ◌++◌, T, ℕ, List, [], IfOk, OnOk, OnErr, drop, length, take};
 ghost use Rattle.std.specs.List.{AllByRecursion};
 ghost use Rattle.std.specs.Ordering.{nat_cmp};
 ghost use Rattle.std.specs.FinMap.Entries.{is_sorted};
@@ -8,26 +9,28 @@ ghost use Rattle.craq_commands.specs.Objects.{object_of};
 ghost use Rattle.craq_commands.specs.SingleCopy.{after_entries, opening_state, window_of};
 ghost use Rattle.craq_model.specs.Past.{newest_within, values_after};
 ghost use Rattle.craq_node_invariant.specs.Sound.{AreInRow};
+ghost use Rattle.craq_settled.specs.Followed.{AreNextVersions};
 ghost use Rattle.craq_settled.specs.Held.{length_of};
 
 use crate::folding::fold;
 use crate::listing::list_entries;
 use crate::lookups::{Seen, seen_in, within_in};
-use crate::objects::{Places, object_in, objects_copied, objects_placed};
+use crate::objects::{object_in, objects_copied, objects_placed};
+use crate::places::Place;
 use craq_commands::{Entry, Kept, State, Window};
 use craq_log::Suffix;
 use craq_names::{ClientId, Items, Key, Seq, Version, copies_of};
 use craq_replies::ReplyTable;
+use craq_versions::ObjectTable;
 use std::alloc::{AllocError, Global};
-use std::collections::BTreeMap;
 use std::marker::Model;
 
 /// What is held of a past: the state after its first entries, whose objects are found by key and whose kept replies by
-/// client, in a time that grows with the logarithm of how many there are; and the entries after them. The place of an
-/// object says where the entries up to some position write it; those after that position are looked through.
+/// client, in a time that grows with the logarithm of how many there are; and the entries after them. The versions of an
+/// object say where the entries up to some position write it; those after that position are looked through.
 #[derive(Drop)]
 pub struct HeldPast {
-    places: Places,
+    table: ObjectTable<Place>,
     replies: ReplyTable,
     entries: Suffix,
     listed: Seq,
@@ -35,17 +38,16 @@ pub struct HeldPast {
 }
 
 impl Model for HeldPast {
-    ghost use Rattle.std.specs.BTreeMap.{IsOrdered};
-    ghost use Rattle.craq_names.specs.Maps.{key_cmp};
+    ghost use Rattle.craq_settled.specs.Followed.{AreNextVersions};
     ghost use Rattle.craq_settled.specs.Held.{Held};
     ghost use Rattle.craq_settled.specs.Listed.{AreListed};
-    ghost use Rattle.craq_settled.specs.Placed.{objects_of, state_at};
+    ghost use Rattle.craq_settled.specs.Placed.{objects_of, state_at, IsRising};
 
     ghost Value = { Held };
 
-    ghost view = { λ h. record { base = h.entries.base; state = state_at (objects_of h.places.entries) h.replies.kept; entries = h.entries.entries } };
+    ghost view = { λ h. record { base = h.entries.base; state = state_at (objects_of h.table) h.replies.kept; entries = h.entries.entries } };
 
-    ghost invariant = { λ h. IsOrdered key_cmp h.places × AreListed h.places.entries h.entries h.listed };
+    ghost invariant = { λ h. IsRising h.table × AreListed h.table h.entries h.listed × AreNextVersions (state_at (objects_of h.table) h.replies.kept) h.entries.entries };
 }
 
 /// The kept replies, which come by rising client, moved into a table.
@@ -69,7 +71,7 @@ impl HeldPast {
         ensures entries { result.entries ≡ [] }
     {
         HeldPast {
-            places: BTreeMap::new(alloc),
+            table: ObjectTable::new(alloc),
             replies: ReplyTable::new(alloc),
             entries: Suffix::new(alloc, Seq::new(0)),
             listed: Seq::new(0),
@@ -77,10 +79,11 @@ impl HeldPast {
         }
     }
 
-    /// A state after so many entries, and no entries after it. Its keys rise; its clients rise and have replies each. It
-    /// is moved into maps.
+    /// A state after so many entries, and no entries after it. Its keys rise, and their versions are from 1 on; its clients
+    /// rise and have replies each. It is moved into maps.
     pub fn of(alloc: Global, base: Seq, state: State) -> Result<Self, AllocError>
         requires keys { T (is_sorted key_cmp state.objects) }
+        requires versions { AllByRecursion (λ (o : List ℕ × (ℕ × List ℕ)). 1 ≤ o.1.0) state.objects }
         requires clients { T (is_sorted nat_cmp state.kept) }
         requires windows { AllByRecursion (λ (k : ℕ × Window). 1 ≤ length k.1) state.kept }
         ensures base { IfOk result (λ h. h.base ≡ base) }
@@ -89,7 +92,7 @@ impl HeldPast {
     {
         let State { objects, kept } = state;
         Ok(HeldPast {
-            places: objects_placed(alloc, objects)?,
+            table: objects_placed(alloc, objects)?,
             replies: replies_placed(alloc, kept)?,
             entries: Suffix::new(alloc, base),
             listed: base,
@@ -127,7 +130,7 @@ impl HeldPast {
         ensures object { (result.0, result.1.now) ≡ object_of self.now.state.objects key.now }
         ensures short { length result.1.now ≤ 4096 }
     {
-        object_in(&self.places, key)
+        object_in(&self.table, key)
     }
 
     /// The newest version and value of an object: those after all entries. It takes no memory.
@@ -147,7 +150,7 @@ impl HeldPast {
         ensures short_settled { length result.settled.1.now ≤ 4096 }
         ensures short_newest { length result.newest.1.now ≤ 4096 }
     {
-        seen_in(&self.places, &self.entries, self.listed, key)
+        seen_in(&self.table, &self.entries, self.listed, key)
     }
 
     /// The newest version of an object, from the settled one on, that is at most so many above a version (a sum above
@@ -156,14 +159,7 @@ impl HeldPast {
         ensures object { (result.0, result.1.now) ≡ newest_within (version + above) (object_of self.now.state.objects key.now) (values_after self.now.entries key.now) }
         ensures short { length result.1.now ≤ 4096 }
     {
-        within_in(
-            &self.places,
-            &self.entries,
-            self.listed,
-            key,
-            version,
-            above,
-        )
+        within_in(&self.table, &self.entries, self.listed, key, version, above)
     }
 
     /// What is kept for a client after the entries that are folded, by rising number: 8 replies at most. It takes no
@@ -176,23 +172,20 @@ impl HeldPast {
         self.replies.window(client)
     }
 
-    /// More entries, at the positions that come next. Where memory is refused for them the past stays. Where it is refused
-    /// for the lists of the objects that they write, the next call lists them; what is seen is the same.
+    /// More entries, at the positions that come next, which write the next versions of their objects. Where memory is
+    /// refused for them the past stays. Where it is refused for the lists of the objects that they write, the next call
+    /// lists them; what is seen is the same.
     pub fn append(&mut self, entries: Items<Entry>) -> Result<(), AllocError>
         requires fits { length_of self.old + length entries < 2 ^ 64 }
         requires in_row { AreInRow (length_of self.old + 1) entries }
+        requires next { AreNextVersions (after_entries self.old.state self.old.entries) entries }
         ensures base { self.new.base ≡ self.old.base }
         ensures state { self.new.state ≡ self.old.state }
         ensures ok { OnOk result (self.new.entries ≡ self.old.entries ++ entries) }
         ensures err { OnErr result (self.new.entries ≡ self.old.entries) }
     {
         self.entries.append_all(entries)?;
-        let _refused = list_entries(
-            self.alloc,
-            &mut self.places,
-            &self.entries,
-            &mut self.listed,
-        );
+        let _refused = list_entries(&mut self.table, &self.entries, &mut self.listed);
         Ok(())
     }
 
@@ -209,18 +202,14 @@ impl HeldPast {
         ensures state { self.new.state ≡ after_entries self.old.state (take (self.new.base - self.old.base) self.old.entries) }
         ensures entries { self.new.entries ≡ drop (self.new.base - self.old.base) self.old.entries }
     {
-        let folded = fold(
+        fold(
             self.alloc,
-            &mut self.places,
+            &mut self.table,
             &mut self.replies,
             &mut self.entries,
+            &mut self.listed,
             position,
-        );
-        let base = self.entries.base();
-        if self.listed.get() < base.get() {
-            self.listed = base;
-        }
-        folded
+        )
     }
 
     /// The state after the entries that are folded, in memory of its own.
@@ -228,7 +217,7 @@ impl HeldPast {
         ensures { IfOk result (λ s. s ≡ self.now.state) }
     {
         Ok(State {
-            objects: objects_copied(alloc, &self.places)?,
+            objects: objects_copied(alloc, &self.table)?,
             kept: self.replies.copied(alloc)?,
         })
     }

@@ -4,10 +4,11 @@
 
 mod folding;
 mod held;
-mod in_place;
 mod listing;
 mod lookups;
 mod objects;
+mod places;
 
 pub use held::HeldPast;
 pub use lookups::Seen;
+pub use places::{Place, WriteRef};

@@ -1,138 +1,147 @@
-//! Says in the places of objects where entries write them.
-ghost use Rattle.std.specs.Prelude.{◌≡◌, ℕ, ◌-◌, ◌<◌, ◌≤◌, List, [], ◌∷◌, ◌++◌, None, IfOk, OnOk, OnErr, if◌then◌else◌, length, max, take};
-ghost use Rattle.std.specs.BTreeMap.{IsOrdered};
-ghost use Rattle.craq_names.specs.Maps.{key_cmp, same_bytes};
+//! Says in the table where entries write objects.
+ghost use Rattle.std.specs.Prelude.{◌≡◌, ℕ, ◌+◌, ◌-◌, ◌<◌, ◌≤◌, List, [], ◌∷◌, ◌++◌, OnOk, OnErr, if◌then◌else◌, length, max, take};
+ghost use Rattle.craq_names.specs.Maps.{same_bytes};
+ghost use Rattle.craq_model.specs.Past.{values_in, values_after};
+ghost use Rattle.craq_commands.specs.Objects.{version_of};
 ghost use Rattle.craq_log.specs.Suffixed.{length_of};
+ghost use Rattle.craq_versions.specs.Versions.{CanPush};
+ghost use Rattle.craq_settled.specs.declared.places.Place.TheVariants.{Written};
+ghost use Rattle.craq_settled.specs.Followed.{AreNext};
 ghost use Rattle.craq_settled.specs.Listed.{written_in, AreListed};
-ghost use Rattle.craq_settled.specs.Placed.{objects_of, later_of, place_of, KeepsLater, LaterTakenBack};
+ghost use Rattle.craq_settled.specs.Placed.{has_some, newest_version, objects_of, later_of, versions_of, IsRising, KeepsLater, LaterTakenBack};
 
-use crate::objects::Places;
+use crate::places::{Place, WriteRef, has_later};
 use craq_commands::Write;
 use craq_log::Suffix;
-use craq_names::{Copied, Key, Seq};
-use craq_versions::{Place, WriteRef};
-use std::alloc::{AllocError, Global};
+use craq_names::{Key, Seq, Version};
+use craq_versions::ObjectTable;
+use std::alloc::AllocError;
 
 /// How many entries at most are not listed, while memory is there: a look at so few costs less than a look-up.
 const MOST_UNLISTED: u64 = 4;
 
-/// A place of one version, which is written there.
-fn written_place(alloc: Global, at: WriteRef) -> Result<Place, AllocError>
-    ensures settled { IfOk result (λ place. place.settled ≡ None) }
-    ensures later { IfOk result (λ place. place.later ≡ at ∷ []) }
-{
-    let mut place = Place::new(alloc);
-    place.push(at)?;
-    Ok(place)
-}
-
-/// Puts in a place without a settled version for a key that has none. Where memory is refused the places stay.
-fn put_unsettled(places: &mut Places, key: Key, place: Place) -> Result<(), AllocError>
-    requires absent { place_of places.old.entries key ≡ None }
-    requires unsettled { place.settled ≡ None }
-    ensures objects { objects_of places.new.entries ≡ objects_of places.old.entries }
-    ensures ok { OnOk result ((q : List ℕ) → later_of places.new.entries q ≡ later_of places.old.entries q ++ (if same_bytes key q then place.later else [])) }
-    ensures err { OnErr result (KeepsLater places.old.entries places.new.entries) }
-    ensures ordered { IsOrdered key_cmp places.new }
-{
-    places.insert(key, place)?;
-    Ok(())
-}
-
-/// One more version of an object, which is written there. It looks the object up once, or twice where it has no place yet.
+/// One more version of an object, the next, which is written there. It looks the object up once, or twice where it is new.
 /// Where memory is refused the versions stay.
 fn push_version(
-    alloc: Global,
-    places: &mut Places,
+    table: &mut ObjectTable<Place>,
     key: &Key,
+    version: Version,
     at: WriteRef,
 ) -> Result<(), AllocError>
-    requires { IsOrdered key_cmp places.old }
-    ensures objects { objects_of places.new.entries ≡ objects_of places.old.entries }
-    ensures ok { OnOk result ((q : List ℕ) → later_of places.new.entries q ≡ later_of places.old.entries q ++ (if same_bytes key.now q then at ∷ [] else [])) }
-    ensures err { OnErr result (KeepsLater places.old.entries places.new.entries) }
-    ensures ordered { IsOrdered key_cmp places.new }
+    requires rising { IsRising table.old }
+    requires next { CanPush (versions_of table.old key.now) version }
+    ensures objects { objects_of table.new ≡ objects_of table.old }
+    ensures ok { OnOk result ((q : List ℕ) → versions_of table.new q ≡ versions_of table.old q ++ (if same_bytes key.now q then (version, Written at) ∷ [] else [])) }
+    ensures later { OnOk result ((q : List ℕ) → later_of table.new q ≡ later_of table.old q ++ (if same_bytes key.now q then (version, Written at) ∷ [] else [])) }
+    ensures err { OnErr result (KeepsLater table.old table.new) }
+    ensures rising { IsRising table.new }
 {
-    match places.get_mut(key) {
-        Some(place) => place.push(at),
-        None => {
-            let place = written_place(alloc, at)?;
-            let key = key.copied(alloc)?;
-            put_unsettled(places, key, place)
-        }
+    table.push(key, version, Place::Written(at))
+}
+
+/// Whether an object has versions after the settled one.
+fn has_later_in(table: &ObjectTable<Place>, key: &Key) -> bool
+    ensures { result ≡ has_some (later_of table.now key.now) }
+{
+    match table.list(key) {
+        None => false,
+        Some(list) => has_later(list),
     }
 }
 
 /// Takes the newest of the later versions of an object back.
-fn pop_version(places: &mut Places, key: &Key)
-    requires { IsOrdered key_cmp places.old }
-    ensures objects { objects_of places.new.entries ≡ objects_of places.old.entries }
-    ensures later { (q : List ℕ) → later_of places.new.entries q ≡ take (length (later_of places.old.entries q) - (if same_bytes key.now q then 1 else 0)) (later_of places.old.entries q) }
-    ensures ordered { IsOrdered key_cmp places.new }
+fn pop_version(table: &mut ObjectTable<Place>, key: &Key)
+    requires { IsRising table.old }
+    ensures objects { objects_of table.new ≡ objects_of table.old }
+    ensures later { (q : List ℕ) → later_of table.new q ≡ take (length (later_of table.old q) - (if same_bytes key.now q then 1 else 0)) (later_of table.old q) }
+    ensures rising { IsRising table.new }
 {
-    if let Some(place) = places.get_mut(key) {
-        place.pop();
+    if has_later_in(table, key) {
+        table.pop(key);
     }
 }
 
 /// Takes back as many of the later versions of each object as these writes give it.
-fn unlist(places: &mut Places, writes: &[Write])
-    requires { IsOrdered key_cmp places.old }
-    ensures objects { objects_of places.new.entries ≡ objects_of places.old.entries }
-    ensures later { LaterTakenBack writes.now places.old.entries places.new.entries }
-    ensures ordered { IsOrdered key_cmp places.new }
+fn unlist(table: &mut ObjectTable<Place>, writes: &[Write])
+    requires { IsRising table.old }
+    ensures objects { objects_of table.new ≡ objects_of table.old }
+    ensures later { LaterTakenBack writes.now table.old table.new }
+    ensures rising { IsRising table.new }
 {
     for write in writes {
-        pop_version(places, &write.key);
+        pop_version(table, &write.key);
     }
 }
 
-/// Says in the places where an entry writes each object. Where memory is refused the versions stay.
-fn list_writes(
-    alloc: Global,
-    places: &mut Places,
+/// Says in the table where an entry writes each object, of which it writes the next version. Where memory is refused the
+/// versions stay.
+pub fn list_writes(
+    table: &mut ObjectTable<Place>,
     position: Seq,
     writes: &[Write],
 ) -> Result<(), AllocError>
-    requires { IsOrdered key_cmp places.old }
-    ensures objects { objects_of places.new.entries ≡ objects_of places.old.entries }
-    ensures ok { OnOk result ((q : List ℕ) → later_of places.new.entries q ≡ later_of places.old.entries q ++ written_in position 0 writes.now q) }
-    ensures err { OnErr result (KeepsLater places.old.entries places.new.entries) }
-    ensures ordered { IsOrdered key_cmp places.new }
+    requires rising { IsRising table.old }
+    requires next { (q : List ℕ) → AreNext (newest_version (versions_of table.old q)) (values_in writes.now q) }
+    ensures objects { objects_of table.new ≡ objects_of table.old }
+    ensures ok { OnOk result ((q : List ℕ) → later_of table.new q ≡ later_of table.old q ++ written_in position 0 writes.now q) }
+    ensures err { OnErr result (KeepsLater table.old table.new) }
+    ensures rising { IsRising table.new }
 {
     for index in 0..writes.len() {
         let at = WriteRef { position, index };
-        if let Err(refused) = push_version(alloc, places, &writes[index].key, at) {
-            unlist(places, &writes[..index]);
+        let write = &writes[index];
+        if let Err(refused) = push_version(table, &write.key, write.version, at) {
+            unlist(table, &writes[..index]);
             return Err(refused);
         }
     }
     Ok(())
 }
 
-/// Says in the places where entries write each object: all entries but the last few. It stops at the first growth that is
-/// refused: the entries before that one are listed, and the next call begins with it. It keeps the position up to which all
-/// are listed.
-pub fn list_entries(
-    alloc: Global,
-    places: &mut Places,
+/// Says in the table where the next entry writes each object, and keeps the position up to which all entries are listed.
+/// Where memory is refused the versions stay.
+pub fn list_next(
+    table: &mut ObjectTable<Place>,
     entries: &Suffix,
     listed: &mut Seq,
 ) -> Result<(), AllocError>
-    requires ordered { IsOrdered key_cmp places.old }
-    requires listed { AreListed places.old.entries entries.now listed.old }
+    requires rising { IsRising table.old }
+    requires listed { AreListed table.old entries.now listed.old }
+    requires next { (q : List ℕ) → AreNext (version_of (objects_of table.old) q) (values_after entries.now.entries q) }
+    requires more { listed.old < length_of entries.now }
+    ensures ok { OnOk result (listed.new ≡ listed.old + 1) }
+    ensures err { OnErr result (listed.new ≡ listed.old) }
+    ensures objects { objects_of table.new ≡ objects_of table.old }
+    ensures listed { AreListed table.new entries.now listed.new }
+    ensures rising { IsRising table.new }
+{
+    let entry = &entries.from(*listed)[0];
+    list_writes(table, entry.position, entry.writes.as_slice())?;
+    *listed = entry.position;
+    Ok(())
+}
+
+/// Says in the table where entries write each object: all entries but the last few. It stops at the first growth that is
+/// refused: the entries before that one are listed, and the next call begins with it. It keeps the position up to which all
+/// are listed.
+pub fn list_entries(
+    table: &mut ObjectTable<Place>,
+    entries: &Suffix,
+    listed: &mut Seq,
+) -> Result<(), AllocError>
+    requires rising { IsRising table.old }
+    requires listed { AreListed table.old entries.now listed.old }
+    requires next { (q : List ℕ) → AreNext (version_of (objects_of table.old) q) (values_after entries.now.entries q) }
     ensures ok { OnOk result (listed.new ≡ max listed.old (length_of entries.now - MOST_UNLISTED)) }
     ensures err { OnErr result (listed.new < length_of entries.now - MOST_UNLISTED) }
-    ensures objects { objects_of places.new.entries ≡ objects_of places.old.entries }
-    ensures listed { AreListed places.new.entries entries.now listed.new }
+    ensures objects { objects_of table.new ≡ objects_of table.old }
+    ensures listed { AreListed table.new entries.now listed.new }
     ensures more { listed.old ≤ listed.new }
-    ensures ordered { IsOrdered key_cmp places.new }
+    ensures rising { IsRising table.new }
 {
     let most = entries.len().get().saturating_sub(MOST_UNLISTED);
     while listed.get() < most {
-        let entry = &entries.from(*listed)[0];
-        list_writes(alloc, places, entry.position, entry.writes.as_slice())?;
-        *listed = entry.position;
+        list_next(table, entries, listed)?;
     }
     Ok(())
 }

@@ -1,20 +1,18 @@
-//! What stands for an object, by its place and by the entries that no place says.
+//! What stands for an object, by its versions and by the entries that are not listed.
 ghost use Rattle.std.specs.Prelude.{◌≡◌, ℕ, ◌+◌, ◌-◌, ◌≤◌, List, [], drop, length, take, unwrap_or};
-ghost use Rattle.std.specs.BTreeMap.{IsOrdered};
 ghost use Rattle.std.specs.List.{AllZip};
-ghost use Rattle.craq_names.specs.Maps.{key_cmp};
 ghost use Rattle.craq_commands.specs.Objects.{object_of};
 ghost use Rattle.craq_log.specs.Suffixed.{length_of};
 ghost use Rattle.craq_model.specs.Past.{newest_within, values_after};
 ghost use Rattle.craq_plain.specs.Scans.{last_value};
-ghost use Rattle.craq_settled.specs.Listed.{AreListed, Gives};
-ghost use Rattle.craq_settled.specs.Placed.{objects_of};
+ghost use Rattle.craq_settled.specs.Listed.{AreListed, Gives, IsGiven, Stands};
+ghost use Rattle.craq_settled.specs.Placed.{later_in, objects_of, settled_in, IsRising};
 
-use crate::objects::Places;
+use crate::places::{Place, WriteRef, settled_object};
 use craq_log::Suffix;
 use craq_names::{Key, Seq, Version};
 use craq_plain::lookups::{object_past, object_up_to};
-use craq_versions::{Place, WriteRef};
+use craq_versions::{ObjectTable, VersionList};
 
 /// The version and value that are written there.
 fn written<'a>(entries: &'a Suffix, at: &WriteRef) -> (Version, &'a [u8])
@@ -28,15 +26,27 @@ fn written<'a>(entries: &'a Suffix, at: &WriteRef) -> (Version, &'a [u8])
     (write.version, write.value.as_slice())
 }
 
-/// The newest version and value in a place: the last of those that it lists, and the settled ones where it lists none.
-fn newest_of<'a>(entries: &'a Suffix, place: &'a Place) -> (Version, &'a [u8])
-    requires { (values : List (ℕ × List ℕ)) × AllZip (Gives entries.now) place.now.later values }
-    ensures object { (values : List (ℕ × List ℕ)) → AllZip (Gives entries.now) place.now.later values → (result.0, result.1.now) ≡ last_value (unwrap_or place.now.settled (0, [])) values }
+/// A version and its value, which stands there.
+fn value_at<'a>(entries: &'a Suffix, version: Version, place: &'a Place) -> (Version, &'a [u8])
+    requires { (given : ℕ × List ℕ) × Stands entries.now (version, place.now) given }
+    ensures object { (given : ℕ × List ℕ) → Stands entries.now (version, place.now) given → (result.0, result.1.now) ≡ given }
     ensures short { length result.1.now ≤ 4096 }
 {
-    match place.newest() {
-        None => place.object(),
-        Some(at) => written(entries, at),
+    match place {
+        Place::Settled(value) => (version, value.as_slice()),
+        Place::Written(at) => written(entries, at),
+    }
+}
+
+/// The newest of some versions, with its value; version 0 and no bytes where there is none.
+fn newest_of<'a>(entries: &'a Suffix, list: &'a VersionList<Place>) -> (Version, &'a [u8])
+    requires { (values : List (ℕ × List ℕ)) × AllZip (IsGiven entries.now) (later_in list.now.versions) values }
+    ensures object { (values : List (ℕ × List ℕ)) → AllZip (IsGiven entries.now) (later_in list.now.versions) values → (result.0, result.1.now) ≡ last_value (unwrap_or (settled_in list.now.versions) (0, [])) values }
+    ensures short { length result.1.now ≤ 4096 }
+{
+    match list.newest() {
+        None => (Version::new(0), &[]),
+        Some(found) => value_at(entries, found.0, found.1),
     }
 }
 
@@ -48,36 +58,46 @@ pub struct Seen<'a> {
 }
 
 /// What is seen of an object after the listed entries. It looks the object up once.
-fn seen_listed<'a>(places: &'a Places, entries: &'a Suffix, listed: Seq, key: &Key) -> Seen<'a>
-    requires ordered { IsOrdered key_cmp places.now }
-    requires listed { AreListed places.now.entries entries.now listed }
-    ensures settled { (result.settled.0, result.settled.1.now) ≡ object_of (objects_of places.now.entries) key.now }
-    ensures newest { (result.newest.0, result.newest.1.now) ≡ last_value (object_of (objects_of places.now.entries) key.now) (values_after (take (listed - entries.now.base) entries.now.entries) key.now) }
+fn seen_listed<'a>(
+    table: &'a ObjectTable<Place>,
+    entries: &'a Suffix,
+    listed: Seq,
+    key: &Key,
+) -> Seen<'a>
+    requires rising { IsRising table.now }
+    requires listed { AreListed table.now entries.now listed }
+    ensures settled { (result.settled.0, result.settled.1.now) ≡ object_of (objects_of table.now) key.now }
+    ensures newest { (result.newest.0, result.newest.1.now) ≡ last_value (object_of (objects_of table.now) key.now) (values_after (take (listed - entries.now.base) entries.now.entries) key.now) }
     ensures short_settled { length result.settled.1.now ≤ 4096 }
     ensures short_newest { length result.newest.1.now ≤ 4096 }
 {
-    match places.get(key) {
+    match table.list(key) {
         None => Seen {
             settled: (Version::new(0), &[]),
             newest: (Version::new(0), &[]),
         },
-        Some(place) => Seen {
-            settled: place.object(),
-            newest: newest_of(entries, place),
+        Some(list) => Seen {
+            settled: settled_object(list),
+            newest: newest_of(entries, list),
         },
     }
 }
 
 /// What is seen of an object after all entries. It looks the object up once, and takes no memory.
-pub fn seen_in<'a>(places: &'a Places, entries: &'a Suffix, listed: Seq, key: &Key) -> Seen<'a>
-    requires ordered { IsOrdered key_cmp places.now }
-    requires listed { AreListed places.now.entries entries.now listed }
-    ensures settled { (result.settled.0, result.settled.1.now) ≡ object_of (objects_of places.now.entries) key.now }
-    ensures newest { (result.newest.0, result.newest.1.now) ≡ last_value (object_of (objects_of places.now.entries) key.now) (values_after entries.now.entries key.now) }
+pub fn seen_in<'a>(
+    table: &'a ObjectTable<Place>,
+    entries: &'a Suffix,
+    listed: Seq,
+    key: &Key,
+) -> Seen<'a>
+    requires rising { IsRising table.now }
+    requires listed { AreListed table.now entries.now listed }
+    ensures settled { (result.settled.0, result.settled.1.now) ≡ object_of (objects_of table.now) key.now }
+    ensures newest { (result.newest.0, result.newest.1.now) ≡ last_value (object_of (objects_of table.now) key.now) (values_after entries.now.entries key.now) }
     ensures short_settled { length result.settled.1.now ≤ 4096 }
     ensures short_newest { length result.newest.1.now ≤ 4096 }
 {
-    let seen = seen_listed(places, entries, listed, key);
+    let seen = seen_listed(table, entries, listed, key);
     let (version, value) = seen.newest;
     Seen {
         settled: seen.settled,
@@ -85,10 +105,10 @@ pub fn seen_in<'a>(places: &'a Places, entries: &'a Suffix, listed: Seq, key: &K
     }
 }
 
-/// The newest version and value in a place and in the entries that are not listed, from the settled ones on, that is at
-/// most so many above a version.
-fn within_place<'a>(
-    place: &'a Place,
+/// The newest of some versions and of those in the entries that are not listed, from the settled one on, that is at most so
+/// many above a version, with its value.
+fn within_list<'a>(
+    list: &'a VersionList<Place>,
     entries: &'a Suffix,
     listed: Seq,
     key: &Key,
@@ -97,12 +117,16 @@ fn within_place<'a>(
 ) -> (Version, &'a [u8])
     requires from { entries.now.base ≤ listed }
     requires to { listed ≤ length_of entries.now }
-    requires later { AllZip (Gives entries.now) place.now.later (values_after (take (listed - entries.now.base) entries.now.entries) key.now) }
-    ensures object { (result.0, result.1.now) ≡ newest_within (version + above) (unwrap_or place.now.settled (0, [])) (values_after entries.now.entries key.now) }
+    requires later { AllZip (IsGiven entries.now) (later_in list.now.versions) (values_after (take (listed - entries.now.base) entries.now.entries) key.now) }
+    ensures object { (result.0, result.1.now) ≡ newest_within (version + above) (unwrap_or (settled_in list.now.versions) (0, [])) (values_after entries.now.entries key.now) }
     ensures short { length result.1.now ≤ 4096 }
 {
-    let (mut last, mut bytes) = place.object();
-    for at in place.later() {
+    let (mut last, mut bytes) = settled_object(list);
+    for place in list.held() {
+        let at = match place {
+            Place::Settled(_) => continue,
+            Place::Written(at) => at,
+        };
         let (next, value) = written(entries, at);
         if next.get().saturating_sub(version) > above {
             return (last, bytes);
@@ -116,19 +140,19 @@ fn within_place<'a>(
 /// The newest version and value of an object, from the settled ones on, that is at most so many above a version (a sum
 /// above 2^64 - 1 bounds nothing). It takes no memory.
 pub fn within_in<'a>(
-    places: &'a Places,
+    table: &'a ObjectTable<Place>,
     entries: &'a Suffix,
     listed: Seq,
     key: &Key,
     version: u64,
     above: u64,
 ) -> (Version, &'a [u8])
-    requires ordered { IsOrdered key_cmp places.now }
-    requires listed { AreListed places.now.entries entries.now listed }
-    ensures object { (result.0, result.1.now) ≡ newest_within (version + above) (object_of (objects_of places.now.entries) key.now) (values_after entries.now.entries key.now) }
+    requires rising { IsRising table.now }
+    requires listed { AreListed table.now entries.now listed }
+    ensures object { (result.0, result.1.now) ≡ newest_within (version + above) (object_of (objects_of table.now) key.now) (values_after entries.now.entries key.now) }
     ensures short { length result.1.now ≤ 4096 }
 {
-    match places.get(key) {
+    match table.list(key) {
         None => object_up_to(
             Version::new(0),
             &[],
@@ -137,6 +161,6 @@ pub fn within_in<'a>(
             version,
             above,
         ),
-        Some(place) => within_place(place, entries, listed, key, version, above),
+        Some(list) => within_list(list, entries, listed, key, version, above),
     }
 }

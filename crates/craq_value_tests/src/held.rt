@@ -1,5 +1,8 @@
 //! A held past after very many puts: what is settled is folded, and not held any more.
-ghost use Rattle.std.specs.Prelude.{◌≡◌, IfOk};
+ghost use Rattle.std.specs.Prelude.{◌≡◌, ◌+◌, [], ◌∷◌, IfOk};
+ghost use Rattle.craq_commands.specs.Objects.{version_of};
+ghost use Rattle.craq_commands.specs.SingleCopy.{after_entries};
+ghost use Rattle.craq_settled.specs.Followed.{AreNextVersions};
 
 use craq_commands::{Entry, Reply, Write};
 use craq_names::{ClientId, Items, Key, NodeId, Refusal, RequestNo, Seq, Ticket, Value, Version};
@@ -13,21 +16,28 @@ const PUTS: u64 = 1_000_000;
 /// How many objects they write in turn.
 const OBJECTS: u64 = 1_000;
 
-/// The write of an object, of the next version each time round.
-fn write(alloc: Global, count: u64) -> Result<Write, Refusal> {
+/// The write of one of the objects, which gives it its next version.
+fn write(alloc: Global, held: &HeldPast, count: u64) -> Result<Write, Refusal>
+    ensures { IfOk result (λ w. w.version ≡ version_of (after_entries held.now.state held.now.entries).objects w.key + 1) }
+{
     let object = count % OBJECTS;
+    let key = Key::new(alloc, &[(object / 100) as u8, (object % 100) as u8])?;
+    let (newest, _) = held.newest(&key);
+    let Some(version) = newest.get().checked_add(1) else {
+        return Err(Refusal::Exhausted);
+    };
     Ok(Write {
-        key: Key::new(alloc, &[(object / 100) as u8, (object % 100) as u8])?,
-        version: Version::new(count / OBJECTS + 1),
+        key,
+        version: Version::new(version),
         value: Value::new(alloc, b"v")?,
     })
 }
 
 /// The entry of a put at a position, after so many puts.
-fn entry(alloc: Global, position: u64, count: u64) -> Result<Entry, Refusal>
-    ensures { IfOk result (λ e. e.position ≡ position) }
+fn entry(alloc: Global, position: u64, count: u64, write: Write) -> Result<Entry, Refusal>
+    ensures position { IfOk result (λ e. e.position ≡ position) }
+    ensures writes { IfOk result (λ e. e.writes ≡ write ∷ []) }
 {
-    let write = write(alloc, count)?;
     let number = RequestNo::new(count.saturating_add(1))?;
     let mut writes = Vec::new(alloc);
     let reply = Reply::Written(write.version);
@@ -43,14 +53,23 @@ fn entry(alloc: Global, position: u64, count: u64) -> Result<Entry, Refusal>
     })
 }
 
+/// The entry of one more put, at the next position.
+fn next_entry(alloc: Global, held: &HeldPast, position: u64) -> Result<Entry, Refusal>
+    ensures position { IfOk result (λ e. e.position ≡ position) }
+    ensures next { IfOk result (λ e. AreNextVersions (after_entries held.now.state held.now.entries) (e ∷ [])) }
+{
+    let count = held.len().get();
+    let write = write(alloc, held, count)?;
+    entry(alloc, position, count, write)
+}
+
 /// One more put, at the next position.
 fn append(alloc: Global, held: &mut HeldPast) -> Result<(), Refusal> {
-    let count = held.len().get();
-    let Some(position) = count.checked_add(1) else {
+    let Some(position) = held.len().get().checked_add(1) else {
         return Err(Refusal::Exhausted);
     };
     let mut entries = Vec::new(alloc);
-    entries.push(entry(alloc, position, count)?)?;
+    entries.push(next_entry(alloc, held, position)?)?;
     Ok(held.append(Items::of(entries))?)
 }
 

@@ -1,14 +1,14 @@
-//! Tests of names, commands, memberships, versions, places, entries, kept replies and held pasts with ample memory:
+//! Tests of names, commands, memberships, versions, entries, kept replies and held pasts with ample memory:
 //! prints what each call answers.
 #![tactic(auto)]
 
 mod commands;
 mod entries;
 mod held;
+mod lists;
 mod masters;
 mod names;
 mod objects;
-mod places;
 mod replies;
 
 use std::fmt::Debug;
@@ -24,7 +24,7 @@ fn run<R: AllocGlobal + Print>(rt: &R) -> io::Result<()> {
     commands::run(rt)?;
     masters::run(rt)?;
     objects::run(rt)?;
-    places::run(rt)?;
+    lists::run(rt)?;
     entries::run(rt)?;
     replies::run(rt)?;
     held::run(rt)

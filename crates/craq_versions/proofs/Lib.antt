@@ -1,3 +1,2 @@
-pub mod Newest
 pub mod Numbered
 pub mod Written

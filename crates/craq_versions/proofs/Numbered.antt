@@ -1,5 +1,6 @@
 -- Values as consecutive versions.
-use Rattle.std.proofs.Common.{◌≡◌, ℕ, zero, suc, ◌+◌, ◌-◌, ◌<◌, ◌≤◌, ◌^◌, ◌⊎◌, inl, inr, Bool, true, false, cond, min, List, [], ◌∷◌, ◌++◌, length, drop, get_or, Option, Some, None, refl, sym, ◌∙◌, ap, subst, arith, rules, length-append, length-drop}
+use Rattle.std.proofs.Common.{◌≡◌, ℕ, zero, suc, ◌+◌, ◌-◌, ◌<◌, ◌≤◌, ◌^◌, ◌⊎◌, inl, inr, Bool, true, false, cond, min, List, [], ◌∷◌, ◌++◌, length, drop, map, take, get_or, Option, Some, None, refl, sym, ◌∙◌, ap, subst, arith, rules, length-append, length-drop}
+use Rattle.std.proofs.lemmas.List.{length-take-le}
 use Rattle.std.proofs.lemmas.Option.{slice_get_past, slice_get-get_or, slice_get_within}
 use Rattle.std.proofs.lemmas.Bool.{ltb-true, ltb-false}
 use Rattle.std.specs.Borrow.{Bor}
@@ -8,7 +9,7 @@ use Rattle.std.specs.Option.{option_copied}
 use Rattle.std.specs.Prelude.{IfSome, is_some, nat_lt, ◌==◌, ◌↔◌, if◌then◌else◌, nat_le, unwrap_or, IsSome, IsTrue, slice_get}
 use Rattle.std.specs.Ordering.{nat_cmp, eq_by_cmp}
 use Rattle.craq_names.specs.Maps.{at_number}
-use Rattle.craq_versions.specs.Versions.{numbered, newest_of, Follows, newest_within, versions_from, AreConsecutive, CanPush, CanSettle, IsStored, AreVersions}
+use Rattle.craq_versions.specs.Versions.{numbered, newest_of, Follows, newest_within, versions_from, versions_settled, without_newest, clean_without, AreConsecutive, CanPush, CanSettle, IsStored, AreVersions}
 
 pub length_numbered : {V : Type 0} (first : ℕ) (values : List V) → length (numbered first values) ≡ length values
 length_numbered first [] = refl
@@ -259,3 +260,76 @@ versions_stored first false (v ∷ values) h =
 pub numbered_some : {V : Type 0} (first : ℕ) (values : List V) → 0 < length values → numbered first values ≡ [] → ⊥
 numbered_some first [] some e = omega arith
 numbered_some first (v ∷ values) some e = no_list e
+
+-- a version that is held is one of them
+pub held_from : {V : Type 0} (first version : ℕ) (values : List V) → IsSome (at_number (numbered first values) version) → (first ≤ version) × (version - first < length values)
+held_from {V} first version values held =
+    let absent : Option V = None in
+    let low : (b : Bool) → nat_lt version first ≡ b → (first ≤ version) × (version - first < length values) = elim [
+      | true ↦ λ e. let none : IsSome absent = subst (λ (o : Option V). IsSome o) (found_below first version values (ltb-true version first e)) held in absurd (clash (sym none))
+      | false ↦ λ e.
+          let from : first ≤ version = ltb-false version first e in
+          (from, held_within values (version - first) (ap is_some (sym (found_at first version values from)) ∙ held))
+    ] in
+    low (nat_lt version first) refl
+
+-- what is stored once a version is the first, and this is held of it
+pub stored_as : {V : Type 0} (first version : ℕ) (has_clean : Bool) (values : List V) (held : V) → IsStored first has_clean values → first ≤ version → version - first < length values → IsStored version true (held ∷ drop (version - first + 1) values)
+stored_as first version has_clean values held h from within =
+    let one : 1 ≤ first = h.from_one in
+    let fits : first + length values ≤ 2 ^ 64 = h.fits in
+    record {
+      from_one = omega arith;
+      fits = omega (arith, length-drop (version - first + 1) values);
+      clean_is_held = λ clean. omega arith;
+    }
+
+pub versions_as : {V : Type 0} (first version : ℕ) (values : List V) (held : V) → first ≤ version → numbered version (held ∷ drop (version - first + 1) values) ≡ versions_settled (numbered first values) version held
+versions_as {V} first version values held from =
+    let more : first ≤ version + 1 = omega arith in
+    let rest : version + 1 - first ≡ version - first + 1 = omega arith in
+    sym (ap (λ vs. (version, held) ∷ vs) (from_at first (version + 1) values more ∙ ap (λ (n : ℕ). numbered (version + 1) (drop n values)) rest))
+
+take_numbered : {V : Type 0} (first n : ℕ) (values : List V) → numbered first (take n values) ≡ take n (numbered first values)
+take_numbered first zero values = refl
+take_numbered first (suc n) [] = refl
+take_numbered first (suc n) (v ∷ values) = ap (λ vs. (first, v) ∷ vs) (take_numbered (first + 1) n values)
+
+-- all versions but the newest
+pub versions_without : {V : Type 0} (first count : ℕ) (values : List V) → count ≡ length values → numbered first (take (count - 1) values) ≡ without_newest (numbered first values)
+versions_without first count values all = take_numbered first (count - 1) values ∙ ap (λ (n : ℕ). take (n - 1) (numbered first values)) (all ∙ sym (length_numbered first values))
+
+-- what is stored once the newest is taken back
+pub stored_without : {V : Type 0} (first count left : ℕ) (has_clean still : Bool) (values : List V) → IsStored first has_clean values → count ≡ length values → left ≡ length (take (count - 1) values) → still ≡ (if left == 0 then false else has_clean) → IsStored first still (take (count - 1) values)
+stored_without {V} first count left has_clean still values h all rest is =
+    let fits : first + length values ≤ 2 ^ 64 = h.fits in
+    let few : length (take (count - 1) values) ≡ count - 1 = length-take-le (count - 1) values (omega (arith, all)) in
+    let split : (n : ℕ) → left ≡ n → IsTrue still → 0 < length (take (count - 1) values) = elim [
+      | zero ↦ λ e some. absurd (clash (sym some ∙ is ∙ ap (λ (k : ℕ). if k == 0 then false else has_clean) e))
+      | suc n ↦ λ e some. omega (arith, e, rest)
+    ] in
+    record {
+      from_one = h.from_one;
+      fits = omega (arith, few, all);
+      clean_is_held = split left refl;
+    }
+
+-- the clean version then
+pub clean_left : {V : Type 0} (first count left : ℕ) (has_clean still : Bool) (values : List V) → IsStored first has_clean values → count ≡ length values → left ≡ length (take (count - 1) values) → still ≡ (if left == 0 then false else has_clean) → (if still then first else 0) ≡ clean_without (numbered first values) (if has_clean then first else 0)
+clean_left {V} first count left has_clean still values h all rest is =
+    let few : length (take (count - 1) values) ≡ count - 1 = length-take-le (count - 1) values (omega (arith, all)) in
+    let long : length (numbered first values) ≡ length values = length_numbered first values in
+    let clean : ℕ = (if has_clean then first else 0) in
+    let split : (n : ℕ) → left ≡ n → (if (if n == 0 then false else has_clean) then first else 0) ≡ (if nat_le (length (numbered first values)) 1 then 0 else clean) = elim [
+      | zero ↦ λ e. sym (ap (λ (b : Bool). if b then 0 else clean) (le_true (length (numbered first values)) 1 (omega (arith, e, rest, few, all, long))))
+      | suc n ↦ λ e. ap (λ (b : Bool). if (if b then false else has_clean) then first else 0) (not_zero n) ∙ sym (ap (λ (b : Bool). if b then 0 else clean) (le_false (length (numbered first values)) 1 (omega (arith, e, rest, few, all, long))))
+    ] in
+    ap (λ (b : Bool). if b then first else 0) is ∙ split left refl
+
+first_numbered : {V : Type 0} (first : ℕ) (values : List V) → map (λ (v : ℕ × V). v.1) (numbered first values) ≡ values
+first_numbered first [] = refl
+first_numbered first (v ∷ values) = ap (λ vs. v ∷ vs) (first_numbered (first + 1) values)
+
+-- what is held of the versions
+pub held_numbered : {V : Type 0} (first : ℕ) (values : List V) → values ≡ map (λ (v : ℕ × V). v.1) (numbered first values)
+held_numbered first values = sym (first_numbered first values)

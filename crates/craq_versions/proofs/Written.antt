@@ -1,7 +1,7 @@
 -- A table of lists, once the list of one key is written.
 use Rattle.std.specs.List.{AllByRecursion}
 use Rattle.std.proofs.Common.{map, zero, suc, take, get_or, add-one, ◌≡◌, ℕ, ◌+◌, ◌<◌, ◌≤◌, ◌≢◌, ◌⊎◌, inl, inr, ◌++◌, max, Bool, true, false, cond, List, [], ◌∷◌, Option, Some, None, refl, sym, ◌∙◌, ap, subst, arith}
-use Rattle.std.specs.Prelude.{unwrap_or, is_some, IsSome}
+use Rattle.std.specs.Prelude.{unwrap_or, is_some, IsSome, if◌then◌else◌}
 use Rattle.std.specs.Option.{option_and_then}
 use Rattle.std.specs.Ordering.{is_eq}
 use Rattle.std.specs.declared.cmp.Ordering.{Ordering}
@@ -13,10 +13,10 @@ use Rattle.std.specs.Map.{lookup, keys_of}
 use Rattle.std.specs.BTreeMap.{is_at}
 use Rattle.std.specs.FinMap.{IsAntisymmetric, nat_cmp-IsAntisymmetric, slice_cmp-IsAntisymmetric}
 use Rattle.std.specs.FinMap.Entries.{find}
-use Rattle.craq_names.specs.Maps.{key_cmp, at_key, put_key, same_bytes}
-use Rattle.craq_versions.specs.Versions.{Versions, AreVersions, CanSettle, versions_from}
+use Rattle.craq_names.specs.Maps.{key_cmp, at_key, at_number, put_key, same_bytes}
+use Rattle.craq_versions.specs.Versions.{Versions, AreVersions, CanSettle, clean_without, versions_from, versions_settled, without_newest}
 use Rattle.craq_names.specs.Places.{filled}
-use Rattle.craq_versions.specs.Tables.{Held, Entries, nothing, held_at, room_at, pushed, settled, unless_empty, held_in, shown, table_of, KeepsRoom, KeepsOthersRoom}
+use Rattle.craq_versions.specs.Tables.{Held, Entries, nothing, held_at, popped, room_at, pushed, settled, settled_as, unless_empty, held_in, shown, table_of, KeepsRoom, KeepsOthersRoom}
 use Rattle.craq_names.proofs.Places.{find_filled, keys_filled, is_sorted_of, filled_put, filled_same}
 
 abbrev pub list_of : {V : Type 0} → Entries V → List ℕ → Option (Versions V)
@@ -236,3 +236,87 @@ pub rising_keys : {V : Type 0} (es : Entries V) (objects : List (List ℕ × Hel
 rising_keys {V} es objects is rise =
     let Rises : List (List ℕ × Held V) → Type 0 = λ l. IsStrictlySortedBy key_cmp (map (λ o. o.0) l) in
     subst Rises (sym is) (keys_filled key_cmp shown es rise)
+
+-- a version that a table holds is held by the key's list
+pub holds_in : {V : Type 0} (es : Entries V) (key : List ℕ) (old : Versions V) (version : ℕ) → IsStrictlySortedBy key_cmp (keys_of es) → Some old ≡ list_of es key → IsSome (at_number (held_at (table_of es) key).versions version) → IsSome (at_number old.versions version)
+holds_in {V} es key old version rise was holds = subst (λ (vs : List (ℕ × V)). IsSome (at_number vs version)) (held_versions es key old rise was) holds
+
+-- a key without a list holds none
+pub none_holds : {V : Type 0} (es : Entries V) (key : List ℕ) (version : ℕ) → IsStrictlySortedBy key_cmp (keys_of es) → None ≡ list_of es key → IsSome (at_number (held_at (table_of es) key).versions version) → ⊥
+none_holds {V} es key version rise none holds =
+    let held : held_at (table_of es) key ≡ nothing = ap (λ (o : Option (Held V)). unwrap_or o nothing) (held_found es key rise ∙ ap (option_and_then shown) (sym none)) in
+    let absent : Option V = None in
+    let P : Held V → Type 0 = λ h. IsSome (at_number h.versions version) in
+    let inner : IsSome absent = subst P held holds in
+    clash (sym inner)
+
+-- the versions of a key that has a list
+pub versions_of_held : {V : Type 0} (es : Entries V) (key : List ℕ) (old : Versions V) → IsStrictlySortedBy key_cmp (keys_of es) → Some old ≡ list_of es key → AreVersions old.versions old.clean → AreVersions (held_at (table_of es) key).versions (held_at (table_of es) key).clean
+versions_of_held {V} es key old rise was h =
+    let P : Held V → Type 0 = λ x. AreVersions x.versions x.clean in
+    subst P (sym (held_here es key old rise was h)) h
+
+settled_some : {V : Type 0} (vs : List (ℕ × V)) (version : ℕ) (held : V) → versions_settled vs version held ≢ []
+settled_some vs version held e = cc
+
+-- the table, once a version of a key is settled, of which this is held
+pub objects_settled_as : {V : Type 0} (es gs : Entries V) (key : List ℕ) (old new : Versions V) (version : ℕ) (value : V) → IsStrictlySortedBy key_cmp (keys_of es) → IsStrictlySortedBy key_cmp (keys_of gs) → Some old ≡ list_of es key → IsWritten es gs key new → AreVersions old.versions old.clean → new.versions ≡ versions_settled old.versions version value → new.clean ≡ version
+    → (table_of gs).objects ≡ put_key (table_of es).objects key (settled_as (held_at (table_of es) key) version value)
+objects_settled_as es gs key old new version value rise rises was at h versions clean =
+    let some : new.versions ≢ [] = λ e. settled_some old.versions version value (sym versions ∙ e) in
+    let same : held_in new ≡ settled_as (held_in old) version value = λ i. record { versions = versions i; clean = clean i } in
+    objects_put es gs key new (held_in new) (some_shown new some) rise rises at
+    ∙ ap (put_key (filled shown es) key) (same ∙ ap (λ held. settled_as held version value) (sym (held_here es key old rise was h)))
+
+-- what a key holds where it has a list, or none
+held_of : {V : Type 0} → Option (Versions V) → Held V
+held_of None = nothing
+held_of (Some list) = held_in list
+
+held_as : {V : Type 0} (es : Entries V) (key : List ℕ) → IsStrictlySortedBy key_cmp (keys_of es) → held_at (table_of es) key ≡ unwrap_or (option_and_then shown (list_of es key)) nothing
+held_as {V} es key rise = ap (λ (o : Option (Held V)). unwrap_or o nothing) (held_found es key rise)
+
+-- what each key holds, once the newest version of one is taken back
+pub held_popped : {V : Type 0} (es gs : Entries V) (key : List ℕ) (old new : Versions V) → IsStrictlySortedBy key_cmp (keys_of es) → IsStrictlySortedBy key_cmp (keys_of gs) → Some old ≡ list_of es key → IsWritten es gs key new → AreVersions old.versions old.clean → AreVersions new.versions new.clean → new.versions ≡ without_newest old.versions → new.clean ≡ clean_without old.versions old.clean
+    → (q : List ℕ) → held_at (table_of gs) q ≡ (if same_bytes key q then popped (held_at (table_of es) q) else held_at (table_of es) q)
+held_popped {V} es gs key old new rise rises was at h k versions clean q =
+    let same : held_in new ≡ popped (held_in old) = λ i. record { versions = versions i; clean = clean i } in
+    let shows : unwrap_or (shown new) nothing ≡ popped (held_at (table_of es) key) = unwrapped new.versions new.clean k ∙ same ∙ ap popped (sym (held_here es key old rise was h)) in
+    let split : (b : Bool) → is_at (key_cmp key) q ≡ b → unwrap_or (option_and_then shown (cond b (Some new) (list_of es q))) nothing ≡ (if b then popped (held_at (table_of es) q) else held_at (table_of es) q) = elim [
+      | true ↦ λ e. shows ∙ ap (λ (x : List ℕ). popped (held_at (table_of es) x)) (told_equal key q e)
+      | false ↦ λ e. sym (held_as es q rise)
+    ] in
+    held_as gs q rises ∙ ap (λ (o : Option (Versions V)). unwrap_or (option_and_then shown o) nothing) (at q) ∙ split (is_at (key_cmp key) q) refl
+    ∙ ap (λ (b : Bool). if b then popped (held_at (table_of es) q) else held_at (table_of es) q) (same_bytes_is key q)
+
+-- nothing is taken back of a key without a list
+pub none_popped : {V : Type 0} (es gs : Entries V) (key : List ℕ) → IsStrictlySortedBy key_cmp (keys_of es) → gs ≡ es → None ≡ list_of es key → (q : List ℕ) → held_at (table_of gs) q ≡ (if same_bytes key q then popped (held_at (table_of es) q) else held_at (table_of es) q)
+none_popped {V} es gs key rise same none q =
+    let held : held_at (table_of es) key ≡ nothing = held_as es key rise ∙ ap (λ (o : Option (Versions V)). unwrap_or (option_and_then shown o) nothing) (sym none) in
+    let empty : nothing ≡ popped {V = V} nothing = refl in
+    let split : (b : Bool) → is_at (key_cmp key) q ≡ b → held_at (table_of es) q ≡ (if b then popped (held_at (table_of es) q) else held_at (table_of es) q) = elim [
+      | true ↦ λ e. let here = told_equal key q e in ap (λ (x : List ℕ). held_at (table_of es) x) (sym here) ∙ held ∙ empty ∙ ap popped (sym held) ∙ ap (λ (x : List ℕ). popped (held_at (table_of es) x)) here
+      | false ↦ λ e. refl
+    ] in
+    ap (λ (x : Entries V). held_at (table_of x) q) same ∙ split (is_at (key_cmp key) q) refl
+    ∙ ap (λ (b : Bool). if b then popped (held_at (table_of es) q) else held_at (table_of es) q) (same_bytes_is key q)
+
+-- the table, once a list is put in for a key without one
+pub objects_more : {V : Type 0} (es gs : Entries V) (key : List ℕ) (new : Versions V) → IsStrictlySortedBy key_cmp (keys_of es) → IsStrictlySortedBy key_cmp (keys_of gs) → IsWritten es gs key new → new.versions ≢ [] → (table_of gs).objects ≡ put_key (table_of es).objects key (held_in new)
+objects_more es gs key new rise rises at some = objects_put es gs key new (held_in new) (some_shown new some) rise rises at
+
+-- the first version of a key without a list
+pub first_pushed : {V : Type 0} (es fs gs : Entries V) (key k : List ℕ) (version : ℕ) (value : V) (list : Versions V) → IsStrictlySortedBy key_cmp (keys_of es) → fs ≡ es → k ≡ key → None ≡ list_of es key → list.versions ≡ (version, value) ∷ [] → list.clean ≡ 0 → (table_of gs).objects ≡ put_key (table_of fs).objects k (held_in list)
+    → (table_of gs).objects ≡ put_key (table_of es).objects key (pushed (held_at (table_of es) key) version value)
+first_pushed {V} es fs gs key k version value list rise same is none versions clean put =
+    let held : held_at (table_of es) key ≡ nothing = held_as es key rise ∙ ap (λ (o : Option (Versions V)). unwrap_or (option_and_then shown o) nothing) (sym none) in
+    let one : held_in list ≡ pushed nothing version value = λ i. record { versions = versions i; clean = clean i } in
+    put ∙ ap (λ (x : Entries V). put_key (table_of x).objects k (held_in list)) same ∙ ap (λ (q : List ℕ). put_key (table_of es).objects q (held_in list)) is
+    ∙ ap (put_key (table_of es).objects key) (one ∙ ap (λ (h : Held V). pushed h version value) (sym held))
+
+-- a list may be put in for a key that has none
+pub absent_there : {V : Type 0} (es fs : Entries V) (key k : List ℕ) → fs ≡ es → k ≡ key → None ≡ list_of es key → list_of fs k ≡ None
+absent_there {V} es fs key k same is none = ap (λ (x : Entries V). list_of x k) same ∙ ap (λ (q : List ℕ). list_of es q) is ∙ sym none
+
+pub none_first : {V : Type 0} (es : Entries V) (key : List ℕ) → None ≡ list_of es key → 0 < room_at (table_of es) key → ⊥
+none_first {V} es key none room = no_room es key (sym (ap is_some (sym none))) room

@@ -1,3 +1,2 @@
-pub mod PlacedVersions
 pub mod Tables
 pub mod Versions

@@ -2,7 +2,7 @@
 use Rattle.std.specs.Prelude.{◌≡◌, ℕ, ◌≤◌, false, max, List, [], ◌∷◌, ◌++◌, map, Option, Some, None, unwrap_or}
 use Rattle.std.specs.Borrow.{Bor}
 use Rattle.craq_names.specs.Maps.{at_key, same_bytes}
-use Rattle.craq_versions.specs.Versions.{Versions, versions_from}
+use Rattle.craq_versions.specs.Versions.{Versions, clean_without, versions_from, versions_settled, without_newest}
 use Rattle.craq_names.specs.Places.{filled}
 
 -- the versions of one object, and the clean one, 0 where none is
@@ -33,6 +33,14 @@ pushed h version held = record h { versions = h.versions ++ (version, held) ∷ 
 -- this version is clean, and those before it are gone
 abbrev pub settled : {V : Type 0} → Held V → ℕ → Held V
 settled h version = record { versions = versions_from h.versions version; clean = max h.clean version }
+
+-- this version is clean, this is held of it, and those before it are gone
+abbrev pub settled_as : {V : Type 0} → Held V → ℕ → V → Held V
+settled_as h version held = record { versions = versions_settled h.versions version held; clean = version }
+
+-- the newest version is gone
+abbrev pub popped : {V : Type 0} → Held V → Held V
+popped h = record { versions = without_newest h.versions; clean = clean_without h.versions h.clean }
 
 -- no key has less room than it had
 abbrev pub KeepsRoom : {V : Type 0} → Table V → Table V → Type 0

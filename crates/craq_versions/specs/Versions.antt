@@ -1,6 +1,6 @@
 -- Versions of one object, each with what it holds (a value, or where one is written): consecutive and rising. At most one is
 -- clean, the first.
-use Rattle.std.specs.Prelude.{◌≡◌, ◌⊎◌, ⊤, ℕ, ◌+◌, ◌≤◌, ◌^◌, ◌<◌, nat_le, Bool, IsTrue, if◌then◌else◌, List, [], ◌∷◌, filter, length, unwrap_or, Option, Some, None, IsSome}
+use Rattle.std.specs.Prelude.{◌≡◌, ◌⊎◌, ⊤, ℕ, ◌+◌, ◌-◌, ◌≤◌, ◌^◌, ◌<◌, nat_le, Bool, IsTrue, if◌then◌else◌, List, [], ◌∷◌, filter, length, take, unwrap_or, Option, Some, None, IsSome}
 use Rattle.std.specs.List.{last_or}
 use Rattle.craq_names.specs.Maps.{at_number}
 
@@ -18,6 +18,11 @@ numbered first (held ∷ rest) = (first, held) ∷ numbered (first + 1) rest
 abbrev pub newest_of : {V : Type 0} → List (ℕ × V) → Option (ℕ × V)
 newest_of vs = last_or None vs
 
+-- the oldest one
+abbrev pub first_of : {V : Type 0} → List (ℕ × V) → Option (ℕ × V)
+first_of [] = None
+first_of (v ∷ vs) = Some v
+
 -- the newest version that is not above a bound
 abbrev pub newest_within : {V : Type 0} → List (ℕ × V) → ℕ → Option (ℕ × V)
 newest_within [] bound = None
@@ -26,6 +31,18 @@ newest_within (v ∷ vs) bound = if nat_le v.0 bound then Some (unwrap_or (newes
 -- the versions from this one on
 abbrev pub versions_from : {V : Type 0} → List (ℕ × V) → ℕ → List (ℕ × V)
 versions_from vs version = filter (λ v. nat_le version v.0) vs
+
+-- this version is the first, and this is held of it
+abbrev pub versions_settled : {V : Type 0} → List (ℕ × V) → ℕ → V → List (ℕ × V)
+versions_settled vs version held = (version, held) ∷ versions_from vs (version + 1)
+
+-- all but the newest
+abbrev pub without_newest : {V : Type 0} → List (ℕ × V) → List (ℕ × V)
+without_newest vs = take (length vs - 1) vs
+
+-- the clean one, once the newest is taken back
+abbrev pub clean_without : {V : Type 0} → List (ℕ × V) → ℕ → ℕ
+clean_without vs clean = if nat_le (length vs) 1 then 0 else clean
 
 -- each version is one above the one before it
 abbrev pub AreConsecutive : {V : Type 0} → List (ℕ × V) → Type 0

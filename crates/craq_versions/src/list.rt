@@ -1,13 +1,17 @@
-ghost use Rattle.std.specs.Prelude.{◌≡◌, ◌≢◌, ◌+◌, ◌-◌, ◌<◌, ◌≤◌, [], ◌∷◌, ◌++◌, ◌==◌, if◌then◌else◌, max, drop, length, IsOk, OnOk, OnErr, IsTrue, ◌↔◌};
+//! The versions of one object. A table has such a list for each key.
+ghost use Rattle.std.specs.Prelude.{◌≡◌, ◌≢◌, ◌+◌, ◌-◌, ◌<◌, ◌≤◌, [], ◌∷◌, ◌++◌, ◌==◌, if◌then◌else◌, max, drop, false, length, map, IsOk, IsSome, OnOk, OnErr, IsTrue, ◌↔◌};
 ghost use Rattle.std.specs.Option.{option_copied, option_map};
 ghost use Rattle.std.specs.VecDeque.{deque_len, deque_capacity};
 ghost use Rattle.craq_names.specs.Maps.{at_number};
-ghost use Rattle.craq_versions.specs.Versions.{newest_of, newest_within, versions_from, AreVersions, CanPush, CanSettle};
+ghost use Rattle.craq_versions.specs.Versions.{clean_without, first_of, newest_of, newest_within, versions_from, versions_settled, without_newest, AreVersions, CanPush, CanSettle};
 
 use craq_names::Version;
 use std::alloc::{AllocError, Global};
 use std::collections::VecDeque;
 use std::marker::Model;
+
+// How many items a queue keeps memory for.
+const FEW: usize = 4;
 
 /// The versions of one object that a node holds, each with what is held of it, as its value: consecutive and rising. At most
 /// one is clean, the first; those after it are dirty (clean and dirty versions as in the USENIX ATC 2009 paper).
@@ -65,6 +69,23 @@ impl<V: Drop> VersionList<V> {
                 held,
             )),
         }
+    }
+
+    /// The oldest version and what is held of it, where there is one. It takes no memory.
+    pub fn oldest(&self) -> Option<(Version, &V)>
+        ensures { option_map (λ found. (found.0, found.1.now)) result ≡ first_of self.now.versions }
+    {
+        match self.items.front() {
+            None => None,
+            Some(held) => Some((Version::new(self.first), held)),
+        }
+    }
+
+    /// What is held of the versions, oldest first. It takes no memory.
+    pub fn held(&self) -> &VecDeque<V>
+        ensures { result.now.items ≡ map (λ v. v.1) self.now.versions }
+    {
+        &self.items
     }
 
     /// The clean version, 0 where none is clean. It takes no memory.
@@ -152,6 +173,32 @@ impl<V: Drop> VersionList<V> {
         self.first = version;
         self.has_clean = true;
     }
+
+    /// Makes this version, which is one of them, the clean one, lets go those that are older, and holds this of it from
+    /// then on. It takes no memory.
+    pub fn settle_as(&mut self, version: Version, held: V)
+        requires { IsSome (at_number self.old.versions version) }
+        ensures versions { self.new.versions ≡ versions_settled self.old.versions version held }
+        ensures clean { self.new.clean ≡ version }
+        ensures were_versions { AreVersions self.old.versions self.old.clean }
+    {
+        let settled = version.get();
+        replace_first(&mut self.items, (settled - self.first) as usize, held);
+        self.first = settled;
+        self.has_clean = true;
+    }
+
+    /// Takes the newest version back, where there is one; none is clean once none is left. It takes no memory.
+    pub fn pop(&mut self)
+        ensures versions { self.new.versions ≡ without_newest self.old.versions }
+        ensures clean { self.new.clean ≡ clean_without self.old.versions self.old.clean }
+        ensures were_versions { AreVersions self.old.versions self.old.clean }
+        ensures are_versions { AreVersions self.new.versions self.new.clean }
+        ensures room { self.old.room ≤ self.new.room }
+    {
+        self.items.pop_back();
+        self.has_clean = still_clean(self.items.len(), self.has_clean);
+    }
 }
 
 // The first version, once this one is pushed to so many.
@@ -161,6 +208,13 @@ fn first_with(count: usize, first: u64, pushed: u64) -> u64
     if count == 0 { pushed } else { first }
 }
 
+// Whether a version is clean, once so many are left.
+fn still_clean(count: usize, has_clean: bool) -> bool
+    ensures { result ≡ (if count == 0 then false else has_clean) }
+{
+    if count == 0 { false } else { has_clean }
+}
+
 // Drops the first of the items, this many. The queue keeps its memory.
 fn let_go<V: Drop>(items: &mut VecDeque<V>, count: usize)
     requires { count ≤ deque_len items.old }
@@ -168,4 +222,28 @@ fn let_go<V: Drop>(items: &mut VecDeque<V>, count: usize)
     ensures capacity { deque_capacity items.new ≡ deque_capacity items.old }
 {
     items.drain(..count);
+}
+
+// Drops the first of the items, this many, and puts another in place of the one after them. The queue lets go of memory
+// that it doesn't need once one item is left.
+fn replace_first<V: Drop>(items: &mut VecDeque<V>, count: usize, first: V)
+    requires { count < deque_len items.old }
+    ensures items { items.new.items ≡ first ∷ drop (count + 1) items.old.items }
+{
+    let_go(items, count);
+    if let Some(oldest) = items.front_mut() {
+        *oldest = first;
+    }
+    if items.len() == 1 {
+        trim(items);
+    }
+}
+
+// Lets go of memory that a few items don't need.
+fn trim<V: Drop>(items: &mut VecDeque<V>)
+    ensures items { items.new.items ≡ items.old.items }
+{
+    if items.capacity() > FEW {
+        items.shrink_to_fit();
+    }
 }

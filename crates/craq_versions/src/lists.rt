@@ -1,9 +1,9 @@
 //! The lists of a table, by key. A list without versions only has room.
-ghost use Rattle.std.specs.Prelude.{◌≡◌, ◌+◌, ◌<◌, ◌≤◌, [], None, IsSome, IsOk, OnOk, OnErr};
+ghost use Rattle.std.specs.Prelude.{◌≡◌, ◌≢◌, ℕ, ◌+◌, ◌<◌, ◌≤◌, List, [], ◌∷◌, None, IfOk, IsSome, IsOk, OnOk, OnErr, if◌then◌else◌};
 ghost use Rattle.std.specs.BTreeMap.{get, IsOrdered};
-ghost use Rattle.craq_names.specs.Maps.{key_cmp, put_key};
-ghost use Rattle.craq_versions.specs.Versions.{CanPush, CanSettle};
-ghost use Rattle.craq_versions.specs.Tables.{table_of, held_at, room_at, pushed, settled, KeepsRoom, KeepsOthersRoom};
+ghost use Rattle.craq_names.specs.Maps.{at_number, key_cmp, put_key, same_bytes};
+ghost use Rattle.craq_versions.specs.Versions.{AreVersions, CanPush, CanSettle};
+ghost use Rattle.craq_versions.specs.Tables.{table_of, held_at, held_in, popped, room_at, pushed, settled, settled_as, KeepsRoom, KeepsOthersRoom};
 
 use crate::VersionList;
 use craq_names::{Copied, Key, Version};
@@ -72,14 +72,68 @@ pub fn settle_in<V: Drop>(lists: &mut Lists<V>, key: &Key, version: Version)
     }
 }
 
-/// One more version of a key that has a list.
+/// Settles a version of a key, of which this is held from then on.
+pub fn settle_as_in<V: Drop>(lists: &mut Lists<V>, key: &Key, version: Version, held: V)
+    requires { IsSome (at_number (held_at (table_of lists.old.entries) key.now).versions version) }
+    ensures objects { (table_of lists.new.entries).objects ≡ put_key (table_of lists.old.entries).objects key.now (settled_as (held_at (table_of lists.old.entries) key.now) version held) }
+    ensures rooms { KeepsOthersRoom (table_of lists.old.entries) (table_of lists.new.entries) key.now }
+    ensures were_versions { AreVersions (held_at (table_of lists.old.entries) key.now).versions (held_at (table_of lists.old.entries) key.now).clean }
+    ensures ordered { IsOrdered key_cmp lists.new }
+{
+    if let Some(list) = lists.get_mut(key) {
+        list.settle_as(version, held);
+    }
+}
+
+/// Takes the newest version of a key back, where there is one.
+pub fn pop_in<V: Drop>(lists: &mut Lists<V>, key: &Key)
+    requires { IsOrdered key_cmp lists.old }
+    ensures held { (q : List ℕ) → held_at (table_of lists.new.entries) q ≡ (if same_bytes key.now q then popped (held_at (table_of lists.old.entries) q) else held_at (table_of lists.old.entries) q) }
+    ensures room { KeepsRoom (table_of lists.old.entries) (table_of lists.new.entries) }
+    ensures ordered { IsOrdered key_cmp lists.new }
+{
+    if let Some(list) = lists.get_mut(key) {
+        list.pop();
+    }
+}
+
+// A list of one version.
+fn list_of_one<V: Drop>(
+    alloc: Global,
+    version: Version,
+    held: V,
+) -> Result<VersionList<V>, AllocError>
+    requires { 1 ≤ version }
+    ensures versions { IfOk result (λ list. list.versions ≡ (version, held) ∷ []) }
+    ensures clean { IfOk result (λ list. list.clean ≡ 0) }
+{
+    let mut list = VersionList::new(alloc);
+    list.push(version, held)?;
+    Ok(list)
+}
+
+// Puts in a list of one version for a key that has no list. Where memory is refused the lists stay.
+fn put_list<V: Drop>(lists: &mut Lists<V>, key: Key, list: VersionList<V>) -> Result<(), AllocError>
+    requires absent { get key_cmp lists.old key ≡ None }
+    requires some { list.versions ≢ [] }
+    ensures ok { OnOk result ((table_of lists.new.entries).objects ≡ put_key (table_of lists.old.entries).objects key (held_in list)) }
+    ensures err { OnErr result ((table_of lists.new.entries).objects ≡ (table_of lists.old.entries).objects) }
+    ensures rooms { KeepsOthersRoom (table_of lists.old.entries) (table_of lists.new.entries) key }
+    ensures ordered { IsOrdered key_cmp lists.new }
+{
+    lists.insert(key, list)?;
+    Ok(())
+}
+
+/// One more version of a key. It looks the key up once, or twice where the key has no list yet.
 pub fn push_in<V: Drop>(
+    alloc: Global,
     lists: &mut Lists<V>,
     key: &Key,
     version: Version,
     held: V,
 ) -> Result<(), AllocError>
-    requires placed { IsSome (get key_cmp lists.old key.now) }
+    requires ordered { IsOrdered key_cmp lists.old }
     requires next { CanPush (held_at (table_of lists.old.entries) key.now).versions version }
     ensures ok { OnOk result ((table_of lists.new.entries).objects ≡ put_key (table_of lists.old.entries).objects key.now (pushed (held_at (table_of lists.old.entries) key.now) version held)) }
     ensures err { OnErr result ((table_of lists.new.entries).objects ≡ (table_of lists.old.entries).objects) }
@@ -90,6 +144,10 @@ pub fn push_in<V: Drop>(
 {
     match lists.get_mut(key) {
         Some(list) => list.push(version, held),
-        None => Ok(()),
+        None => {
+            let list = list_of_one(alloc, version, held)?;
+            let key = key.copied(alloc)?;
+            put_list(lists, key, list)
+        }
     }
 }

@@ -1,12 +1,13 @@
-ghost use Rattle.std.specs.Prelude.{◌≡◌, ◌+◌, ◌<◌, ◌≤◌, [], map, IsOk, OnOk, OnErr};
+//! The lists of versions by key. A past that forgets settled entries holds one such table.
+ghost use Rattle.std.specs.Prelude.{◌≡◌, ℕ, ◌+◌, ◌<◌, ◌≤◌, List, [], map, IsOk, IsSome, OnOk, OnErr, if◌then◌else◌};
 ghost use Rattle.std.specs.Option.{option_map};
 ghost use Rattle.std.specs.List.{AllByRecursion};
 ghost use Rattle.std.specs.List.Sorted.{IsStrictlySortedBy};
-ghost use Rattle.craq_names.specs.Maps.{at_key, key_cmp, put_key};
-ghost use Rattle.craq_versions.specs.Versions.{CanPush, CanSettle};
-ghost use Rattle.craq_versions.specs.Tables.{held_at, held_in, room_at, pushed, settled, KeepsRoom, KeepsOthersRoom};
+ghost use Rattle.craq_names.specs.Maps.{at_key, at_number, key_cmp, put_key, same_bytes};
+ghost use Rattle.craq_versions.specs.Versions.{AreVersions, CanPush, CanSettle};
+ghost use Rattle.craq_versions.specs.Tables.{held_at, held_in, popped, room_at, pushed, settled, settled_as, KeepsRoom, KeepsOthersRoom};
 
-use crate::lists::{Lists, place, push_in, reserve_in, settle_in};
+use crate::lists::{Lists, place, pop_in, push_in, reserve_in, settle_as_in, settle_in};
 use crate::{Keys, Objects, VersionList};
 use craq_names::{Key, Version};
 use std::alloc::{AllocError, Global};
@@ -56,8 +57,8 @@ impl<V: Drop> ObjectTable<V> {
         reserve_in(&mut self.lists, key)
     }
 
-    /// One more version of the key, the next, with what is held of it. Where memory is refused the versions stay;
-    /// where there is room it isn't.
+    /// One more version of the key, the next, with what is held of it. It looks the key up once, or twice where the key is
+    /// new. Where memory is refused the versions stay; where there is room it isn't.
     pub fn push(&mut self, key: &Key, version: Version, held: V) -> Result<(), AllocError>
         requires { CanPush (held_at self.old key.now).versions version }
         ensures ok { OnOk result (self.new.objects ≡ put_key self.old.objects key.now (pushed (held_at self.old key.now) version held)) }
@@ -66,8 +67,17 @@ impl<V: Drop> ObjectTable<V> {
         ensures rooms { KeepsOthersRoom self.old self.new key.now }
         ensures succeeds { 0 < room_at self.old key.now → IsOk result }
     {
-        place(self.alloc, &mut self.lists, key)?;
-        push_in(&mut self.lists, key, version, held)
+        push_in(self.alloc, &mut self.lists, key, version, held)
+    }
+
+    /// Takes the newest version of the key back, where there is one; none of the key is clean once none is left. It takes
+    /// no memory.
+    pub fn pop(&mut self, key: &Key)
+        ensures held { (q : List ℕ) → held_at self.new q ≡ (if same_bytes key.now q then popped (held_at self.old q) else held_at self.old q) }
+        ensures rising { IsStrictlySortedBy key_cmp (map (λ o. o.0) self.new.objects) }
+        ensures room { KeepsRoom self.old self.new }
+    {
+        pop_in(&mut self.lists, key);
     }
 
     /// Makes room for one more version of each of these keys, whose next `push` then takes no memory. The
@@ -92,6 +102,17 @@ impl<V: Drop> ObjectTable<V> {
         ensures room { KeepsRoom self.old self.new }
     {
         settle_in(&mut self.lists, key, version);
+    }
+
+    /// Makes this version of the key, which is one of them, the clean one, lets go those that are older, and holds this of it
+    /// from then on. It takes no memory.
+    pub fn settle_as(&mut self, key: &Key, version: Version, held: V)
+        requires { IsSome (at_number (held_at self.old key.now).versions version) }
+        ensures objects { self.new.objects ≡ put_key self.old.objects key.now (settled_as (held_at self.old key.now) version held) }
+        ensures were_versions { AreVersions (held_at self.old key.now).versions (held_at self.old key.now).clean }
+        ensures rooms { KeepsOthersRoom self.old self.new key.now }
+    {
+        settle_as_in(&mut self.lists, key, version, held);
     }
 
     /// The versions of a key, where it has some. It takes no memory.

@@ -1,9 +1,10 @@
-use Rattle.std.proofs.Common.{◌≤◌, ◌-◌}
-use Rattle.std.specs.BTreeMap.{IsOrdered}
-use Rattle.craq_names.specs.Maps.{key_cmp}
+use Rattle.std.proofs.Common.{◌≤◌, ◌-◌, ℕ, List}
+use Rattle.craq_commands.specs.Objects.{version_of}
+use Rattle.craq_model.specs.Past.{values_after}
 use Rattle.craq_settled.specs.Folded.{AreFolded}
-use Rattle.craq_settled.specs.Listed.{LaterAreSettled}
-use Rattle.craq_settled.specs.Placed.{objects_of, state_at}
+use Rattle.craq_settled.specs.Followed.{AreNext}
+use Rattle.craq_settled.specs.Listed.{AreListed}
+use Rattle.craq_settled.specs.Placed.{objects_of, state_at, IsRising}
 use Rattle.craq_settled.proofs.folding.fold.Given as goal
 
 -- the entries so far are folded
@@ -11,9 +12,10 @@ abbrev pub invariant-loop-alloc : goal.invariant-loop-alloc
 invariant-loop-alloc l = record {
   from : l.initial.entries.base ≤ l.entries.base;
   to : l.entries.base ≤ l.position;
-  folded : AreFolded (state_at (objects_of l.initial.places.entries) l.initial.replies.kept) l.initial.entries (state_at (objects_of l.places.entries) l.replies.kept) l.entries;
-  later : LaterAreSettled l.initial.places.entries l.initial.entries l.places.entries l.entries;
-  ordered : IsOrdered key_cmp l.places;
+  folded : AreFolded (state_at (objects_of l.initial.table) l.initial.replies.kept) l.initial.entries (state_at (objects_of l.table) l.replies.kept) l.entries;
+  listed : AreListed l.table l.entries l.listed;
+  next : (q : List ℕ) → AreNext (version_of (objects_of l.table) q) (values_after l.entries.entries q);
+  rising : IsRising l.table;
 }
 
 abbrev pub decreases-loop-alloc : goal.decreases-loop-alloc

@@ -1,13 +1,37 @@
-use Rattle.std.proofs.Common.{◌≡◌, ◌≤◌, ◌+◌, Bool, ap, ◌∙◌, arith}
-use Rattle.std.specs.Prelude.{if◌then◌else◌}
-use Rattle.craq_settled.proofs.Settling.{at_most_one, more_settled}
+use Rattle.std.proofs.Common.{◌≡◌, ◌≤◌, ◌+◌, ◌-◌, List, take, length, refl, ap, arith}
+use Rattle.craq_commands.specs.declared.entry.Entry.{Entry}
+use Rattle.craq_log.specs.Suffixed.{length_of}
+use Rattle.craq_settled.specs.Placed.{objects_of}
+use Rattle.craq_settled.proofs.Following.{begins_listed, next_folded, next_of_same}
+use Rattle.craq_settled.proofs.Settling.{first_settled, left_is, listed_left}
 use Rattle.craq_settled.proofs.folding.fold_first.Goals as goal
 
-pub returns-clause-later : goal.returns-clause-later
-returns-clause-later c =
+pub fold_one-requires-clause-listed : goal.fold_one-requires-clause-listed
+fold_one-requires-clause-listed c = begins_listed c.make_room.new.table c.args.entries.now c.take_first.new.self c.make_room.new.listed c.in-Some.entry c.make_room.ensures.listed c.in_ok-make_room.ensures.first c.in-Some.ensures
+
+pub fold_one-requires-clause-room : goal.fold_one-requires-clause-room
+fold_one-requires-clause-room c = c.in_ok-make_room.ensures.room c.in-Some.entry (ap (λ (l : List Entry). take 1 l) c.in-Some.ensures.entries)
+
+pub returns-in-Some-clause-listed : goal.returns-in-Some-clause-listed
+returns-in-Some-clause-listed c =
     let old = c.args.entries.now in
-    let mid = c.fold_in_place.new.entries in
-    let same : mid.base ≡ old.base + 0 = c.in_ok-fold_in_place.ensures.ok ∙ ap (λ (b : Bool). old.base + (if b then 1 else 0)) c.if-branch.false in
-    let low : old.base ≤ mid.base = omega (arith, same) in
-    let high : mid.base ≤ c.fold_with_room.new.entries.base = at_most_one c.fold_with_room.result mid.base c.fold_with_room.new.entries.base c.fold_with_room.ensures.ok c.fold_with_room.ensures.err in
-    more_settled _ _ _ old mid c.fold_with_room.new.entries low high c.fold_in_place.ensures.folded.entries c.fold_in_place.ensures.later c.fold_with_room.ensures.later
+    let new = c.take_first.new.self in
+    let first = c.in-Some.ensures in
+    let base = first.base in
+    let listed = c.make_room.new.listed in
+    let more = c.in_ok-make_room.ensures.first in
+    let before = c.make_room.ensures.listed in
+    let some = c.requires.some in
+    let to = before.to in
+    let low : old.base ≤ new.base = omega (arith, base) in
+    let high : new.base ≤ length_of old = omega (arith, base, some) in
+    let from : new.base ≤ listed = omega (arith, base, more) in
+    listed_left c.make_room.new.table c.fold_one.new.table old new listed listed low high from to refl (left_is old new c.in-Some.entry first) before (first_settled c.make_room.new.table c.fold_one.new.table old new c.in-Some.entry first c.fold_one.ensures.later)
+
+pub returns-in-Some-clause-next : goal.returns-in-Some-clause-next
+returns-in-Some-clause-next c =
+    next_folded (objects_of c.make_room.new.table) (objects_of c.fold_one.new.table) c.make_room.new.replies.kept c.fold_one.new.replies.kept c.args.entries.now c.take_first.new.self c.in-Some.entry c.fold_one.ensures.state c.in-Some.ensures
+    (next_of_same (objects_of c.args.table.now) (objects_of c.make_room.new.table) c.args.entries.now.entries c.make_room.ensures.objects c.requires.next)
+
+pub returns-in_err-make_room-clause-next : goal.returns-in_err-make_room-clause-next
+returns-in_err-make_room-clause-next c = next_of_same (objects_of c.args.table.now) (objects_of c.make_room.new.table) c.args.entries.now.entries c.make_room.ensures.objects c.requires.next

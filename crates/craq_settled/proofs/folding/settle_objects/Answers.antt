@@ -1,25 +1,31 @@
-use Rattle.std.proofs.Common.{sym, ◌∙◌, rules}
+use Rattle.std.proofs.Common.{ℕ, List, sym, subst, ◌∙◌, rules}
 use Rattle.std.proofs.lemmas.List.{nil_from_length}
 use Rattle.craq_commands.specs.declared.entry.Write.{Write}
-use Rattle.craq_node_invariant.proofs.Lists.{all_like}
-use Rattle.craq_settled.specs.Placed.{later_of, HasPlace}
+use Rattle.craq_model.specs.Past.{values_in}
+use Rattle.craq_settled.specs.Followed.{Begins}
+use Rattle.craq_settled.specs.Placed.{later_of}
+use Rattle.craq_settled.proofs.Following.{begins_after, starts_with}
 use Rattle.craq_settled.proofs.Settling.{write_settled, writes_settled}
 use Rattle.craq_settled.proofs.folding.settle_objects.Goals as goal
+
+pub settle_object-requires-clause-next : goal.settle_object-requires-clause-next
+settle_object-requires-clause-next c =
+    let w = c.in-Some.write in
+    starts_with w c.next.new.self.rest.items (later_of c.loop-write.table w.key) (subst (λ (l : List Write). Begins (values_in l w.key) (later_of c.loop-write.table w.key)) c.in-Some.ensures.steps.0 (c.loop-write.invariant.listed w.key))
 
 pub loop-write-preserved : goal.loop-write-preserved
 loop-write-preserved c =
     let left = c.next.new.self.rest.items in
     let step = c.in-Some.ensures.steps.0 in
-    let before : Write → Type 0 = λ w. HasPlace c.loop-write.places.entries w.key in
-    let now : Write → Type 0 = λ w. HasPlace c.settle_object.new.places.entries w.key in
+    let w = c.in-Some.write in
     record {
       written = search rules;
-      later = λ q. write_settled _ (later_of c.loop-write.places.entries q) _ _ left c.in-Some.write q step (c.loop-write.invariant.later q) (c.settle_object.ensures.later q);
-      placed = all_like before now left (λ w h. c.settle_object.ensures.keeps w.key h) (rw step at c.loop-write.invariant.placed).1;
-      ordered = c.settle_object.ensures.ordered;
+      later = λ q. write_settled _ (later_of c.loop-write.table q) _ _ left w q step (c.loop-write.invariant.later q) (c.settle_object.ensures.later q);
+      listed = λ q. begins_after w left (later_of c.loop-write.table q) (later_of c.settle_object.new.table q) q (c.settle_object.ensures.later q) (subst (λ (l : List Write). Begins (values_in l q) (later_of c.loop-write.table q)) step (c.loop-write.invariant.listed q));
+      rising = c.settle_object.ensures.rising;
     }
 
 pub returns-clause-later : goal.returns-clause-later
 returns-clause-later c =
     let rest = c.loop-write.write-iterator.rest in
-    λ q. writes_settled _ (later_of c.loop-write.places.entries q) rest.items q (nil_from_length rest.items (sym rest.ok.0 ∙ c.in-None.ensures.steps.0)) (c.loop-write.invariant.later q)
+    λ q. writes_settled _ (later_of c.loop-write.table q) rest.items q (nil_from_length rest.items (sym rest.ok.0 ∙ c.in-None.ensures.steps.0)) (c.loop-write.invariant.later q)

@@ -1,14 +1,15 @@
-use Rattle.std.proofs.Common.{◌≡◌, ◌++◌, ℕ, List, take}
-use Rattle.std.specs.BTreeMap.{IsOrdered}
-use Rattle.craq_names.specs.Maps.{key_cmp}
+use Rattle.std.proofs.Common.{◌≡◌, ◌++◌, ℕ, List, drop, take}
+use Rattle.craq_model.specs.Past.{values_in}
+use Rattle.craq_settled.specs.Followed.{AreNext}
 use Rattle.craq_settled.specs.Listed.{written_in}
-use Rattle.craq_settled.specs.Placed.{later_of, objects_of}
+use Rattle.craq_settled.specs.Placed.{later_of, newest_version, objects_of, versions_of, IsRising}
 use Rattle.craq_settled.proofs.listing.list_writes.Given as goal
 
--- the writes so far are listed
+-- the writes so far are listed, and the others give the next versions
 abbrev pub invariant-loop-index : goal.invariant-loop-index
 invariant-loop-index l = record {
-  objects : objects_of l.places.entries ≡ objects_of l.initial.places.entries;
-  later : (q : List ℕ) → later_of l.places.entries q ≡ later_of l.initial.places.entries q ++ written_in l.position 0 (take l.index l.writes) q;
-  ordered : IsOrdered key_cmp l.places;
+  objects : objects_of l.table ≡ objects_of l.initial.table;
+  later : (q : List ℕ) → later_of l.table q ≡ later_of l.initial.table q ++ written_in l.position 0 (take l.index l.writes) q;
+  next : (q : List ℕ) → AreNext (newest_version (versions_of l.table q)) (values_in (drop l.index l.writes) q);
+  rising : IsRising l.table;
 }

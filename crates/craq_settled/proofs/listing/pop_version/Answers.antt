@@ -1,19 +1,16 @@
-use Rattle.std.proofs.Common.{◌-◌, length, take, ap, ◌∙◌, rules}
-use Rattle.craq_names.specs.Maps.{same_bytes}
-use Rattle.craq_settled.specs.Placed.{later_in, later_of}
-use Rattle.craq_settled.proofs.Placing.{later_changed, objects_stay, newest_gone, nothing_gone}
+use Rattle.std.proofs.Common.{sym, ◌∙◌}
+use Rattle.craq_settled.proofs.Placing.{later_popped, nothing_popped, objects_popped, rising_popped}
 use Rattle.craq_settled.proofs.listing.pop_version.Goals as goal
 
-pub returns-in-Some-clause-objects : goal.returns-in-Some-clause-objects
-returns-in-Some-clause-objects c =
-    objects_stay c.args.places.now.entries _ c.args.key.now c.in-Some.place.now c.pop.new.self c.in-Some.ensures.value c.pop.ensures.settled c.get_mut.ensures.ordered (c.get_mut.follows.holds c.pop.new.self).4
-    ((c.get_mut.follows.holds c.pop.new.self).3 (search rules)).0
+pub returns-then-has_later_in-clause-objects : goal.returns-then-has_later_in-clause-objects
+returns-then-has_later_in-clause-objects c =
+    objects_popped c.args.table.now c.pop.new.self c.args.key.now c.requires (rising_popped c.pop.new.self c.pop.ensures.rising) c.pop.ensures.held (sym c.has_later_in.ensures ∙ c.if-has_later_in.true)
 
-pub returns-in-Some-clause-later : goal.returns-in-Some-clause-later
-returns-in-Some-clause-later c = λ q.
-    later_changed c.args.places.now.entries _ c.args.key.now c.pop.new.self (λ l. take (length l - 1) l) ((c.get_mut.follows.holds c.pop.new.self).3 (search rules)).0
-    (c.pop.ensures.later ∙ ap (λ o. take (length (later_in o) - 1) (later_in o)) c.in-Some.ensures.value) q
-    ∙ newest_gone (same_bytes c.args.key.now q) (later_of c.args.places.now.entries q)
+pub returns-then-has_later_in-clause-later : goal.returns-then-has_later_in-clause-later
+returns-then-has_later_in-clause-later c = later_popped c.args.table.now c.pop.new.self c.args.key.now c.pop.ensures.held (sym c.has_later_in.ensures ∙ c.if-has_later_in.true)
 
-pub returns-in_default-clause-later : goal.returns-in_default-clause-later
-returns-in_default-clause-later c = nothing_gone c.args.places.now.entries c.get_mut.follows.lender-at-none.entries c.args.key.now (search rules) c.in_default.ensures.value
+pub returns-then-has_later_in-clause-rising : goal.returns-then-has_later_in-clause-rising
+returns-then-has_later_in-clause-rising c = rising_popped c.pop.new.self c.pop.ensures.rising
+
+pub returns-else-has_later_in-clause-later : goal.returns-else-has_later_in-clause-later
+returns-else-has_later_in-clause-later c = nothing_popped c.args.table.now c.args.key.now (sym c.has_later_in.ensures ∙ c.if-has_later_in.false)

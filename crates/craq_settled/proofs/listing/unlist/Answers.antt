@@ -11,8 +11,8 @@ pub loop-write-init : goal.loop-write-init
 unfolding values_in
 loop-write-init c = record {
   objects = refl;
-  later = λ q. none_gone (later_of c.args.places.now.entries q);
-  ordered = c.requires;
+  later = λ q. none_gone (later_of c.args.table.now q);
+  rising = c.requires;
 }
 
 pub loop-write-preserved : goal.loop-write-preserved
@@ -22,10 +22,10 @@ loop-write-preserved c = record {
       let ws = c.args.writes.now in
       let i = c.loop-write.write-index in
       let w = c.write-item.result in
-      let l = later_of c.args.places.now.entries q in
+      let l = later_of c.args.table.now q in
       let one : ℕ = (if same_bytes w.key q then 1 else 0) in
       c.pop_version.ensures.later q
-      ∙ gone_twice l (later_of c.loop-write.places.entries q) (count_of (take i ws) q) one (c.loop-write.invariant.later q)
+      ∙ gone_twice l (later_of c.loop-write.table q) (count_of (take i ws) q) one (c.loop-write.invariant.later q)
       ∙ ap (λ (n : ℕ). take (length l - n) l) (sym (count_next ws i w q c.loop-write-test.true c.write-item.is));
-  ordered = c.pop_version.ensures.ordered;
+  rising = c.pop_version.ensures.rising;
 }

@@ -12,4 +12,4 @@ returns-clause-newest c =
     let found : ℕ × List ℕ = (c.seen_listed-seen.result.newest.0, c.seen_listed-seen.result.newest.1.now) in
     c.object_past.ensures.object
     ∙ ap (λ (es : List Entry). last_value found (values_after es c.args.key.now)) c.from.ensures.entries
-    ∙ found_after (c.args.listed - c.args.entries.now.base) c.args.entries.now.entries c.args.key.now (object_of (objects_of c.args.places.now.entries) c.args.key.now) found c.seen_listed-seen.ensures.newest
+    ∙ found_after (c.args.listed - c.args.entries.now.base) c.args.entries.now.entries c.args.key.now (object_of (objects_of c.args.table.now) c.args.key.now) found c.seen_listed-seen.ensures.newest

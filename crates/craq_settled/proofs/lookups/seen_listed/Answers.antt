@@ -3,28 +3,33 @@ use Rattle.craq_commands.specs.Objects.{object_of}
 use Rattle.craq_model.specs.Past.{values_after}
 use Rattle.craq_plain.specs.Scans.{last_value}
 use Rattle.craq_settled.specs.Placed.{objects_of}
-use Rattle.craq_settled.proofs.Placing.{no_object, object_here}
-use Rattle.craq_settled.proofs.Looked.{none_in_no_place, seen_in_place}
+use Rattle.craq_settled.proofs.Placing.{absent_here, found_here, listed_here, none_here}
+use Rattle.craq_settled.proofs.Looked.{none_listed_of, seen_listed}
 use Rattle.craq_settled.proofs.lookups.seen_listed.Goals as goal
 
 pub newest_of-requires : goal.newest_of-requires
-newest_of-requires c = (_, seen_in_place c.args.places.now.entries c.args.entries.now c.args.listed c.args.key.now c.in-Some.place.now c.requires.listed c.in-Some.ensures.value)
+newest_of-requires c =
+    let t = c.args.table.now in
+    (_, seen_listed t c.args.entries.now c.args.listed c.args.key.now c.in-Some.list.now.versions c.requires.listed (found_here t c.args.key.now c.in-Some.list.now c.in-Some.ensures))
 
 pub returns-in-None-clause-newest : goal.returns-in-None-clause-newest
 unfolding last_value
 returns-in-None-clause-newest c =
-    let o : ℕ × List ℕ = object_of (objects_of c.args.places.now.entries) c.args.key.now in
-    let none = none_in_no_place c.args.places.now.entries c.args.entries.now c.args.listed c.args.key.now c.requires.listed c.in-None.ensures.value in
-    rw c.new-in-None.ensures (no_object c.args.places.now.entries c.args.key.now c.requires.ordered c.in-None.ensures.value ∙ ap (λ (vs : List (ℕ × List ℕ)). last_value o vs) (sym none))
+    let t = c.args.table.now in
+    let o : ℕ × List ℕ = object_of (objects_of t) c.args.key.now in
+    let none = none_listed_of t c.args.entries.now c.args.listed c.args.key.now c.requires.listed (none_here t c.args.key.now c.in-None.ensures) in
+    rw c.new-in-None.ensures (absent_here t c.args.key.now c.requires.rising c.in-None.ensures ∙ ap (λ (vs : List (ℕ × List ℕ)). last_value o vs) (sym none))
 
 pub returns-in-Some-clause-newest : goal.returns-in-Some-clause-newest
 returns-in-Some-clause-newest c =
-    let vs : List (ℕ × List ℕ) = values_after (take (c.args.listed - c.args.entries.now.base) c.args.entries.now.entries) c.args.key.now in
-    c.newest_of.ensures.object vs (seen_in_place c.args.places.now.entries c.args.entries.now c.args.listed c.args.key.now c.in-Some.place.now c.requires.listed c.in-Some.ensures.value)
-    ∙ ap (λ (o : ℕ × List ℕ). last_value o vs) (object_here c.args.places.now.entries c.args.key.now c.in-Some.place.now c.requires.ordered c.in-Some.ensures.value)
+    let t = c.args.table.now in
+    let key = c.args.key.now in
+    let vs : List (ℕ × List ℕ) = values_after (take (c.args.listed - c.args.entries.now.base) c.args.entries.now.entries) key in
+    c.newest_of.ensures.object vs (seen_listed t c.args.entries.now c.args.listed key c.in-Some.list.now.versions c.requires.listed (found_here t key c.in-Some.list.now c.in-Some.ensures))
+    ∙ ap (λ (o : ℕ × List ℕ). last_value o vs) (listed_here t key c.in-Some.list.now c.requires.rising c.in-Some.ensures)
 
 pub returns-in-None-clause-settled : goal.returns-in-None-clause-settled
-returns-in-None-clause-settled c = rw c.new.ensures (no_object c.args.places.now.entries c.args.key.now c.requires.ordered c.in-None.ensures.value)
+returns-in-None-clause-settled c = rw c.new.ensures (absent_here c.args.table.now c.args.key.now c.requires.rising c.in-None.ensures)
 
 pub returns-in-Some-clause-settled : goal.returns-in-Some-clause-settled
-returns-in-Some-clause-settled c = c.object.ensures.object ∙ object_here c.args.places.now.entries c.args.key.now c.in-Some.place.now c.requires.ordered c.in-Some.ensures.value
+returns-in-Some-clause-settled c = c.settled_object.ensures.object ∙ listed_here c.args.table.now c.args.key.now c.in-Some.list.now c.requires.rising c.in-Some.ensures

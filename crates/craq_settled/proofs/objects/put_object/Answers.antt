@@ -1,11 +1,16 @@
-use Rattle.std.proofs.Common.{ap}
-use Rattle.craq_versions.specs.PlacedVersions.{PlacedVersions}
-use Rattle.craq_settled.proofs.Placing.{later_none, objects_put}
+use Rattle.craq_settled.proofs.Placing.{first_can, later_first, objects_first, rising_put}
+use Rattle.craq_settled.proofs.Results.{ok_then}
+use Rattle.craq_settled.specs.Placed.{versions_of}
 use Rattle.craq_settled.proofs.objects.put_object.Goals as goal
 
+pub push-requires : goal.push-requires
+push-requires c = first_can (versions_of c.args.table.now c.args.key.now) c.args.version c.requires.absent c.requires.written
+
 pub returns-clause-objects : goal.returns-clause-objects
-returns-clause-objects c =
-    objects_put c.args.places.now.entries c.insert.new.self.entries c.args.key c.of.result (c.args.version, c.args.value) (ap (λ (x : PlacedVersions). x.settled) c.of.ensures) c.insert.ensures.was_ordered c.insert.ensures.ordered c.in_ok-insert.ensures.updates.0
+returns-clause-objects c = ok_then c.push.result (λ is. objects_first c.args.table.now c.push.new.self c.args.key.now c.args.version c.args.value c.requires.rising c.requires.absent is) c.push.ensures.ok
 
 pub returns-clause-later : goal.returns-clause-later
-returns-clause-later c = later_none c.args.places.now.entries c.insert.new.self.entries c.args.key c.of.result (ap (λ (x : PlacedVersions). x.later) c.of.ensures) c.in_ok-insert.ensures.updates.0
+returns-clause-later c = ok_then c.push.result (λ is. later_first c.args.table.now c.push.new.self c.args.key.now c.args.version c.args.value c.requires.absent is) c.push.ensures.ok
+
+pub returns-clause-rising : goal.returns-clause-rising
+returns-clause-rising c = ok_then c.push.result (λ is. rising_put c.args.table.now c.push.new.self c.args.key.now _ is c.requires.rising) c.push.ensures.ok

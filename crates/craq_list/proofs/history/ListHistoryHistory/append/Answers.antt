@@ -1,7 +1,17 @@
-use Rattle.std.proofs.Common.{◌≡◌, ℕ, ◌+◌, ◌-◌, ◌<◌, ◌≤◌, ◌^◌, List, length, drop, ap, ◌∙◌, arith, length-append, length-drop}
+use Rattle.std.proofs.Common.{◌≡◌, ℕ, ◌+◌, ◌-◌, ◌<◌, ◌≤◌, ◌^◌, List, length, drop, ap, subst, ◌∙◌, arith, length-append, length-drop}
 use Rattle.craq_commands.specs.declared.entry.Entry.{Entry}
+use Rattle.craq_commands.specs.declared.state.State.{State}
+use Rattle.craq_compaction.proofs.Pasts.{compacted_newest}
+use Rattle.craq_settled.specs.Followed.{AreNextVersions}
+use Rattle.craq_settled.proofs.Applicable.{are_next}
+use Rattle.craq_list.specs.Stored.{stored}
 use Rattle.craq_list.proofs.Unsettled.{told_appended}
 use Rattle.craq_list.proofs.history.ListHistoryHistory.append.Goals as goal
+
+pub append-requires-clause-next : goal.append-requires-clause-next
+append-requires-clause-next c =
+    let h = stored c.args.self.now.held.base c.args.self.now.held.state c.args.self.now.held.entries c.args.self.now.acknowledged in
+    subst (λ (s : State). AreNextVersions s c.args.entries) (compacted_newest h) (are_next _ c.args.entries c.requires.applicable c.requires.spelled)
 
 pub from-later-requires-clause-held : goal.from-later-requires-clause-held
 from-later-requires-clause-held c =

@@ -1,0 +1,161 @@
+-- Versions that follow one another, as entries are listed, folded and appended.
+use Rattle.std.proofs.Common.{◌≡◌, ℕ, zero, suc, ◌+◌, ◌-◌, ◌<◌, ◌≤◌, Bool, true, false, cond, List, [], ◌∷◌, ◌++◌, length, take, drop, drop-cons, get_or, Option, Some, None, unwrap_or, refl, sym, ◌∙◌, ap, subst, arith, add-one}
+use Rattle.std.specs.List.{AllZip, last_or}
+use Rattle.std.specs.Prelude.{if◌then◌else◌}
+use Rattle.craq_names.specs.Maps.{same_bytes}
+use Rattle.craq_commands.specs.declared.entry.Entry.{Entry}
+use Rattle.craq_commands.specs.declared.entry.Write.{Write}
+use Rattle.craq_commands.specs.declared.state.State.{State}
+use Rattle.craq_commands.specs.Kept.{Window}
+use Rattle.craq_commands.specs.Objects.{Objects, object_of, version_of}
+use Rattle.craq_commands.specs.SingleCopy.{after_entry, after_entries}
+use Rattle.craq_log.specs.Suffixed.{Suffixed, IsFirstOf, length_of}
+use Rattle.craq_model.specs.Past.{values_in, values_after}
+use Rattle.craq_plain.specs.Scans.{last_value}
+use Rattle.craq_plain.proofs.Scans.{last_of_values}
+use Rattle.craq_versions.specs.Versions.{CanPush, Follows, newest_of}
+use Rattle.craq_settled.specs.declared.places.Place.{Place}
+use Rattle.craq_settled.specs.Followed.{AreNext, AreNextVersions, Begins}
+use Rattle.craq_settled.specs.Listed.{AreListed, version_at, written_in, written_after}
+use Rattle.craq_settled.specs.Placed.{Placed, later_of, newest_version, number_of, objects_of, settled_in, state_at, versions_of, IsRising, StartsAt}
+use Rattle.craq_settled.proofs.Found.{newest_number, values-append, values_split}
+use Rattle.craq_settled.proofs.Looked.{seen_listed}
+use Rattle.craq_settled.proofs.Placing.{none_more, object_here, own}
+
+next_front : (n : ℕ) (xs ys : List (ℕ × List ℕ)) → AreNext n (xs ++ ys) → AreNext n xs
+next_front n [] ys h = tt
+next_front n (x ∷ xs) ys h = (h.0, next_front x.0 xs ys h.1)
+
+next_back : (o : ℕ × List ℕ) (xs ys : List (ℕ × List ℕ)) → AreNext o.0 (xs ++ ys) → AreNext (last_value o xs).0 ys
+unfolding last_value
+next_back o [] ys h = h
+next_back o (x ∷ xs) ys h = next_back x xs ys h.1
+
+pub next_join : (o : ℕ × List ℕ) (xs ys : List (ℕ × List ℕ)) → AreNext o.0 xs → AreNext (last_value o xs).0 ys → AreNext o.0 (xs ++ ys)
+unfolding last_value
+next_join o [] ys first second = second
+next_join o (x ∷ xs) ys first second = (first.0, next_join x xs ys first.1 second)
+
+-- the first of some writes gives the next version
+next_write : (n : ℕ) (w : Write) (ws : List Write) → AreNext n (values_in (w ∷ ws) w.key) → w.version ≡ n + 1
+unfolding values_in
+next_write n w ws h =
+    let split : (b : Bool) → b ≡ true → AreNext n (cond b ((w.version, w.value) ∷ values_in ws w.key) (values_in ws w.key)) → w.version ≡ n + 1 = elim [ true ↦ λ e h. h.0 | false ↦ λ e h. cc ] in
+    split (same_bytes w.key w.key) (own w.key) h
+
+follows : (version : ℕ) (o : Option (ℕ × Place)) → version ≡ number_of o + 1 → Follows version o
+follows version None is = tt
+follows version (Some v) is = is
+
+-- so it can be pushed
+can_push : (vs : List (ℕ × Place)) (version : ℕ) → version ≡ newest_version vs + 1 → CanPush vs version
+can_push vs version is = let one : 1 ≤ version = omega (arith, is) in (one, follows version (newest_of vs) is)
+
+rest_is : (ws : List Write) (i : ℕ) (w : Write) → i < length ws → w ≡ get_or ws i w → drop i ws ≡ w ∷ drop (i + 1) ws
+rest_is ws i w low is = drop-cons ws i w low ∙ ap (λ (x : Write). x ∷ drop (suc i) ws) (sym is) ∙ ap (λ (n : ℕ). w ∷ drop n ws) (sym (add-one i))
+
+pub push_next : (vs : List (ℕ × Place)) (ws : List Write) (i : ℕ) (w : Write) → i < length ws → w ≡ get_or ws i w → AreNext (newest_version vs) (values_in (drop i ws) w.key) → CanPush vs w.version
+push_next vs ws i w low is h = can_push vs w.version (next_write (newest_version vs) w (drop (i + 1) ws) (subst (λ (l : List Write). AreNext (newest_version vs) (values_in l w.key)) (rest_is ws i w low is) h))
+
+newest_last : (o : Option (ℕ × Place)) (vs : List (ℕ × Place)) (v : ℕ × Place) → last_or o (vs ++ v ∷ []) ≡ Some v
+newest_last o [] v = refl
+newest_last o (w ∷ vs) v = newest_last (Some w) vs v
+
+next_after : (vs us : List (ℕ × Place)) (p : Place) (w : Write) (ws : List Write) (q : List ℕ) → us ≡ vs ++ (if same_bytes w.key q then (w.version, p) ∷ [] else []) → AreNext (newest_version vs) (values_in (w ∷ ws) q) → AreNext (newest_version us) (values_in ws q)
+unfolding values_in
+next_after vs us p w ws q is h =
+    let split : (b : Bool) → us ≡ vs ++ (if b then (w.version, p) ∷ [] else []) → AreNext (newest_version vs) (cond b ((w.version, w.value) ∷ values_in ws q) (values_in ws q)) → AreNext (newest_version us) (values_in ws q) = elim [
+      | true ↦ λ e h. let n : newest_version us ≡ w.version = ap newest_version e ∙ ap number_of (newest_last None vs (w.version, p)) in subst (λ (k : ℕ). AreNext k (values_in ws q)) (sym n) h.1
+      | false ↦ λ e h. subst (λ (l : List (ℕ × Place)). AreNext (newest_version l) (values_in ws q)) (none_more vs ∙ sym e) h
+    ] in
+    split (same_bytes w.key q) is h
+
+-- and the other writes give the next ones then
+pub next_pushed : (vs us : List (ℕ × Place)) (p : Place) (ws : List Write) (i : ℕ) (w : Write) (q : List ℕ) → i < length ws → w ≡ get_or ws i w → us ≡ vs ++ (if same_bytes w.key q then (w.version, p) ∷ [] else []) → AreNext (newest_version vs) (values_in (drop i ws) q) → AreNext (newest_version us) (values_in (drop (i + 1) ws) q)
+next_pushed vs us p ws i w q low is more h = next_after vs us p w (drop (i + 1) ws) q more (subst (λ (l : List Write). AreNext (newest_version vs) (values_in l q)) (rest_is ws i w low is) h)
+
+first_of_front : (front : List Entry) (e : Entry) → 0 < length front → e ≡ get_or front 0 e → (rest : List Entry) × (front ≡ e ∷ rest)
+first_of_front [] e some is = absurd (omega (arith, some))
+first_of_front (d ∷ ds) e some is = (ds, ap (λ (x : Entry). x ∷ ds) (sym is))
+
+-- the next entry gives the versions that come after those that are listed
+pub next_listed : (t : Placed) (s : Suffixed) (done : ℕ) (front : List Entry) (e : Entry) → IsRising t → AreListed t s done → ((q : List ℕ) → AreNext (version_of (objects_of t) q) (values_after s.entries q)) → front ≡ drop (done - s.base) s.entries → 0 < length front → e ≡ get_or front 0 e
+    → (q : List ℕ) → AreNext (newest_version (versions_of t q)) (values_in e.writes q)
+unfolding values_after
+next_listed t s done front e rise listed next rest some is q =
+    let n : ℕ = done - s.base in
+    let o : ℕ × List ℕ = object_of (objects_of t) q in
+    let vs : List (ℕ × Place) = versions_of t q in
+    let before : List (ℕ × List ℕ) = values_after (take n s.entries) q in
+    let split = first_of_front front e some is in
+    let number : newest_version vs ≡ (last_value o before).0 = newest_number s vs before (seen_listed t s done q vs listed refl) ∙ ap (λ (x : ℕ × List ℕ). (last_value x before).0) (object_here t q rise) in
+    let left : drop n s.entries ≡ e ∷ split.0 = sym rest ∙ split.1 in
+    let all : AreNext o.0 (before ++ values_after (drop n s.entries) q) = subst (λ (l : List (ℕ × List ℕ)). AreNext o.0 l) (sym (values_split n s.entries q)) (next q) in
+    let rest_next : AreNext (last_value o before).0 (values_after (drop n s.entries) q) = next_back o before (values_after (drop n s.entries) q) all in
+    let here : AreNext (last_value o before).0 (values_in e.writes q ++ values_after split.0 q) = subst (λ (l : List Entry). AreNext (last_value o before).0 (values_after l q)) left rest_next in
+    subst (λ (k : ℕ). AreNext k (values_in e.writes q)) (sym number) (next_front (last_value o before).0 (values_in e.writes q) (values_after split.0 q) here)
+
+begins_written : (p k : ℕ) (ws : List Write) (rest : List (ℕ × Place)) (q : List ℕ) → Begins (values_in ws q) (written_in p k ws q ++ rest)
+unfolding values_in written_in
+begins_written p k [] rest q = tt
+begins_written p k (w ∷ ws) rest q =
+    let more = begins_written p (k + 1) ws rest q in
+    let split : (b : Bool) → Begins (cond b ((w.version, w.value) ∷ values_in ws q) (values_in ws q)) (cond b (version_at p k w ∷ written_in p (k + 1) ws q) (written_in p (k + 1) ws q) ++ rest) = elim [ true ↦ (refl, more) | false ↦ more ] in
+    split (same_bytes w.key q)
+
+-- the later versions begin with those that the first entry gives, where it is listed
+pub begins_listed : (t : Placed) (s left : Suffixed) (done : ℕ) (e : Entry) → AreListed t s done → s.base < done → IsFirstOf e s left → (q : List ℕ) → Begins (values_in e.writes q) (later_of t q)
+unfolding written_after
+begins_listed t s left done e listed more first q =
+    let m : ℕ = done - s.base - 1 in
+    let one : done - s.base ≡ suc m = omega arith in
+    let rest : List (ℕ × Place) = written_after (s.base + 1) (take m left.entries) q in
+    let is : later_of t q ≡ written_in (s.base + 1) 0 e.writes q ++ rest = listed.later q ∙ ap (λ (n : ℕ). written_after s.base (take n s.entries) q) one ∙ ap (λ (l : List Entry). written_after s.base (take (suc m) l) q) first.entries in
+    subst (λ (l : List (ℕ × Place)). Begins (values_in e.writes q) l) (sym is) (begins_written (s.base + 1) 0 e.writes rest q)
+
+-- the oldest of them is the first write's
+pub starts_with : (w : Write) (ws : List Write) (l : List (ℕ × Place)) → Begins (values_in (w ∷ ws) w.key) l → StartsAt w.version l
+unfolding values_in
+starts_with w ws l h =
+    let inner : (l : List (ℕ × Place)) → Begins ((w.version, w.value) ∷ values_in ws w.key) l → StartsAt w.version l = elim [ [] ↦ λ h. absurd h | v ∷ vs ↦ λ h. h.0 ] in
+    let split : (b : Bool) → b ≡ true → Begins (cond b ((w.version, w.value) ∷ values_in ws w.key) (values_in ws w.key)) l → StartsAt w.version l = elim [ true ↦ λ e h. inner l h | false ↦ λ e h. cc ] in
+    split (same_bytes w.key w.key) (own w.key) h
+
+-- and the others are those of the other writes
+pub begins_after : (w : Write) (ws : List Write) (l r : List (ℕ × Place)) (q : List ℕ) → r ≡ drop (if same_bytes w.key q then 1 else 0) l → Begins (values_in (w ∷ ws) q) l → Begins (values_in ws q) r
+unfolding values_in
+begins_after w ws l r q is h =
+    let inner : (l : List (ℕ × Place)) → Begins ((w.version, w.value) ∷ values_in ws q) l → Begins (values_in ws q) (drop 1 l) = elim [ [] ↦ λ h. absurd h | v ∷ vs ↦ λ h. h.1 ] in
+    let split : (b : Bool) → Begins (cond b ((w.version, w.value) ∷ values_in ws q) (values_in ws q)) l → Begins (values_in ws q) (drop (if b then 1 else 0) l) = elim [ true ↦ λ h. inner l h | false ↦ λ h. h ] in
+    subst (λ (x : List (ℕ × Place)). Begins (values_in ws q) x) (sym is) (split (same_bytes w.key q) h)
+
+-- the entries that are left give the next versions once the first is folded
+pub next_folded : (m n : Objects) (kept more : List (ℕ × Window)) (old new : Suffixed) (e : Entry) → state_at n more ≡ after_entry (state_at m kept) e → IsFirstOf e old new → ((q : List ℕ) → AreNext (version_of m q) (values_after old.entries q)) → (q : List ℕ) → AreNext (version_of n q) (values_after new.entries q)
+next_folded m n kept more old new e is first next q =
+    let o : ℕ × List ℕ = object_of m q in
+    let one : List (ℕ × List ℕ) = values_after (e ∷ []) q in
+    let object : object_of n q ≡ last_value o one = ap (λ (s : State). object_of s.objects q) is ∙ last_of_values (state_at m kept) (e ∷ []) q in
+    let parts : values_after old.entries q ≡ one ++ values_after new.entries q = ap (λ (l : List Entry). values_after l q) first.entries ∙ values-append (e ∷ []) new.entries q in
+    let all : AreNext o.0 (one ++ values_after new.entries q) = subst (λ (l : List (ℕ × List ℕ)). AreNext o.0 l) parts (next q) in
+    subst (λ (x : ℕ × List ℕ). AreNext x.0 (values_after new.entries q)) (sym object) (next_back o one (values_after new.entries q) all)
+
+-- more entries are appended
+pub next_appended : (s : State) (es more all : List Entry) → all ≡ es ++ more → AreNextVersions s es → AreNextVersions (after_entries s es) more → AreNextVersions s all
+next_appended s es more all is first second q =
+    let o : ℕ × List ℕ = object_of s.objects q in
+    let after : AreNext (last_value o (values_after es q)).0 (values_after more q) = subst (λ (x : ℕ × List ℕ). AreNext x.0 (values_after more q)) (last_of_values s es q) (second q) in
+    let both : AreNext o.0 (values_after es q ++ values_after more q) = next_join o (values_after es q) (values_after more q) (first q) after in
+    subst (λ (l : List (ℕ × List ℕ)). AreNext o.0 l) (sym (ap (λ (l : List Entry). values_after l q) is ∙ values-append es more q)) both
+
+-- no entries
+pub next_none : (s : State) (es : List Entry) → es ≡ [] → AreNextVersions s es
+unfolding values_after
+next_none s es none q = subst (λ (l : List Entry). AreNext (version_of s.objects q) (values_after l q)) (sym none) tt
+
+-- nothing is folded
+pub next_of_same : (m n : Objects) (es : List Entry) → n ≡ m → ((q : List ℕ) → AreNext (version_of m q) (values_after es q)) → (q : List ℕ) → AreNext (version_of n q) (values_after es q)
+next_of_same m n es same next q = subst (λ (x : Objects). AreNext (version_of x q) (values_after es q)) (sym same) (next q)
+
+-- the entries stay
+pub next_same : (s : State) (es fs : List Entry) → fs ≡ es → AreNextVersions s es → AreNextVersions s fs
+next_same s es fs same next q = subst (λ (l : List Entry). AreNext (version_of s.objects q) (values_after l q)) (sym same) (next q)

@@ -1,0 +1,27 @@
+use Rattle.std.proofs.Common.{◌∙◌}
+use Rattle.craq_settled.specs.Placed.{objects_of, state_at}
+use Rattle.craq_settled.proofs.Entered.{listed_before, listed_same}
+use Rattle.craq_settled.proofs.Following.{next_appended, next_of_same, next_same}
+use Rattle.craq_settled.proofs.held.HeldPast.append.Goals as goal
+
+pub list_entries-refused-requires-clause-listed : goal.list_entries-refused-requires-clause-listed
+list_entries-refused-requires-clause-listed c =
+    listed_before c.self.inside.table c.self.inside.entries c.append_all.new.self c.args.entries c.self.inside.listed c.append_all.ensures.base c.in_ok-append_all.ensures.ok c.self.invariant.1
+
+pub list_entries-refused-requires-clause-next : goal.list_entries-refused-requires-clause-next
+list_entries-refused-requires-clause-next c =
+    let s = state_at (objects_of c.self.inside.table) c.self.inside.replies.kept in
+    let next = rw (← c.self.view_is) at c.requires.next in
+    next_appended s c.self.inside.entries.entries c.args.entries c.append_all.new.self.entries c.in_ok-append_all.ensures.ok c.self.invariant.2 next
+
+pub invariant_of-self : goal.invariant_of-self
+invariant_of-self c =
+    let s = state_at (objects_of c.self.inside.table) c.self.inside.replies.kept in
+    (c.self.invariant.0, listed_same c.self.inside.table c.self.inside.entries c.append_all.new.self c.self.inside.listed c.append_all.ensures.base c.in_err-append_all.ensures.err c.self.invariant.1, next_same s c.self.inside.entries.entries c.append_all.new.self.entries c.in_err-append_all.ensures.err c.self.invariant.2)
+
+pub invariant_of-self-2 : goal.invariant_of-self-2
+invariant_of-self-2 c =
+    let s = state_at (objects_of c.self.inside.table) c.self.inside.replies.kept in
+    let next = rw (← c.self.view_is) at c.requires.next in
+    let all = next_appended s c.self.inside.entries.entries c.args.entries c.append_all.new.self.entries c.in_ok-append_all.ensures.ok c.self.invariant.2 next in
+    (c.list_entries-refused.ensures.rising, c.list_entries-refused.ensures.listed, next_of_same (objects_of c.self.inside.table) (objects_of c.list_entries-refused.new.table) c.append_all.new.self.entries c.list_entries-refused.ensures.objects all)

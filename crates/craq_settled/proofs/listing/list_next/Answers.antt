@@ -1,0 +1,29 @@
+use Rattle.std.proofs.Common.{◌≡◌, ◌+◌, ◌++◌, ◌∙◌, List, ap, arith}
+use Rattle.craq_commands.specs.declared.entry.Write.{Write}
+use Rattle.craq_settled.specs.Listed.{written_in}
+use Rattle.craq_settled.specs.Placed.{later_of}
+use Rattle.craq_settled.proofs.Entered.{front_some, listed_later, listed_next, listed_still}
+use Rattle.craq_settled.proofs.Following.{next_listed}
+use Rattle.craq_settled.proofs.listing.list_next.Goals as goal
+
+pub list_writes-requires-clause-next : goal.list_writes-requires-clause-next
+list_writes-requires-clause-next c =
+    let e = c.index-from-0.result in
+    let s = c.args.entries.now in
+    let some = front_some s c.args.listed.now c.from.result.now c.requires.listed c.requires.more c.from.ensures.entries in
+    rw c.as_slice.ensures (next_listed c.args.table.now s c.args.listed.now c.from.result.now e c.requires.rising c.requires.listed c.requires.next c.from.ensures.entries some c.index-from-0.is)
+
+pub returns-in_err-list_writes-clause-listed : goal.returns-in_err-list_writes-clause-listed
+returns-in_err-list_writes-clause-listed c = listed_still c.args.table.now c.list_writes.new.table c.args.entries.now c.args.listed.now c.requires.listed c.in_err-list_writes.ensures.err
+
+pub returns-clause-ok : goal.returns-clause-ok
+returns-clause-ok c =
+    let listed = c.requires.listed in
+    listed_later c.args.entries.now c.args.listed.now c.from.result.now c.index-from-0.result listed.from c.requires.more c.from.ensures.entries c.from.ensures.in_row c.index-from-0.is
+
+pub returns-clause-listed : goal.returns-clause-listed
+returns-clause-listed c =
+    let e = c.index-from-0.result in
+    let more = c.in_ok-list_writes.ensures.ok in
+    listed_next c.args.table.now c.list_writes.new.table c.args.entries.now c.args.listed.now c.from.result.now e c.requires.listed c.requires.more c.from.ensures.entries c.from.ensures.in_row c.index-from-0.is
+    (λ q. more q ∙ ap (λ (ws : List Write). later_of c.args.table.now q ++ written_in e.position 0 ws q) c.as_slice.ensures)

@@ -28,7 +28,7 @@ use Rattle.craq_runs.specs.declared.run.Run.{Run}
 use Rattle.craq_runs.specs.Chain.{Chain, node_at}
 use Rattle.craq_runs.specs.Runs.{after_move}
 use Rattle.craq_runs.specs.Typed.{IsTypedRunOf}
-use Rattle.craq_recovery.specs.Recovered.{AllReady, HaveNumbersForAsMany, HoldsEntries, IsReadyAt, Knows, KnowsCommitted, NoUpdateWaits, after_as_many, chain_after}
+use Rattle.craq_recovery.specs.Recovered.{AllReady, HaveNumbersForAsMany, HearsAt, HoldsEntries, IsReadyAt, Knows, KnowsCommitted, NoUpdateWaits, after_as_many, chain_after}
 use Rattle.craq_recovery.specs.Rounds.{after_moves_by, after_rounds, round}
 use Rattle.craq_recovery.specs.Taken.{HaveNumbersFor}
 use Rattle.craq_recovery.proofs.Extending.{IsReachedBy, reached_here}
@@ -64,7 +64,7 @@ still_rounds chain P R count (suc rounds) c id r q =
     let g : Good c = good_there chain c r in
     still_rounds chain P R count rounds (after_moves_by after_move c (round after_move count c)) id (reached_round chain count c r) (lasts_on (Waiting P R) (waits_last P R) (round after_move count c) c id (round_travels count c) g.followed q)
 
-all_still : (chain : ℕ) (P : WaitingUpdate → Type 0) (R : WaitingRead → Type 0) (count rounds : ℕ) (c : Chain) (ids : List ℕ) → IsReachedBy chain c → AllByRecursion (λ id. NodeIs c id (Waiting P R)) ids
+pub all_still : (chain : ℕ) (P : WaitingUpdate → Type 0) (R : WaitingRead → Type 0) (count rounds : ℕ) (c : Chain) (ids : List ℕ) → IsReachedBy chain c → AllByRecursion (λ id. NodeIs c id (Waiting P R)) ids
     → AllByRecursion (λ id. NodeIs (after_rounds after_move count rounds c) id (Waiting P R)) ids
 all_still chain P R count rounds c [] r a = tt
 all_still chain P R count rounds c (id ∷ ids) r a = (still_rounds chain P R count rounds c id r a.0, all_still chain P R count rounds c ids r a.1)
@@ -77,7 +77,7 @@ le_split zero (suc b) h = inl (omega arith)
 le_split (suc a) zero h = absurd (omega (arith, h))
 le_split (suc a) (suc b) h = ⊎_elim (λ l. inl (omega (arith, l))) (λ e. inr (ap suc e)) (le_split a b (omega (arith, h)))
 
-head_holds_most : (c : Chain) (h p : Plain) → IsFollowed c → node_at c.nodes (id_of h) ≡ Some h → node_at c.nodes (id_of p) ≡ Some p → h.running ≡ true → Knows c p → first_of c.members ≡ id_of h → length_of p ≤ length_of h
+pub head_holds_most : (c : Chain) (h p : Plain) → IsFollowed c → node_at c.nodes (id_of h) ≡ Some h → node_at c.nodes (id_of p) ≡ Some p → h.running ≡ true → Knows c p → first_of c.members ≡ id_of h → length_of p ≤ length_of h
 head_holds_most c h p f at_h at_p runs k first =
     let w : World Entry = f.0 in
     let g : Follows c w = f.2 in
@@ -107,7 +107,7 @@ head_holds_most c h p f at_h at_p runs k first =
 
 -- ---- the last member knows what it holds to be committed
 
-tail_knows : (c : Chain) (least : ℕ) → IsFollowed c → IsReadyAt c (last_of c.members) → HoldsEntries c (last_of c.members) least → KnowsCommitted c (last_of c.members) least
+pub tail_knows : (c : Chain) (least : ℕ) → IsFollowed c → IsReadyAt c (last_of c.members) → HoldsEntries c (last_of c.members) least → KnowsCommitted c (last_of c.members) least
 tail_knows c least f r h =
     let p : Plain = r.node in
     let k : Knows c p = r.knows in
@@ -137,42 +137,42 @@ above_there chain d p r at =
     let P : Chain → Type 0 = λ c. node_at c.nodes (id_of p) ≡ Some p → AllByRecursion (λ (u : WaitingUpdate). p.past.acknowledged < u.position) p.waiting_updates in
     subst P r.leads (λ at. let owed : WaitingUpdatesAreOwed chain r.run = waiting_updates_are_owed chain r.run r.typed in owed.above p at) at
 
-acks_there : (chain count least : ℕ) (d : Chain) → IsReachedBy chain d → AllReady d → KnowsCommitted d (last_of d.members) least → HaveNumbersFor (suc count) (length d.members) d
+pub acks_there : (chain count least : ℕ) (d : Chain) → IsReachedBy chain d → AllReady d → KnowsCommitted d (last_of d.members) least → HaveNumbersFor (suc count) (length d.members) d
     → AllByRecursion (λ id. KnowsCommitted (after_rounds after_move (suc count) (length d.members) d) id least) d.members
 acks_there chain count least d r a k numbers =
     let P : Chain → Type 0 = λ c. AllReady c → KnowsCommitted c (last_of c.members) least → HaveNumbersFor (suc count) (length c.members) c
     → AllByRecursion (λ id. KnowsCommitted (after_rounds after_move (suc count) (length c.members) c) id least) c.members in
     subst P r.leads (λ a k n. acks_reach_all chain r.run count least r.typed.run_of a k n) a k numbers
 
-within_held : (chain : ℕ) (run : Run) (p : Plain) → IsTypedRunOf chain run → node_at (chain_after chain run).nodes (id_of p) ≡ Some p → AllByRecursion (λ (u : WaitingUpdate). u.position ≤ length_of p) p.waiting_updates
+pub within_held : (chain : ℕ) (run : Run) (p : Plain) → IsTypedRunOf chain run → node_at (chain_after chain run).nodes (id_of p) ≡ Some p → AllByRecursion (λ (u : WaitingUpdate). u.position ≤ length_of p) p.waiting_updates
 within_held chain run p typed at =
     let owed : WaitingUpdatesAreOwed chain run = waiting_updates_are_owed chain run typed in
     let h : HistoriesAreWhole chain run = histories_are_whole chain run typed in
     let many : length (updates_held chain run p) ≡ length_of p = h.as_many p at in
     all_like (HasReply chain run p) (λ (u : WaitingUpdate). u.position ≤ length_of p) p.waiting_updates (λ u r. omega (arith, r.held, many)) (owed.reply p at)
 
-abbrev Below : ℕ → WaitingUpdate → Type 0
+abbrev pub Below : ℕ → WaitingUpdate → Type 0
 Below most u = u.position ≤ most
 
-abbrev Any : WaitingRead → Type 0
+abbrev pub Any : WaitingRead → Type 0
 Any r = ⊤
 
-begin : (chain : ℕ) (run : Run) (h : Plain) (ids : List ℕ) → IsTypedRunOf chain run → node_at (chain_after chain run).nodes (id_of h) ≡ Some h → h.running ≡ true → first_of (chain_after chain run).members ≡ id_of h
-    → AllByRecursion (IsReadyAt (chain_after chain run)) ids → AllByRecursion (λ id. NodeIs (chain_after chain run) id (Waiting (Below (length_of h)) Any)) ids
+pub begin : (chain : ℕ) (run : Run) (h : Plain) (ids : List ℕ) → IsTypedRunOf chain run → node_at (chain_after chain run).nodes (id_of h) ≡ Some h → h.running ≡ true → first_of (chain_after chain run).members ≡ id_of h
+    → AllByRecursion (HearsAt (chain_after chain run)) ids → AllByRecursion (λ id. NodeIs (chain_after chain run) id (Waiting (Below (length_of h)) Any)) ids
 begin chain run h [] typed at runs first a = tt
 begin chain run h (id ∷ ids) typed at runs first a =
     let c : Chain = chain_after chain run in
-    let r : IsReadyAt c id = a.0 in
-    let p : Plain = r.node in
-    let k : Knows c p = r.knows in
+    let r : HearsAt c id = a.0 in
+    let p : Plain = r.0 in
+    let k : Knows c p = r.2 in
     let N : ℕ → Type 0 = λ j. node_at c.nodes j ≡ Some p in
-    let here : node_at c.nodes (id_of p) ≡ Some p = subst N (sym (node_id c.nodes id p r.at)) r.at in
+    let here : node_at c.nodes (id_of p) ≡ Some p = subst N (sym (node_id c.nodes id p r.1)) r.1 in
     let g : Good c = good_run chain run typed.run_of in
     let most : length_of p ≤ length_of h = head_holds_most c h p g.followed at here runs k first in
     let low : AllByRecursion (Below (length_of h)) p.waiting_updates = all_like (Below (length_of p)) (Below (length_of h)) p.waiting_updates (λ u le. omega (arith, le, most)) (within_held chain run p typed here) in
-    (record { node = p; at = r.at; runs = k.running; holds = (low, all_each Any p.waiting_reads (λ r. tt)) }, begin chain run h ids typed at runs first a.1)
+    (record { node = p; at = r.1; runs = k.running; holds = (low, all_each Any p.waiting_reads (λ r. tt)) }, begin chain run h ids typed at runs first a.1)
 
-finish : (chain most : ℕ) (d : Chain) (ids : List ℕ) → IsReachedBy chain d → AllByRecursion (λ id. NodeIs d id (Waiting (Below most) Any)) ids → AllByRecursion (λ id. KnowsCommitted d id most) ids → AllByRecursion (NoUpdateWaits d) ids
+pub finish : (chain most : ℕ) (d : Chain) (ids : List ℕ) → IsReachedBy chain d → AllByRecursion (λ id. NodeIs d id (Waiting (Below most) Any)) ids → AllByRecursion (λ id. KnowsCommitted d id most) ids → AllByRecursion (NoUpdateWaits d) ids
 finish chain most d [] r a b = tt
 finish chain most d (id ∷ ids) r a b =
     let q : NodeIs d id (Waiting (Below most) Any) = a.0 in
@@ -183,6 +183,10 @@ finish chain most d (id ∷ ids) r a b =
     let N : ℕ → Type 0 = λ j. node_at d.nodes j ≡ Some p in
     let here : node_at d.nodes (id_of p) ≡ Some p = subst N (sym (node_id d.nodes id p q.at)) q.at in
     (record { node = p; at = q.at; none = none_left most p.past.acknowledged p.waiting_updates q.holds.0 (above_there chain d p r here) (subst K same k.knows) }, finish chain most d ids r a.1 b.1)
+
+pub all_hear : (c : Chain) (ids : List ℕ) → AllByRecursion (IsReadyAt c) ids → AllByRecursion (HearsAt c) ids
+all_hear c [] a = tt
+all_hear c (id ∷ ids) a = let r : IsReadyAt c id = a.0 in ((r.node, r.at, r.knows), all_hear c ids a.1)
 
 pub all_of_last : (P : ℕ → Type 0) (m : ℕ) (ms : List ℕ) → AllByRecursion P (m ∷ ms) → P (last_of (m ∷ ms))
 unfolding last_of
@@ -227,7 +231,7 @@ by_members chain run count (m ∷ ms) typed is ready first second =
     let knows : KnowsCommitted c1 (last_of c1.members) most = tail_knows c1 most g.followed last_ready last_holds in
     let acks : AllByRecursion (λ id. KnowsCommitted c2 id most) c1.members = acks_there chain count most c1 reach1 ready1 knows second in
     let B : List ℕ → Type 0 = λ l. AllByRecursion (λ id. KnowsCommitted c2 id most) l in
-    let quiet : AllByRecursion (λ id. NodeIs c id (Waiting (Below most) Any)) (m ∷ ms) = begin chain run h (m ∷ ms) typed (subst N (sym own) r.at) kh.running (heads ∙ sym own) mine in
+    let quiet : AllByRecursion (λ id. NodeIs c id (Waiting (Below most) Any)) (m ∷ ms) = begin chain run h (m ∷ ms) typed (subst N (sym own) r.at) kh.running (heads ∙ sym own) (all_hear c (m ∷ ms) mine) in
     finish chain most c2 (m ∷ ms) reach2
     (all_still chain (Below most) Any (suc count) again c1 (m ∷ ms) reach1 (all_still chain (Below most) Any (suc count) rounds c (m ∷ ms) reach quiet))
     (subst B (sym now) acks)

@@ -1,5 +1,5 @@
 -- Entries get one member further in a round.
-use Rattle.std.proofs.Common.{◌≡◌, ◌≢◌, inr, ℕ, suc, ◌+◌, ◌-◌, ◌<◌, ◌≤◌, ◌==◌, nat_le, nat_lt, true, not, cond, List, [], ◌∷◌, ◌++◌, map, length, drop, Option, Some, Result, refl, ap, sym, subst, ◌∙◌, arith}
+use Rattle.std.proofs.Common.{◌≡◌, ◌≢◌, inr, ℕ, suc, ◌+◌, ◌-◌, ◌<◌, ◌≤◌, ◌==◌, nat_le, nat_lt, true, not, ◌&&◌, cond, List, [], ◌∷◌, ◌++◌, map, length, drop, Option, Some, None, Result, refl, ap, sym, subst, ◌∙◌, arith}
 use Rattle.std.proofs.lemmas.Bool.{cond_both, both_ways, eq-eqb, eqb-true, leb-true, ltb-true, ltb-false, not-true}
 use Rattle.std.proofs.lemmas.List.{length-append, length-drop, map-append}
 use Rattle.std.specs.List.{AllByRecursion, flat_map}
@@ -15,7 +15,8 @@ use Rattle.craq_model.specs.Deliveries.{are_applicable, body_turn, delivery_turn
 use Rattle.craq_model.specs.Members.{is_id, is_member, predecessor_in, successor_in}
 use Rattle.craq_model.specs.Plain.{Plain, acknowledging, entries_after, id_of, is_last, is_tail, length_of, newest, predecessor, successor, with_entries}
 use Rattle.craq_model.specs.Sends.{catch_up, entry_bodies, queries, ready_sends, run_body, runs_of, send, send_all, tick_sends, to_neighbour, unready_sends}
-use Rattle.craq_model.specs.Settle.{Turn, readiness_turn, turn_ignoring, turn_with}
+use Rattle.craq_model.specs.Parts.{gathered_position}
+use Rattle.craq_model.specs.Settle.{Turn, all_committed, all_given, answer_outs, is_reached, readiness_turn, settling_turn, turn_ignoring, turn_with, without_reached}
 use Rattle.craq_protocol.specs.Machine as machine
 use Rattle.craq_protocol.specs.Machine.{World, known_membership}
 use Rattle.craq_protocol.specs.Members.{is_next}
@@ -48,6 +49,7 @@ use Rattle.craq_recovery.proofs.Ids.{none_is_master, not_master}
 use Rattle.craq_recovery.proofs.Running.{delivery_turn-runs}
 use Rattle.craq_recovery.proofs.Series.{Series, sent_left}
 use Rattle.craq_recovery.proofs.Sound.{Sound, sound_after}
+use Rattle.craq_recovery.proofs.Speaking.{by_test}
 use Rattle.craq_recovery.proofs.Travels.{IsKept, Leads, NodeIs, arrived_here, crosses, kept_lasts}
 use Rattle.craq_refinement.proofs.EachStep.{every_run}
 
@@ -66,7 +68,7 @@ pub record BringsEntries (epoch from to a b : ℕ) (m : LinkMessage) : Type 0 wh
 abbrev pub Brings : ℕ → ℕ → ℕ → ℕ → ℕ → LinkMessage → Type 0
 Brings epoch from to a b m = BringsEntries epoch from to a b m
 
-placed_front : (k : ℕ) (xs ys : List Entry) → IsPlaced k (xs ++ ys) → IsPlaced k xs
+pub placed_front : (k : ℕ) (xs ys : List Entry) → IsPlaced k (xs ++ ys) → IsPlaced k xs
 placed_front k [] ys p = tt
 placed_front k (x ∷ xs) ys p = (p.0, placed_front (suc k) xs ys p.1)
 
@@ -177,10 +179,20 @@ begins : (n a : ℕ) (es : List Entry) → IsPlaced a es → a ≤ n → first_p
 begins n a [] p le = omega arith
 begins n a (e ∷ es) p le = omega (arith, p.0, le)
 
-entries_taken : (q : Plain) (sender a : ℕ) (es : List Entry) → predecessor q ≡ Some sender → q.ready ≡ true → IsPlaced a es → a ≤ length_of q
+-- becoming ready changes no history
+pub readiness_length : (q : Plain) → length_of (readiness_turn q).0 ≡ length_of q
+unfolding readiness_turn without_reached settling_turn
+readiness_length q =
+    let L : Turn → Type 0 = λ t. length_of t.0 ≡ length_of q in
+    let r : Plain = record q { ready = true; gathering = None } in
+    by_test (not q.ready && is_reached q.floor (length_of q)) L (settling_turn r) (turn_with (without_reached q) [])
+    (by_test (is_tail r) L (turn_with (all_committed r) (answer_outs (all_given r) ++ tick_sends (all_committed r))) (turn_with r (tick_sends r)) refl refl)
+    (by_test (nat_le (gathered_position q.gathering) (length_of q)) (λ (x : Plain). length_of x ≡ length_of q) (record q { gathering = None }) q refl refl)
+
+entries_taken : (q : Plain) (sender a : ℕ) (es : List Entry) → predecessor q ≡ Some sender → IsPlaced a es → a ≤ length_of q
     → are_applicable (newest q) (entries_above (length_of q) es) ≡ true → a + length es ≤ length_of (entries_turn q sender es).0
 unfolding entries_turn forwarding_turn
-entries_taken q sender a es pred ready placed le fit =
+entries_taken q sender a es pred placed le fit =
     let n : ℕ = length_of q in
     let new : List Entry = entries_above n es in
     let q2 : Plain = with_entries q new in
@@ -204,10 +216,10 @@ entries_taken q sender a es pred ready placed le fit =
     (λ e. cond_both (are_applicable (newest q) new) t4 (turn_ignoring q TooFar) P
     (λ e. cond_both q.ready t5 (readiness_turn q2) P
     (λ e. cond_both (is_tail q2) acks passes P (λ e. all) (λ e. all))
-    (λ e. absurd (both_ways q.ready e ready)))
+    (λ e. omega (arith, all, readiness_length q2)))
     (λ e. absurd (both_ways (are_applicable (newest q) new) e fit)))))
 
-run_turn : (p : Plain) (m : LinkMessage) (es : List Entry) → body_turn p m (run_body es) ≡ turn_in_epoch p m (entries_turn p m.sender es)
+pub run_turn : (p : Plain) (m : LinkMessage) (es : List Entry) → body_turn p m (run_body es) ≡ turn_in_epoch p m (entries_turn p m.sender es)
 run_turn p m [] = refl
 run_turn p m (e ∷ []) = refl
 run_turn p m (e ∷ f ∷ es) = refl
@@ -231,7 +243,7 @@ stand w m es i a =
     a
 
 -- a node's history is a prefix of its predecessor's
-prefix_of : (w : World Entry) (p : Plain) (from : ℕ) → Invariant w → NodeFollows w (seen_of p) → predecessor p ≡ Some from → IsPrefix (w.history (id_of p)) (w.history from)
+pub prefix_of : (w : World Entry) (p : Plain) (from : ℕ) → Invariant w → NodeFollows w (seen_of p) → predecessor p ≡ Some from → IsPrefix (w.history (id_of p)) (w.history from)
 prefix_of w p from i n pred =
     let g : Ages = i.ages in
     let k : Clauses w g = i.clauses in
@@ -242,10 +254,10 @@ prefix_of w p from i n pred =
     k.elders_hold id from (next_left ms from id next) (next_rank g.rank ms from id (k.shape.sorted (w.epoch id)) next)
 
 -- a node takes the entries that its predecessor sent, where it holds those before
-takes_them : (chain : ℕ) (d : Chain) (number : ℕ) (m : LinkMessage) (es : List Entry) (a : ℕ) (p : Plain) → IsReachedBy chain d → message_at d.messages number ≡ Some m → m.body ≡ run_body es
-    → IsPlaced a es → a ≤ length_of p → node_at d.nodes (id_of p) ≡ Some p → predecessor p ≡ Some m.sender → p.ready ≡ true
+pub takes_them : (chain : ℕ) (d : Chain) (number : ℕ) (m : LinkMessage) (es : List Entry) (a : ℕ) (p : Plain) → IsReachedBy chain d → message_at d.messages number ≡ Some m → m.body ≡ run_body es
+    → IsPlaced a es → a ≤ length_of p → node_at d.nodes (id_of p) ≡ Some p → predecessor p ≡ Some m.sender
     → a + length es ≤ length_of (entries_turn p m.sender es).0
-takes_them chain d number m es a p r there is placed le at pred ready =
+takes_them chain d number m es a p r there is placed le at pred =
     let x : Explained d = explained chain d r in
     let w : World Entry = x.world in
     let f : Follows d w = x.follows in
@@ -257,7 +269,7 @@ takes_them chain d number m es a p r there is placed le at pred ready =
     fits x.asked w p (w.history m.sender) (entries_above here es) n (x.genuine m.sender) (prefix_of w p m.sender i n pred)
     (placed_above here a es placed (begins here a es placed le))
     (all_of_above (λ (e : Entry). machine.entry_at (w.history m.sender) e.position ≡ Some e) here es stands) in
-    entries_taken p m.sender a es pred ready placed le fit
+    entries_taken p m.sender a es pred placed le fit
 
 entries_lead : (chain : ℕ) (c : Chain) (from to : ℕ) → predecessor_in c.members to ≡ Some from → Leads (IsReachedBy chain) c to (Brings c.epoch from to) (HoldsSo c.epoch)
 entries_lead chain c from to before a k d number m x r s f on g there e is =
@@ -275,7 +287,7 @@ entries_lead chain c from to before a k d number m x r s f on g there e is =
     let Q : ℕ → Type 0 = λ i. predecessor_in p.members i ≡ Some from in
     let R : ℕ → Type 0 = λ i. predecessor p ≡ Some i in
     let pred : predecessor p ≡ Some m.sender = subst R (sym is.comes_from) (subst Q (sym own) (subst P (sym (kn.members ∙ on.members)) before)) in
-    let got : a + length is.entries ≤ length_of (entries_turn p m.sender is.entries).0 = takes_them chain d number m is.entries a p r there is.says is.placed h.holds ar.at pred h.ready in
+    let got : a + length is.entries ≤ length_of (entries_turn p m.sender is.entries).0 = takes_them chain d number m is.entries a p r there is.says is.placed h.holds ar.at pred in
     let same_epoch : m.epoch ≡ p.epoch = is.made ∙ sym (kn.epoch ∙ on.epoch) in
     let turned : a + length is.entries ≤ length_of (turn_in_epoch p m (entries_turn p m.sender is.entries)).0 =
     cond_both (m.epoch == p.epoch) (entries_turn p m.sender is.entries) (turn_ignoring p OtherEpoch) (λ (t : Turn). a + length is.entries ≤ length_of t.0)
@@ -296,7 +308,7 @@ entries_lead chain c from to before a k d number m x r s f on g there e is =
 -- ---- in a round
 
 -- what a node knows to be committed each ready node holds
-held_there : (c : Chain) (p q : Plain) → IsFollowed c → node_at c.nodes (id_of p) ≡ Some p → node_at c.nodes (id_of q) ≡ Some q → q.running ≡ true → q.ready ≡ true → p.past.acknowledged ≤ length_of q
+pub held_there : (c : Chain) (p q : Plain) → IsFollowed c → node_at c.nodes (id_of p) ≡ Some p → node_at c.nodes (id_of q) ≡ Some q → q.running ≡ true → q.ready ≡ true → p.past.acknowledged ≤ length_of q
 held_there c p q f at_p at_q runs ready =
     let w : World Entry = f.0 in
     let g : Follows c w = f.2 in

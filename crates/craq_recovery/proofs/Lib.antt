@@ -23,3 +23,14 @@ pub mod Finding
 pub mod ReadsAnswered
 pub mod Calm
 pub mod Recovering
+pub mod Gathers
+pub mod Blocks
+pub mod Pieces
+pub mod Filling
+pub mod Meeting
+pub mod Joining
+pub mod Replying
+pub mod Readying
+pub mod Whole
+pub mod Fates
+pub mod AllAnswered

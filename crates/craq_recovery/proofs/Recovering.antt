@@ -84,7 +84,7 @@ serving d id a u r =
     let R : Plain → Type 0 = λ q. q.waiting_reads ≡ [] in
     (p, a.at, record { running = k.running; epoch = k.epoch; members = k.members; ready = a.ready; updates = subst U same_u u.none; reads = subst R same_r r.none })
 
-serve_all : (chain count : ℕ) (c : Chain) (ids : List ℕ) → IsReachedBy chain c → IsReadyAt c (last_of c.members) → AllByRecursion (IsReadyAt c) ids → AllByRecursion (NoUpdateWaits c) ids
+pub serve_all : (chain count : ℕ) (c : Chain) (ids : List ℕ) → IsReachedBy chain c → IsReadyAt c (last_of c.members) → AllByRecursion (IsReadyAt c) ids → AllByRecursion (NoUpdateWaits c) ids
     → AllByRecursion (IsReadyAt (after_round (suc (suc count)) c)) ids → HaveNumbers c (round after_move (suc (suc count)) c) → AllByRecursion (ServesAt (after_round (suc (suc count)) c)) ids
 serve_all chain count c [] r last a u b numbers = tt
 serve_all chain count c (id ∷ ids) r last a u b numbers =

@@ -1,3 +1,4 @@
 pub mod Rounds
 pub mod Recovered
 pub mod Taken
+pub mod Answers

@@ -1,7 +1,7 @@
 -- A chain that has recovered.
-use Rattle.std.specs.Prelude.{◌≡◌, ◌≤◌, ℕ, ◌==◌, Bool, true, false, ◌&&◌, List, [], ◌∷◌, length, Option, Some, None}
+use Rattle.std.specs.Prelude.{◌≡◌, ◌≤◌, ℕ, ◌+◌, ◌==◌, Bool, true, false, ◌&&◌, List, [], ◌∷◌, length, Option, Some, None}
 use Rattle.std.specs.List.{AllByRecursion}
-use Rattle.craq_model.specs.Members.{predecessor_in, successor_in}
+use Rattle.craq_model.specs.Members.{is_member, predecessor_in, successor_in}
 use Rattle.craq_model.specs.Plain.{Plain, id_of, length_of}
 use Rattle.craq_runs.specs.Chain.{Chain, is_running, node_at, opening_chain}
 use Rattle.craq_runs.specs.Runs.{after_move, after_moves}
@@ -78,6 +78,10 @@ pub record HaveNumbersForAll (count : ℕ) (c : Chain) : Type 0 where
   pub second : HaveNumbersForAsMany count (after_as_many count c)
   pub last : HaveNumbers (after_as_many count (after_as_many count c)) (round after_move count (after_as_many count (after_as_many count c)))
 
+-- twice as many rounds as the chain has members, and two
+abbrev pub rounds_to_recover : Chain → ℕ
+rounds_to_recover c = length c.members + length c.members + 2
+
 -- each member runs
 abbrev pub AllRun : Chain → Type 0
 AllRun c = AllByRecursion (λ id. is_running (node_at c.nodes id) ≡ true) c.members
@@ -118,7 +122,13 @@ pub record RunsReady (c : Chain) (id : ℕ) : Type 0 where
   pub running : node.running ≡ true
   pub ready : node.ready ≡ true
 
--- so does each member
+-- some member runs and is ready, whatever membership it knows
+pub record SomeReady (c : Chain) : Type 0 where
+  pub member : ℕ
+  pub among : is_member c.members member ≡ true
+  pub runs_ready : RunsReady c member
+
+-- each member runs and is ready, whatever membership it knows
 abbrev pub AllRunReady : Chain → Type 0
 AllRunReady c = AllByRecursion (RunsReady c) c.members
 

@@ -4,13 +4,14 @@
 
 ghost use Rattle.std.specs.Prelude.{◌≡◌, ◌≢◌, ℕ, length, suc, true};
 ghost use Rattle.std.specs.List.{AllByRecursion};
-ghost use Rattle.craq_model.specs.Members.{first_of, last_of};
+ghost use Rattle.craq_model.specs.Members.{first_of, is_member, last_of};
 ghost use Rattle.craq_model.specs.Plain.{Plain, id_of, length_of};
 ghost use Rattle.craq_runs.specs.Chain.{Chain};
 ghost use Rattle.craq_runs.specs.Runs.{IsRunOf, after_move};
 ghost use Rattle.craq_runs.specs.Typed.{IsTypedRunOf};
 ghost use Rattle.craq_runs.specs.declared.run.Run.{Run};
-ghost use Rattle.craq_recovery.specs.Recovered.{AllReady, AllRun, AllRunReady, AreNeighbours, HasRecovered, HaveHeard, HaveNumbersForAll, HaveNumbersForAsMany, HoldsEntries, IsReadyAt, KnowsCommitted, NoReadWaits, NoUpdateWaits, after_all_rounds, after_as_many, after_round, chain_after, has_recovered};
+ghost use Rattle.craq_recovery.specs.Answers.{AnsweredInRounds, AskWaits};
+ghost use Rattle.craq_recovery.specs.Recovered.{AllReady, AllRun, AllRunReady, AreNeighbours, HasRecovered, HaveHeard, HaveNumbersForAll, HaveNumbersForAsMany, HoldsEntries, IsReadyAt, KnowsCommitted, NoReadWaits, NoUpdateWaits, SomeReady, after_all_rounds, after_as_many, after_round, chain_after, has_recovered, rounds_to_recover};
 ghost use Rattle.craq_recovery.specs.Rounds.{after_rounds, round};
 ghost use Rattle.craq_recovery.specs.Taken.{AreTakenInTurn, HaveNumbers, HaveNumbersFor};
 
@@ -97,6 +98,44 @@ pub fn running_ready_chains_recover()
         → HaveNumbers (chain_after chain run) (round after_move (suc (suc count)) (chain_after chain run))
         → HaveNumbersForAll (suc (suc count)) (after_round (suc (suc count)) (chain_after chain run))
         → HasRecovered (after_all_rounds (suc (suc count)) (after_round (suc (suc count)) (chain_after chain run))) }
+{}
+
+/// In a round of at least two hops a ready member's successor becomes ready, if it is not yet, and then holds at least as many
+/// entries as that member did before: where it asked for them, it was sent the committed state, whole or in parts, and the
+/// entries after it.
+pub fn joined_members_become_ready()
+    ensures { (chain : ℕ) (run : Run) (count : ℕ) (p q : Plain) → IsTypedRunOf chain run
+        → AreNeighbours (chain_after chain run) p q → p.ready ≡ true
+        → HaveNumbers (chain_after chain run) (round after_move (suc (suc count)) (chain_after chain run))
+        → IsReadyAt (after_round (suc (suc count)) (chain_after chain run)) (id_of q)
+        × HoldsEntries (after_round (suc (suc count)) (chain_after chain run)) (id_of q) (length_of p) }
+{}
+
+/// Where each member knows the membership and the first one is ready, each is ready after rounds of at least two hops, as many
+/// as there are members.
+pub fn all_members_become_ready()
+    ensures { (chain : ℕ) (run : Run) (count : ℕ) → IsTypedRunOf chain run → HaveHeard (chain_after chain run)
+        → IsReadyAt (chain_after chain run) (first_of (chain_after chain run).members)
+        → HaveNumbersForAsMany (suc (suc count)) (chain_after chain run)
+        → AllReady (after_as_many (suc (suc count)) (chain_after chain run)) }
+{}
+
+/// Recovery: after every run, a chain of which no member has stopped and at least one member is ready recovers in rounds of at
+/// least two hops, two more than twice as many as it has members, whatever was lost, stopped, removed or joined before, unless
+/// a move of the rounds is refused for want of numbers.
+pub fn chains_recover()
+    ensures { (chain : ℕ) (run : Run) (count : ℕ) → IsTypedRunOf chain run → AllRun (chain_after chain run) → SomeReady (chain_after chain run)
+        → HaveNumbersFor (suc (suc count)) (rounds_to_recover (chain_after chain run)) (chain_after chain run)
+        → HasRecovered (after_rounds after_move (suc (suc count)) (rounds_to_recover (chain_after chain run)) (chain_after chain run)) }
+{}
+
+/// On that way each ask that waited at a member is answered there: a move of the rounds that happens at this member answers the
+/// ask's ticket. What it is answered with the promise says, as of every answer.
+pub fn waiting_asks_are_answered()
+    ensures { (chain : ℕ) (run : Run) (count id ticket : ℕ) → IsTypedRunOf chain run → AllRun (chain_after chain run) → SomeReady (chain_after chain run)
+        → HaveNumbersFor (suc (suc count)) (rounds_to_recover (chain_after chain run)) (chain_after chain run)
+        → is_member (chain_after chain run).members id ≡ true → AskWaits (chain_after chain run) id ticket
+        → AnsweredInRounds (suc (suc count)) (rounds_to_recover (chain_after chain run)) (chain_after chain run) id ticket }
 {}
 
 /// A chain that passes the test has recovered.

@@ -13,14 +13,18 @@ As a module:
 As a command:
 
     examples/client.py ADDRESS [--node N] [--pass P] COMMAND
-        put, append or prepend OBJECT VALUE     read OBJECT         status
-        tas OBJECT VERSION VALUE                inc or dec OBJECT BY
+        put, append or prepend OBJECT VALUE     read OBJECT [strong, eventual or bounded:K]
+        tas OBJECT VERSION VALUE                inc or dec OBJECT BY                         status
     examples/client.py ADDRESS                  runs the calls above and prints what comes back
 
-An OBJECT is a key of chain 0, or CHAIN/KEY. The command prints the answer, and the pass to show from then on.
+An OBJECT is a key of chain 0, or CHAIN/KEY. A VALUE is its characters, or 0x and hexadecimal digits. The command prints the
+answer, and the pass to show from then on. Its status is 0 after an answer, 2 after bad words, 3 after a refusal, and 4 where no
+server answers.
 
-What the store refuses is raised as Refused. A Client is for one thread. It asks again, with the same number, what a
-lost connection or a passing refusal left open: so nothing is done twice.
+A Client has an id, drawn by chance, under which it numbers its updates of each chain from 1. What a lost connection or a passing
+refusal left open it asks again with the same number: so it is done once. With each request it shows its pass, the largest that it
+was given: so no strong read is older than what it has seen. What the store refuses is raised as Refused. A Client is for one
+thread. examples/test_client.py tries it.
 """
 import json
 import random
@@ -77,19 +81,23 @@ class BadReply(Exception):
 # Bytes of parts. Numbers are big-endian.
 
 def number(size, it):
+    """A number in so many bytes; OverflowError where it has no room in them."""
     return it.to_bytes(size, "big")
 
 
 def key_bytes(key):
+    """A key, given as text or bytes."""
     key = key.encode() if isinstance(key, str) else key
     return number(1, len(key)) + key
 
 
 def value_bytes(value):
+    """A value, given as bytes."""
     return number(2, len(value)) + value
 
 
 def object_bytes(chain, key):
+    """The object with this key in this chain."""
     return number(2, chain) + key_bytes(key)
 
 
@@ -100,18 +108,22 @@ class Unread:
         self.left = payload
 
     def bytes(self, size):
+        """The next bytes, so many; BadReply where there are fewer."""
         if size > len(self.left):
             raise BadReply("it ends too early")
         front, self.left = self.left[:size], self.left[size:]
         return front
 
     def number(self, size):
+        """The number that the next bytes are."""
         return int.from_bytes(self.bytes(size), "big")
 
     def value(self):
+        """The next value."""
         return self.bytes(self.number(2))
 
     def end(self):
+        """BadReply where bytes are left."""
         if self.left:
             raise BadReply("it goes on after its end")
 
@@ -119,30 +131,37 @@ class Unread:
 # What is asked: a command, and a request as its kind and its body.
 
 def put(chain, key, value):
+    """Writes the value."""
     return b"\x01" + object_bytes(chain, key) + value_bytes(value)
 
 
 def test_and_set(chain, key, expected, value):
+    """Writes the value if the object has the expected version."""
     return b"\x02" + object_bytes(chain, key) + number(8, expected) + value_bytes(value)
 
 
 def append(chain, key, value):
+    """Puts the value after what is there."""
     return b"\x03" + object_bytes(chain, key) + value_bytes(value)
 
 
 def prepend(chain, key, value):
+    """Puts the value before what is there."""
     return b"\x04" + object_bytes(chain, key) + value_bytes(value)
 
 
 def increment(chain, key, by):
+    """Adds to the number in the object's 8 bytes; an object that was never written counts as 0."""
     return b"\x05" + object_bytes(chain, key) + number(8, by)
 
 
 def decrement(chain, key, by):
+    """Takes from the number in the object's 8 bytes; an object that was never written counts as 0."""
     return b"\x06" + object_bytes(chain, key) + number(8, by)
 
 
 def mini(chain, compares=(), reads=(), writes=()):
+    """A transaction: if each (key, version) of compares is so, reads the keys and writes each (key, value), all at one moment."""
     command = b"\x07" + number(1, len(compares))
     command += b"".join(object_bytes(chain, key) + number(8, version) for key, version in compares)
     command += number(1, len(reads)) + b"".join(object_bytes(chain, key) for key in reads)
@@ -252,6 +271,7 @@ class Connection:
         return self.bytes(size)
 
     def bytes(self, size):
+        """The next bytes of the stream, so many; ConnectionError where it ends before."""
         got = b""
         while len(got) < size:
             more = self.socket.recv(size - len(got))
@@ -261,6 +281,7 @@ class Connection:
         return got
 
     def close(self):
+        """Ends the connection."""
         self.socket.close()
 
 
@@ -268,7 +289,11 @@ class Client:
     """A client with an id of its own, its request numbers, and its pass: the largest that it was given.
 
     Updates go to the head of their chain and reads to any member, unless the call names a node. Where the call names none, what
-    was left open is asked again, `tries` times in all: an update with the number that it had, so that it is done once.
+    was left open is asked again, `tries` times in all: an update with the number that it had, so that it is done once. If an
+    update fails even so, it may have been done: `numbers[chain]` is its number, to be given to the same call as `request`.
+
+    address is HOST:PORT; version that of the payloads, 1 or 2 (`many` needs no choice); client an id that nobody else uses, drawn
+    where it is None; shown the pass to begin with. Raises OSError where nobody listens.
     """
 
     def __init__(self, address, version=1, client=None, shown=0, tries=6):
@@ -277,7 +302,7 @@ class Client:
         self.id = secrets.randbits(64) if client is None else client
         self.numbers = {}
         try:
-            self.chains = self.status()
+            self.chains = self.retried(lambda _: self.status())
         except BaseException:
             self.close()
             raise
@@ -325,7 +350,7 @@ class Client:
         return self.update(chain, mini(chain, compares, reads, writes), **where)
 
     def read(self, key, mode=STRONG, chain=0, node=None):
-        """The object's version and value; version 0 where it was never written."""
+        """Read(version, value) in mode STRONG, EVENTUAL or bounded(K); version 0 and no bytes where it was never written."""
         return self.ask_again(lambda: self.asks_read(key, mode, chain, node), node is None)
 
     def status(self):
@@ -339,14 +364,20 @@ class Client:
 
     def ask_again(self, request, may_retry):
         """Asks a request until it is answered, or refused for good. It is made anew each time, from the present members."""
+        def attempt(is_first):
+            if not is_first:
+                self.chains = self.status()
+            return self.ask(request())
+        return self.retried(attempt) if may_retry else attempt(True)
+
+    def retried(self, attempt):
+        """What the attempt gives, made again after a lost connection or a passing refusal, `tries` times in all."""
         for tried in range(1, self.tries + 1):
             try:
-                if tried > 1:
-                    self.chains = self.status()
-                return self.ask(request())
+                return attempt(tried == 1)
             except (OSError, Refused) as fault:
-                passes = not isinstance(fault, Refused) or fault.number in PASSING
-                if not (may_retry and passes) or tried == self.tries:
+                lasts = isinstance(fault, Refused) and fault.number not in PASSING
+                if lasts or tried == self.tries:
                     raise
                 time.sleep(0.05 * tried)
         raise ValueError("no tries")
@@ -430,6 +461,16 @@ def printed(told):
     return " ".join([type(told).__name__.lower(), *fields])
 
 
+def mode_of(text):
+    """The mode of a read that a word of a command line names."""
+    word, _, above = text.partition(":")
+    if text in ("strong", "eventual"):
+        return STRONG if word == "strong" else EVENTUAL
+    if word == "bounded":
+        return bounded(int(above))
+    raise ValueError(text)
+
+
 def object_of(text):
     """The chain and the key of an OBJECT."""
     chain, slash, key = text.partition("/")
@@ -442,8 +483,8 @@ def run_command(store, node, command, words):
         return json.dumps({"chains": store.chains}, separators=(",", ":"))
     chain, key = object_of(words[0])
     where = {"chain": chain, "node": node}
-    if command == "read" and len(words) == 1:
-        return printed(store.read(key, **where))
+    if command == "read" and len(words) in (1, 2):
+        return printed(store.read(key, mode_of(*words[1:] or ["strong"]), **where))
     if command in ("put", "append", "prepend") and len(words) == 2:
         return printed(getattr(store, command)(key, bytes_of(words[1]), **where))
     if command in ("inc", "dec") and len(words) == 2:
@@ -495,7 +536,7 @@ def main():
     except (OSError, BadReply) as fault:
         print(f"client: {fault}", file=sys.stderr)
         return 4
-    except (IndexError, ValueError):
+    except (IndexError, ValueError, OverflowError):
         print(__doc__, file=sys.stderr)
         return 2
     return 0

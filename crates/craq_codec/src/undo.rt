@@ -4,7 +4,7 @@ ghost use Rattle.std.specs.Prelude.{◌≡◌, take, OnOk, OnErr};
 use bytes::BytesMut;
 use std::alloc::AllocError;
 
-/// The same result. If it is an error, the bytes behind the first `len` are taken off again.
+/// Returns `written`; if that is an error, it first cuts `out` back to its first `len` bytes.
 pub(crate) fn undo_if_err(
     out: &mut BytesMut,
     len: usize,

@@ -1,3 +1,4 @@
+//! What a step changes of a node: `Change`, which the rules of `craq_read` and `craq_write` plan and `Node::apply` makes.
 ghost use Rattle.std.specs.Prelude.{◌≡◌};
 
 use craq_commands::{Entry, State};

@@ -1,3 +1,4 @@
+//! The trait `History`: how a node keeps its past. The rules see the past through it alone.
 ghost use Rattle.std.specs.Prelude.{Bool, true, ◌≡◌, ◌≤◌, ◌+◌, ◌-◌, ◌<◌, ◌^◌, length, IfOk, OnOk, OnErr};
 ghost use Rattle.std.specs.List.{AllByRecursion};
 ghost use Rattle.craq_commands.specs.Objects.{object_of};

@@ -1,3 +1,4 @@
+//! `Node`: a node of a chain over any `History`. The rules read it, and `Node::apply` alone changes it.
 ghost use Rattle.std.specs.Prelude.{◌≡◌, ◌+◌, nat_le, length};
 ghost use Rattle.craq_names.specs.Limits.{waiting_limit};
 

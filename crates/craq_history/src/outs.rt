@@ -50,7 +50,7 @@ pub fn message(sender: &Sender, to: NodeId, body: Body) -> Out
     }
 }
 
-/// The same result. If it is an error, the outs behind the first `len` are taken off again.
+/// Returns `added`; if that is an error, it first cuts `outs` back to its first `len`.
 fn undo_if_err(
     outs: &mut Vec<Out>,
     len: usize,

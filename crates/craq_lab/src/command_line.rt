@@ -1,3 +1,4 @@
+//! The command line of `craq_lab`: its commands, its helps, and what was asked; called by `main`.
 use clap::builder::ValueParser;
 use clap::{Arg, ArgAction, ArgMatches, Command, Error};
 use std::alloc::{AllocError, Global};

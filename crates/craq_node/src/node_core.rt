@@ -1,3 +1,4 @@
+//! The trait `Core`: a node as code, however it keeps its state. What stands above is generic in it.
 ghost use Rattle.std.specs.Prelude.{◌≡◌, IfOk, IfErr, IsOk};
 ghost use Rattle.std.specs.Option.{option_copied};
 ghost use Rattle.craq_model.specs.Plain.{Plain};

@@ -1,3 +1,4 @@
+//! `NodeCore`: the one core that is here, over any `History`. It admits an event, has a rule plan it, and makes the change.
 ghost use Rattle.std.specs.Prelude.{◌≡◌, ◌≢◌, true, [], IfOk, IsOk, IsSome, Ok};
 ghost use Rattle.craq_model.specs.Deliveries.{delivery_turn};
 ghost use Rattle.craq_model.specs.Plain.{Plain, opening_member};
@@ -34,7 +35,7 @@ pub struct NodeCore<H: History> {
     ghost own_switch: { switch.name ≡ node.name },
 }
 
-/// What is asked can be spelled, since a transaction keeps its limits. It does nothing.
+/// Does nothing. It tells the prover that what is asked can be encoded, since a transaction keeps its limits.
 fn keep_limits(event: &Event)
     requires { CanArrive event.now }
     ensures { IsSpelledEvent event.now }
@@ -85,7 +86,7 @@ fn hear<H: History>(
     made(alloc, node, change, step)
 }
 
-/// An event but a stop that is admitted at a running node.
+/// Meets an admitted event, other than a stop, at a running node: its rule plans the change, which is then made.
 #[tactic(auto, using(crate::proofs::Kept::still_sound), unfolding(craq_model::specs::Sends::tick_sends))]
 fn meet<H: History>(alloc: Global, node: &mut Node<H>, event: Event) -> Result<Step, Refusal>
     requires sound { IsSound (plain_of H.past node.old) }
@@ -112,7 +113,7 @@ fn meet<H: History>(alloc: Global, node: &mut Node<H>, event: Event) -> Result<S
     }
 }
 
-/// The same, which leaves the node sound and says what can be spelled.
+/// Meets an event as `meet` does. The node is sound afterwards, and each out of the step can be encoded.
 #[tactic(auto, using(crate::proofs::Kept::sound_after, crate::proofs::Kept::said_spelled))]
 fn happen<H: History>(alloc: Global, node: &mut Node<H>, event: Event) -> Result<Step, Refusal>
     requires sound { IsSound (plain_of H.past node.old) }
@@ -138,7 +139,7 @@ impl<H: History> NodeCore<H> {
         &self.node
     }
 
-    /// A node before its first step.
+    /// The node before its first step.
     #[tactic(auto, using(crate::proofs::Remembered::opening_seen))]
     fn unmoved(
         alloc: Global,
@@ -168,7 +169,7 @@ impl<H: History> NodeCore<H> {
         }
     }
 
-    /// A stop, or another event that is admitted.
+    /// Takes an admitted event, a stop or another.
     #[tactic(auto, unfolding(craq_model::specs::Node::node_step))]
     fn take_admitted(&mut self, alloc: Global, event: Event) -> Result<Step, Refusal>
         requires runs { self.old.switch.running ≡ true }

@@ -1,3 +1,4 @@
+//! `PlainHistory`: a past that keeps every entry, the simplest way to meet `History`. Explanations are replayed on it.
 ghost use Rattle.std.specs.Prelude.{◌≡◌, ◌+◌, ◌-◌, ◌<◌, ◌^◌, false, length, take, drop, refl};
 ghost use Rattle.craq_commands.specs.SingleCopy.{after_entries};
 ghost use Rattle.craq_model.specs.Deliveries.{is_applicable};

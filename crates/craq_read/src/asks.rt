@@ -1,3 +1,4 @@
+//! `plan_read`: the rule of a read that is asked, eventual, bounded or strong; called by `craq_node`.
 ghost use Rattle.std.specs.Prelude.{◌≡◌, ◌==◌, ◌<◌, ◌≤◌, ◌+◌, ◌-◌, ◌^◌, [], false, is_some, length, IfOk, IfErr, IfSome};
 ghost use Rattle.craq_commands.specs.Objects.{object_of};
 ghost use Rattle.craq_model.specs.Asks.{read_turn, waiting_read_turn};

@@ -1,3 +1,4 @@
+//! The rules of a question to the tail and of its answer, which a strong read of a dirty object waits for; called by `craq_node`.
 ghost use Rattle.std.specs.Prelude.{◌≡◌, IfOk, IsOk, IsSome};
 ghost use Rattle.std.specs.Option.{option_copied};
 ghost use Rattle.craq_model.specs.Deliveries.{query_turn, version_turn, told_version_turn, read_with};

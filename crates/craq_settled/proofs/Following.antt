@@ -1,6 +1,6 @@
 -- Versions that follow one another, as entries are listed, folded and appended.
-use Rattle.std.proofs.Common.{◌≡◌, ℕ, zero, suc, ◌+◌, ◌-◌, ◌<◌, ◌≤◌, Bool, true, false, cond, List, [], ◌∷◌, ◌++◌, length, take, drop, drop-cons, get_or, Option, Some, None, unwrap_or, refl, sym, ◌∙◌, ap, subst, arith, add-one}
-use Rattle.std.specs.List.{AllZip, last_or}
+use Rattle.std.proofs.Common.{◌≡◌, ◌⊎◌, inl, inr, ℕ, zero, suc, ◌+◌, ◌-◌, ◌<◌, ◌≤◌, Bool, true, false, cond, List, [], ◌∷◌, ◌++◌, length, take, drop, drop-cons, get_or, Option, Some, None, unwrap_or, refl, sym, ◌∙◌, ap, subst, arith, add-one}
+use Rattle.std.specs.List.{AllByRecursion, last_or}
 use Rattle.std.specs.Prelude.{if◌then◌else◌}
 use Rattle.craq_names.specs.Maps.{same_bytes}
 use Rattle.craq_commands.specs.declared.entry.Entry.{Entry}
@@ -9,15 +9,16 @@ use Rattle.craq_commands.specs.declared.state.State.{State}
 use Rattle.craq_commands.specs.Kept.{Window}
 use Rattle.craq_commands.specs.Objects.{Objects, object_of, version_of}
 use Rattle.craq_commands.specs.SingleCopy.{after_entry, after_entries}
-use Rattle.craq_log.specs.Suffixed.{Suffixed, IsFirstOf, length_of}
+use Rattle.craq_log.specs.Suffixed.{Suffixed, IsFirstOf}
 use Rattle.craq_model.specs.Past.{values_in, values_after}
 use Rattle.craq_plain.specs.Scans.{last_value}
 use Rattle.craq_plain.proofs.Scans.{last_of_values}
-use Rattle.craq_versions.specs.Versions.{CanPush, Follows, newest_of}
+use Rattle.craq_versions.specs.Versions.{CanPush, Follows, IsNext, newest_of, versions_from, versions_settled}
 use Rattle.craq_settled.specs.declared.places.Place.{Place}
-use Rattle.craq_settled.specs.Followed.{AreNext, AreNextVersions, Begins}
+use Rattle.craq_settled.specs.declared.places.Place.TheVariants.{Settled}
+use Rattle.craq_settled.specs.Followed.{AreNext, AreNextVersions, Begins, CanFold}
 use Rattle.craq_settled.specs.Listed.{AreListed, version_at, written_in, written_after}
-use Rattle.craq_settled.specs.Placed.{Placed, later_of, newest_version, number_of, objects_of, settled_in, state_at, versions_of, IsRising, StartsAt}
+use Rattle.craq_settled.specs.Placed.{Placed, later_in, later_of, newest_version, number_of, objects_of, state_at, versions_of, IsRising, SettlesNext, StartsAt}
 use Rattle.craq_settled.proofs.Found.{newest_number, values-append, values_split}
 use Rattle.craq_settled.proofs.Looked.{seen_listed}
 use Rattle.craq_settled.proofs.Placing.{none_more, object_here, own}
@@ -103,31 +104,100 @@ begins_written p k (w ∷ ws) rest q =
     let split : (b : Bool) → Begins (cond b ((w.version, w.value) ∷ values_in ws q) (values_in ws q)) (cond b (version_at p k w ∷ written_in p (k + 1) ws q) (written_in p (k + 1) ws q) ++ rest) = elim [ true ↦ (refl, more) | false ↦ more ] in
     split (same_bytes w.key q)
 
+first_is : (es : List Entry) (e : Entry) → take 1 es ≡ e ∷ [] → es ≡ e ∷ drop 1 es
+first_is [] e is = cc
+first_is (d ∷ ds) e is = let same : d ≡ e = cc in ap (λ (x : Entry). x ∷ ds) same
+
 -- the later versions begin with those that the first entry gives, where it is listed
-pub begins_listed : (t : Placed) (s left : Suffixed) (done : ℕ) (e : Entry) → AreListed t s done → s.base < done → IsFirstOf e s left → (q : List ℕ) → Begins (values_in e.writes q) (later_of t q)
+pub ready_listed : (t : Placed) (s : Suffixed) (done : ℕ) (e : Entry) → AreListed t s done → s.base < done → take 1 s.entries ≡ e ∷ [] → (q : List ℕ) → CanFold (values_in e.writes q) (versions_of t q)
 unfolding written_after
-begins_listed t s left done e listed more first q =
+ready_listed t s done e listed more is q =
     let m : ℕ = done - s.base - 1 in
     let one : done - s.base ≡ suc m = omega arith in
-    let rest : List (ℕ × Place) = written_after (s.base + 1) (take m left.entries) q in
-    let is : later_of t q ≡ written_in (s.base + 1) 0 e.writes q ++ rest = listed.later q ∙ ap (λ (n : ℕ). written_after s.base (take n s.entries) q) one ∙ ap (λ (l : List Entry). written_after s.base (take (suc m) l) q) first.entries in
-    subst (λ (l : List (ℕ × Place)). Begins (values_in e.writes q) l) (sym is) (begins_written (s.base + 1) 0 e.writes rest q)
+    let rest : List (ℕ × Place) = written_after (s.base + 1) (take m (drop 1 s.entries)) q in
+    let is : later_of t q ≡ written_in (s.base + 1) 0 e.writes q ++ rest = listed.later q ∙ ap (λ (n : ℕ). written_after s.base (take n s.entries) q) one ∙ ap (λ (l : List Entry). written_after s.base (take (suc m) l) q) (first_is s.entries e is) in
+    inl (subst (λ (l : List (ℕ × Place)). Begins (values_in e.writes q) l) (sym is) (begins_written (s.base + 1) 0 e.writes rest q))
 
--- the oldest of them is the first write's
-pub starts_with : (w : Write) (ws : List Write) (l : List (ℕ × Place)) → Begins (values_in (w ∷ ws) w.key) l → StartsAt w.version l
+values_high : (ws : List Write) (q : List ℕ) → AllByRecursion (λ (w : Write). 2 ≤ w.version) ws → AllByRecursion (λ (v : ℕ × List ℕ). 2 ≤ v.0) (values_in ws q)
+unfolding values_in
+values_high [] q all = tt
+values_high (w ∷ ws) q all =
+    let rest = values_high ws q all.1 in
+    let split : (b : Bool) → AllByRecursion (λ (v : ℕ × List ℕ). 2 ≤ v.0) (cond b ((w.version, w.value) ∷ values_in ws q) (values_in ws q)) = elim [ true ↦ (all.0, rest) | false ↦ rest ] in
+    split (same_bytes w.key q)
+
+after_settled : (values : List (ℕ × List ℕ)) (vs : List (ℕ × Place)) → later_in vs ≡ [] → AllByRecursion (λ (v : ℕ × List ℕ). 2 ≤ v.0) values → AreNext (newest_version vs) values → CanFold values vs
+after_settled [] vs none high next = inl tt
+after_settled (v ∷ values) vs none high next =
+    let is : v.0 ≡ newest_version vs + 1 = next.0 in
+    let two : 2 ≤ v.0 = high.0 in
+    let one : 1 ≤ newest_version vs = omega (arith, is, two) in
+    inr (none, one, next)
+
+no_more : (base n : ℕ) (es : List Entry) (q : List ℕ) → n ≡ 0 → written_after base (take n es) q ≡ []
+unfolding written_after
+no_more base n es q none = ap (λ (k : ℕ). written_after base (take k es) q) none
+
+front_is : (es : List Entry) (n : ℕ) (e : Entry) → n ≡ 0 → take 1 es ≡ e ∷ [] → (0 < length (drop n es)) × (e ≡ get_or (drop n es) 0 e)
+front_is es n e none is =
+    let all : drop n es ≡ e ∷ drop 1 es = ap (λ (k : ℕ). drop k es) none ∙ first_is es e is in
+    let long : length (drop n es) ≡ suc (length (drop 1 es)) = ap length all in
+    (omega (arith, long), sym (ap (λ (l : List Entry). get_or l 0 e) all))
+
+-- where nothing is listed, it gives the next versions of objects that are there
+pub ready_next : (t : Placed) (s : Suffixed) (done : ℕ) (e : Entry) → IsRising t → AreListed t s done → done ≤ s.base → ((q : List ℕ) → AreNext (version_of (objects_of t) q) (values_after s.entries q)) → take 1 s.entries ≡ e ∷ [] → AllByRecursion (λ (w : Write). 2 ≤ w.version) e.writes
+    → (q : List ℕ) → CanFold (values_in e.writes q) (versions_of t q)
+ready_next t s done e rise listed low next is high q =
+    let none : done - s.base ≡ 0 = omega arith in
+    let front = front_is s.entries (done - s.base) e none is in
+    after_settled (values_in e.writes q) (versions_of t q) (listed.later q ∙ no_more s.base (done - s.base) s.entries q none) (values_high e.writes q high)
+    (next_listed t s done (drop (done - s.base) s.entries) e rise listed next refl front.0 front.1 q)
+
+is_next : (o : Option (ℕ × Place)) (version : ℕ) → 1 ≤ number_of o → version ≡ number_of o + 1 → IsNext version o
+is_next None version some is = absurd (omega (arith, some))
+is_next (Some v) version some is = is
+
+starts_with : (w : Write) (ws : List Write) (l : List (ℕ × Place)) → Begins (values_in (w ∷ ws) w.key) l → StartsAt w.version l
 unfolding values_in
 starts_with w ws l h =
     let inner : (l : List (ℕ × Place)) → Begins ((w.version, w.value) ∷ values_in ws w.key) l → StartsAt w.version l = elim [ [] ↦ λ h. absurd h | v ∷ vs ↦ λ h. h.0 ] in
     let split : (b : Bool) → b ≡ true → Begins (cond b ((w.version, w.value) ∷ values_in ws w.key) (values_in ws w.key)) l → StartsAt w.version l = elim [ true ↦ λ e h. inner l h | false ↦ λ e h. cc ] in
     split (same_bytes w.key w.key) (own w.key) h
 
--- and the others are those of the other writes
-pub begins_after : (w : Write) (ws : List Write) (l r : List (ℕ × Place)) (q : List ℕ) → r ≡ drop (if same_bytes w.key q then 1 else 0) l → Begins (values_in (w ∷ ws) q) l → Begins (values_in ws q) r
+-- the first write's version can be settled
+pub settles_next : (w : Write) (ws : List Write) (vs : List (ℕ × Place)) → CanFold (values_in (w ∷ ws) w.key) vs → SettlesNext vs w.version
+settles_next w ws vs (inl begins) = inl (starts_with w ws (later_in vs) begins)
+settles_next w ws vs (inr after) = inr (after.0, is_next (newest_of vs) w.version after.1 (next_write (newest_version vs) w ws after.2))
+
+begins_after : (w : Write) (ws : List Write) (l r : List (ℕ × Place)) (q : List ℕ) → r ≡ drop (if same_bytes w.key q then 1 else 0) l → Begins (values_in (w ∷ ws) q) l → Begins (values_in ws q) r
 unfolding values_in
 begins_after w ws l r q is h =
     let inner : (l : List (ℕ × Place)) → Begins ((w.version, w.value) ∷ values_in ws q) l → Begins (values_in ws q) (drop 1 l) = elim [ [] ↦ λ h. absurd h | v ∷ vs ↦ λ h. h.1 ] in
     let split : (b : Bool) → Begins (cond b ((w.version, w.value) ∷ values_in ws q) (values_in ws q)) l → Begins (values_in ws q) (drop (if b then 1 else 0) l) = elim [ true ↦ λ h. inner l h | false ↦ λ h. h ] in
     subst (λ (x : List (ℕ × Place)). Begins (values_in ws q) x) (sym is) (split (same_bytes w.key q) h)
+
+settled_alone : (us rest : List (ℕ × Place)) (version : ℕ) (p : Place) (values : List (ℕ × List ℕ)) → us ≡ (version, p) ∷ rest → rest ≡ [] → 1 ≤ version → later_in us ≡ [] → AreNext version values → CanFold values us
+settled_alone us rest version p values is none one later next =
+    let alone : us ≡ (version, p) ∷ [] = is ∙ ap (λ (l : List (ℕ × Place)). (version, p) ∷ l) none in
+    let number : version ≡ newest_version us = sym (ap newest_version alone) in
+    inr (later, subst (λ (n : ℕ). 1 ≤ n) number one, subst (λ (n : ℕ). AreNext n values) number next)
+
+-- and then those of the other writes can
+pub folds_on : (w : Write) (ws : List Write) (q : List ℕ) (vs us ks : List (ℕ × Place)) (bytes : List ℕ) → us ≡ (if same_bytes w.key q then versions_settled ks w.version (Settled bytes) else vs) → later_in us ≡ drop (if same_bytes w.key q then 1 else 0) (later_in vs)
+    → CanFold (values_in (w ∷ ws) q) vs → CanFold (values_in ws q) us
+unfolding values_in
+folds_on w ws q vs us ks bytes is later (inl begins) = inl (begins_after w ws (later_in vs) (later_in us) q later begins)
+folds_on w ws q vs us ks bytes is later (inr after) =
+    let split : (b : Bool) → us ≡ (if b then versions_settled ks w.version (Settled bytes) else vs) → later_in us ≡ drop (if b then 1 else 0) (later_in vs) → AreNext (newest_version vs) (cond b ((w.version, w.value) ∷ values_in ws q) (values_in ws q)) → CanFold (values_in ws q) us = elim [
+      | true ↦ λ is later h.
+          let empty : later_in us ≡ [] = later ∙ ap (λ (l : List (ℕ × Place)). drop 1 l) after.0 in
+          let rest : versions_from ks (w.version + 1) ≡ [] = sym (ap later_in is) ∙ empty in
+          let next : w.version ≡ newest_version vs + 1 = h.0 in
+          let one : 1 ≤ w.version = omega (arith, next) in
+          settled_alone us (versions_from ks (w.version + 1)) w.version (Settled bytes) (values_in ws q) is rest one empty h.1
+      | false ↦ λ is later h. subst (λ (l : List (ℕ × Place)). CanFold (values_in ws q) l) (sym is) (inr (after.0, after.1, h))
+    ] in
+    split (same_bytes w.key q) is later after.2
 
 -- the entries that are left give the next versions once the first is folded
 pub next_folded : (m n : Objects) (kept more : List (ℕ × Window)) (old new : Suffixed) (e : Entry) → state_at n more ≡ after_entry (state_at m kept) e → IsFirstOf e old new → ((q : List ℕ) → AreNext (version_of m q) (values_after old.entries q)) → (q : List ℕ) → AreNext (version_of n q) (values_after new.entries q)

@@ -68,7 +68,7 @@ module _ {K X : Type 0} (R : K → K → Ordering) (o : IsTotalOrder R) where
       taken (y ∷ l) zero x b s = ap (λ (z : K × X). z ∷ []) (sym s)
       taken (y ∷ l) (suc n) x b s = ap (λ (t : List (K × X)). y ∷ t) (taken l n x (omega (arith, b)) s)
 
-take_none : {A : Type 0} (Q : A → Type 0) (xs : List A) → AllByRecursion Q (take 0 xs)
+pub take_none : {A : Type 0} (Q : A → Type 0) (xs : List A) → AllByRecursion Q (take 0 xs)
 take_none Q [] = tt
 take_none Q (x ∷ xs) = tt
 

@@ -1,5 +1,5 @@
 -- Objects of a table, once the versions of one are changed.
-use Rattle.std.proofs.Common.{◌≡◌, ℕ, zero, suc, ◌+◌, ◌-◌, ◌<◌, ◌≤◌, Bool, true, false, cond, T, List, [], ◌∷◌, ◌++◌, length, map, take, drop, Option, Some, None, refl, sym, ◌∙◌, ap, subst, arith, rules}
+use Rattle.std.proofs.Common.{◌≡◌, ◌⊎◌, inl, inr, ℕ, zero, suc, ◌+◌, ◌-◌, ◌<◌, ◌≤◌, Bool, true, false, cond, T, List, [], ◌∷◌, ◌++◌, length, map, take, drop, Option, Some, None, refl, sym, ◌∙◌, ap, subst, arith, rules}
 use Rattle.std.specs.Prelude.{unwrap_or, is_some, IsSome, if◌then◌else◌, nat_le}
 use Rattle.std.specs.Option.{option_and_then}
 use Rattle.std.specs.Ordering.{is_eq, eq_by_cmp, nat_cmp}
@@ -14,11 +14,11 @@ use Rattle.craq_names.specs.Maps.{key_cmp, at_key, at_number, put_key, same_byte
 use Rattle.craq_names.proofs.Places.{find_filled, is_sorted_filled, is_sorted_of}
 use Rattle.craq_commands.specs.Objects.{Objects, object_of}
 use Rattle.craq_versions.specs.Tables.{Held, held_at, held_in, nothing, popped, pushed, settled_as}
-use Rattle.craq_versions.specs.Versions.{Versions, CanPush, AreConsecutive, AreVersions, versions_from, without_newest}
+use Rattle.craq_versions.specs.Versions.{Versions, CanPush, CanSettleAs, AreConsecutive, AreVersions, IsNext, newest_of, versions_from, without_newest}
 use Rattle.craq_settled.specs.declared.places.Place.{Place}
 use Rattle.craq_settled.specs.declared.places.Place.TheVariants.{Settled, Written}
 use Rattle.craq_settled.specs.declared.places.WriteRef.{WriteRef}
-use Rattle.craq_settled.specs.Placed.{Placed, shown, has_some, later_from, later_in, later_of, objects_of, settled_in, versions_of, IsRising, KeepsLater, StartsAt}
+use Rattle.craq_settled.specs.Placed.{Placed, shown, has_some, later_from, later_in, later_of, objects_of, settled_in, versions_of, IsRising, KeepsLater, SettlesNext, StartsAt}
 
 -- one key has these versions, and the others theirs
 abbrev pub IsChanged : Placed → Placed → List ℕ → List (ℕ × Place) → Type 0
@@ -283,7 +283,7 @@ without_oldest (v ∷ vs) version row starts = split v.0 v.1 vs row starts
         ∙ ap (λ (k : ℕ). versions_from (w ∷ ws) (k + 1)) (sym here) ∙ from_next w ws row.1
 
 -- the oldest later version is one of the versions
-pub holds_oldest : (vs : List (ℕ × Place)) (version : ℕ) → StartsAt version (later_in vs) → IsSome (at_number vs version)
+holds_oldest : (vs : List (ℕ × Place)) (version : ℕ) → StartsAt version (later_in vs) → IsSome (at_number vs version)
 holds_oldest [] version starts = absurd starts
 holds_oldest (v ∷ vs) version starts = split v.0 v.1 vs starts
   where
@@ -295,12 +295,31 @@ holds_oldest (v ∷ vs) version starts = split v.0 v.1 vs starts
         let either : (b : Bool) → is_some (cond b (Some (Settled value)) (at_number (w ∷ ws) version)) ≡ true = elim [ true ↦ refl | false ↦ rest ] in
         either (eq_by_cmp nat_cmp version n)
 
+-- the later versions, once the next one is settled
+without_settled : (vs : List (ℕ × Place)) (version : ℕ) → AreConsecutive vs → SettlesNext vs version → versions_from vs (version + 1) ≡ drop 1 (later_in vs)
+without_settled vs version row (inl starts) = without_oldest vs version row starts
+without_settled [] version row (inr after) = absurd after.1
+without_settled (v ∷ vs) version row (inr after) = split v.0 v.1 vs after.0 after.1
+  where
+    no_list : (v : ℕ × Place) (vs : List (ℕ × Place)) → v ∷ vs ≡ [] → ⊥
+    no_list v vs e = cc
+
+    split : (n : ℕ) (p : Place) (vs : List (ℕ × Place)) → later_from p ((n, p) ∷ vs) vs ≡ [] → IsNext version (newest_of ((n, p) ∷ vs)) → versions_from ((n, p) ∷ vs) (version + 1) ≡ drop 1 (later_from p ((n, p) ∷ vs) vs)
+    split n (Written at) vs none next = absurd (no_list (n, Written at) vs none)
+    split n (Settled value) [] none next = let is : version ≡ n + 1 = next in ap (λ t. cond t ((n, Settled value) ∷ []) []) (le_false (version + 1) n (omega (arith, is)))
+    split n (Settled value) (w ∷ ws) none next = absurd (no_list w ws none)
+
+-- the next version can be settled
+pub can_settle : (vs : List (ℕ × Place)) (version : ℕ) → SettlesNext vs version → CanSettleAs vs version
+can_settle vs version (inl starts) = inl (holds_oldest vs version starts)
+can_settle vs version (inr after) = inr after.1
+
 -- it is settled
-pub later_settled : (t u : Placed) (key : List ℕ) (version : ℕ) (value : List ℕ) → u.objects ≡ put_key t.objects key (settled_as (held_at t key) version (Settled value)) → AreVersions (held_at t key).versions (held_at t key).clean → StartsAt version (later_of t key)
+pub later_settled : (t u : Placed) (key : List ℕ) (version : ℕ) (value : List ℕ) → u.objects ≡ put_key t.objects key (settled_as (held_at t key) version (Settled value)) → AreVersions (held_at t key).versions (held_at t key).clean → SettlesNext (versions_of t key) version
     → (q : List ℕ) → later_of u q ≡ drop (if same_bytes key q then 1 else 0) (later_of t q)
 later_settled t u key version value is row starts q =
     let h : Held Place = settled_as (held_at t key) version (Settled value) in
-    later_changed t u key h.versions (drop 1) (changed t u key h is) (without_oldest (versions_of t key) version row.consecutive starts) q ∙ oldest_gone (same_bytes key q) (later_of t q)
+    later_changed t u key h.versions (drop 1) (changed t u key h is) (without_settled (versions_of t key) version row.consecutive starts) q ∙ oldest_gone (same_bytes key q) (later_of t q)
 
 pub objects_settled : (t u : Placed) (key : List ℕ) (version : ℕ) (value : List ℕ) → IsRising t → u.objects ≡ put_key t.objects key (settled_as (held_at t key) version (Settled value)) → objects_of u ≡ put_key (objects_of t) key (version, value)
 objects_settled t u key version value rise is =

@@ -1,5 +1,5 @@
 -- Objects by key, each with its versions, and where their values stand.
-use Rattle.std.specs.Prelude.{◌≡◌, ℕ, ◌-◌, Bool, true, false, T, List, [], ◌∷◌, Option, None, Some, drop, length, take}
+use Rattle.std.specs.Prelude.{◌≡◌, ◌⊎◌, ℕ, ◌-◌, Bool, true, false, T, List, [], ◌∷◌, Option, None, Some, drop, length, take}
 use Rattle.std.specs.FinMap.Entries.{is_sorted}
 use Rattle.craq_names.specs.Maps.{key_cmp}
 use Rattle.craq_names.specs.Places.{filled}
@@ -9,7 +9,7 @@ use Rattle.craq_commands.specs.Kept.{Window}
 use Rattle.craq_commands.specs.Objects.{Objects}
 use Rattle.craq_model.specs.Past.{values_in}
 use Rattle.craq_versions.specs.Tables.{Held, Table, held_at}
-use Rattle.craq_versions.specs.Versions.{newest_of}
+use Rattle.craq_versions.specs.Versions.{newest_of, IsNext}
 use Rattle.craq_settled.specs.declared.places.Place.{Place}
 use Rattle.craq_settled.specs.declared.places.Place.TheVariants.{Settled, Written}
 
@@ -71,6 +71,10 @@ newest_version vs = number_of (newest_of vs)
 abbrev pub StartsAt : ℕ → List (ℕ × Place) → Type 0
 StartsAt version [] = ⊥
 StartsAt version (v ∷ vs) = v.0 ≡ version
+
+-- the version can be settled: it is the oldest of the later ones or, where there are none, comes after the settled one
+abbrev pub SettlesNext : List (ℕ × Place) → ℕ → Type 0
+SettlesNext vs version = StartsAt version (later_in vs) ⊎ ((later_in vs ≡ []) × IsNext version (newest_of vs))
 
 -- each key stands once, and in order
 abbrev pub IsRising : Placed → Type 0

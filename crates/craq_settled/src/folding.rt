@@ -1,15 +1,17 @@
 //! Folds entries into objects and kept replies.
-ghost use Rattle.std.specs.Prelude.{◌≡◌, ℕ, ◌+◌, ◌<◌, ◌≤◌, List, [], ◌∷◌, OnOk, OnErr, length, take};
+ghost use Rattle.std.specs.Prelude.{◌≡◌, ℕ, ◌+◌, ◌<◌, ◌≤◌, List, [], ◌∷◌, IsTrue, OnOk, OnErr, length, max, take};
+ghost use Rattle.std.specs.List.{AllByRecursion};
 ghost use Rattle.craq_commands.specs.declared.entry.Entry.{Entry};
+ghost use Rattle.craq_commands.specs.declared.entry.Write.{Write};
 ghost use Rattle.craq_commands.specs.Objects.{version_of};
 ghost use Rattle.craq_commands.specs.SingleCopy.{after_entry, with_writes};
 ghost use Rattle.craq_log.specs.Suffixed.{length_of};
 ghost use Rattle.craq_model.specs.Past.{values_in, values_after};
 ghost use Rattle.craq_replies.specs.Replies.{room_at};
 ghost use Rattle.craq_settled.specs.Folded.{AreFolded};
-ghost use Rattle.craq_settled.specs.Followed.{AreNext, Begins};
+ghost use Rattle.craq_settled.specs.Followed.{AreNext, CanFold};
 ghost use Rattle.craq_settled.specs.Listed.{AreListed};
-ghost use Rattle.craq_settled.specs.Placed.{objects_of, later_of, state_at, IsRising, LaterWithout};
+ghost use Rattle.craq_settled.specs.Placed.{objects_of, state_at, versions_of, IsRising, LaterWithout};
 
 use crate::listing::list_next;
 use crate::objects::settle_object;
@@ -21,11 +23,11 @@ use craq_replies::ReplyTable;
 use craq_versions::ObjectTable;
 use std::alloc::{AllocError, Global};
 
-/// Settles what is written of objects, whose oldest later versions these are, in order. Their values are moved, and it takes
-/// no memory.
+/// Settles what is written of objects, whose next versions these are, in order. Their values are moved, and it takes no
+/// memory.
 fn settle_objects(table: &mut ObjectTable<Place>, writes: Items<Write>)
     requires rising { IsRising table.old }
-    requires listed { (q : List ℕ) → Begins (values_in writes q) (later_of table.old q) }
+    requires ready { (q : List ℕ) → CanFold (values_in writes q) (versions_of table.old q) }
     ensures objects { objects_of table.new ≡ with_writes (objects_of table.old) writes }
     ensures later { LaterWithout writes table.old table.new }
     ensures rising { IsRising table.new }
@@ -40,10 +42,10 @@ fn settle_objects(table: &mut ObjectTable<Place>, writes: Items<Write>)
     }
 }
 
-/// Folds an entry that is listed, and for whose reply there is room: its values are moved. It takes no memory.
+/// Folds an entry of which there is room for the versions and for the reply: its values are moved. It takes no memory.
 fn fold_one(table: &mut ObjectTable<Place>, replies: &mut ReplyTable, entry: Entry)
     requires rising { IsRising table.old }
-    requires listed { (q : List ℕ) → Begins (values_in entry.writes q) (later_of table.old q) }
+    requires ready { (q : List ℕ) → CanFold (values_in entry.writes q) (versions_of table.old q) }
     requires room { 0 < room_at replies.old entry.client }
     ensures state { state_at (objects_of table.new) replies.new.kept ≡ after_entry (state_at (objects_of table.old) replies.old.kept) entry }
     ensures later { LaterWithout entry.writes table.old table.new }
@@ -68,8 +70,20 @@ fn first_of(entries: &Suffix) -> &Entry
     &entries.from(entries.base())[0]
 }
 
-/// Makes sure that the first of some entries is listed, and that there is room for its reply. Where memory is refused what
-/// is seen stays.
+/// Whether each write is of an object that was there before: its version is not the first.
+fn are_rewrites(writes: &[Write]) -> bool
+    ensures { IsTrue result → AllByRecursion (λ (w : Write). 2 ≤ w.version) writes.now }
+{
+    for write in writes {
+        if write.version.get() < 2 {
+            return false;
+        }
+    }
+    true
+}
+
+/// Makes sure that the first of some entries can be folded without memory: there is room for its reply, and it is listed
+/// or writes objects that have versions. Where memory is refused what is seen stays.
 fn make_room(
     table: &mut ObjectTable<Place>,
     replies: &mut ReplyTable,
@@ -80,18 +94,33 @@ fn make_room(
     requires some { 1 ≤ length entries.now.entries }
     requires listed { AreListed table.old entries.now listed.old }
     requires next { (q : List ℕ) → AreNext (version_of (objects_of table.old) q) (values_after entries.now.entries q) }
-    ensures first { OnOk result (entries.now.base < listed.new) }
+    ensures ready { OnOk result ((e : Entry) → take 1 entries.now.entries ≡ e ∷ [] → (q : List ℕ) → CanFold (values_in e.writes q) (versions_of table.new q)) }
     ensures room { OnOk result ((e : Entry) → take 1 entries.now.entries ≡ e ∷ [] → 0 < room_at replies.new e.client) }
     ensures objects { objects_of table.new ≡ objects_of table.old }
     ensures kept { replies.new.kept ≡ replies.old.kept }
     ensures listed { AreListed table.new entries.now listed.new }
     ensures rising { IsRising table.new }
 {
-    replies.reserve(first_of(entries).client)?;
+    let first = first_of(entries);
+    replies.reserve(first.client)?;
     if listed.get() > entries.base().get() {
         return Ok(());
     }
+    if are_rewrites(first.writes.as_slice()) {
+        return Ok(());
+    }
     list_next(table, entries, listed)
+}
+
+/// The later of two positions.
+fn later(position: Seq, other: Seq) -> Seq
+    ensures { result ≡ max position other }
+{
+    if position.get() < other.get() {
+        other
+    } else {
+        position
+    }
 }
 
 /// Folds the first of some entries, and takes it out. Where memory is refused the entries stay.
@@ -116,6 +145,7 @@ fn fold_first(
     make_room(table, replies, entries, listed)?;
     if let Some(entry) = entries.take_first(alloc) {
         fold_one(table, replies, entry);
+        *listed = later(*listed, entries.base());
     }
     Ok(())
 }

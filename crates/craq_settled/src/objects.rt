@@ -4,7 +4,9 @@ ghost use Rattle.std.specs.List.{AllByRecursion};
 ghost use Rattle.std.specs.FinMap.Entries.{is_sorted};
 ghost use Rattle.craq_names.specs.Maps.{key_cmp, put_key, same_bytes};
 ghost use Rattle.craq_commands.specs.Objects.{object_of, set_object};
-ghost use Rattle.craq_settled.specs.Placed.{objects_of, later_of, versions_of, IsRising, StartsAt};
+ghost use Rattle.craq_versions.specs.Versions.{versions_settled};
+ghost use Rattle.craq_settled.specs.declared.places.Place.TheVariants.{Settled};
+ghost use Rattle.craq_settled.specs.Placed.{objects_of, later_of, versions_of, IsRising, SettlesNext};
 
 use crate::places::{Place, settled_object, settled_of};
 use craq_names::{Copied, Items, Key, Value, Version};
@@ -23,11 +25,13 @@ pub fn object_in<'a>(table: &'a ObjectTable<Place>, key: &Key) -> (Version, &'a 
     }
 }
 
-/// Settles the oldest of the later versions of an object, whose value is moved here. It takes no memory.
+/// Settles the next version of an object, the oldest of its later ones where there are some; its value is moved here. It
+/// looks the object up once, and takes no memory.
 pub fn settle_object(table: &mut ObjectTable<Place>, key: &Key, version: Version, value: Value)
     requires rising { IsRising table.old }
-    requires next { StartsAt version (later_of table.old key.now) }
+    requires next { SettlesNext (versions_of table.old key.now) version }
     ensures objects { objects_of table.new ≡ set_object (objects_of table.old) key.now version value }
+    ensures versions { (q : List ℕ) → versions_of table.new q ≡ (if same_bytes key.now q then versions_settled (versions_of table.old key.now) version (Settled value) else versions_of table.old q) }
     ensures later { (q : List ℕ) → later_of table.new q ≡ drop (if same_bytes key.now q then 1 else 0) (later_of table.old q) }
     ensures rising { IsRising table.new }
 {

@@ -1,7 +1,7 @@
 //! Lists whose newest version is taken back, and of whose versions one is settled as another value; run by `main`.
 ghost use Rattle.std.specs.Prelude.{◌≡◌, IsSome, IsTrue};
 ghost use Rattle.craq_names.specs.Maps.{at_number};
-ghost use Rattle.craq_versions.specs.Versions.{CanPush};
+ghost use Rattle.craq_versions.specs.Versions.{newest_of, CanPush, CanSettleAs, IsNext};
 
 use crate::say;
 use craq_names::{Refusal, Value, Version};
@@ -37,6 +37,26 @@ fn holds(list: &VersionList<Value>, version: u64) -> bool
     list.get(Version::new(version)).is_some()
 }
 
+/// Whether the version comes after the newest one.
+fn is_next(list: &VersionList<Value>, version: u64) -> bool
+    ensures { IsTrue result → IsNext version (newest_of list.now.versions) }
+{
+    match list.newest() {
+        None => false,
+        Some((newest, _)) => version >= 1 && newest.get() == version - 1,
+    }
+}
+
+/// Whether the version can become the first, whatever is held of it.
+fn can_settle_as(list: &VersionList<Value>, version: u64) -> bool
+    ensures { IsTrue result → CanSettleAs list.now.versions version }
+{
+    if holds(list, version) {
+        return true;
+    }
+    is_next(list, version)
+}
+
 fn push(
     alloc: Global,
     list: &mut VersionList<Value>,
@@ -56,7 +76,7 @@ fn settle_as(
     byte: u8,
 ) -> Result<(), Refusal> {
     let value = Value::new(alloc, &[byte])?;
-    if !holds(list, version) {
+    if !can_settle_as(list, version) {
         return Err(Refusal::BadNumber);
     }
     list.settle_as(Version::new(version), value);
@@ -118,17 +138,19 @@ static TAKEN_BACK: [Ask; 10] = [
 ];
 
 // Those before the settled one go, and its value is another; it can be taken back like any other.
-static SETTLED: [Ask; 12] = [
+static SETTLED: [Ask; 14] = [
     Ask::Push(4, b'a'),
     Ask::Push(5, b'b'),
     Ask::Push(6, b'c'),
     Ask::SettleAs(5, b's'),
     Ask::All,
     Ask::SettleAs(4, b't'),
-    Ask::SettleAs(7, b't'),
+    Ask::SettleAs(8, b't'),
     Ask::SettleAs(6, b'u'),
     Ask::All,
-    Ask::Push(7, b'd'),
+    Ask::SettleAs(7, b'v'),
+    Ask::All,
+    Ask::Push(8, b'd'),
     Ask::Pop,
     Ask::Pop,
 ];

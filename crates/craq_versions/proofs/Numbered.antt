@@ -9,7 +9,7 @@ use Rattle.std.specs.Option.{option_copied}
 use Rattle.std.specs.Prelude.{IfSome, is_some, nat_lt, ◌==◌, ◌↔◌, if◌then◌else◌, nat_le, unwrap_or, IsSome, IsTrue, slice_get}
 use Rattle.std.specs.Ordering.{nat_cmp, eq_by_cmp}
 use Rattle.craq_names.specs.Maps.{at_number}
-use Rattle.craq_versions.specs.Versions.{numbered, newest_of, Follows, newest_within, versions_from, versions_settled, without_newest, clean_without, AreConsecutive, CanPush, CanSettle, IsStored, AreVersions}
+use Rattle.craq_versions.specs.Versions.{numbered, newest_of, Follows, newest_within, versions_from, versions_settled, without_newest, clean_without, AreConsecutive, CanPush, CanSettle, CanSettleAs, IsNext, IsStored, AreVersions}
 
 pub length_numbered : {V : Type 0} (first : ℕ) (values : List V) → length (numbered first values) ≡ length values
 length_numbered first [] = refl
@@ -273,22 +273,49 @@ held_from {V} first version values held =
     ] in
     low (nat_lt version first) refl
 
+nothing_left : {V : Type 0} (n : ℕ) (values : List V) → length values ≤ n → drop n values ≡ []
+nothing_left zero [] few = refl
+nothing_left (suc n) [] few = refl
+nothing_left zero (v ∷ values) few = absurd (omega (arith, few))
+nothing_left (suc n) (v ∷ values) few = nothing_left n values (omega (arith, few))
+
+-- a version that can become the first, whatever is held of it
+pub settles_from : {V : Type 0} (first version : ℕ) (values : List V) → CanSettleAs (numbered first values) version → (first ≤ version) × (0 < length values) × (version - first ≤ length values)
+settles_from first version values (inl held) =
+    let from = held_from first version values held in
+    let low = from.0 in
+    let high = from.1 in
+    (low, omega (arith, high), omega (arith, high))
+settles_from {V} first version [] (inr next) = absurd next
+settles_from {V} first version (v ∷ values) (inr next) =
+    let is : version ≡ (first + (length (v ∷ values) - 1)) + 1 = subst (λ (o : Option (ℕ × V)). IsNext version o) (newest_numbered first (v ∷ values) v (omega arith)) next in
+    (omega (arith, is), omega arith, omega (arith, is))
+
 -- what is stored once a version is the first, and this is held of it
-pub stored_as : {V : Type 0} (first version : ℕ) (has_clean : Bool) (values : List V) (held : V) → IsStored first has_clean values → first ≤ version → version - first < length values → IsStored version true (held ∷ drop (version - first + 1) values)
-stored_as first version has_clean values held h from within =
+pub stored_as : {V : Type 0} (first version i : ℕ) (has_clean : Bool) (values : List V) (held : V) → IsStored first has_clean values → version < 2 ^ 64 → first ≤ version → 0 < length values → version - first ≤ length values → i ≡ min (version - first) (length values - 1) → IsStored version true (held ∷ drop (i + 1) values)
+stored_as first version i has_clean values held h small from some within is =
     let one : 1 ≤ first = h.from_one in
     let fits : first + length values ≤ 2 ^ 64 = h.fits in
     record {
       from_one = omega arith;
-      fits = omega (arith, length-drop (version - first + 1) values);
+      fits = omega (arith, length-drop (i + 1) values);
       clean_is_held = λ clean. omega arith;
     }
 
-pub versions_as : {V : Type 0} (first version : ℕ) (values : List V) (held : V) → first ≤ version → numbered version (held ∷ drop (version - first + 1) values) ≡ versions_settled (numbered first values) version held
-versions_as {V} first version values held from =
+left_at : {V : Type 0} (n i : ℕ) (values : List V) → 0 < length values → n ≤ length values → i ≡ min n (length values - 1) → drop (n + 1) values ≡ drop (i + 1) values
+left_at {V} n i values some within is =
+    let split : (b : Bool) → nat_lt n (length values) ≡ b → drop (n + 1) values ≡ drop (i + 1) values = elim [
+      | true ↦ λ e. let low : n < length values = ltb-true n (length values) e in let same : n ≡ i = omega arith in ap (λ (k : ℕ). drop (k + 1) values) same
+      | false ↦ λ e. let high : length values ≤ n = ltb-false n (length values) e in nothing_left (n + 1) values (omega arith) ∙ sym (nothing_left (i + 1) values (omega arith))
+    ] in
+    split (nat_lt n (length values)) refl
+
+pub versions_as : {V : Type 0} (first version i : ℕ) (values : List V) (held : V) → first ≤ version → 0 < length values → version - first ≤ length values → i ≡ min (version - first) (length values - 1) → numbered version (held ∷ drop (i + 1) values) ≡ versions_settled (numbered first values) version held
+versions_as {V} first version i values held from some within is =
     let more : first ≤ version + 1 = omega arith in
     let rest : version + 1 - first ≡ version - first + 1 = omega arith in
-    sym (ap (λ vs. (version, held) ∷ vs) (from_at first (version + 1) values more ∙ ap (λ (n : ℕ). numbered (version + 1) (drop n values)) rest))
+    ap (λ (l : List V). numbered version (held ∷ l)) (sym (left_at (version - first) i values some within is))
+    ∙ sym (ap (λ vs. (version, held) ∷ vs) (from_at first (version + 1) values more ∙ ap (λ (n : ℕ). numbered (version + 1) (drop n values)) rest))
 
 take_numbered : {V : Type 0} (first n : ℕ) (values : List V) → numbered first (take n values) ≡ take n (numbered first values)
 take_numbered first zero values = refl

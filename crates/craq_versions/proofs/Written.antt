@@ -14,7 +14,7 @@ use Rattle.std.specs.BTreeMap.{is_at}
 use Rattle.std.specs.FinMap.{IsAntisymmetric, nat_cmp-IsAntisymmetric, slice_cmp-IsAntisymmetric}
 use Rattle.std.specs.FinMap.Entries.{find}
 use Rattle.craq_names.specs.Maps.{key_cmp, at_key, at_number, put_key, same_bytes}
-use Rattle.craq_versions.specs.Versions.{Versions, AreVersions, CanSettle, clean_without, versions_from, versions_settled, without_newest}
+use Rattle.craq_versions.specs.Versions.{Versions, AreVersions, CanSettle, CanSettleAs, clean_without, versions_from, versions_settled, without_newest}
 use Rattle.craq_names.specs.Places.{filled}
 use Rattle.craq_versions.specs.Tables.{Held, Entries, nothing, held_at, popped, room_at, pushed, settled, settled_as, unless_empty, held_in, shown, table_of, KeepsRoom, KeepsOthersRoom}
 use Rattle.craq_names.proofs.Places.{find_filled, keys_filled, is_sorted_of, filled_put, filled_same}
@@ -237,18 +237,20 @@ rising_keys {V} es objects is rise =
     let Rises : List (List ℕ × Held V) → Type 0 = λ l. IsStrictlySortedBy key_cmp (map (λ o. o.0) l) in
     subst Rises (sym is) (keys_filled key_cmp shown es rise)
 
--- a version that a table holds is held by the key's list
-pub holds_in : {V : Type 0} (es : Entries V) (key : List ℕ) (old : Versions V) (version : ℕ) → IsStrictlySortedBy key_cmp (keys_of es) → Some old ≡ list_of es key → IsSome (at_number (held_at (table_of es) key).versions version) → IsSome (at_number old.versions version)
-holds_in {V} es key old version rise was holds = subst (λ (vs : List (ℕ × V)). IsSome (at_number vs version)) (held_versions es key old rise was) holds
+-- a version that can be settled as something else in a table can be in the key's list
+pub settles_as_in : {V : Type 0} (es : Entries V) (key : List ℕ) (old : Versions V) (version : ℕ) → IsStrictlySortedBy key_cmp (keys_of es) → Some old ≡ list_of es key → CanSettleAs (held_at (table_of es) key).versions version → CanSettleAs old.versions version
+settles_as_in {V} es key old version rise was can = subst (λ (vs : List (ℕ × V)). CanSettleAs vs version) (held_versions es key old rise was) can
 
--- a key without a list holds none
-pub none_holds : {V : Type 0} (es : Entries V) (key : List ℕ) (version : ℕ) → IsStrictlySortedBy key_cmp (keys_of es) → None ≡ list_of es key → IsSome (at_number (held_at (table_of es) key).versions version) → ⊥
-none_holds {V} es key version rise none holds =
+nothing_settles_as : (V : Type 0) (version : ℕ) → CanSettleAs {V = V} [] version → ⊥
+nothing_settles_as V version (inl held) = clash (sym held)
+nothing_settles_as V version (inr next) = next
+
+-- of a key without a list there is none
+pub none_settles_as : {V : Type 0} (es : Entries V) (key : List ℕ) (version : ℕ) → IsStrictlySortedBy key_cmp (keys_of es) → None ≡ list_of es key → CanSettleAs (held_at (table_of es) key).versions version → ⊥
+none_settles_as {V} es key version rise none can =
     let held : held_at (table_of es) key ≡ nothing = ap (λ (o : Option (Held V)). unwrap_or o nothing) (held_found es key rise ∙ ap (option_and_then shown) (sym none)) in
-    let absent : Option V = None in
-    let P : Held V → Type 0 = λ h. IsSome (at_number h.versions version) in
-    let inner : IsSome absent = subst P held holds in
-    clash (sym inner)
+    let P : Held V → Type 0 = λ h. CanSettleAs h.versions version in
+    nothing_settles_as V version (subst P held can)
 
 -- the versions of a key that has a list
 pub versions_of_held : {V : Type 0} (es : Entries V) (key : List ℕ) (old : Versions V) → IsStrictlySortedBy key_cmp (keys_of es) → Some old ≡ list_of es key → AreVersions old.versions old.clean → AreVersions (held_at (table_of es) key).versions (held_at (table_of es) key).clean

@@ -74,6 +74,15 @@ CanPush vs version = (1 ≤ version) × Follows version (newest_of vs)
 abbrev pub CanSettle : {V : Type 0} → List (ℕ × V) → ℕ → ℕ → Type 0
 CanSettle vs clean version = (1 ≤ version) × ((version ≤ clean) ⊎ IsSome (at_number vs version))
 
+-- the version is one above the newest
+abbrev pub IsNext : {V : Type 0} → ℕ → Option (ℕ × V) → Type 0
+IsNext version None = ⊥
+IsNext version (Some newest) = version ≡ newest.0 + 1
+
+-- the version can become the first and the clean one, whatever is held of it: it is held, or comes next
+abbrev pub CanSettleAs : {V : Type 0} → List (ℕ × V) → ℕ → Type 0
+CanSettleAs vs version = IsSome (at_number vs version) ⊎ IsNext version (newest_of vs)
+
 -- items that are stored as consecutive versions
 pub record IsStored {V : Type 0} (first : ℕ) (has_clean : Bool) (items : List V) : Type 0 where
   pub from_one : 1 ≤ first

@@ -1,9 +1,9 @@
 //! The versions of one object. A table has such a list for each key.
-ghost use Rattle.std.specs.Prelude.{◌≡◌, ◌≢◌, ◌+◌, ◌-◌, ◌<◌, ◌≤◌, [], ◌∷◌, ◌++◌, ◌==◌, if◌then◌else◌, max, drop, false, length, map, IsOk, IsSome, OnOk, OnErr, IsTrue, ◌↔◌};
+ghost use Rattle.std.specs.Prelude.{◌≡◌, ◌≢◌, ◌+◌, ◌-◌, ◌<◌, ◌≤◌, [], ◌∷◌, ◌++◌, ◌==◌, if◌then◌else◌, max, drop, false, length, map, IfOk, IsOk, OnOk, OnErr, IsTrue, ◌↔◌};
 ghost use Rattle.std.specs.Option.{option_copied, option_map};
 ghost use Rattle.std.specs.VecDeque.{deque_len, deque_capacity};
 ghost use Rattle.craq_names.specs.Maps.{at_number};
-ghost use Rattle.craq_versions.specs.Versions.{clean_without, first_of, newest_of, newest_within, versions_from, versions_settled, without_newest, AreVersions, CanPush, CanSettle};
+ghost use Rattle.craq_versions.specs.Versions.{clean_without, first_of, newest_of, newest_within, versions_from, versions_settled, without_newest, AreVersions, CanPush, CanSettle, CanSettleAs};
 
 use craq_names::Version;
 use std::alloc::{AllocError, Global};
@@ -49,6 +49,19 @@ impl<V: Drop> VersionList<V> {
             has_clean: false,
             items: VecDeque::new(alloc),
         }
+    }
+
+    /// No versions, with room for this many, whose `push` then takes no memory.
+    pub fn with_room(alloc: Global, room: usize) -> Result<Self, AllocError>
+        ensures versions { IfOk result (λ list. list.versions ≡ []) }
+        ensures clean { IfOk result (λ list. list.clean ≡ 0) }
+        ensures room { IfOk result (λ list. room ≤ list.room) }
+    {
+        Ok(VersionList {
+            first: 1,
+            has_clean: false,
+            items: VecDeque::with_capacity(alloc, room)?,
+        })
     }
 
     /// Whether there are no versions.
@@ -174,16 +187,18 @@ impl<V: Drop> VersionList<V> {
         self.has_clean = true;
     }
 
-    /// Makes this version, which is one of them, the clean one, lets go those that are older, and holds this of it from
-    /// then on. It takes no memory.
+    /// Makes this version, which is one of them or comes next after the newest, the clean one, lets go those that are older,
+    /// and holds this of it from then on. It takes no memory.
     pub fn settle_as(&mut self, version: Version, held: V)
-        requires { IsSome (at_number self.old.versions version) }
+        requires { CanSettleAs self.old.versions version }
         ensures versions { self.new.versions ≡ versions_settled self.old.versions version held }
         ensures clean { self.new.clean ≡ version }
         ensures were_versions { AreVersions self.old.versions self.old.clean }
     {
         let settled = version.get();
-        replace_first(&mut self.items, (settled - self.first) as usize, held);
+        let last = self.items.len() - 1;
+        let index = ((settled - self.first) as usize).min(last);
+        replace_first(&mut self.items, index, held);
         self.first = settled;
         self.has_clean = true;
     }

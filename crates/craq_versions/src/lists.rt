@@ -1,8 +1,8 @@
 //! The lists of a table, by key. A list without versions only has room.
 ghost use Rattle.std.specs.Prelude.{◌≡◌, ◌≢◌, ℕ, ◌+◌, ◌<◌, ◌≤◌, List, [], ◌∷◌, None, IfOk, IsSome, IsOk, OnOk, OnErr, if◌then◌else◌};
 ghost use Rattle.std.specs.BTreeMap.{get, IsOrdered};
-ghost use Rattle.craq_names.specs.Maps.{at_number, key_cmp, put_key, same_bytes};
-ghost use Rattle.craq_versions.specs.Versions.{AreVersions, CanPush, CanSettle};
+ghost use Rattle.craq_names.specs.Maps.{key_cmp, put_key, same_bytes};
+ghost use Rattle.craq_versions.specs.Versions.{AreVersions, CanPush, CanSettle, CanSettleAs};
 ghost use Rattle.craq_versions.specs.Tables.{table_of, held_at, held_in, popped, room_at, pushed, settled, settled_as, KeepsRoom, KeepsOthersRoom};
 
 use crate::VersionList;
@@ -74,7 +74,7 @@ pub fn settle_in<V: Drop>(lists: &mut Lists<V>, key: &Key, version: Version)
 
 /// Settles a version of a key, of which this is held from then on.
 pub fn settle_as_in<V: Drop>(lists: &mut Lists<V>, key: &Key, version: Version, held: V)
-    requires { IsSome (at_number (held_at (table_of lists.old.entries) key.now).versions version) }
+    requires { CanSettleAs (held_at (table_of lists.old.entries) key.now).versions version }
     ensures objects { (table_of lists.new.entries).objects ≡ put_key (table_of lists.old.entries).objects key.now (settled_as (held_at (table_of lists.old.entries) key.now) version held) }
     ensures rooms { KeepsOthersRoom (table_of lists.old.entries) (table_of lists.new.entries) key.now }
     ensures were_versions { AreVersions (held_at (table_of lists.old.entries) key.now).versions (held_at (table_of lists.old.entries) key.now).clean }
@@ -97,7 +97,7 @@ pub fn pop_in<V: Drop>(lists: &mut Lists<V>, key: &Key)
     }
 }
 
-// A list of one version.
+// A list of one version, with room for no more.
 fn list_of_one<V: Drop>(
     alloc: Global,
     version: Version,
@@ -107,7 +107,7 @@ fn list_of_one<V: Drop>(
     ensures versions { IfOk result (λ list. list.versions ≡ (version, held) ∷ []) }
     ensures clean { IfOk result (λ list. list.clean ≡ 0) }
 {
-    let mut list = VersionList::new(alloc);
+    let mut list = VersionList::with_room(alloc, 1)?;
     list.push(version, held)?;
     Ok(list)
 }

@@ -1,10 +1,10 @@
 //! The lists of versions by key. A past that forgets settled entries holds one such table.
-ghost use Rattle.std.specs.Prelude.{◌≡◌, ℕ, ◌+◌, ◌<◌, ◌≤◌, List, [], map, IsOk, IsSome, OnOk, OnErr, if◌then◌else◌};
+ghost use Rattle.std.specs.Prelude.{◌≡◌, ℕ, ◌+◌, ◌<◌, ◌≤◌, List, [], map, IsOk, OnOk, OnErr, if◌then◌else◌};
 ghost use Rattle.std.specs.Option.{option_map};
 ghost use Rattle.std.specs.List.{AllByRecursion};
 ghost use Rattle.std.specs.List.Sorted.{IsStrictlySortedBy};
-ghost use Rattle.craq_names.specs.Maps.{at_key, at_number, key_cmp, put_key, same_bytes};
-ghost use Rattle.craq_versions.specs.Versions.{AreVersions, CanPush, CanSettle};
+ghost use Rattle.craq_names.specs.Maps.{at_key, key_cmp, put_key, same_bytes};
+ghost use Rattle.craq_versions.specs.Versions.{AreVersions, CanPush, CanSettle, CanSettleAs};
 ghost use Rattle.craq_versions.specs.Tables.{held_at, held_in, popped, room_at, pushed, settled, settled_as, KeepsRoom, KeepsOthersRoom};
 
 use crate::lists::{Lists, place, pop_in, push_in, reserve_in, settle_as_in, settle_in};
@@ -104,10 +104,10 @@ impl<V: Drop> ObjectTable<V> {
         settle_in(&mut self.lists, key, version);
     }
 
-    /// Makes this version of the key, which is one of them, the clean one, lets go those that are older, and holds this of it
-    /// from then on. It takes no memory.
+    /// Makes this version of the key, which is one of them or comes next after the newest, the clean one, lets go those that
+    /// are older, and holds this of it from then on. It takes no memory.
     pub fn settle_as(&mut self, key: &Key, version: Version, held: V)
-        requires { IsSome (at_number (held_at self.old key.now).versions version) }
+        requires { CanSettleAs (held_at self.old key.now).versions version }
         ensures objects { self.new.objects ≡ put_key self.old.objects key.now (settled_as (held_at self.old key.now) version held) }
         ensures were_versions { AreVersions (held_at self.old key.now).versions (held_at self.old key.now).clean }
         ensures rooms { KeepsOthersRoom self.old self.new key.now }

@@ -1,13 +1,13 @@
-use Rattle.std.proofs.Common.{◌≡◌, ◌≤◌, ◌+◌, ◌-◌, List, take, length, refl, ap, arith}
+use Rattle.std.proofs.Common.{◌≡◌, ◌≤◌, ◌+◌, ◌-◌, List, take, length, ap, arith}
 use Rattle.craq_commands.specs.declared.entry.Entry.{Entry}
 use Rattle.craq_log.specs.Suffixed.{length_of}
 use Rattle.craq_settled.specs.Placed.{objects_of}
-use Rattle.craq_settled.proofs.Following.{begins_listed, next_folded, next_of_same}
+use Rattle.craq_settled.proofs.Following.{next_folded, next_of_same}
 use Rattle.craq_settled.proofs.Settling.{first_settled, left_is, listed_left}
 use Rattle.craq_settled.proofs.folding.fold_first.Goals as goal
 
-pub fold_one-requires-clause-listed : goal.fold_one-requires-clause-listed
-fold_one-requires-clause-listed c = begins_listed c.make_room.new.table c.args.entries.now c.take_first.new.self c.make_room.new.listed c.in-Some.entry c.make_room.ensures.listed c.in_ok-make_room.ensures.first c.in-Some.ensures
+pub fold_one-requires-clause-ready : goal.fold_one-requires-clause-ready
+fold_one-requires-clause-ready c = c.in_ok-make_room.ensures.ready c.in-Some.entry (ap (λ (l : List Entry). take 1 l) c.in-Some.ensures.entries)
 
 pub fold_one-requires-clause-room : goal.fold_one-requires-clause-room
 fold_one-requires-clause-room c = c.in_ok-make_room.ensures.room c.in-Some.entry (ap (λ (l : List Entry). take 1 l) c.in-Some.ensures.entries)
@@ -19,14 +19,18 @@ returns-in-Some-clause-listed c =
     let first = c.in-Some.ensures in
     let base = first.base in
     let listed = c.make_room.new.listed in
-    let more = c.in_ok-make_room.ensures.first in
+    let now = c.later.result in
     let before = c.make_room.ensures.listed in
     let some = c.requires.some in
     let to = before.to in
+    let is = c.later.ensures in
+    let there = c.base.ensures in
     let low : old.base ≤ new.base = omega (arith, base) in
     let high : new.base ≤ length_of old = omega (arith, base, some) in
-    let from : new.base ≤ listed = omega (arith, base, more) in
-    listed_left c.make_room.new.table c.fold_one.new.table old new listed listed low high from to refl (left_is old new c.in-Some.entry first) before (first_settled c.make_room.new.table c.fold_one.new.table old new c.in-Some.entry first c.fold_one.ensures.later)
+    let from : new.base ≤ now = omega (arith, is, there) in
+    let end : now ≤ length_of old = omega (arith, is, there, to, high) in
+    let same : now - new.base ≡ listed - new.base = omega (arith, is, there) in
+    listed_left c.make_room.new.table c.fold_one.new.table old new listed now low high from end same (left_is old new c.in-Some.entry first) before (first_settled c.make_room.new.table c.fold_one.new.table old new c.in-Some.entry first c.fold_one.ensures.later)
 
 pub returns-in-Some-clause-next : goal.returns-in-Some-clause-next
 returns-in-Some-clause-next c =

@@ -2,16 +2,16 @@ use Rattle.std.proofs.Common.{ℕ, List, sym, subst, ◌∙◌, rules}
 use Rattle.std.proofs.lemmas.List.{nil_from_length}
 use Rattle.craq_commands.specs.declared.entry.Write.{Write}
 use Rattle.craq_model.specs.Past.{values_in}
-use Rattle.craq_settled.specs.Followed.{Begins}
-use Rattle.craq_settled.specs.Placed.{later_of}
-use Rattle.craq_settled.proofs.Following.{begins_after, starts_with}
+use Rattle.craq_settled.specs.Followed.{CanFold}
+use Rattle.craq_settled.specs.Placed.{later_of, versions_of}
+use Rattle.craq_settled.proofs.Following.{folds_on, settles_next}
 use Rattle.craq_settled.proofs.Settling.{write_settled, writes_settled}
 use Rattle.craq_settled.proofs.folding.settle_objects.Goals as goal
 
 pub settle_object-requires-clause-next : goal.settle_object-requires-clause-next
 settle_object-requires-clause-next c =
     let w = c.in-Some.write in
-    starts_with w c.next.new.self.rest.items (later_of c.loop-write.table w.key) (subst (λ (l : List Write). Begins (values_in l w.key) (later_of c.loop-write.table w.key)) c.in-Some.ensures.steps.0 (c.loop-write.invariant.listed w.key))
+    settles_next w c.next.new.self.rest.items (versions_of c.loop-write.table w.key) (subst (λ (l : List Write). CanFold (values_in l w.key) (versions_of c.loop-write.table w.key)) c.in-Some.ensures.steps.0 (c.loop-write.invariant.ready w.key))
 
 pub loop-write-preserved : goal.loop-write-preserved
 loop-write-preserved c =
@@ -21,7 +21,8 @@ loop-write-preserved c =
     record {
       written = search rules;
       later = λ q. write_settled _ (later_of c.loop-write.table q) _ _ left w q step (c.loop-write.invariant.later q) (c.settle_object.ensures.later q);
-      listed = λ q. begins_after w left (later_of c.loop-write.table q) (later_of c.settle_object.new.table q) q (c.settle_object.ensures.later q) (subst (λ (l : List Write). Begins (values_in l q) (later_of c.loop-write.table q)) step (c.loop-write.invariant.listed q));
+      ready = λ q. folds_on w left q (versions_of c.loop-write.table q) (versions_of c.settle_object.new.table q) (versions_of c.loop-write.table w.key) w.value (c.settle_object.ensures.versions q) (c.settle_object.ensures.later q)
+          (subst (λ (l : List Write). CanFold (values_in l q) (versions_of c.loop-write.table q)) step (c.loop-write.invariant.ready q));
       rising = c.settle_object.ensures.rising;
     }
 

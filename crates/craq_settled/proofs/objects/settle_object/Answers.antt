@@ -1,10 +1,10 @@
 use Rattle.craq_commands.specs.Objects.{set_object}
-use Rattle.craq_settled.proofs.Placing.{holds_oldest, later_settled, objects_settled, rising_put}
+use Rattle.craq_settled.proofs.Placing.{can_settle, changed, later_settled, objects_settled, rising_put}
 use Rattle.craq_settled.specs.Placed.{versions_of}
 use Rattle.craq_settled.proofs.objects.settle_object.Goals as goal
 
 pub settle_as-requires : goal.settle_as-requires
-settle_as-requires c = holds_oldest (versions_of c.args.table.now c.args.key.now) c.args.version c.requires.next
+settle_as-requires c = can_settle (versions_of c.args.table.now c.args.key.now) c.args.version c.requires.next
 
 pub returns-clause-objects : goal.returns-clause-objects
 unfolding set_object
@@ -15,3 +15,6 @@ returns-clause-later c = later_settled c.args.table.now c.settle_as.new.self c.a
 
 pub returns-clause-rising : goal.returns-clause-rising
 returns-clause-rising c = rising_put c.args.table.now c.settle_as.new.self c.args.key.now _ c.settle_as.ensures.objects c.requires.rising
+
+pub returns-clause-versions : goal.returns-clause-versions
+returns-clause-versions c = changed c.args.table.now c.settle_as.new.self c.args.key.now _ c.settle_as.ensures.objects

@@ -1,8 +1,9 @@
 //! `LockedChain`: the cells of a chain, each under its lock; for `craq_play`.
-ghost use Rattle.std.specs.Prelude.{◌≡◌, ◌⊎◌, ◌↔◌, Err, IfErr, IfOk, IfSome, OnOk};
+ghost use Rattle.std.specs.Prelude.{◌≡◌, ◌⊎◌, ◌↔◌, ◌++◌, ◌∷◌, [], Err, IfErr, IfOk, IfSome, OnErr, OnOk};
 ghost use Rattle.std.specs.Option.{option_copied};
 ghost use Rattle.craq_model.specs.Members.{IsMembership};
 ghost use Rattle.craq_node.specs.Represented.{CanArrive, CanOpen};
+ghost use Rattle.craq_locked.specs.Named.{cell_of, ids_after, ids_in, ids_of, seat_at};
 ghost use Rattle.craq_locked.specs.Sending.{NamesNode};
 
 use crate::posted::Posted;
@@ -13,65 +14,79 @@ use craq_node::Core;
 use craq_runs::Move;
 use craq_seat::{BookCell, BookEvent, CallReceipt, Cell, Desk, Receipt, Seat};
 use std::alloc::{AllocError, Global};
+use std::marker::Model;
 use std::sync::{Mutex, Wait};
-
-/// A node of the chain, and its seat.
-#[derive(Drop)]
-struct Place<C: Core> {
-    node: NodeId,
-    seat: Seat<C>,
-}
 
 /// A chain whose nodes and master are cells, each under a lock of its own: a step is taken under the lock of the one cell
 /// that takes it. It keeps the messages that its cells sent, by number, and the receipts of its nodes' stops.
 ///
-/// A lock tells a proof nothing of what it holds, so no contract here says which step a cell took: whoever needs to know
-/// compares it with a step that is known.
+/// A contract sees the ids of its nodes with their seats, and the messages that were sent. A lock tells a proof nothing of
+/// what it holds, so no contract here says which step a cell took: whoever needs to know compares it with a step that is
+/// known.
 #[derive(Drop)]
 pub struct LockedChain<C: Core> {
     chain: ChainId,
     journal: bool,
     book: Mutex<BookCell>,
-    places: Vec<Place<C>>,
+    /// The nodes that the chain ever had, in the order of joining, each with its seat.
+    seats: Vec<(NodeId, Seat<C>)>,
     posted: Posted,
     stops: Vec<Receipt>,
 }
 
+impl<C: Core> Model for LockedChain<C> {
+    ghost use Rattle.craq_seat.specs.declared.seat.Seat.{Seat};
+    ghost use Rattle.craq_locked.specs.Named.{Locked};
+
+    ghost Value = { Locked (Seat C (Unit {0})) };
+
+    ghost view = { λ c. record { chain = c.chain; seats = c.seats.items; sent = c.posted } };
+}
+
 /// A node before its first step, in a cell that is opened as `Cell::open` has it. It fails for want of memory alone
 /// (`Memory`).
-fn place_of<C: Core>(
+fn seat_of<C: Core>(
     alloc: Global,
     name: NodeName,
     config: Option<&Config>,
     journal: bool,
     stamp: Stamp,
-) -> Result<Place<C>, Refusal>
+) -> Result<Seat<C>, Refusal>
     requires { CanOpen name (option_copied config) }
     ensures { IfErr result (λ e. e ≡ Refusal.Memory) }
 {
-    let node = name.node;
     let cell = Cell::open(alloc, name, config, journal, stamp)?;
-    let seat = Seat::new(alloc, Desk::new(alloc, cell));
-    Ok(Place { node, seat })
+    Ok(Seat::new(alloc, Desk::new(alloc, cell)))
 }
 
-/// The members of a first membership, at stamp 0. They fail for want of memory alone (`Memory`).
-fn opening_places<C: Core>(
+/// The members of a first membership, at stamp 0, each with its seat. They fail for want of memory alone (`Memory`).
+fn opening_seats<C: Core>(
     alloc: Global,
     chain: ChainId,
     config: &Config,
     journal: bool,
-) -> Result<Vec<Place<C>>, Refusal>
+) -> Result<Vec<(NodeId, Seat<C>)>, Refusal>
     requires { (config.now.epoch ≡ 1) × IsMembership config.now.members }
-    ensures { IfErr result (λ e. e ≡ Refusal.Memory) }
+    ensures ids { IfOk result (λ seats. ids_in seats.items ≡ config.now.members) }
+    ensures err { IfErr result (λ e. e ≡ Refusal.Memory) }
 {
-    let mut places = Vec::new(alloc);
+    let mut seats = Vec::new(alloc);
     for node in config.members.as_slice() {
         let name = NodeName { chain, node: *node };
-        let place = place_of(alloc, name, Some(config), journal, Stamp::new(0))?;
-        places.push(place)?;
+        let seat = seat_of(alloc, name, Some(config), journal, Stamp::new(0))?;
+        seats.push((*node, seat))?;
     }
-    Ok(places)
+    Ok(seats)
+}
+
+/// The seat of the node of this id, where there is one. It takes no memory.
+fn seat_among<C: Core>(seats: &[(NodeId, Seat<C>)], id: NodeId) -> Option<&Seat<C>>
+    ensures { option_copied result ≡ seat_at seats.now id }
+{
+    match seats.iter().find(|place| place.0 == id) {
+        Some((_, seat)) => Some(seat),
+        None => None,
+    }
 }
 
 impl<C: Core> LockedChain<C> {
@@ -86,35 +101,33 @@ impl<C: Core> LockedChain<C> {
         members: &[NodeId],
         journal: bool,
     ) -> Result<Self, Refusal>
+        ensures ids { IfOk result (λ c. (c.chain ≡ chain) × (ids_of c ≡ members.now) × (c.sent ≡ [])) }
         ensures membership { OnOk result (IsMembership members.now) }
         ensures bad { IfErr result (λ e. (e ≡ Refusal.BadConfig) ↔ ¬ (IsMembership members.now)) }
         ensures err { IfErr result (λ e. (e ≡ Refusal.BadConfig) ⊎ (e ≡ Refusal.Memory)) }
     {
         let book = BookCell::open(alloc, chain, members, journal)?;
-        let places = opening_places(alloc, chain, book.config(), journal)?;
+        let seats = opening_seats(alloc, chain, book.config(), journal)?;
         Ok(LockedChain {
             chain,
             journal,
             book: Mutex::new(book),
-            places,
+            seats,
             posted: Posted::new(alloc),
             stops: Vec::new(alloc),
         })
     }
 
-    /// The master's cell, under its lock.
+    /// The master's cell, under its lock: the chain has one book.
     pub fn book(&self) -> &Mutex<BookCell> {
         &self.book
     }
 
-    /// The seat of the node of this id, where the chain ever had one.
-    pub fn seat(&self, id: NodeId) -> Option<&Seat<C>> {
-        for place in self.places.as_slice() {
-            if place.node == id {
-                return Some(&place.seat);
-            }
-        }
-        None
+    /// The seat of the node of this id, where the chain ever had one. It takes no memory.
+    pub fn seat(&self, id: NodeId) -> Option<&Seat<C>>
+        ensures { option_copied result ≡ seat_at self.now.seats id }
+    {
+        seat_among(self.seats.as_slice(), id)
     }
 
     /// One move, taken on the cell of the node or of the master that it concerns, under that one lock, with this pass: the
@@ -125,8 +138,9 @@ impl<C: Core> LockedChain<C> {
     /// switch and that of the step in which it stopped. A node that joins has a cell from then on, opened at the stamp of
     /// the join. The receipts of the calls that the step answers are added to `calls`.
     ///
-    /// Refused as the cell refuses it, with nothing changed; or as `Memory`, after which the step may have been taken: then
-    /// the numbers of later messages are not those of a chain that took it, and no further move is to be taken.
+    /// Refused as the cell refuses it, with nothing changed; as `WrongNode`, likewise, where another node's cell stands
+    /// behind the lock; or as `Memory`, after which the step may have been taken: then the numbers of later messages are
+    /// not those of a chain that took it, and no further move is to be taken.
     pub fn take<R: Wait>(
         &mut self,
         rt: &R,
@@ -134,7 +148,12 @@ impl<C: Core> LockedChain<C> {
         chosen: &Move,
         pass: Pass,
         calls: &mut Vec<CallReceipt>,
-    ) -> Result<Option<Receipt>, Refusal> {
+    ) -> Result<Option<Receipt>, Refusal>
+        ensures cell { IfOk result (λ r. IfSome r (λ receipt. cell_of self.old.sent chosen.now ≡ Some receipt.node)) }
+        ensures ids { OnOk result (ids_of self.new ≡ ids_after (ids_of self.old) chosen.now) }
+        ensures same { OnErr result (ids_of self.new ≡ ids_of self.old) }
+        ensures chain { self.new.chain ≡ self.old.chain }
+    {
         match chosen {
             Move::Ask { node, ask } => {
                 let event = Event::Ask(ask.copied(alloc)?);
@@ -163,17 +182,22 @@ impl<C: Core> LockedChain<C> {
         calls: &mut Vec<CallReceipt>,
     ) -> Result<Option<Receipt>, Refusal>
         requires { CanArrive event }
+        ensures cell { IfOk result (λ r. IfSome r (λ receipt. receipt.node ≡ id)) }
+        ensures seats { self.new.seats ≡ self.old.seats }
+        ensures chain { self.new.chain ≡ self.old.chain }
     {
-        for place in self.places.as_slice() {
-            if place.node == id {
-                let mut seated = place.seat.lock(rt);
-                let desk = &mut seated.desk;
-                let receipt = step_node(alloc, desk, event, pass, &mut self.posted, calls)?;
-                return Ok(Some(receipt));
-            }
+        let Some(seat) = seat_among(self.seats.as_slice(), id) else {
+            drop(event);
+            return Ok(None);
+        };
+        let mut seated = seat.lock(rt);
+        let desk = &mut seated.desk;
+        if desk.cell().opening().name.node != id {
+            drop(event);
+            return Err(Refusal::WrongNode);
         }
-        drop(event);
-        Ok(None)
+        let receipt = step_node(alloc, desk, event, pass, &mut self.posted, calls)?;
+        Ok(Some(receipt))
     }
 
     /// A step of the master, under its lock.
@@ -184,9 +208,15 @@ impl<C: Core> LockedChain<C> {
         event: BookEvent,
         pass: Pass,
     ) -> Result<Receipt, Refusal>
-        ensures { OnOk result (NamesNode event) }
+        ensures joins { OnOk result (NamesNode event) }
+        ensures cell { IfOk result (λ receipt. receipt.node ≡ 0) }
+        ensures seats { self.new.seats ≡ self.old.seats }
+        ensures chain { self.new.chain ≡ self.old.chain }
     {
         let mut book = self.book.lock(rt);
+        if book.opening().name.node.get() != 0 {
+            return Err(Refusal::WrongNode);
+        }
         step_book(alloc, &mut book, event, pass, &mut self.posted)
     }
 
@@ -198,7 +228,11 @@ impl<C: Core> LockedChain<C> {
         number: u64,
         pass: Pass,
         calls: &mut Vec<CallReceipt>,
-    ) -> Result<Option<Receipt>, Refusal> {
+    ) -> Result<Option<Receipt>, Refusal>
+        ensures cell { IfOk result (λ r. IfSome r (λ receipt. cell_of self.old.sent (Move.Deliver number) ≡ Some receipt.node)) }
+        ensures seats { self.new.seats ≡ self.old.seats }
+        ensures chain { self.new.chain ≡ self.old.chain }
+    {
         let Some(message) = self.posted.message(number) else {
             return Ok(None);
         };
@@ -208,7 +242,10 @@ impl<C: Core> LockedChain<C> {
     }
 
     /// Keeps the receipt of a stop.
-    fn keep_stop(&mut self, stop: &Receipt) -> Result<(), AllocError> {
+    fn keep_stop(&mut self, stop: &Receipt) -> Result<(), AllocError>
+        ensures seats { self.new.seats ≡ self.old.seats }
+        ensures chain { self.new.chain ≡ self.old.chain }
+    {
         self.stops.push(*stop)?;
         Ok(())
     }
@@ -221,7 +258,11 @@ impl<C: Core> LockedChain<C> {
         id: NodeId,
         pass: Pass,
         calls: &mut Vec<CallReceipt>,
-    ) -> Result<Option<Receipt>, Refusal> {
+    ) -> Result<Option<Receipt>, Refusal>
+        ensures cell { IfOk result (λ r. IfSome r (λ receipt. receipt.node ≡ id)) }
+        ensures seats { self.new.seats ≡ self.old.seats }
+        ensures chain { self.new.chain ≡ self.old.chain }
+    {
         match self.at_node(rt, alloc, id, Event::Stop, pass, calls)? {
             None => Ok(None),
             Some(receipt) => {
@@ -249,7 +290,11 @@ impl<C: Core> LockedChain<C> {
         alloc: Global,
         id: NodeId,
         pass: Pass,
-    ) -> Result<Option<Receipt>, Refusal> {
+    ) -> Result<Option<Receipt>, Refusal>
+        ensures cell { IfOk result (λ r. IfSome r (λ receipt. receipt.node ≡ 0)) }
+        ensures seats { self.new.seats ≡ self.old.seats }
+        ensures chain { self.new.chain ≡ self.old.chain }
+    {
         match self.removal_of(rt, id) {
             None => Ok(None),
             Some(event) => {
@@ -266,14 +311,19 @@ impl<C: Core> LockedChain<C> {
         alloc: Global,
         id: NodeId,
         pass: Pass,
-    ) -> Result<Option<Receipt>, Refusal> {
+    ) -> Result<Option<Receipt>, Refusal>
+        ensures cell { IfOk result (λ r. IfSome r (λ receipt. receipt.node ≡ 0)) }
+        ensures ids { OnOk result (ids_of self.new ≡ ids_of self.old ++ id ∷ []) }
+        ensures same { OnErr result (ids_of self.new ≡ ids_of self.old) }
+        ensures chain { self.new.chain ≡ self.old.chain }
+    {
         let receipt = self.at_book(rt, alloc, BookEvent::Join(id), pass)?;
         let name = NodeName {
             chain: self.chain,
             node: id,
         };
-        let place = place_of(alloc, name, None, self.journal, receipt.stamp)?;
-        self.places.push(place)?;
+        let seat = seat_of(alloc, name, None, self.journal, receipt.stamp)?;
+        self.seats.push((id, seat))?;
         Ok(Some(receipt))
     }
 }

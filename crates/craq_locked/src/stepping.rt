@@ -4,6 +4,7 @@ ghost use Rattle.std.specs.Option.{option_copied};
 ghost use Rattle.craq_model.specs.Plain.{Plain};
 ghost use Rattle.craq_node.specs.Represented.{CanArrive};
 ghost use Rattle.craq_seat.specs.Cells.{receipt_of, with_inside};
+ghost use Rattle.craq_seat.specs.Kept.{IsKept};
 ghost use Rattle.craq_seat.specs.Numbered.{CanBeSent};
 ghost use Rattle.craq_seat.specs.Taken.{TakesEvent, TakesTurn};
 ghost use Rattle.craq_locked.specs.Sending.{NamesNode, last_sent, sent_of};
@@ -23,6 +24,13 @@ fn last_receipt<C: Core>(cell: &Cell<C>) -> Receipt
         node: cell.opening().name.node,
         stamp: cell.stamp(),
     }
+}
+
+/// A cell keeps what its type says. It does nothing.
+fn keeps_type<C: Core>(desk: &Desk<C>)
+    ensures { IsKept C.represents desk.now.cell }
+{
+    let _ = desk.cell().journal();
 }
 
 /// Adds the messages of a step, each named by the step's receipt, to those that were sent. Without memory nothing is added.
@@ -57,7 +65,9 @@ pub fn step_node<C: Core>(
     requires { CanArrive event }
     ensures step { (p : Plain) → C.represents desk.old.cell.inside p → (result ≡ Err Refusal.Memory) ⊎ TakesEvent C.represents desk.new.cell (with_inside desk.old.cell p) event pass result }
     ensures sent { OnOk result (posted.new ≡ posted.old ++ last_sent desk.new.cell) }
+    ensures named { IfOk result (λ receipt. receipt.node ≡ desk.old.cell.opening.name.node) }
 {
+    keeps_type(desk);
     let (receipt, made) = desk.take(alloc, event, pass)?;
     match made {
         Err(_) => Err(Refusal::Memory),
@@ -80,7 +90,8 @@ pub fn step_book(
 ) -> Result<Receipt, Refusal>
     ensures step { (result ≡ Err Refusal.Memory) ⊎ TakesTurn book.old book.new event pass result }
     ensures sent { OnOk result (posted.new ≡ posted.old ++ last_sent book.new) }
-    ensures named { OnOk result (NamesNode event) }
+    ensures joins { OnOk result (NamesNode event) }
+    ensures named { IfOk result (λ receipt. receipt.node ≡ book.old.opening.name.node) }
 {
     let receipt = book.take(alloc, event, pass)?;
     post(alloc, book.last(), &receipt, posted)?;

@@ -2,10 +2,10 @@ use Rattle.std.proofs.Common.{◌≡◌, ◌≤◌, ◌<◌, length, get_or, sym
 use Rattle.std.proofs.lemmas.List.{get_or_read}
 use Rattle.craq_model.specs.Members.{IsMembership, is_member}
 use Rattle.craq_chain.proofs.Opening.{id_from_one, own_member}
-use Rattle.craq_locked.proofs.locked_chain.opening_places.Goals as goal
+use Rattle.craq_locked.proofs.locked_chain.opening_seats.Goals as goal
 
-pub place_of-requires : goal.place_of-requires
-place_of-requires g c =
+pub seat_of-requires : goal.seat_of-requires
+seat_of-requires g c =
     let xs = c.as_slice-node-items.result.now in
     let member : IsMembership xs = subst IsMembership (sym c.as_slice-node-items.ensures) c.requires.1 in
     let within : c.loop-node.node-index < length xs = omega arith in

@@ -1,0 +1,8 @@
+use Rattle.std.proofs.Common.{◌≡◌, take}
+use Rattle.std.specs.Prelude.{map}
+use Rattle.craq_audit.specs.Lookups.{cells_of}
+use Rattle.craq_held.specs.Held.{cell_in}
+use Rattle.craq_held.proofs.held_chain.cells_in.Given as goal
+
+abbrev pub invariant-loop-seat : goal.invariant-loop-seat
+invariant-loop-seat g l = cells_of l.cells.items ≡ map cell_in (take l.seat-index l.seats)

@@ -1,0 +1,45 @@
+-- A step of a cell leaves how it was opened.
+use Rattle.std.proofs.Common.{◌≡◌, ℕ, Result, Ok, Err, refl, sym, ap, ◌∙◌}
+use Rattle.craq_names.specs.declared.refusal.Refusal.{Refusal}
+use Rattle.craq_model.specs.declared.ask.Event.{Event}
+use Rattle.craq_model.specs.declared.step.Step.{Step}
+use Rattle.craq_model.specs.Plain.{Plain}
+use Rattle.craq_seat.specs.declared.journal.Receipt.{Receipt}
+use Rattle.craq_seat.specs.declared.journal.Opening.{Opening}
+use Rattle.craq_seat.specs.declared.journal.Record.{Record}
+use Rattle.craq_seat.specs.Cells.{Celled, cell_step, recorded, receipt_of, stamped, with_inside, with_record}
+use Rattle.craq_epochs.specs.Mastered.{Mastered}
+use Rattle.craq_seat.specs.declared.journal.BookEvent.{BookEvent}
+use Rattle.craq_seat.specs.Books.{book_step}
+use Rattle.craq_seat.specs.Journal.{Stepping}
+use Rattle.craq_seat.specs.Kept.{IsKept}
+use Rattle.craq_seat.specs.Stamps.{book_stamp, next_stamp}
+use Rattle.craq_seat.specs.Taken.{TakesEvent}
+
+by_record : {N E : Type 0} (c new : Celled N E) (stamp pass : ℕ) (event : E) (r : Result (N × Step) Refusal) → recorded c stamp event pass r ≡ Ok new → new.opening ≡ c.opening
+by_record {N} {E} c new stamp pass event (Ok t) h =
+    let r : Record E = record { stamp = stamp; event = event; pass = pass; step = t.1 } in
+    let e : with_record c t.0 r ≡ new = cc in
+    sym (ap (λ (x : Celled N E). x.opening) e)
+by_record c new stamp pass event (Err e) h = absurd (cc)
+
+by_stamp : {N E : Type 0} (step : Stepping N E) (c new : Celled N E) (event : E) (pass : ℕ) (s : Result ℕ Refusal) → stamped step c event pass s ≡ Ok new → new.opening ≡ c.opening
+by_stamp step c new event pass (Ok stamp) h = by_record c new stamp pass event (step c.inside event) h
+by_stamp step c new event pass (Err e) h = absurd (cc)
+
+pub same_opening : {N E : Type 0} (step : Stepping N E) (c new : Celled N E) (event : E) (borne pass : ℕ) → cell_step step c event borne pass ≡ Ok new → new.opening ≡ c.opening
+unfolding cell_step
+same_opening step c new event borne pass h = by_stamp step c new event pass (next_stamp c.stamp pass borne) h
+
+-- so the receipt of a step names the node of the cell
+pub names_cell : {C : Type 0} (R : C → Plain → Type 0) (old new : Celled C Event) (event : Event) (pass : ℕ) (receipt : Receipt) → IsKept R old
+    → ((p : Plain) → R old.inside p → TakesEvent R new (with_inside old p) event pass (Ok receipt)) → receipt.node ≡ old.opening.name.node
+names_cell R old new event pass receipt kept takes =
+    let t = takes kept.named.0 kept.named.1 in
+    ap (λ (x : Receipt). x.node) t.1.1 ∙ ap (λ (o : Opening). o.name.node) (same_opening _ (with_inside old kept.named.0) (with_inside new t.0) event _ pass t.1.0)
+
+-- nor does a step of a master
+pub names_book : (old new : Celled Mastered BookEvent) (event : BookEvent) (pass : ℕ) (receipt : Receipt) → (cell_step book_step old event (book_stamp event) pass ≡ Ok new) × (receipt ≡ receipt_of new)
+    → receipt.node ≡ old.opening.name.node
+names_book old new event pass receipt takes =
+    ap (λ (x : Receipt). x.node) takes.1 ∙ ap (λ (o : Opening). o.name.node) (same_opening book_step old new event (book_stamp event) pass takes.0)

@@ -1,3 +1,4 @@
+//! `BookCell`: a chain's master as node 0, whose steps bear stamps and stand in a journal.
 ghost use Rattle.std.specs.Prelude.{◌≡◌, ◌⊎◌, ◌↔◌, Err, IfOk, IfErr, IfSome, OnOk};
 ghost use Rattle.std.specs.Option.{option_copied};
 ghost use Rattle.craq_epochs.specs.Mastered as masters;

@@ -1,3 +1,4 @@
+//! Calls that wait at a desk, and their receipts once a step answers them; called by `desk`.
 ghost use Rattle.std.specs.Prelude.{◌≡◌, ◌++◌, IfOk, OnErr, OnOk};
 ghost use Rattle.std.specs.List.{list_any};
 ghost use Rattle.std.specs.Option.{option_copied};

@@ -1,3 +1,4 @@
+//! `Cell`: a node whose steps bear stamps and, where one is kept, stand in a journal.
 ghost use Rattle.std.specs.Prelude.{◌≡◌, ◌<◌, IfOk, IfErr, IfSome, IsNone, IsOk, OnOk, vec_capacity, vec_len};
 ghost use Rattle.std.specs.Option.{option_copied};
 ghost use Rattle.craq_model.specs.Plain.{Plain};

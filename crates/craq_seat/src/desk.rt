@@ -1,3 +1,4 @@
+//! `Desk`: a cell and the calls that wait at it, of which it tells the answers.
 ghost use Rattle.std.specs.Prelude.{◌≡◌, [], IfOk, IfSome, IsNone, IsOk, OnErr};
 ghost use Rattle.craq_model.specs.Plain.{Plain};
 ghost use Rattle.craq_node.specs.Represented.{CanArrive, IsFree};

@@ -1,3 +1,4 @@
+//! What names a step, what a journal keeps of it, and what happens at a master.
 use craq_epochs::StopReceipt;
 use craq_model::{Config, Step};
 use craq_names::{NodeId, NodeName, Pass, Stamp};

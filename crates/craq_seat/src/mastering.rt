@@ -1,3 +1,4 @@
+//! The steps of a master, with what each tells; called by `book`.
 ghost use Rattle.std.specs.Prelude.{◌≡◌, Ok};
 ghost use Rattle.craq_epochs.specs.Mastered.{IsMastered, joined, removed};
 ghost use Rattle.craq_seat.specs.Books.{Turns, book_step, tells};

@@ -1,3 +1,4 @@
+//! `Seat`: a desk under a lock, with the callers that wait for its answers.
 use crate::Desk;
 use craq_names::Ticket;
 use craq_node::Core;
@@ -39,5 +40,10 @@ impl<C: Core, W: Drop> Seat<C, W> {
     /// The desk and its callers, once no other thread has them, and until the guard is dropped. It takes no memory.
     pub fn lock<R: Wait>(&self, rt: &R) -> MutexGuard<'_, Seated<C, W>> {
         self.inside.lock(rt)
+    }
+
+    /// The desk and its callers where no other thread has them now, until the guard is dropped. It takes no memory.
+    pub fn try_lock(&self) -> Option<MutexGuard<'_, Seated<C, W>>> {
+        self.inside.try_lock()
     }
 }

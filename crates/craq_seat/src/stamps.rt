@@ -1,3 +1,4 @@
+//! The stamp of the next step; called by `cell` and `book`.
 ghost use Rattle.std.specs.Prelude.{◌≡◌};
 ghost use Rattle.craq_seat.specs.Stamps.{book_stamp, event_stamp, next_stamp};
 

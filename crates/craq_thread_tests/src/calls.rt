@@ -49,6 +49,23 @@ where
     read_on(&rt, store, put?, read?)
 }
 
+/// The chain is audited, which takes the locks of its master and of all its nodes, while a put at node 1 is held before or
+/// after its step. Then the put is answered.
+pub fn free<R>(rt: R, host: HostRuntime, store: &Tested, signs: &Signs) -> Result<(), Fault>
+where
+    R: Threads + Wait + Copy + Send + 'static,
+{
+    let caller = start_put(rt, Asker::new(host.alloc(), store, 1)?)?;
+    let reached = wait_for(host, &signs.reached, LIMIT);
+    let audited = confirm(&rt, store, &[]);
+    let late = signs.late.load(Ordering::SeqCst);
+    signs.open.store(true, Ordering::SeqCst);
+    let asker = caller.join(&rt)?;
+    audited?;
+    expect(reached && !late, Fact::IsFree)?;
+    expect(asker.version == 1, Fact::Writes)
+}
+
 /// A read at node 3 by another client.
 fn read_meanwhile<R: Wait>(rt: &R, host: HostRuntime, store: &Tested) -> Result<Asker, Refusal> {
     let mut asker = Asker::new(host.alloc(), store, 2)?;

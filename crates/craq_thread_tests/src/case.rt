@@ -2,11 +2,45 @@
 use craq_names::Refusal;
 use std::alloc::{AllocError, AllocFailed};
 
+/// Who takes the steps of a store.
+#[derive(Clone, Copy)]
+pub enum Form {
+    /// Two threads a node.
+    Workers,
+    /// Callers those of their asks, and else two threads a node.
+    InPlace,
+    /// One thread a chain, and callers those of their reads.
+    Carried,
+}
+
+/// All forms.
+pub const FORMS: [Form; 3] = [Form::Workers, Form::InPlace, Form::Carried];
+
+impl Form {
+    /// The form in words.
+    pub fn text(self) -> &'static str {
+        match self {
+            Form::Workers => "two threads a node",
+            Form::InPlace => "steps in place",
+            Form::Carried => "one thread a chain",
+        }
+    }
+
+    /// Whether a caller takes the step of its read itself.
+    pub fn is_own(self) -> bool {
+        !matches!(self, Form::Workers)
+    }
+}
+
 /// What is tested of a store that runs.
 #[derive(Clone, Copy)]
 pub enum Case {
     /// A call is answered while another node is held under its lock.
     Overlap,
+    /// A chain is audited while a piece of work is held before its node's lock is taken.
+    Before,
+    /// The same after it.
+    After,
     /// Who takes the step of an ask: the node's ask worker, or its caller in place.
     Taking,
     /// A store without journals reads its own write at another node.
@@ -20,8 +54,10 @@ pub enum Case {
 }
 
 /// All cases.
-pub const CASES: [Case; 6] = [
+pub const CASES: [Case; 8] = [
     Case::Overlap,
+    Case::Before,
+    Case::After,
     Case::Taking,
     Case::ReadBack,
     Case::Stop,
@@ -35,12 +71,14 @@ impl Case {
         match self {
             Case::Overlap =>
                 "node 3 answers while node 1 is held under its lock, and then node 1 does",
+            Case::Before => "the chain is audited while a put is held before its step",
+            Case::After => "the chain is audited while a put is held after its step",
             Case::Taking =>
                 "who takes the step of an ask is its node's worker, or in place its caller",
             Case::ReadBack => "a store without journals reads its own write at another node",
             Case::Stop => "a stop answers the caller that waits",
             Case::Members =>
-                "refused moves change nothing, and two threads go and come with a node",
+                "refused moves change nothing, and the threads of a node go and come with it",
             Case::Changes =>
                 "nodes stop, go and join, and messages are lost, while clients go on asking",
         }
@@ -56,6 +94,7 @@ impl Case {
 #[derive(Clone, Copy)]
 pub enum Fact {
     AnswersMeanwhile,
+    IsFree,
     FindsNothing,
     Writes,
     Finds,
@@ -64,7 +103,7 @@ pub enum Fact {
     PutsWait,
     ComesBack,
     NineOfTen,
-    InTurn,
+    IsCounted,
     IsMerged,
     IsClosed,
     IsRefused,
@@ -77,6 +116,7 @@ impl Fact {
     pub fn text(self) -> &'static str {
         match self {
             Fact::AnswersMeanwhile => "a node answers while another is held",
+            Fact::IsFree => "no lock is held meanwhile",
             Fact::FindsNothing => "the first read finds nothing",
             Fact::Writes => "the put writes version 1",
             Fact::Finds => "the read finds version 1",
@@ -85,13 +125,13 @@ impl Fact {
             Fact::PutsWait => "puts wait while a node joins and while one is removed",
             Fact::ComesBack => "every call comes back",
             Fact::NineOfTen => "nine of ten calls are answered and not refused",
-            Fact::InTurn => "a node takes one ask at a time and counts them without gaps",
+            Fact::IsCounted => "a node counts the pieces of its ask work without gaps",
             Fact::IsMerged => "the audit finds a run with every receipt",
             Fact::IsClosed => "a store that was closed answers that it is",
             Fact::IsRefused => "a move that is not allowed is refused",
             Fact::HasItsMembers => "the chain has its epoch and its members",
             Fact::HasItsThreads =>
-                "two threads a node and one for the master, and none once it is closed",
+                "the threads of the nodes and one for the master, and none once it is closed",
         }
     }
 }

@@ -253,6 +253,6 @@ where
     expect(came_back(&course), Fact::ComesBack)?;
     expect(were_answered(&course), Fact::NineOfTen)?;
     expect(waiting > 0, Fact::PutsWait)?;
-    expect(signs.are_orderly(), Fact::InTurn)?;
+    expect(signs.are_counted(), Fact::IsCounted)?;
     confirm(&rt, store, all.receipts.as_slice())
 }

@@ -1,5 +1,5 @@
 //! The gate of a case, which holds workers up, cuts links and waits for signs.
-use crate::case::Case;
+use crate::case::{Case, Form};
 use craq_names::NodeName;
 use craq_workers::{Gate, Work};
 use std::sync::Arc;
@@ -46,12 +46,10 @@ pub struct Signs {
     pub passed: AtomicBool,
     /// It was held for as long as a wait may take.
     pub late: AtomicBool,
-    /// A piece of node 1's ask work has begun and not ended.
-    busy: AtomicBool,
-    /// How many such pieces have ended.
-    taken: AtomicU64,
-    /// Such a piece began before the last had ended, or left out a count.
-    disorder: AtomicBool,
+    /// How many pieces of node 1's ask work have begun.
+    begun: AtomicU64,
+    /// The sum of their counts.
+    counts: AtomicU64,
     /// How many messages came to a link.
     sent: AtomicU64,
 }
@@ -63,30 +61,24 @@ impl Signs {
             open: AtomicBool::new(false),
             passed: AtomicBool::new(false),
             late: AtomicBool::new(false),
-            busy: AtomicBool::new(false),
-            taken: AtomicU64::new(0),
-            disorder: AtomicBool::new(false),
+            begun: AtomicU64::new(0),
+            counts: AtomicU64::new(0),
             sent: AtomicU64::new(0),
         }
     }
 
     /// A piece of node 1's ask work begins.
     fn begin(&self, count: u64) {
-        let overlaps = self.busy.swap(true, Ordering::SeqCst);
-        if overlaps || self.taken.load(Ordering::SeqCst) != count {
-            self.disorder.store(true, Ordering::SeqCst);
-        }
+        self.begun.fetch_add(1, Ordering::SeqCst);
+        self.counts.fetch_add(count, Ordering::SeqCst);
     }
 
-    /// It ends.
-    fn end(&self) {
-        self.taken.fetch_add(1, Ordering::SeqCst);
-        self.busy.store(false, Ordering::SeqCst);
-    }
-
-    /// Whether node 1 took its asks one at a time and counted them without gaps.
-    pub fn are_orderly(&self) -> bool {
-        !self.disorder.load(Ordering::SeqCst)
+    /// Whether node 1 counted the pieces of its ask work from 0 without gaps: the counts below a number have a sum of their
+    /// own.
+    pub fn are_counted(&self) -> bool {
+        let begun = self.begun.load(Ordering::SeqCst);
+        let twice = self.counts.load(Ordering::SeqCst).wrapping_mul(2);
+        begun > 0 && twice == begun.wrapping_mul(begun.wrapping_sub(1))
     }
 }
 
@@ -95,7 +87,7 @@ impl Signs {
 pub struct CaseGate {
     pub clock: HostRuntime,
     pub case: Case,
-    pub in_place: bool,
+    pub form: Form,
     pub signs: Arc<Signs>,
 }
 
@@ -112,20 +104,22 @@ impl CaseGate {
 
 impl Gate for CaseGate {
     fn before(&self, node: NodeName, work: Work, count: u64) {
-        if node.node.get() == 1 && matches!(work, Work::Asks) {
-            self.signs.begin(count);
+        if node.node.get() != 1 || matches!(work, Work::Deliveries) {
+            return;
+        }
+        self.signs.begin(count);
+        if matches!(self.case, Case::Before) && count == 0 {
+            self.hold(LIMIT);
         }
     }
 
-    fn after(&self, node: NodeName, work: Work, _count: u64) {
+    fn after(&self, node: NodeName, work: Work, count: u64) {
         if matches!(work, Work::Deliveries) {
             return;
         }
-        if node.node.get() == 1 {
-            self.signs.end();
-        }
         match self.case {
-            Case::Taking => self.hold(if self.in_place { FEW } else { LIMIT }),
+            Case::After if node.node.get() == 1 && count == 0 => self.hold(LIMIT),
+            Case::Taking => self.hold(if self.form.is_own() { FEW } else { LIMIT }),
             Case::Stop => self.signs.reached.store(true, Ordering::SeqCst),
             _ => (),
         }
@@ -150,6 +144,10 @@ impl Gate for CaseGate {
     }
 
     fn in_place(&self) -> bool {
-        self.in_place
+        matches!(self.form, Form::InPlace)
+    }
+
+    fn carried(&self) -> bool {
+        matches!(self.form, Form::Carried)
     }
 }

@@ -3,8 +3,8 @@ ghost use Rattle.std.specs.Prelude.{IfOk};
 ghost use Rattle.craq_place.specs.Plan.{IsPlan};
 
 use crate::asker::{Asker, Tested};
-use crate::calls::{overlap, read_back, stop, taking};
-use crate::case::{Case, Fact, Fault, expect_refusal};
+use crate::calls::{free, overlap, read_back, stop, taking};
+use crate::case::{Case, Fact, Fault, Form, expect_refusal};
 use crate::changes::changes;
 use crate::gate::{CaseGate, Signs, wait_for};
 use crate::members::{ALONE, expect_threads, members};
@@ -34,7 +34,7 @@ fn try_on<R>(
     rt: R,
     host: HostRuntime,
     case: Case,
-    in_place: bool,
+    form: Form,
     store: &Tested,
     signs: &Signs,
 ) -> Result<(), Fault>
@@ -43,10 +43,11 @@ where
 {
     match case {
         Case::Overlap => overlap(rt, host, store, signs),
-        Case::Taking => taking(&rt, host, store, signs, in_place),
+        Case::Before | Case::After => free(rt, host, store, signs),
+        Case::Taking => taking(&rt, host, store, signs, form.is_own()),
         Case::ReadBack => read_back(&rt, host, store),
         Case::Stop => stop(rt, host, store, signs),
-        Case::Members => members(rt, host, store),
+        Case::Members => members(rt, host, store, form),
         Case::Changes => changes(rt, host, store, signs),
     }
 }
@@ -58,7 +59,7 @@ fn is_closed<R: Wait>(rt: &R, asker: Result<Asker, Refusal>) -> Result<(), Fault
 }
 
 /// Starts a store for a case, tries the case on it, and closes it.
-fn try_case<R>(rt: R, host: HostRuntime, case: Case, in_place: bool) -> Result<(), Fault>
+fn try_case<R>(rt: R, host: HostRuntime, case: Case, form: Form) -> Result<(), Fault>
 where
     R: Threads + Wait + Copy + Send + 'static,
 {
@@ -66,12 +67,12 @@ where
     let gate = CaseGate {
         clock: host,
         case,
-        in_place,
+        form,
         signs: Arc::try_clone(&signs)?,
     };
     let plan = plan(host.alloc())?;
     let store: Tested = Store::start(rt, host.alloc(), &plan, gate, case.has_journals())?;
-    let tried = try_on(rt, host, case, in_place, &store, &signs);
+    let tried = try_on(rt, host, case, form, &store, &signs);
     let asker = Asker::new(host.alloc(), &store, 9);
     store.close(&rt);
     tried?;
@@ -80,14 +81,14 @@ where
 }
 
 /// Tries a case on a thread of its own, and waits for its end as long as it may take.
-pub fn judge<R>(rt: R, host: HostRuntime, case: Case, in_place: bool) -> Result<(), Fault>
+pub fn judge<R>(rt: R, host: HostRuntime, case: Case, form: Form) -> Result<(), Fault>
 where
     R: Threads + Wait + Copy + Send + 'static,
 {
     let over = Arc::new(host.alloc(), AtomicBool::new(false))?;
     let theirs = Arc::try_clone(&over)?;
     let spawned = thread::spawn(&rt, move || {
-        let tried = try_case(rt, host, case, in_place);
+        let tried = try_case(rt, host, case, form);
         theirs.store(true, Ordering::SeqCst);
         tried
     });

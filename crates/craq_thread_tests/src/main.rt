@@ -10,7 +10,7 @@ mod gate;
 mod judge;
 mod members;
 
-use case::{CASES, Case, Fault};
+use case::{CASES, Case, FORMS, Fault};
 use judge::judge;
 use std::io;
 
@@ -29,10 +29,11 @@ fn tell(host: HostRuntime, case: Case, ended: &Result<(), Fault>) -> io::Result<
 }
 
 fn main(rt: HostRuntime) -> io::Result<()> {
-    for in_place in [false, true] {
-        println!(rt; "steps in place: {in_place}")?;
+    for form in FORMS {
+        let text = form.text();
+        println!(rt; "{text}")?;
         for case in CASES {
-            let ended = judge(rt, rt, case, in_place);
+            let ended = judge(rt, rt, case, form);
             tell(rt, case, &ended)?;
             if matches!(&ended, Err(Fault::Late)) {
                 return Ok(());

@@ -1,6 +1,6 @@
 //! Cases of memberships and of how many threads there are.
 use crate::asker::Tested;
-use crate::case::{Fact, Fault, expect, expect_refusal};
+use crate::case::{Fact, Fault, Form, expect, expect_refusal};
 use crate::gate::{LIMIT, rest};
 use craq_names::{ChainId, NodeId, Refusal};
 use craq_workers::ChainStatus;
@@ -11,11 +11,21 @@ use std::thread::Threads;
 /// What the system tells of this process with two threads: its own and that of a case.
 pub const ALONE: &str = "\nThreads:\t2\n";
 
-/// The same with a store: two threads more for each of three nodes, and one for the master.
-const WITH_STORE: &str = "\nThreads:\t9\n";
+/// The same with a store of three nodes: two threads more for each node or one for the chain, and one for the master.
+fn with_store(form: Form) -> &'static str {
+    match form {
+        Form::Carried => "\nThreads:\t4\n",
+        _ => "\nThreads:\t9\n",
+    }
+}
 
 /// The same once a node was removed.
-const WITH_TWO_NODES: &str = "\nThreads:\t7\n";
+fn with_two_nodes(form: Form) -> &'static str {
+    match form {
+        Form::Carried => "\nThreads:\t4\n",
+        _ => "\nThreads:\t7\n",
+    }
+}
 
 /// Whether the system tells this of the process.
 fn is_told(host: HostRuntime, threads: &str) -> bool {
@@ -62,26 +72,26 @@ where
 }
 
 /// The head goes, and another node joins.
-fn change<R>(rt: R, host: HostRuntime, store: &Tested) -> Result<(), Fault>
+fn change<R>(rt: R, host: HostRuntime, store: &Tested, form: Form) -> Result<(), Fault>
 where
     R: Threads + Wait + Copy + Send + 'static,
 {
     store.stop(&rt, ChainId::new(0), NodeId::new(1))?;
     store.remove(&rt, ChainId::new(0), NodeId::new(1))?;
-    expect_threads(host, WITH_TWO_NODES)?;
+    expect_threads(host, with_two_nodes(form))?;
     store.join(rt, ChainId::new(0), NodeId::new(4))?;
-    expect_threads(host, WITH_STORE)
+    expect_threads(host, with_store(form))
 }
 
-/// Moves that are refused leave members and threads as they are; two threads go with a node that is removed, and two come
-/// with one that joins.
-pub fn members<R>(rt: R, host: HostRuntime, store: &Tested) -> Result<(), Fault>
+/// Moves that are refused leave members and threads as they are; the threads of a node that is removed go, and those of one
+/// that joins come.
+pub fn members<R>(rt: R, host: HostRuntime, store: &Tested, form: Form) -> Result<(), Fault>
 where
     R: Threads + Wait + Copy + Send + 'static,
 {
     refuse(rt, store)?;
-    expect_threads(host, WITH_STORE)?;
+    expect_threads(host, with_store(form))?;
     expect_members(&rt, store, 1)?;
-    change(rt, host, store)?;
+    change(rt, host, store, form)?;
     expect_members(&rt, store, 3)
 }

@@ -108,6 +108,10 @@ pub record MessageFits (m : LinkMessage) : Type 0 where
   pub header : HeaderFits m
   pub body : BodyFits m.body
 
+-- the message with this sender, stamp and index in place of its own
+abbrev pub renamed : LinkMessage → ℕ → ℕ → ℕ → LinkMessage
+renamed m sender stamp index = record m { sender = sender; stamp = stamp; index = index }
+
 -- these bytes spell the message
 pub record Spells (m : LinkMessage) (bytes : List ℕ) : Type 0 where
   pub fits : MessageFits m

@@ -10,4 +10,4 @@ mod wire;
 
 pub use craq_model::{Body, LinkMessage};
 pub use laws::messages_with_spellings;
-pub use wire::{decode, encode, one_spelling, spelled};
+pub use wire::{decode, encode, encode_as, one_spelling, spelled};

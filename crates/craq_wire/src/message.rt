@@ -3,7 +3,7 @@ ghost use Rattle.std.specs.Prelude.{◌≡◌, ◌++◌, OnOk};
 ghost use Rattle.craq_codec.specs.NumberReading.{Gives};
 ghost use Rattle.craq_model.specs.Spelled.{IsSpelledBody, IsSpelledPart, IsSpelledState, IsSpelled};
 ghost use Rattle.craq_wire.specs.Reading.{body_at, message_at, part_at, state_at};
-ghost use Rattle.craq_wire.specs.Spelling.{header, said, state, state_part, kind_of, spelling_of, HeaderFits, StateFits, PartFits, BodyFits, MessageFits};
+ghost use Rattle.craq_wire.specs.Spelling.{header, renamed, said, state, state_part, kind_of, spelling_of, HeaderFits, StateFits, PartFits, BodyFits, MessageFits};
 
 use bytes::BytesMut;
 use craq_codec::{
@@ -203,28 +203,40 @@ fn write_body(out: &mut BytesMut, body: &Body) -> Result<(), AllocError>
     }
 }
 
-/// Writes what stands before what a message says.
-fn write_header(out: &mut BytesMut, m: &LinkMessage) -> Result<(), AllocError>
-    ensures fits { OnOk result (HeaderFits m.now) }
-    ensures spelled { OnOk result (out.new.items ≡ out.old.items ++ header m.now) }
+/// Writes what stands before what a message says, with this sender, stamp and index.
+fn write_header(
+    out: &mut BytesMut,
+    m: &LinkMessage,
+    sender: NodeId,
+    stamp: Stamp,
+    index: u32,
+) -> Result<(), AllocError>
+    ensures fits { OnOk result (HeaderFits (renamed m.now sender stamp index)) }
+    ensures spelled { OnOk result (out.new.items ≡ out.old.items ++ header (renamed m.now sender stamp index)) }
 {
     write_u8(out, WIRE_VERSION)?;
     write_u8(out, kind(&m.body))?;
     write_u16(out, m.chain.get())?;
-    write_u32(out, m.sender.get())?;
+    write_u32(out, sender.get())?;
     write_u32(out, m.receiver.get())?;
-    write_u64(out, m.stamp.get())?;
-    write_u32(out, m.index)?;
+    write_u64(out, stamp.get())?;
+    write_u32(out, index)?;
     write_u64(out, m.epoch.get())
 }
 
-/// Writes a message at the end.
+/// Writes a message at the end, with this sender, stamp and index in place of its own.
 #[tactic(auto, unfolding(crate::specs::Spelling::spelling_of))]
-pub(crate) fn write_message(out: &mut BytesMut, m: &LinkMessage) -> Result<(), AllocError>
-    requires { IsSpelled m.now }
-    ensures fits { OnOk result (MessageFits m.now) }
-    ensures spelled { OnOk result (out.new.items ≡ out.old.items ++ spelling_of m.now) }
+pub(crate) fn write_message(
+    out: &mut BytesMut,
+    m: &LinkMessage,
+    sender: NodeId,
+    stamp: Stamp,
+    index: u32,
+) -> Result<(), AllocError>
+    requires { IsSpelled (renamed m.now sender stamp index) }
+    ensures fits { OnOk result (MessageFits (renamed m.now sender stamp index)) }
+    ensures spelled { OnOk result (out.new.items ≡ out.old.items ++ spelling_of (renamed m.now sender stamp index)) }
 {
-    write_header(out, m)?;
+    write_header(out, m, sender, stamp, index)?;
     write_body(out, &m.body)
 }

@@ -3,14 +3,14 @@ ghost use Rattle.std.specs.Prelude.{◌≡◌, ◌⊎◌, ◌↔◌, ℕ, List, 
 ghost use Rattle.craq_model.specs.Spelled.{IsSpelled};
 ghost use Rattle.craq_codec.specs.NumberReading.{Gives};
 ghost use Rattle.craq_wire.specs.Reading.{all_of};
-ghost use Rattle.craq_wire.specs.Spelling.{Spells};
+ghost use Rattle.craq_wire.specs.Spelling.{Spells, renamed};
 
 use crate::LinkMessage;
 use crate::message::{read_message, write_message};
 use crate::rules::test_message;
 use bytes::{Bytes, BytesMut};
 use craq_codec::Unread;
-use craq_names::Refusal;
+use craq_names::{NodeId, Refusal, Stamp};
 use std::alloc::{AllocError, Global};
 
 /// The bytes that most messages need at most.
@@ -30,8 +30,23 @@ pub fn encode(alloc: Global, message: &LinkMessage) -> Result<Bytes, AllocError>
     requires { IsSpelled message.now }
     ensures { IfOk result (λ bytes. Spells message.now bytes) }
 {
+    encode_as(alloc, message, message.sender, message.stamp, message.index)
+}
+
+/// The bytes of a message with this sender, stamp and index in place of its own, where that can be spelled. It fails for
+/// want of memory alone.
+pub fn encode_as(
+    alloc: Global,
+    message: &LinkMessage,
+    sender: NodeId,
+    stamp: Stamp,
+    index: u32,
+) -> Result<Bytes, AllocError>
+    requires { IsSpelled (renamed message.now sender stamp index) }
+    ensures { IfOk result (λ bytes. Spells (renamed message.now sender stamp index) bytes) }
+{
     let mut out = BytesMut::with_capacity(alloc, USUAL_SIZE)?;
-    write_message(&mut out, message)?;
+    write_message(&mut out, message, sender, stamp, index)?;
     Ok(out.freeze()?)
 }
 

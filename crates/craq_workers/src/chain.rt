@@ -1,144 +1,239 @@
 //! A chain that runs: the ways to its workers, through which all that asks, sends or ticks goes.
+use crate::bell::Bell;
 use crate::node::{Brought, Entrances, Node, Way};
-use crate::steps::Asked;
-use bytes::Bytes;
+use crate::replies::Replies;
+use crate::steps::{Asked, dismiss};
 use craq_names::{NodeId, Refusal};
 use craq_node::Core;
-use craq_seat::BookCell;
-use crossbeam_channel::Sender;
+use craq_seat::{BookCell, Caller};
+use crossbeam_channel::{SendError, Sender};
 use std::alloc::Global;
+use std::mem;
 use std::sync::{Arc, Mutex, RwLock, Wait};
 
-/// The ways into a chain, as long as its store is open.
+/// The ways into a chain: its nodes, and what a store has that is open.
 #[derive(Drop)]
 pub(crate) struct Ways<C: Core> {
     pub nodes: Vec<Way<C>>,
+    /// None once the store is closed.
+    pub open: Option<Open>,
+}
+
+/// What only an open store has.
+#[derive(Drop)]
+pub(crate) struct Open {
     pub master: Sender<()>,
     /// A copy goes to each worker. Once all are gone no worker is left.
     pub alive: Sender<()>,
 }
 
-/// A chain that runs: its name, its master's cell under its lock, and the ways to its workers, none once it is closed.
+/// A chain that runs: its name, its master's cell under its lock, the ways to its workers, and the bell of the one that
+/// carries it.
 #[derive(Drop)]
 pub(crate) struct Chain<C: Core> {
     pub name: String,
     pub book: Mutex<BookCell>,
-    pub ways: RwLock<Option<Ways<C>>>,
+    pub ways: RwLock<Ways<C>>,
+    pub bell: Bell,
 }
 
 impl<C: Core> Ways<C> {
+    /// What an open store has. `Closed` where it is not open.
+    pub(crate) fn open(&self) -> Result<&Open, Refusal> {
+        match &self.open {
+            Some(open) => Ok(open),
+            None => Err(Refusal::Closed),
+        }
+    }
+
     /// The way to the node of this id. `WrongNode` where the chain never had it.
     pub(crate) fn to(&self, id: NodeId) -> Result<&Way<C>, Refusal> {
         for way in self.nodes.as_slice() {
-            if way.node.name.node == id {
+            if way.name.node == id {
                 return Ok(way);
             }
         }
         Err(Refusal::WrongNode)
     }
+}
 
-    /// The ways to the workers of the node of this id, if it has them.
-    fn entrances(&self, id: NodeId) -> Option<&Entrances> {
-        match self.to(id) {
-            Ok(way) => way.entrances.as_ref(),
-            Err(_) => None,
+impl<C: Core> Way<C> {
+    /// Something goes to the node, unless it has no worker or what is brought need not wait there.
+    fn bring<R: Wait>(&self, rt: &R, brought: Brought) {
+        if let (Some(node), Some(entrances)) = (&self.node, &self.entrances) {
+            if node.admits(&brought) {
+                let _ = entrances.links.send(rt, brought);
+            }
         }
     }
 }
 
+/// An ask goes into a queue. Where it cannot its caller is told.
+fn put_in<R: Wait>(rt: &R, entrances: &Entrances, asked: Asked) -> Result<(), Refusal> {
+    match entrances.asks.send(rt, asked) {
+        Ok(()) => Ok(()),
+        Err(SendError::OutOfMemory(asked)) => take_back(rt, asked, Refusal::Memory),
+        Err(SendError::Disconnected(asked)) => take_back(rt, asked, Refusal::Closed),
+    }
+}
+
+/// An ask that was not queued is refused in hand, so no letter comes.
+pub(crate) fn take_back<R: Wait>(rt: &R, asked: Asked, refusal: Refusal) -> Result<(), Refusal> {
+    let Asked {
+        ask,
+        pass: _,
+        caller,
+    } = asked;
+    drop(ask);
+    caller.forgo(rt);
+    Err(refusal)
+}
+
 impl<C: Core> Chain<C> {
-    /// The node of this id: `Closed` where the store is, `WrongNode` where the chain never had it.
+    /// The node of this id: `Closed` where the store is, `WrongNode` where the chain never had it, `Stopped` where it was
+    /// removed and let go.
     pub(crate) fn node<R: Wait>(&self, rt: &R, id: NodeId) -> Result<Arc<Node<C>>, Refusal> {
         let ways = self.ways.read(rt);
-        match ways.as_ref() {
-            None => Err(Refusal::Closed),
-            Some(ways) => Ok(Arc::try_clone(&ways.to(id)?.node)?),
+        let _ = ways.open()?;
+        match &ways.to(id)?.node {
+            Some(node) => Ok(Arc::try_clone(node)?),
+            None => Err(Refusal::Stopped),
         }
     }
 
-    /// The way to a node's ask worker, none where the node was removed, refused likewise.
-    pub(crate) fn asks<R: Wait>(
-        &self,
-        rt: &R,
-        id: NodeId,
-    ) -> Result<Option<Sender<Asked>>, Refusal> {
+    /// An ask is queued for a node. Refused in hand, so that no letter comes: as `node` is, and `Memory`; `Stopped` where
+    /// the node was removed.
+    pub(crate) fn enqueue<R: Wait>(&self, rt: &R, id: NodeId, asked: Asked) -> Result<(), Refusal> {
         let ways = self.ways.read(rt);
-        let Some(ways) = ways.as_ref() else {
-            return Err(Refusal::Closed);
-        };
-        match &ways.to(id)?.entrances {
-            None => Ok(None),
-            Some(entrances) => Ok(Some(entrances.asks.clone()?)),
+        if ways.open.is_none() {
+            return take_back(rt, asked, Refusal::Closed);
+        }
+        match ways.to(id) {
+            Err(refusal) => take_back(rt, asked, refusal),
+            Ok(way) => match &way.entrances {
+                Some(entrances) => put_in(rt, entrances, asked),
+                None => take_back(rt, asked, Refusal::Stopped),
+            },
         }
     }
 
-    /// All nodes that the chain ever had.
+    /// All nodes that the chain has.
     pub(crate) fn nodes<R: Wait>(
         &self,
         rt: &R,
         alloc: Global,
     ) -> Result<Vec<Arc<Node<C>>>, Refusal> {
         let ways = self.ways.read(rt);
-        let Some(ways) = ways.as_ref() else {
-            return Err(Refusal::Closed);
-        };
+        let _ = ways.open()?;
         let mut nodes = Vec::new(alloc);
         for way in ways.nodes.as_slice() {
-            nodes.push(Arc::try_clone(&way.node)?)?;
+            if let Some(node) = &way.node {
+                nodes.push(Arc::try_clone(node)?)?;
+            }
         }
         Ok(nodes)
     }
 
-    /// A sign of life for a worker to keep. `Closed` where the store is.
+    /// A sender for a worker to keep as long as it works. `Closed` where the store is.
     pub(crate) fn alive<R: Wait>(&self, rt: &R) -> Result<Sender<()>, Refusal> {
         let ways = self.ways.read(rt);
-        match ways.as_ref() {
-            None => Err(Refusal::Closed),
-            Some(ways) => Ok(ways.alive.clone()?),
-        }
+        Ok(ways.open()?.alive.clone()?)
     }
 
-    /// An encoded message goes to the node of this id. It is lost where there is none, or no memory.
-    pub(crate) fn bring<R: Wait>(&self, rt: &R, id: NodeId, bytes: Bytes) {
+    /// Something goes to the node of this id. It is lost where there is none, or no memory.
+    pub(crate) fn bring<R: Wait>(&self, rt: &R, id: NodeId, brought: Brought) {
         let ways = self.ways.read(rt);
-        let Some(ways) = ways.as_ref() else {
-            return;
-        };
-        if let Some(entrances) = ways.entrances(id) {
-            let _ = entrances.links.send(rt, Brought::Message(bytes));
+        if let Ok(way) = ways.to(id) {
+            way.bring(rt, brought);
         }
     }
 
     /// The master and each running node are to tick.
     pub(crate) fn tick<R: Wait>(&self, rt: &R) {
         let ways = self.ways.read(rt);
-        let Some(ways) = ways.as_ref() else {
+        let Ok(open) = ways.open() else {
             return;
         };
-        let _ = ways.master.send(rt, ());
+        let _ = open.master.try_send(rt, ());
         for way in ways.nodes.as_slice() {
-            if let (Some(entrances), false) = (&way.entrances, way.node.is_halted()) {
-                let _ = entrances.links.send(rt, Brought::Tick);
+            if way.node.as_ref().is_some_and(|node| !node.is_halted()) {
+                way.bring(rt, Brought::Tick);
             }
         }
+        self.bell.ring();
     }
 
-    /// Nothing more goes to the workers of the node of this id. Once their queues are empty they end.
-    pub(crate) fn retire<R: Wait>(&self, rt: &R, id: NodeId) {
+    /// Nothing more goes to the workers of the node of this id. Once their queues are empty they end. Where no audit will
+    /// want its cell, the node is let go by the chain.
+    pub(crate) fn retire<R: Wait>(&self, rt: &R, id: NodeId, keep: bool) {
         let mut ways = self.ways.write(rt);
-        let Some(ways) = ways.as_mut() else {
-            return;
-        };
         for way in &mut ways.nodes {
-            if way.node.name.node == id {
+            if way.name.node == id {
                 way.entrances = None;
+                if !keep {
+                    way.node = None;
+                }
             }
         }
     }
 
     /// From now on nothing goes in. Once their queues are empty the workers end.
     pub(crate) fn close<R: Wait>(&self, rt: &R) {
-        let closed = self.ways.write(rt).take();
-        drop(closed);
+        let mut ways = self.ways.write(rt);
+        ways.open = None;
+        for way in &mut ways.nodes {
+            way.entrances = None;
+        }
+        drop(ways);
+        self.bell.change();
+    }
+
+    /// Once no worker is left: whoever still waits is told that the store is closed, and so is who asks later.
+    pub(crate) fn sweep<R: Wait>(&self, rt: &R, alloc: Global) {
+        let mut ways = self.ways.write(rt);
+        let nodes = mem::replace(&mut ways.nodes, Vec::new(alloc));
+        drop(ways);
+        for way in nodes {
+            let Way {
+                name: _,
+                node,
+                entrances,
+            } = way;
+            drop(entrances);
+            if let Some(node) = node {
+                empty(rt, alloc, &node);
+            }
+        }
+    }
+}
+
+/// Callers that wait at a node, and those whose asks wait there, are told that the store is closed, and so is who asks later.
+fn empty<R: Wait, C: Core>(rt: &R, alloc: Global, node: &Node<C>) {
+    node.close();
+    let mut seated = node.seat.lock(rt);
+    let callers = dismiss(alloc, &mut seated);
+    drop(seated);
+    let mut replies = Replies::new(alloc);
+    for caller in callers {
+        let Caller { ticket: _, at } = caller;
+        replies.add(rt, at, Err(Refusal::Closed));
+    }
+    replies.tell(rt);
+    refuse_queued(rt, node, &Refusal::Closed);
+}
+
+/// The callers whose asks wait at a node are refused.
+pub(crate) fn refuse_queued<R: Wait, C: Core>(rt: &R, node: &Node<C>, refusal: &Refusal) {
+    for _ in rt.forever() {
+        let Ok(asked) = node.queues.asks.try_recv(rt) else {
+            break;
+        };
+        let Asked {
+            ask,
+            pass: _,
+            caller,
+        } = asked;
+        drop(ask);
+        caller.tell(rt, Err(*refusal));
     }
 }

@@ -2,18 +2,14 @@
 ghost use Rattle.std.specs.Prelude.{◌≡◌, max, IfOk, OnErr};
 ghost use Rattle.craq_calls.specs.Calls.{IsCallOf};
 
-use crate::chain::Chain;
 use crate::gate::Gate;
-use crate::node::Node;
-use crate::replies::Reply;
-use crate::shared::Shared;
-use crate::steps::Asked;
+use crate::shared::{Return, Shared};
 use craq_calls::{answer_of_call, pass_after};
+use craq_letters::{Letterbox, Reply};
 use craq_model::{Answer, Ask};
 use craq_names::{Copied, NodeName, Pass, Refusal};
 use craq_node::Core;
 use craq_seat::CallReceipt;
-use crossbeam_channel::SendError;
 use std::alloc::Global;
 use std::marker::Model;
 use std::sync::{Arc, Wait};
@@ -92,45 +88,36 @@ impl<C: Core, G: Gate> Client<C, G> {
         Ok((answer, receipt))
     }
 
-    /// What is replied to an ask.
+    /// What is replied to an ask, in hand or by a letter into a box of its own.
     fn reply<R: Wait>(&self, rt: &R, node: &NodeName, ask: &Ask) -> Reply {
-        let chain = self.shared.chain(node.chain)?;
-        let found = chain.node(rt, node.node)?;
-        let (caller, reply) = crossbeam_channel::bounded(self.alloc, 1)?;
-        let asked = Asked {
-            ask: ask.copied(self.alloc)?,
-            pass: self.pass,
-            caller,
-        };
-        self.put(rt, chain, found, asked)?;
-        match reply.recv(rt) {
-            Ok(reply) => reply,
-            Err(_) => Err(Refusal::Closed),
-        }
+        let letters = Arc::new(self.alloc, Letterbox::new(self.alloc, None))?;
+        self.reply_into(rt, node, ask, &letters)
     }
 
-    /// An ask goes to its node's ask worker. Where the gate says so, or where the node was removed and has no worker, its
-    /// step is taken here. The node is let go before its caller waits, so that a store that is closed can let it go.
-    fn put<R: Wait>(
+    /// What is replied to an ask, in hand or by a letter into this box.
+    fn reply_into<R: Wait>(
         &self,
         rt: &R,
-        chain: &Chain<C>,
-        node: Arc<Node<C>>,
-        asked: Asked,
-    ) -> Result<(), Refusal> {
-        let worker = if self.shared.gate.in_place() {
-            None
-        } else {
-            chain.asks(rt, node.name.node)?
-        };
-        let Some(asks) = worker else {
-            self.shared.serve(rt, self.alloc, &node, asked);
-            return Ok(());
-        };
-        match asks.send(rt, asked) {
-            Ok(()) => Ok(()),
-            Err(SendError::OutOfMemory(_)) => Err(Refusal::Memory),
-            Err(SendError::Disconnected(_)) => Err(Refusal::Closed),
+        node: &NodeName,
+        ask: &Ask,
+        letters: &Arc<Letterbox>,
+    ) -> Reply {
+        let ask = ask.copied(self.alloc)?;
+        let back = Return { letters, token: 0 };
+        let found = self
+            .shared
+            .submit(rt, self.alloc, node, ask, self.pass, back, true)?;
+        match found {
+            Some(receipt) => Ok(receipt),
+            None => wait_for_letter(rt, letters),
         }
+    }
+}
+
+/// The reply in the letter that will come.
+fn wait_for_letter<R: Wait>(rt: &R, letters: &Letterbox) -> Reply {
+    match letters.wait(rt) {
+        Some(letter) => letter.reply,
+        None => Err(Refusal::Closed),
     }
 }

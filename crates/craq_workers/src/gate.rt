@@ -11,15 +11,17 @@ pub enum Work {
 }
 
 /// What is called round each piece of work of a store's workers. A gate that waits holds the worker up, and can do so
-/// only by a handle that it keeps. The counts are each worker's own, from 0, without gaps.
+/// only by a handle that it keeps. The counts are each worker's own, from 0, without gaps. Where callers take their steps
+/// themselves they count the pieces of their node's ask worker, in no fixed order. Where one thread carries a chain, a
+/// piece is a turn of a node: the messages and the asks that wait there, 16 of each at most, counted among its asks.
 pub trait Gate: Drop {
-    /// Before a piece of work, with no node's or master's lock held.
+    /// Before a piece of work, with no lock held.
     fn before(&self, node: NodeName, work: Work, count: u64);
 
-    /// After it, with no node's or master's lock held.
+    /// After it, with no lock held.
     fn after(&self, node: NodeName, work: Work, count: u64);
 
-    /// Right before the step of the piece, with that node's (or that master's) lock held and no other.
+    /// Right before the first step of the piece, with that node's (or that master's) lock held and no other.
     fn within(&self, node: NodeName, work: Work, count: u64);
 
     /// Whether a message goes over the link from one node, or the master, to another. Where it does not it is lost.
@@ -30,6 +32,12 @@ pub trait Gate: Drop {
     fn in_place(&self) -> bool {
         false
     }
+
+    /// Whether one thread a chain takes the steps of all its nodes, in turns, in place of two threads a node. Callers then
+    /// take the steps of their reads themselves.
+    fn carried(&self) -> bool {
+        false
+    }
 }
 
 /// A gate that lets everything pass.
@@ -37,6 +45,8 @@ pub trait Gate: Drop {
 pub struct OpenGate {
     /// Whether callers take their steps themselves.
     pub in_place: bool,
+    /// Whether one thread a chain takes the steps of all its nodes.
+    pub carried: bool,
 }
 
 impl Gate for OpenGate {
@@ -52,5 +62,9 @@ impl Gate for OpenGate {
 
     fn in_place(&self) -> bool {
         self.in_place
+    }
+
+    fn carried(&self) -> bool {
+        self.carried
     }
 }

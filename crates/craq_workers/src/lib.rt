@@ -4,11 +4,14 @@
 #![tactic(auto)]
 
 mod auditing;
+mod bell;
+mod carrying;
 mod chain;
 mod client;
 mod gate;
 mod node;
 mod opening;
+mod outbox;
 mod replies;
 mod shared;
 mod steps;
@@ -16,5 +19,6 @@ mod store;
 mod work;
 
 pub use client::Client;
+pub use craq_letters::{Letter, Letterbox, Reply};
 pub use gate::{Gate, OpenGate, Work};
 pub use store::{ChainStatus, Store};

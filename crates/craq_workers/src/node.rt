@@ -1,42 +1,61 @@
-//! A node that runs, as its workers and its callers share it: the seat, the ask turn, the ways to it.
-use crate::replies::Reply;
+//! A node that runs, as its workers and its callers share it: the seat, what is known of its life, the ways to it.
 use crate::steps::Asked;
 use bytes::Bytes;
 use craq_epochs::StopReceipt;
+use craq_letters::Addressee;
 use craq_names::NodeName;
 use craq_node::Core;
 use craq_seat::{Cell, Desk, Receipt, Seat};
-use crossbeam_channel::Sender;
+use crossbeam_channel::{Receiver, Sender};
 use std::alloc::Global;
-use std::sync::atomic::{AtomicBool, Ordering};
-use std::sync::{Arc, Mutex, Wait};
+use std::sync::atomic::{AtomicBool, AtomicU64, Ordering};
+use std::sync::{Arc, Wait};
 
 /// What the worker of a node's deliveries is brought.
 #[derive(Drop)]
 pub(crate) enum Brought {
     /// An encoded message.
     Message(Bytes),
+    /// An encoded message which says that its sender is not ready.
+    Blank(Bytes),
     /// The node is to send again what its neighbours may lack.
     Tick,
 }
 
-/// A node that runs: its seat, and its ask turn.
+/// What waits at a node: the asks, and what was brought.
+#[derive(Drop)]
+pub(crate) struct Queues {
+    pub asks: Receiver<Asked>,
+    pub links: Receiver<Brought>,
+}
+
+/// A node that runs: its seat, what waits there, and what is known of its life.
 #[derive(Drop)]
 pub(crate) struct Node<C: Core> {
     pub name: NodeName,
-    pub seat: Seat<C, Sender<Reply>>,
-    /// The right to take the step of the node's next ask, with how many were taken before.
-    pub ask_turn: Mutex<u64>,
+    pub seat: Seat<C, Addressee>,
+    pub queues: Queues,
+    /// How many pieces of ask work have begun.
+    pieces: AtomicU64,
     halted: AtomicBool,
+    closed: AtomicBool,
+    /// A tick waits.
+    ticks: AtomicBool,
+    /// The word of a node that is not ready waits.
+    blanks: AtomicBool,
 }
 
 impl<C: Core> Node<C> {
-    pub(crate) fn new(alloc: Global, name: NodeName, desk: Desk<C>) -> Self {
+    pub(crate) fn new(alloc: Global, name: NodeName, desk: Desk<C>, queues: Queues) -> Self {
         Node {
             name,
             seat: Seat::new(alloc, desk),
-            ask_turn: Mutex::new(0),
+            queues,
+            pieces: AtomicU64::new(0),
             halted: AtomicBool::new(false),
+            closed: AtomicBool::new(false),
+            ticks: AtomicBool::new(false),
+            blanks: AtomicBool::new(false),
         }
     }
 
@@ -44,6 +63,11 @@ impl<C: Core> Node<C> {
     pub(crate) fn stopped<R: Wait>(&self, rt: &R) -> Option<(StopReceipt, Receipt)> {
         let seated = self.seat.lock(rt);
         stop_of(seated.desk.cell())
+    }
+
+    /// The count of the next piece of ask work.
+    pub(crate) fn next_piece(&self) -> u64 {
+        self.pieces.fetch_add(1, Ordering::SeqCst)
     }
 
     /// The node has halted.
@@ -55,20 +79,55 @@ impl<C: Core> Node<C> {
     pub(crate) fn is_halted(&self) -> bool {
         self.halted.load(Ordering::SeqCst)
     }
+
+    /// The node takes no ask from now on.
+    pub(crate) fn close(&self) {
+        self.closed.store(true, Ordering::SeqCst);
+    }
+
+    /// Whether the node takes no ask any more. Asked under its lock, it stays so while the lock is held.
+    pub(crate) fn is_closed(&self) -> bool {
+        self.closed.load(Ordering::SeqCst)
+    }
+
+    /// Whether what is brought is to wait here: of ticks, and of words of a node that is not ready, one waits at most.
+    pub(crate) fn admits(&self, brought: &Brought) -> bool {
+        match brought {
+            Brought::Message(_) => true,
+            Brought::Blank(_) => !self.blanks.swap(true, Ordering::SeqCst),
+            Brought::Tick => !self.ticks.swap(true, Ordering::SeqCst),
+        }
+    }
+
+    /// A tick that waited is taken: another may wait.
+    pub(crate) fn tick_taken(&self) {
+        self.ticks.store(false, Ordering::SeqCst);
+    }
+
+    /// The word of a node that is not ready was heard: another may wait.
+    pub(crate) fn blank_taken(&self) {
+        self.blanks.store(false, Ordering::SeqCst);
+    }
+
+    /// Whether anything waits at the node.
+    pub(crate) fn has_work(&self) -> bool {
+        !self.queues.links.is_empty() || !self.queues.asks.is_empty()
+    }
 }
 
-/// The ways to a node's two workers.
+/// The ways to what waits at a node.
 #[derive(Drop)]
 pub(crate) struct Entrances {
     pub asks: Sender<Asked>,
     pub links: Sender<Brought>,
 }
 
-/// A node, and the ways to its workers, none once it was removed: they then end. Its cell stays, since an audit merges its
-/// journal.
+/// A node, and the ways to it, none once it was removed: its workers then end. Its cell stays where an audit merges its
+/// journal, and else goes with the node.
 #[derive(Drop)]
 pub(crate) struct Way<C: Core> {
-    pub node: Arc<Node<C>>,
+    pub name: NodeName,
+    pub node: Option<Arc<Node<C>>>,
     pub entrances: Option<Entrances>,
 }
 

@@ -5,45 +5,44 @@ ghost use Rattle.craq_model.specs.Members.{IsMembership};
 ghost use Rattle.craq_node.specs.Represented.{CanOpen};
 ghost use Rattle.craq_place.specs.Plan.{IsPlan};
 
-use crate::chain::{Chain, Ways};
-use crate::node::{Brought, Entrances, Node, Way};
-use crate::steps::Asked;
+use crate::bell::Bell;
+use crate::chain::{Chain, Open, Ways};
+use crate::node::{Entrances, Node, Queues, Way};
 use crate::work::Worker;
 use craq_model::Config;
 use craq_names::{ChainId, NodeId, NodeName, Refusal, Stamp};
 use craq_node::Core;
 use craq_place::Plan;
 use craq_seat::{BookCell, Cell, Desk};
-use crossbeam_channel::{Receiver, Sender};
+use crossbeam_channel::Sender;
 use std::alloc::{AllocError, Global};
 use std::sync::{Arc, Mutex, RwLock};
+
+/// What a store keeps, and who takes its steps.
+#[derive(Clone, Copy)]
+pub(crate) struct Form {
+    /// Its cells keep journals.
+    pub journal: bool,
+    /// One thread carries each chain.
+    pub carried: bool,
+}
 
 /// The most chains of a plan.
 const MOST_CHAINS: u16 = 64;
 
-/// A node before its first step, the ways to its workers, and where these take their work from.
-#[derive(Drop)]
-pub(crate) struct Opened<C: Core> {
-    pub way: Way<C>,
-    pub asks: Receiver<Asked>,
-    pub links: Receiver<Brought>,
-}
-
-/// The ways to a node of this desk. It fails for want of memory alone.
-fn ways_to<C: Core>(alloc: Global, name: NodeName, desk: Desk<C>) -> Result<Opened<C>, AllocError> {
-    let node = Arc::new(alloc, Node::new(alloc, name, desk))?;
+/// The way to a node of this desk. It fails for want of memory alone.
+fn way_to<C: Core>(alloc: Global, name: &NodeName, desk: Desk<C>) -> Result<Way<C>, AllocError> {
     let (to_asks, asks) = crossbeam_channel::unbounded(alloc)?;
     let (to_links, links) = crossbeam_channel::unbounded(alloc)?;
-    Ok(Opened {
-        way: Way {
-            node,
-            entrances: Some(Entrances {
-                asks: to_asks,
-                links: to_links,
-            }),
-        },
-        asks,
-        links,
+    let queues = Queues { asks, links };
+    let node = Arc::new(alloc, Node::new(alloc, *name, desk, queues))?;
+    Ok(Way {
+        name: *name,
+        node: Some(node),
+        entrances: Some(Entrances {
+            asks: to_asks,
+            links: to_links,
+        }),
     })
 }
 
@@ -55,33 +54,48 @@ pub(crate) fn open_node<C: Core>(
     config: Option<&Config>,
     journal: bool,
     stamp: Stamp,
-) -> Result<Opened<C>, Refusal>
+) -> Result<Way<C>, Refusal>
     requires { CanOpen name.now (option_copied config) }
     ensures { IfErr result (λ e. e ≡ Refusal.Memory) }
 {
     let cell = Cell::open(alloc, *name, config, journal, stamp)?;
-    Ok(ways_to(alloc, *name, Desk::new(alloc, cell))?)
+    Ok(way_to(alloc, name, Desk::new(alloc, cell))?)
 }
 
-/// The members of a first membership, at stamp 0, and their workers after those that are there. It fails for want of
-/// memory alone (`Memory`).
+/// The two workers of a node go after those that are there. It fails for want of memory alone.
+pub(crate) fn add_workers<C: Core>(
+    way: &Way<C>,
+    workers: &mut Vec<Worker<C>>,
+) -> Result<(), AllocError> {
+    if let Some(node) = &way.node {
+        workers.push(Worker::Asks(Arc::try_clone(node)?))?;
+        workers.push(Worker::Links(Arc::try_clone(node)?))?;
+    }
+    Ok(())
+}
+
+/// The members of a first membership, at stamp 0, and their workers after those that are there, or the one that carries
+/// them all. It fails for want of memory alone (`Memory`).
 fn open_members<C: Core>(
     alloc: Global,
     chain: ChainId,
     config: &Config,
-    journal: bool,
+    form: Form,
     workers: &mut Vec<Worker<C>>,
 ) -> Result<Vec<Way<C>>, Refusal>
     requires { (config.now.epoch ≡ 1) × IsMembership config.now.members }
     ensures { IfErr result (λ e. e ≡ Refusal.Memory) }
 {
+    if form.carried {
+        workers.push(Worker::Carrier(chain))?;
+    }
     let mut nodes = Vec::new(alloc);
     for node in config.members.as_slice() {
         let name = NodeName { chain, node: *node };
-        let opened = open_node(alloc, &name, Some(config), journal, Stamp::new(0))?;
-        let Opened { way, asks, links } = opened;
-        workers.push(Worker::Asks(Arc::try_clone(&way.node)?, asks))?;
-        workers.push(Worker::Links(Arc::try_clone(&way.node)?, links))?;
+        let way = open_node(alloc, &name, Some(config), form.journal, Stamp::new(0))?;
+        if !form.carried {
+            add_workers(&way, workers)?;
+        }
         nodes.push(way)?;
     }
     Ok(nodes)
@@ -94,7 +108,7 @@ fn open_chain<C: Core>(
     id: ChainId,
     name: &str,
     members: &[NodeId],
-    journal: bool,
+    form: Form,
     alive: &Sender<()>,
     workers: &mut Vec<Worker<C>>,
 ) -> Result<Chain<C>, Refusal>
@@ -102,19 +116,19 @@ fn open_chain<C: Core>(
     ensures { IfErr result (λ e. e ≡ Refusal.Memory) }
 {
     let name = String::from_str(alloc, name)?;
-    let book = BookCell::open(alloc, id, members, journal)?;
-    let nodes = open_members(alloc, id, book.config(), journal, workers)?;
-    let (master, ticks) = crossbeam_channel::unbounded(alloc)?;
+    let book = BookCell::open(alloc, id, members, form.journal)?;
+    let nodes = open_members(alloc, id, book.config(), form, workers)?;
+    let (master, ticks) = crossbeam_channel::bounded(alloc, 1)?;
     workers.push(Worker::Master(id, ticks))?;
     let alive = alive.clone()?;
     Ok(Chain {
         name,
         book: Mutex::new(book),
-        ways: RwLock::new(Some(Ways {
+        ways: RwLock::new(Ways {
             nodes,
-            master,
-            alive,
-        })),
+            open: Some(Open { master, alive }),
+        }),
+        bell: Bell::new(),
     })
 }
 
@@ -122,7 +136,7 @@ fn open_chain<C: Core>(
 pub(crate) fn open_chains<C: Core>(
     alloc: Global,
     plan: &Plan,
-    journal: bool,
+    form: Form,
     alive: &Sender<()>,
     workers: &mut Vec<Worker<C>>,
 ) -> Result<Vec<Chain<C>>, Refusal>
@@ -135,7 +149,7 @@ pub(crate) fn open_chains<C: Core>(
         let Ok((name, members)) = plan.chain(id) else {
             break;
         };
-        chains.push(open_chain(alloc, id, name, members, journal, alive, workers)?)?;
+        chains.push(open_chain(alloc, id, name, members, form, alive, workers)?)?;
     }
     Ok(chains)
 }

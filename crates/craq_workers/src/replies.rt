@@ -1,17 +1,14 @@
 //! What the callers that a step answers are told, kept until its lock is free.
-use craq_names::{Refusal, Ticket};
-use craq_seat::{CallReceipt, Caller};
-use crossbeam_channel::Sender;
+use craq_letters::{Addressee, Reply};
+use craq_names::Ticket;
+use craq_seat::Caller;
 use std::alloc::{AllocFailed, Global};
 use std::sync::Wait;
-
-/// What a caller is told: the receipt of its answered call, or why it was refused.
-pub(crate) type Reply = Result<CallReceipt, Refusal>;
 
 /// A reply, and where the caller waits for it.
 #[derive(Drop)]
 struct Told {
-    caller: Sender<Reply>,
+    caller: Addressee,
     reply: Reply,
 }
 
@@ -21,10 +18,10 @@ pub(crate) struct Replies {
     waiting: Vec<Told>,
 }
 
-/// Tells a caller its reply. One who no longer waits is not told.
+/// Tells a caller its reply.
 fn tell<R: Wait>(rt: &R, told: Told) {
     let Told { caller, reply } = told;
-    let _ = caller.send(rt, reply);
+    caller.tell(rt, reply);
 }
 
 impl Replies {
@@ -36,7 +33,7 @@ impl Replies {
     }
 
     /// A reply more. Where there is no room for it the caller is told at once.
-    pub(crate) fn add<R: Wait>(&mut self, rt: &R, caller: Sender<Reply>, reply: Reply) {
+    pub(crate) fn add<R: Wait>(&mut self, rt: &R, caller: Addressee, reply: Reply) {
         if let Err(refused) = self.waiting.push(Told { caller, reply }) {
             let AllocFailed { value } = refused;
             tell(rt, value);
@@ -53,9 +50,9 @@ impl Replies {
 
 /// The caller that waits under this ticket, who then waits no more.
 pub(crate) fn take_caller(
-    callers: &mut Vec<Caller<Sender<Reply>>>,
+    callers: &mut Vec<Caller<Addressee>>,
     ticket: Ticket,
-) -> Option<Sender<Reply>> {
+) -> Option<Addressee> {
     let place = callers.iter().position(|caller| caller.ticket == ticket)?;
     let Caller { ticket: _, at } = callers.swap_remove(place);
     Some(at)

@@ -2,18 +2,21 @@
 ghost use Rattle.std.specs.List.{AllByRecursion};
 ghost use Rattle.craq_model.specs.Spelled.{IsSpelled};
 
+use crate::carrying::carry_on;
 use crate::chain::Chain;
 use crate::gate::{Gate, Work};
-use crate::node::Node;
+use crate::node::{Brought, Node};
+use crate::outbox::Outbox;
 use crate::replies::Replies;
-use crate::steps::{Asked, take_ask};
-use bytes::Bytes;
-use craq_model::LinkMessage;
-use craq_names::{ChainId, NodeId, NodeName, Refusal};
+use crate::steps::{Asked, Served, node_messages, refuse_asked, take_own, take_queued};
+use craq_letters::{Addressee, Letterbox, Reply};
+use craq_model::{Ask, Body, LinkMessage};
+use craq_names::{ChainId, NodeName, Pass, Refusal};
 use craq_node::Core;
+use craq_seat::CallReceipt;
 use craq_wire::encode;
 use std::alloc::Global;
-use std::sync::Wait;
+use std::sync::{Arc, Wait};
 
 /// What the workers, the clients and the store itself share.
 #[derive(Drop)]
@@ -21,6 +24,22 @@ pub(crate) struct Shared<C: Core, G: Gate> {
     pub gate: G,
     /// By id.
     pub chains: Vec<Chain<C>>,
+}
+
+/// How a reply comes that is not in hand: where the caller's letters are, and its token.
+#[derive(Clone, Copy)]
+pub(crate) struct Return<'a> {
+    pub letters: &'a Arc<Letterbox>,
+    pub token: usize,
+}
+
+/// The reply in hand, or none where a letter will come.
+fn in_hand(reply: Option<Reply>) -> Result<Option<CallReceipt>, Refusal> {
+    match reply {
+        None => Ok(None),
+        Some(Ok(receipt)) => Ok(Some(receipt)),
+        Some(Err(refusal)) => Err(refusal),
+    }
 }
 
 impl<C: Core, G: Gate> Shared<C, G> {
@@ -39,52 +58,271 @@ impl<C: Core, G: Gate> Shared<C, G> {
         alloc: Global,
         from: &NodeName,
         messages: &[LinkMessage],
+        outbox: &mut Outbox,
     )
         requires { AllByRecursion IsSpelled messages.now }
     {
+        let Ok(chain) = self.chain(from.chain) else {
+            return;
+        };
         for message in messages {
-            self.send(rt, alloc, from, message);
+            self.send(rt, alloc, chain, from, message, outbox);
         }
     }
 
     /// Sends a message, or loses it.
-    fn send<R: Wait>(&self, rt: &R, alloc: Global, from: &NodeName, message: &LinkMessage)
+    fn send<R: Wait>(
+        &self,
+        rt: &R,
+        alloc: Global,
+        chain: &Chain<C>,
+        from: &NodeName,
+        message: &LinkMessage,
+        outbox: &mut Outbox,
+    )
         requires { IsSpelled message.now }
     {
         let to = NodeName {
             chain: from.chain,
             node: message.receiver,
         };
-        if self.gate.carries(*from, to) {
-            match encode(alloc, message) {
-                Ok(bytes) => self.bring(rt, from.chain, message.receiver, bytes),
-                Err(_) => (),
+        if !self.gate.carries(*from, to) {
+            return;
+        }
+        let Ok(bytes) = encode(alloc, message) else {
+            return;
+        };
+        match &message.body {
+            Body::Ack(_) => outbox.keep(rt, chain, message.receiver, Brought::Message(bytes)),
+            Body::Blank(_) => outbox.send(rt, chain, message.receiver, Brought::Blank(bytes)),
+            _ => outbox.send(rt, chain, message.receiver, Brought::Message(bytes)),
+        }
+    }
+
+    /// Sends what the last step of a node sends, whose lock is held: so messages go out in the order of the steps.
+    pub(crate) fn post_step<R: Wait>(
+        &self,
+        rt: &R,
+        alloc: Global,
+        node: &Node<C>,
+        seated: &Served<C>,
+        outbox: &mut Outbox,
+    ) {
+        let messages = node_messages(alloc, seated.desk.cell());
+        self.post(rt, alloc, &node.name, messages.as_slice(), outbox);
+    }
+
+    /// The last acknowledgement of a piece of work goes out.
+    pub(crate) fn close_outbox<R: Wait>(&self, rt: &R, chain: ChainId, outbox: Outbox) {
+        match self.chain(chain) {
+            Ok(chain) => outbox.close(rt, chain),
+            Err(_) => drop(outbox),
+        }
+    }
+
+    /// The step of a queued ask, under its node's lock. A node that is closed takes none, since nobody would answer it.
+    pub(crate) fn take_asked<R: Wait>(
+        &self,
+        rt: &R,
+        alloc: Global,
+        node: &Node<C>,
+        seated: &mut Served<C>,
+        asked: Asked,
+        replies: &mut Replies,
+        outbox: &mut Outbox,
+    ) {
+        if node.is_closed() {
+            refuse_asked(rt, asked, replies);
+        } else if take_queued(rt, alloc, seated, asked, replies) {
+            self.post_step(rt, alloc, node, seated, outbox);
+        }
+    }
+
+    /// A piece of a node's ask work: the step of one ask that was queued.
+    pub(crate) fn serve<R: Wait>(&self, rt: &R, alloc: Global, node: &Node<C>, asked: Asked) {
+        let count = node.next_piece();
+        self.gate.before(node.name, Work::Asks, count);
+        let mut replies = Replies::new(alloc);
+        let mut outbox = Outbox::new(false);
+        let mut seated = node.seat.lock(rt);
+        self.gate.within(node.name, Work::Asks, count);
+        self.take_asked(
+            rt,
+            alloc,
+            node,
+            &mut seated,
+            asked,
+            &mut replies,
+            &mut outbox,
+        );
+        self.close_outbox(rt, node.name.chain, outbox);
+        drop(seated);
+        replies.tell(rt);
+        self.gate.after(node.name, Work::Asks, count);
+    }
+
+    /// The step of an ask under its node's lock, taken by the caller.
+    fn take_here<R: Wait>(
+        &self,
+        rt: &R,
+        alloc: Global,
+        node: &Node<C>,
+        seated: &mut Served<C>,
+        ask: Ask,
+        pass: Pass,
+        back: Return<'_>,
+        replies: &mut Replies,
+        outbox: &mut Outbox,
+    ) -> Option<Reply> {
+        if node.is_closed() {
+            drop(ask);
+            return Some(Err(Refusal::Closed));
+        }
+        let (taken, reply) = take_own(
+            rt,
+            alloc,
+            seated,
+            ask,
+            pass,
+            back.letters,
+            back.token,
+            replies,
+        );
+        if taken {
+            self.post_step(rt, alloc, node, seated, outbox);
+        }
+        reply
+    }
+
+    /// A piece of a node's ask work that the caller takes itself: the step of its ask.
+    fn serve_here<R: Wait>(
+        &self,
+        rt: &R,
+        alloc: Global,
+        node: &Node<C>,
+        ask: Ask,
+        pass: Pass,
+        back: Return<'_>,
+        quiet: bool,
+    ) -> Option<Reply> {
+        let count = node.next_piece();
+        self.gate.before(node.name, Work::Asks, count);
+        let mut replies = Replies::new(alloc);
+        let mut outbox = Outbox::new(quiet);
+        let mut seated = node.seat.lock(rt);
+        self.gate.within(node.name, Work::Asks, count);
+        let reply = self.take_here(
+            rt,
+            alloc,
+            node,
+            &mut seated,
+            ask,
+            pass,
+            back,
+            &mut replies,
+            &mut outbox,
+        );
+        self.close_outbox(rt, node.name.chain, outbox);
+        drop(seated);
+        replies.tell(rt);
+        self.gate.after(node.name, Work::Asks, count);
+        reply
+    }
+
+    /// Asks a node: the receipt of the call, or none where a letter will come.
+    pub(crate) fn submit<R: Wait>(
+        &self,
+        rt: &R,
+        alloc: Global,
+        name: &NodeName,
+        ask: Ask,
+        pass: Pass,
+        back: Return<'_>,
+        few: bool,
+    ) -> Result<Option<CallReceipt>, Refusal> {
+        match self.chain(name.chain) {
+            Err(refusal) => {
+                drop(ask);
+                Err(refusal)
+            }
+            Ok(chain) => {
+                if self.gate.carried() {
+                    self.submit_carried(rt, alloc, chain, name, ask, pass, back, few)
+                } else if self.gate.in_place() {
+                    in_hand(self.serve_at(rt, alloc, chain, name, ask, pass, back, false))
+                } else {
+                    queue(rt, chain, name, ask, pass, back)
+                }
             }
         }
     }
 
-    /// An encoded message goes to a node, or is lost.
-    fn bring<R: Wait>(&self, rt: &R, chain: ChainId, node: NodeId, bytes: Bytes) {
-        match self.chain(chain) {
-            Ok(chain) => chain.bring(rt, node, bytes),
-            Err(_) => drop(bytes),
+    /// The same, where one thread carries the chain: callers take the steps of reads themselves, and of few updates while
+    /// that thread sleeps.
+    fn submit_carried<R: Wait>(
+        &self,
+        rt: &R,
+        alloc: Global,
+        chain: &Chain<C>,
+        name: &NodeName,
+        ask: Ask,
+        pass: Pass,
+        back: Return<'_>,
+        few: bool,
+    ) -> Result<Option<CallReceipt>, Refusal> {
+        let reads = matches!(&ask, Ask::Read { .. });
+        if reads {
+            in_hand(self.serve_at(rt, alloc, chain, name, ask, pass, back, false))
+        } else if few && chain.bell.is_idle() {
+            let reply = self.serve_at(rt, alloc, chain, name, ask, pass, back, true);
+            carry_on(rt, alloc, self, chain);
+            in_hand(reply)
+        } else {
+            let queued = queue(rt, chain, name, ask, pass, back);
+            chain.bell.ring();
+            queued
         }
     }
 
-    /// The step of one ask, taken by whoever has the node's ask turn. No two overlap at a node, and what they send
-    /// goes out in their order.
-    pub(crate) fn serve<R: Wait>(&self, rt: &R, alloc: Global, node: &Node<C>, asked: Asked) {
-        let mut turn = node.ask_turn.lock(rt);
-        let count = *turn;
-        self.gate.before(node.name, Work::Asks, count);
-        let mut replies = Replies::new(alloc);
-        let mut seated = node.seat.lock(rt);
-        self.gate.within(node.name, Work::Asks, count);
-        let messages = take_ask(rt, alloc, &mut seated, asked, &mut replies);
-        drop(seated);
-        self.post(rt, alloc, &node.name, messages.as_slice());
-        replies.tell(rt);
-        self.gate.after(node.name, Work::Asks, count);
-        *turn = count.wrapping_add(1);
+    /// The step of an ask that its caller takes itself, at the node of this name.
+    fn serve_at<R: Wait>(
+        &self,
+        rt: &R,
+        alloc: Global,
+        chain: &Chain<C>,
+        name: &NodeName,
+        ask: Ask,
+        pass: Pass,
+        back: Return<'_>,
+        quiet: bool,
+    ) -> Option<Reply> {
+        match chain.node(rt, name.node) {
+            Err(refusal) => {
+                drop(ask);
+                Some(Err(refusal))
+            }
+            Ok(node) => self.serve_here(rt, alloc, &node, ask, pass, back, quiet),
+        }
+    }
+}
+
+/// An ask is queued for its node: a letter will come.
+fn queue<R: Wait, C: Core>(
+    rt: &R,
+    chain: &Chain<C>,
+    name: &NodeName,
+    ask: Ask,
+    pass: Pass,
+    back: Return<'_>,
+) -> Result<Option<CallReceipt>, Refusal> {
+    match Addressee::expect(rt, back.letters, back.token) {
+        Err(_) => {
+            drop(ask);
+            Err(Refusal::Memory)
+        }
+        Ok(caller) => {
+            chain.enqueue(rt, name.node, Asked { ask, pass, caller })?;
+            Ok(None)
+        }
     }
 }

@@ -1,26 +1,31 @@
 //! `Store`, the primary object of the crate: it starts, stops, removes, joins and closes.
 ghost use Rattle.std.specs.Prelude.{◌≡◌, ◌≤◌, IfErr, IfOk, OnOk};
+ghost use Rattle.std.specs.List.{AllByRecursion};
+ghost use Rattle.craq_model.specs.Spelled.{IsSpelled};
 ghost use Rattle.craq_place.specs.Plan.{IsPlan};
 
-use crate::chain::Chain;
+use crate::chain::{Chain, refuse_queued};
 use crate::client::Client;
 use crate::gate::Gate;
-use crate::opening::{Opened, open_chains, open_node};
+use crate::node::Way;
+use crate::opening::{Form, add_workers, open_chains, open_node};
+use crate::outbox::Outbox;
 use crate::replies::Replies;
-use crate::shared::Shared;
-use crate::steps::book_messages;
+use crate::shared::{Return, Shared};
+use crate::steps::{book_messages, dismiss};
 use crate::work::{Worker, master_of, work};
 use craq_epochs::{MEMBER_LIMIT, is_among};
-use craq_model::{Config, Event};
+use craq_letters::Letterbox;
+use craq_model::{Ask, Config, Event, LinkMessage};
 use craq_names::{ChainId, Copied, NodeId, NodeName, Pass, Refusal, Stamp};
 use craq_node::Core;
 use craq_place::Plan;
-use craq_seat::{BookCell, BookEvent, Receipt};
+use craq_seat::{BookCell, BookEvent, CallReceipt, Receipt};
 use crossbeam_channel::{Receiver, Sender};
 use std::alloc::{AllocError, Global};
 use std::sync::{Arc, Wait};
+use std::thread;
 use std::thread::{JoinHandle, Threads};
-use std::{mem, thread};
 
 /// A chain's name and its present membership.
 #[derive(Debug, Drop)]
@@ -29,11 +34,11 @@ pub struct ChainStatus {
     pub config: Config,
 }
 
-/// A store that runs: two threads for each node, one for its asks and one for what arrives there, and one for each
-/// chain's master. Whoever has it has to close it.
+/// A store that runs: two threads for each node, one for its asks and one for what arrives there, or one for each chain
+/// where it is carried; and one for each chain's master. Whoever has it has to close it.
 pub struct Store<C: Core, G: Gate> {
     pub(crate) alloc: Global,
-    pub(crate) journal: bool,
+    form: Form,
     pub(crate) shared: Arc<Shared<C, G>>,
     /// Ends once no worker is left.
     ended: Receiver<()>,
@@ -86,7 +91,7 @@ fn test_join(book: &BookCell, node: NodeId) -> Result<(), Refusal>
 impl<C: Core, G: Gate> Store<C, G> {
     /// Whether the store keeps journals, so that it can be audited.
     pub fn has_journals(&self) -> bool {
-        self.journal
+        self.form.journal
     }
 
     /// A client with this pass. It fails for want of memory alone.
@@ -94,6 +99,27 @@ impl<C: Core, G: Gate> Store<C, G> {
         ensures { IfOk result (λ c. c ≡ pass) }
     {
         Ok(Client::new(self.alloc, Arc::try_clone(&self.shared)?, pass))
+    }
+
+    /// Asks a node, shows a pass, and does not wait: the receipt of the call, where its answer is in hand, or none: then just
+    /// one letter with this token comes into the box, with the receipt, or with `Stopped`, `Closed` or `Memory`. Nothing is
+    /// known of a receipt but that a desk made it (`craq_calls::answer_of_call` tells whether it is the call's own). `few`
+    /// tells that the caller has few asks at hand, and may take their steps itself and carry them on.
+    ///
+    /// Refused, and then no letter comes: as `Client::call` is.
+    pub fn submit<R: Wait>(
+        &self,
+        rt: &R,
+        node: NodeName,
+        ask: Ask,
+        pass: Pass,
+        letters: &Arc<Letterbox>,
+        token: usize,
+        few: bool,
+    ) -> Result<Option<CallReceipt>, Refusal> {
+        let back = Return { letters, token };
+        self.shared
+            .submit(rt, self.alloc, &node, ask, pass, back, few)
     }
 
     /// Each chain's master, and each node that runs, is to send again what others may lack.
@@ -129,13 +155,17 @@ impl<C: Core + Send + 'static, G: Gate + Send + Sync + 'static> Store<C, G> {
         requires { IsPlan plan.now }
         ensures { IfErr result (λ e. e ≡ Refusal.Memory) }
     {
+        let form = Form {
+            journal,
+            carried: gate.carried(),
+        };
         let (alive, ended) = crossbeam_channel::unbounded(alloc)?;
         let mut workers = Vec::new(alloc);
-        let chains = open_chains(alloc, plan, journal, &alive, &mut workers)?;
+        let chains = open_chains(alloc, plan, form, &alive, &mut workers)?;
         let shared = Arc::new(alloc, Shared { gate, chains })?;
         let store = Store {
             alloc,
-            journal,
+            form,
             shared,
             ended,
         };
@@ -173,7 +203,7 @@ impl<C: Core + Send + 'static, G: Gate + Send + Sync + 'static> Store<C, G> {
         let mut replies = Replies::new(self.alloc);
         let mut seated = node.seat.lock(rt);
         let (receipt, _) = seated.desk.take(self.alloc, Event::Stop, Pass::start())?;
-        let callers = mem::replace(&mut seated.callers, Vec::new(self.alloc));
+        let callers = dismiss(self.alloc, &mut seated);
         drop(seated);
         node.halt();
         for caller in callers {
@@ -207,9 +237,10 @@ impl<C: Core + Send + 'static, G: Gate + Send + Sync + 'static> Store<C, G> {
         let receipt = book.take(self.alloc, event, Pass::start())?;
         let messages = book_messages(self.alloc, &book);
         drop(book);
-        place.retire(rt, node);
-        self.shared
-            .post(rt, self.alloc, &master_of(chain), messages.as_slice());
+        place.retire(rt, node, self.form.journal);
+        place.bell.change();
+        refuse_queued(rt, &member, &Refusal::Stopped);
+        self.announce(rt, place, chain, messages.as_slice());
         Ok(receipt)
     }
 
@@ -229,14 +260,14 @@ impl<C: Core + Send + 'static, G: Gate + Send + Sync + 'static> Store<C, G> {
         test_join(&book, node)?;
         let name = NodeName { chain, node };
         let stamp = next(book.stamp())?;
-        let opened = open_node(self.alloc, &name, None, self.journal, stamp)?;
+        let way = open_node(self.alloc, &name, None, self.form.journal, stamp)?;
         let mut hired = Vec::with_capacity(self.alloc, 2)?;
-        match self.join_opened(rt, place, &mut book, opened, &mut hired) {
+        match self.join_opened(rt, place, &mut book, node, way, &mut hired) {
             Ok(receipt) => {
                 let messages = book_messages(self.alloc, &book);
                 drop(book);
-                self.shared
-                    .post(&rt, self.alloc, &master_of(chain), messages.as_slice());
+                place.bell.change();
+                self.announce(&rt, place, chain, messages.as_slice());
                 Ok(receipt)
             }
             Err(refusal) => {
@@ -248,37 +279,59 @@ impl<C: Core + Send + 'static, G: Gate + Send + Sync + 'static> Store<C, G> {
         }
     }
 
+    /// The two workers of a node begin.
+    fn hire_two<R: Threads + Wait + Copy + Send + 'static>(
+        &self,
+        rt: R,
+        place: &Chain<C>,
+        way: &Way<C>,
+        hired: &mut Vec<JoinHandle<()>>,
+    ) -> Result<(), Refusal> {
+        let mut workers = Vec::new(self.alloc);
+        add_workers(way, &mut workers)?;
+        for worker in workers {
+            hired.reserve(1)?;
+            hired.push(hire(rt, self.alloc, &self.shared, worker, place.alive(&rt)?)?)?;
+        }
+        Ok(())
+    }
+
     /// The workers of a node begin, and then it joins. Where that is refused its ways are gone, so its workers end.
     fn join_opened<R: Threads + Wait + Copy + Send + 'static>(
         &self,
         rt: R,
         place: &Chain<C>,
         book: &mut BookCell,
-        opened: Opened<C>,
+        id: NodeId,
+        way: Way<C>,
         hired: &mut Vec<JoinHandle<()>>,
     ) -> Result<Receipt, Refusal> {
-        let Opened { way, asks, links } = opened;
-        let id = way.node.name.node;
-        hired.reserve(2)?;
-        let worker = Worker::Asks(Arc::try_clone(&way.node)?, asks);
-        hired.push(hire(rt, self.alloc, &self.shared, worker, place.alive(&rt)?)?)?;
-        let worker = Worker::Links(Arc::try_clone(&way.node)?, links);
-        hired.push(hire(rt, self.alloc, &self.shared, worker, place.alive(&rt)?)?)?;
+        if !self.form.carried {
+            self.hire_two(rt, place, &way, hired)?;
+        }
         let mut ways = place.ways.write(&rt);
-        let Some(ways) = ways.as_mut() else {
-            return Err(Refusal::Closed);
-        };
+        let _ = ways.open()?;
         ways.nodes.reserve(1)?;
         let receipt = book.take(self.alloc, BookEvent::Join(id), Pass::start())?;
         ways.nodes.push(way)?;
         Ok(receipt)
     }
 
+    /// The master's messages go out.
+    fn announce<R: Wait>(&self, rt: &R, place: &Chain<C>, chain: ChainId, messages: &[LinkMessage])
+        requires { AllByRecursion IsSpelled messages.now }
+    {
+        let mut outbox = Outbox::new(false);
+        self.shared
+            .post(rt, self.alloc, &master_of(chain), messages, &mut outbox);
+        outbox.close(rt, place);
+    }
+
     /// Ends the workers. Callers that still wait are told `Closed`, and so is who calls afterwards.
     pub fn close<R: Wait>(self, rt: &R) {
         let Store {
-            alloc: _,
-            journal: _,
+            alloc,
+            form: _,
             shared,
             ended,
         } = self;
@@ -286,6 +339,9 @@ impl<C: Core + Send + 'static, G: Gate + Send + Sync + 'static> Store<C, G> {
             chain.close(rt);
         }
         let _ = ended.recv(rt);
+        for chain in shared.chains.as_slice() {
+            chain.sweep(rt, alloc);
+        }
         drop(shared);
     }
 }

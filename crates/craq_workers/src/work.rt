@@ -3,12 +3,15 @@ ghost use Rattle.std.specs.List.{AllByRecursion};
 ghost use Rattle.craq_model.specs.Spelled.{IsSpelled};
 ghost use Rattle.craq_node.specs.Represented.{CanArrive};
 
+use crate::carrying::carry;
 use crate::chain::Chain;
 use crate::gate::{Gate, Work};
 use crate::node::{Brought, Node};
+use crate::outbox::Outbox;
 use crate::replies::Replies;
 use crate::shared::Shared;
-use crate::steps::{Asked, book_messages, take_event};
+use crate::steps::{Served, book_messages, take_event};
+use bytes::Bytes;
 use craq_model::{Event, LinkMessage};
 use craq_names::{ChainId, NodeId, NodeName, Pass};
 use craq_node::Core;
@@ -22,14 +25,16 @@ use std::sync::{Arc, Wait};
 #[derive(Drop)]
 pub(crate) enum Worker<C: Core> {
     /// Takes the asks of a node.
-    Asks(Arc<Node<C>>, Receiver<Asked>),
+    Asks(Arc<Node<C>>),
     /// Takes what arrives at a node, and its ticks.
-    Links(Arc<Node<C>>, Receiver<Brought>),
+    Links(Arc<Node<C>>),
+    /// Takes what waits at the nodes of a chain, in turns.
+    Carrier(ChainId),
     /// Takes the ticks of a chain's master.
     Master(ChainId, Receiver<()>),
 }
 
-/// Works until no sender is left. The sign of life is the last thing that is let go.
+/// Works until no sender is left. Its sender `alive` is dropped last: `close` waits for it.
 pub(crate) fn work<R: Wait, C: Core, G: Gate>(
     rt: &R,
     alloc: Global,
@@ -38,8 +43,9 @@ pub(crate) fn work<R: Wait, C: Core, G: Gate>(
     alive: Sender<()>,
 ) {
     match worker {
-        Worker::Asks(node, asks) => take_asks(rt, alloc, &shared, &node, &asks),
-        Worker::Links(node, links) => take_links(rt, alloc, &shared, &node, &links),
+        Worker::Asks(node) => take_asks(rt, alloc, &shared, &node),
+        Worker::Links(node) => take_links(rt, alloc, &shared, &node),
+        Worker::Carrier(chain) => carry(rt, alloc, &shared, chain),
         Worker::Master(chain, ticks) => take_ticks(rt, alloc, &shared, chain, &ticks),
     }
     drop(shared);
@@ -51,10 +57,9 @@ fn take_asks<R: Wait, C: Core, G: Gate>(
     alloc: Global,
     shared: &Shared<C, G>,
     node: &Node<C>,
-    asks: &Receiver<Asked>,
 ) {
     for _ in rt.forever() {
-        let Ok(asked) = asks.recv(rt) else {
+        let Ok(asked) = node.queues.asks.recv(rt) else {
             break;
         };
         shared.serve(rt, alloc, node, asked);
@@ -66,11 +71,10 @@ fn take_links<R: Wait, C: Core, G: Gate>(
     alloc: Global,
     shared: &Shared<C, G>,
     node: &Node<C>,
-    links: &Receiver<Brought>,
 ) {
     let mut count = 0u64;
     for _ in rt.forever() {
-        let Ok(brought) = links.recv(rt) else {
+        let Ok(brought) = node.queues.links.recv(rt) else {
             break;
         };
         shared.gate.before(node.name, Work::Deliveries, count);
@@ -80,7 +84,7 @@ fn take_links<R: Wait, C: Core, G: Gate>(
     }
 }
 
-/// One step of a node on a message or a tick. Bytes that no memory is left to decode are a lost message.
+/// One step of a node on a message or a tick.
 fn deliver<R: Wait, C: Core, G: Gate>(
     rt: &R,
     alloc: Global,
@@ -90,36 +94,92 @@ fn deliver<R: Wait, C: Core, G: Gate>(
     count: u64,
 ) {
     let mut replies = Replies::new(alloc);
-    let messages = match brought {
-        Brought::Tick => step(rt, alloc, shared, node, Event::Tick, count, &mut replies),
-        Brought::Message(bytes) => match decode(alloc, bytes.as_slice()) {
-            Ok(message) => {
-                let event = Event::Deliver(message);
-                step(rt, alloc, shared, node, event, count, &mut replies)
-            }
-            Err(_) => Vec::new(alloc),
-        },
-    };
-    shared.post(rt, alloc, &node.name, messages.as_slice());
+    let mut outbox = Outbox::new(false);
+    let mut seated = node.seat.lock(rt);
+    shared.gate.within(node.name, Work::Deliveries, count);
+    take_brought(
+        rt,
+        alloc,
+        shared,
+        node,
+        &mut seated,
+        brought,
+        &mut replies,
+        &mut outbox,
+    );
+    shared.close_outbox(rt, node.name.chain, outbox);
+    drop(seated);
     replies.tell(rt);
 }
 
-/// One step of a node under its lock, and the messages that it sends.
+/// The step of a node on what was brought, under its lock. Bytes that no memory is left to decode are a lost message.
+pub(crate) fn take_brought<R: Wait, C: Core, G: Gate>(
+    rt: &R,
+    alloc: Global,
+    shared: &Shared<C, G>,
+    node: &Node<C>,
+    seated: &mut Served<C>,
+    brought: Brought,
+    replies: &mut Replies,
+    outbox: &mut Outbox,
+) {
+    match brought {
+        Brought::Tick => {
+            node.tick_taken();
+            step(
+                rt,
+                alloc,
+                shared,
+                node,
+                seated,
+                Event::Tick,
+                replies,
+                outbox,
+            );
+        }
+        Brought::Message(bytes) => {
+            hear(rt, alloc, shared, node, seated, bytes, replies, outbox);
+        }
+        Brought::Blank(bytes) => {
+            hear(rt, alloc, shared, node, seated, bytes, replies, outbox);
+            node.blank_taken();
+        }
+    }
+}
+
+/// The step of a node on a message.
+fn hear<R: Wait, C: Core, G: Gate>(
+    rt: &R,
+    alloc: Global,
+    shared: &Shared<C, G>,
+    node: &Node<C>,
+    seated: &mut Served<C>,
+    bytes: Bytes,
+    replies: &mut Replies,
+    outbox: &mut Outbox,
+) {
+    if let Ok(message) = decode(alloc, bytes.as_slice()) {
+        let event = Event::Deliver(message);
+        step(rt, alloc, shared, node, seated, event, replies, outbox);
+    }
+}
+
+/// One step of a node under its lock, and what it sends.
 fn step<R: Wait, C: Core, G: Gate>(
     rt: &R,
     alloc: Global,
     shared: &Shared<C, G>,
     node: &Node<C>,
+    seated: &mut Served<C>,
     event: Event,
-    count: u64,
     replies: &mut Replies,
-) -> Vec<LinkMessage>
+    outbox: &mut Outbox,
+)
     requires { CanArrive event }
-    ensures { AllByRecursion IsSpelled result.items }
 {
-    let mut seated = node.seat.lock(rt);
-    shared.gate.within(node.name, Work::Deliveries, count);
-    take_event(rt, alloc, &mut seated, event, replies)
+    if take_event(rt, alloc, seated, event, replies) {
+        shared.post_step(rt, alloc, node, seated, outbox);
+    }
 }
 
 fn take_ticks<R: Wait, C: Core, G: Gate>(
@@ -153,11 +213,13 @@ fn announce<R: Wait, C: Core, G: Gate>(
     };
     shared.gate.before(*name, Work::Deliveries, count);
     let messages = tick(rt, alloc, shared, chain, name, count);
-    shared.post(rt, alloc, name, messages.as_slice());
+    let mut outbox = Outbox::new(false);
+    shared.post(rt, alloc, name, messages.as_slice(), &mut outbox);
+    outbox.close(rt, chain);
     shared.gate.after(*name, Work::Deliveries, count);
 }
 
-/// A tick of a master under its lock, and the messages that it sends.
+/// A tick of a master under its lock, and what it sends.
 fn tick<R: Wait, C: Core, G: Gate>(
     rt: &R,
     alloc: Global,

@@ -1,0 +1,35 @@
+//! `Addressee`: the right to put one letter into a box, in which there is room for it.
+use crate::letterbox::Letterbox;
+use crate::pile::Reply;
+use std::alloc::AllocError;
+use std::sync::{Arc, Wait};
+
+/// Where the reply to one ask goes, and under which token. Whoever has it has to tell it a reply, or its owner waits for good.
+#[derive(Drop)]
+pub struct Addressee {
+    letters: Arc<Letterbox>,
+    token: usize,
+}
+
+impl Addressee {
+    /// The addressee of this token, for whose letter there is room from now on. It fails for want of memory alone.
+    pub fn expect<R: Wait>(
+        rt: &R,
+        letters: &Arc<Letterbox>,
+        token: usize,
+    ) -> Result<Self, AllocError> {
+        let letters = Arc::try_clone(letters)?;
+        letters.expect(rt)?;
+        Ok(Addressee { letters, token })
+    }
+
+    /// The reply goes into the box. It takes no memory.
+    pub fn tell<R: Wait>(self, rt: &R, reply: Reply) {
+        self.letters.put(rt, self.token, reply);
+    }
+
+    /// No letter will come: the reply was given in hand. It takes no memory.
+    pub fn forgo<R: Wait>(self, rt: &R) {
+        self.letters.forgo(rt);
+    }
+}

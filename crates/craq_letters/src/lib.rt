@@ -1,0 +1,12 @@
+//! Replies on their way to those who wait for them: a box of letters, into which any thread puts, and its one owner, who
+//! looks into it between other work or sleeps until a letter comes.
+//! Code that runs in the programs.
+#![tactic(auto)]
+
+mod addressee;
+mod letterbox;
+mod pile;
+
+pub use addressee::Addressee;
+pub use letterbox::Letterbox;
+pub use pile::{Letter, Reply};

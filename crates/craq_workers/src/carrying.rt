@@ -1,0 +1,212 @@
+//! Steps of a chain that one thread carries: turns of its nodes, from the head to the tail and back.
+use crate::chain::Chain;
+use crate::gate::{Gate, Work};
+use crate::node::Node;
+use crate::outbox::Outbox;
+use crate::replies::Replies;
+use crate::shared::Shared;
+use crate::steps::Served;
+use crate::work::take_brought;
+use craq_names::{ChainId, Refusal};
+use craq_node::Core;
+use std::alloc::Global;
+use std::sync::{Arc, MutexGuard, Wait};
+
+/// The most messages, and the most asks, of one turn of a node.
+const BATCH: u32 = 16;
+
+/// The most rounds that a caller carries its own step on.
+const ROUNDS: u32 = 3;
+
+/// Takes what waits at a node, under its lock: messages first, then asks.
+fn take_waiting<R: Wait, C: Core, G: Gate>(
+    rt: &R,
+    alloc: Global,
+    shared: &Shared<C, G>,
+    node: &Node<C>,
+    seated: &mut Served<C>,
+    replies: &mut Replies,
+    outbox: &mut Outbox,
+) {
+    for _ in 0..BATCH {
+        let Ok(brought) = node.queues.links.try_recv(rt) else {
+            break;
+        };
+        take_brought(rt, alloc, shared, node, seated, brought, replies, outbox);
+    }
+    for _ in 0..BATCH {
+        let Ok(asked) = node.queues.asks.try_recv(rt) else {
+            break;
+        };
+        shared.take_asked(rt, alloc, node, seated, asked, replies, outbox);
+    }
+}
+
+/// A turn of a node whose lock is held, and is let go.
+fn turn<R: Wait, C: Core, G: Gate>(
+    rt: &R,
+    alloc: Global,
+    shared: &Shared<C, G>,
+    node: &Node<C>,
+    mut seated: MutexGuard<'_, Served<C>>,
+    count: u64,
+    quiet: bool,
+) {
+    let mut replies = Replies::new(alloc);
+    let mut outbox = Outbox::new(quiet);
+    shared.gate.within(node.name, Work::Asks, count);
+    take_waiting(
+        rt,
+        alloc,
+        shared,
+        node,
+        &mut seated,
+        &mut replies,
+        &mut outbox,
+    );
+    shared.close_outbox(rt, node.name.chain, outbox);
+    drop(seated);
+    replies.tell(rt);
+}
+
+/// A turn of a node, if anything waits there. Whether there was.
+fn visit<R: Wait, C: Core, G: Gate>(
+    rt: &R,
+    alloc: Global,
+    shared: &Shared<C, G>,
+    node: &Node<C>,
+) -> bool {
+    if !node.has_work() {
+        return false;
+    }
+    let count = node.next_piece();
+    shared.gate.before(node.name, Work::Asks, count);
+    let seated = node.seat.lock(rt);
+    turn(rt, alloc, shared, node, seated, count, true);
+    shared.gate.after(node.name, Work::Asks, count);
+    true
+}
+
+/// A turn of each node from the head to the tail, and back. Whether anything waited.
+fn visit_all<R: Wait, C: Core, G: Gate>(
+    rt: &R,
+    alloc: Global,
+    shared: &Shared<C, G>,
+    nodes: &[Arc<Node<C>>],
+) -> bool {
+    let mut found = false;
+    for node in nodes {
+        if visit(rt, alloc, shared, node) {
+            found = true;
+        }
+    }
+    for node in nodes.iter().rev() {
+        if visit(rt, alloc, shared, node) {
+            found = true;
+        }
+    }
+    found
+}
+
+/// Carries a chain until its store is closed: turns of its nodes as long as anything waits, then sleep.
+pub(crate) fn carry<R: Wait, C: Core, G: Gate>(
+    rt: &R,
+    alloc: Global,
+    shared: &Shared<C, G>,
+    id: ChainId,
+) {
+    let Ok(chain) = shared.chain(id) else {
+        return;
+    };
+    for _ in rt.forever() {
+        let changes = chain.bell.changes();
+        match chain.nodes(rt, alloc) {
+            Ok(nodes) => carry_nodes(rt, alloc, shared, chain, nodes.as_slice(), changes),
+            Err(Refusal::Closed) => break,
+            Err(_) => (),
+        }
+    }
+}
+
+/// Carries these nodes until the chain has others.
+fn carry_nodes<R: Wait, C: Core, G: Gate>(
+    rt: &R,
+    alloc: Global,
+    shared: &Shared<C, G>,
+    chain: &Chain<C>,
+    nodes: &[Arc<Node<C>>],
+    changes: u64,
+) {
+    for _ in rt.forever() {
+        if chain.bell.changes() != changes {
+            break;
+        }
+        if visit_all(rt, alloc, shared, nodes) {
+            continue;
+        }
+        chain.bell.doze();
+        if nodes.iter().any(|node| node.has_work()) {
+            chain.bell.rouse();
+        } else {
+            chain.bell.sleep(rt);
+        }
+    }
+}
+
+/// A turn of a node that no other thread has, if anything waits there. Whether anything may still wait.
+fn try_visit<R: Wait, C: Core, G: Gate>(
+    rt: &R,
+    alloc: Global,
+    shared: &Shared<C, G>,
+    node: &Node<C>,
+) -> bool {
+    if !node.has_work() {
+        return false;
+    }
+    let count = node.next_piece();
+    shared.gate.before(node.name, Work::Asks, count);
+    if let Some(seated) = node.seat.try_lock() {
+        turn(rt, alloc, shared, node, seated, count, true);
+    }
+    shared.gate.after(node.name, Work::Asks, count);
+    true
+}
+
+/// A round of turns from the head to the tail, and back. Whether anything may still wait.
+fn try_round<R: Wait, C: Core, G: Gate>(
+    rt: &R,
+    alloc: Global,
+    shared: &Shared<C, G>,
+    nodes: &[Arc<Node<C>>],
+) -> bool {
+    let mut found = false;
+    for node in nodes {
+        if try_visit(rt, alloc, shared, node) {
+            found = true;
+        }
+    }
+    for node in nodes.iter().rev() {
+        if try_visit(rt, alloc, shared, node) {
+            found = true;
+        }
+    }
+    found
+}
+
+/// A caller carries what its step sent on to the other nodes, for a few rounds. What still waits then is left to the thread
+/// that carries the chain.
+pub(crate) fn carry_on<R: Wait, C: Core, G: Gate>(
+    rt: &R,
+    alloc: Global,
+    shared: &Shared<C, G>,
+    chain: &Chain<C>,
+) {
+    if let Ok(nodes) = chain.nodes(rt, alloc) {
+        for _ in 0..ROUNDS {
+            if !try_round(rt, alloc, shared, nodes.as_slice()) {
+                return;
+            }
+        }
+    }
+    chain.bell.ring();
+}

@@ -5,8 +5,10 @@
 
 mod calls;
 mod door;
+mod question;
 mod telling;
 
 pub use calls::DoorCalls;
 pub use door::{CallDoor, Callee};
+pub use question::{Begun, Question, begin_turn, end_turn};
 pub use telling::told;

@@ -1,6 +1,9 @@
+pub mod Answering
 pub mod Asks
 pub mod Exchanges
 pub mod Known
 pub mod Lengths
+pub mod Nexts
 pub mod Sessions
+pub mod Talks
 pub mod Turning

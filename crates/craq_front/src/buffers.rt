@@ -11,7 +11,7 @@ use std::alloc::Global;
 const MOST_AT_ONCE: usize = 8_192;
 
 /// So many bytes of replies are written before more of them are made.
-const MOST_DUE: usize = 65_536;
+pub(crate) const MOST_DUE: usize = 65_536;
 
 /// The two ends of a connection's bytes.
 #[derive(Drop)]

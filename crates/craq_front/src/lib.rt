@@ -3,15 +3,18 @@
 #![tactic(auto)]
 
 mod buffers;
+mod conversation;
 mod door;
 mod exchanging;
 mod laws;
 mod replying;
 mod serving;
+mod several;
 mod stream;
 
+pub use conversation::{Conversation, Step};
 pub use door::{Door, MOST_OF_A_REPLY, is_allowed};
 pub use exchanging::exchange;
-pub use laws::allowed_replies_are_short;
+pub use laws::{allowed_replies_are_short, conversations_answer};
 pub use serving::serve;
 pub use stream::{Counted, Failed, Sink, Source, Stream};

@@ -1,18 +1,15 @@
-//! The payload of the reply to a payload; called by `serving`.
-ghost use Rattle.std.specs.Prelude.{◌≡◌, ◌≤◌, ℕ, List, ◌++◌, length, IfOk, IfErr, OnErr};
+//! The frames of replies, made due; called by `conversation`.
+ghost use Rattle.std.specs.Prelude.{◌≡◌, ◌≤◌, ℕ, List, ◌++◌, length, IfOk, IfErr, OnOk, OnErr};
 ghost use Rattle.std.specs.List.{AllByRecursion};
-ghost use Rattle.craq_frames.specs.declared.ask.ClientMessage.{ClientMessage};
-ghost use Rattle.craq_frames.specs.declared.answer.ClientReply.{ClientReply};
-ghost use Rattle.craq_frames.specs.Frame.{payload_limit};
+ghost use Rattle.craq_frames.specs.Frame.{frame, payload_limit};
 ghost use Rattle.craq_frames.specs.Payload.{NamesNode};
 ghost use Rattle.craq_frames.specs.Versions.{IsAnswered, SpellsAnswered};
 ghost use Rattle.craq_front.specs.Door.{IsAllowed};
-ghost use Rattle.craq_front.specs.Serving.{Turns, Replies, Begins, refused, told};
+ghost use Rattle.craq_front.specs.Serving.{refused, told};
 
-use crate::Door;
-use bytes::Bytes;
-use craq_frames::{Answered, ClientMessage, ClientReply, Payload, PayloadVersion};
-use craq_names::{Items, Refusal};
+use bytes::{Bytes, BytesMut};
+use craq_frames::{Answered, ClientReply, PayloadVersion, write_frame};
+use craq_names::Refusal;
 use std::alloc::{AllocError, Global};
 
 /// The payload of replies that a door may give. It fails for want of memory alone.
@@ -27,63 +24,37 @@ fn spell(alloc: Global, answered: Answered) -> Result<Bytes, AllocError>
     Ok(reply)
 }
 
-/// The payload of a refusal, of version 1. It fails for want of memory alone.
-pub(crate) fn refusal(alloc: Global, why: Refusal) -> Result<Bytes, AllocError>
+/// Makes the frame of the replies to a payload due, replies that a door may give. `Memory` where a growth was refused, and
+/// then nothing more is due.
+pub(crate) fn make_due(
+    alloc: Global,
+    output: &mut BytesMut,
+    answered: Answered,
+) -> Result<(), Refusal>
+    requires rules { IsAnswered answered }
+    requires allowed { AllByRecursion IsAllowed (told answered) }
+    ensures ok { OnOk result ((reply : List ℕ) × (output.new.items ≡ output.old.items ++ frame reply)
+        × SpellsAnswered answered reply) }
+    ensures err { IfErr result (λ e. e ≡ Refusal.Memory) }
+    ensures same { OnErr result (output.new.items ≡ output.old.items) }
+{
+    let Ok(reply) = spell(alloc, answered) else {
+        return Err(Refusal::Memory);
+    };
+    match write_frame(output, reply) {
+        Ok(()) => Ok(()),
+        Err(_) => Err(Refusal::Memory),
+    }
+}
+
+/// Makes the frame of a refusal due, of version 1. `Memory` where a growth was refused, and then nothing more is due.
+pub(crate) fn refuse(alloc: Global, output: &mut BytesMut, why: Refusal) -> Result<(), Refusal>
     requires { NamesNode why }
-    ensures spelled { IfOk result (λ reply. SpellsAnswered (refused why) reply) }
-    ensures few { IfOk result (λ reply. length reply ≤ payload_limit) }
+    ensures ok { OnOk result ((reply : List ℕ) × (output.new.items ≡ output.old.items ++ frame reply)
+        × SpellsAnswered (refused why) reply) }
+    ensures err { IfErr result (λ e. e ≡ Refusal.Memory) }
+    ensures same { OnErr result (output.new.items ≡ output.old.items) }
 {
-    spell(
-        alloc,
-        Answered::One(PayloadVersion::First, ClientReply::Refused(why)),
-    )
-}
-
-/// Asks the door each of the messages, in order.
-fn ask_each<D: Door>(
-    alloc: Global,
-    door: &mut D,
-    messages: Items<ClientMessage>,
-) -> Result<Items<ClientReply>, AllocError>
-    ensures ok { IfOk result (λ rs. Turns D.turn door.old messages rs door.new × AllByRecursion IsAllowed rs) }
-    ensures err { OnErr result ((ms : List ClientMessage) × (more : List ClientMessage) × (rs : List ClientReply)
-        × (messages ≡ ms ++ more) × Turns D.turn door.old ms rs door.new) }
-{
-    let mut waiting = messages.into_vec();
-    let mut replies = Items::new(alloc);
-    while !waiting.is_empty() {
-        let message = waiting.remove(0);
-        let reply = door.ask(message);
-        replies.push(reply)?;
-    }
-    Ok(replies)
-}
-
-/// The reply to a payload: what the door answers to each of its messages, or `BadFrame`. It fails for want of memory
-/// alone, and the door may then have been asked some first messages of the payload.
-pub(crate) fn reply_to<D: Door>(
-    alloc: Global,
-    door: &mut D,
-    payload: &[u8],
-) -> Result<Bytes, AllocError>
-    ensures ok { IfOk result (λ reply. Replies D.turn door.old payload.now reply door.new × (length reply ≤ payload_limit)) }
-    ensures err { OnErr result (Begins D.turn door.old payload.now door.new) }
-{
-    match Payload::decode(alloc, payload) {
-        Ok(Payload::One(version, message)) => {
-            let reply = door.ask(message);
-            let reply = spell(alloc, Answered::One(version, reply))?;
-            Ok(reply)
-        }
-        Ok(Payload::Many(messages)) => {
-            let replies = ask_each(alloc, door, messages)?;
-            let reply = spell(alloc, Answered::Many(replies))?;
-            Ok(reply)
-        }
-        Err(Refusal::BadFrame) => {
-            let reply = refusal(alloc, Refusal::BadFrame)?;
-            Ok(reply)
-        }
-        Err(_) => Err(AllocError),
-    }
+    let refusal = Answered::One(PayloadVersion::First, ClientReply::Refused(why));
+    make_due(alloc, output, refusal)
 }

@@ -1,67 +1,60 @@
 //! `serve`: the replies to all that a connection brings, in order; the server's loop for one client.
-ghost use Rattle.std.specs.Prelude.{◌≡◌, ◌≢◌, ◌+◌, ◌-◌, ◌^◌, ◌<◌, ℕ, List, [], ◌++◌, false, Ok, Err, IfOk, OnOk, OnErr};
+ghost use Rattle.std.specs.Prelude.{◌≡◌, ◌≢◌, ◌+◌, ◌-◌, ◌^◌, ◌<◌, ℕ, List, None, [], ◌++◌, false, Ok, Err, IfOk, IfErr, OnOk, OnErr};
 ghost use Rattle.std.specs.Io.KnownBytes.{Appends, Consumes, IsAtEnd};
 ghost use Rattle.craq_frames.specs.Frame.{frame};
-ghost use Rattle.craq_frames.specs.Versions.{SpellsAnswered};
-ghost use Rattle.craq_front.specs.Serving.{Replies, Begins, refused, Fault, read_faults, write_faults, Session, Next, Batch};
+ghost use Rattle.craq_front.specs.Serving.{Replies, Begins, Fault, read_faults, write_faults, Session, Next, Batch};
+ghost use Rattle.craq_front.specs.Steps.{IsFirst};
 
-use crate::buffers::Buffers;
-use crate::replying::{refusal, reply_to};
-use crate::{Door, Sink, Source};
-use bytes::BytesMut;
-use craq_frames::{cut_off_frame, write_frame};
+use crate::{Conversation, Door, Sink, Source, Step};
+use craq_frames::ClientMessage;
 use craq_names::Refusal;
 use std::alloc::Global;
 
-/// Makes the frame of the reply to a payload due. `Memory` where a growth was refused, and then nothing more is due.
+/// Asks the door the first message of a payload and those behind it, until the frame of their replies is due. `Memory` where
+/// a growth was refused, and then nothing more is due.
 fn answer_payload<D: Door>(
     alloc: Global,
-    output: &mut BytesMut,
+    talk: &mut Conversation,
     door: &mut D,
-    payload: &[u8],
+    first: ClientMessage,
 ) -> Result<(), Refusal>
-    ensures ok { OnOk result ((reply : List ℕ) × (output.new.items ≡ output.old.items ++ frame reply)
-        × Replies D.turn door.old payload.now reply door.new) }
-    ensures err { OnErr result ((output.new.items ≡ output.old.items) × Begins D.turn door.old payload.now door.new) }
+    ensures ok { OnOk result ((payload : List ℕ) → IsFirst talk.old.asking first payload
+        → (reply : List ℕ) × (talk.new.buffers.output.items ≡ talk.old.buffers.output.items ++ frame reply)
+        × Replies D.turn door.old payload reply door.new) }
+    ensures err { IfErr result (λ e. e ≡ Refusal.Memory) }
+    ensures begun { OnErr result ((payload : List ℕ) → IsFirst talk.old.asking first payload
+        → (talk.new.buffers.output.items ≡ talk.old.buffers.output.items) × Begins D.turn door.old payload door.new) }
+    ensures idle { OnOk result (talk.new.asking ≡ None) }
+    ensures input { talk.new.buffers.input.items ≡ talk.old.buffers.input.items }
 {
-    let Ok(reply) = reply_to(alloc, door, payload) else {
-        return Err(Refusal::Memory);
-    };
-    write_frame(output, reply)
+    let mut asked = Some(first);
+    while let Some(message) = asked {
+        let reply = door.ask(message);
+        asked = talk.reply(alloc, reply)?;
+    }
+    Ok(())
 }
 
-/// Makes the frame of the refusal of a length due. `Memory` where a growth was refused, and then nothing more is due.
-fn refuse_length(alloc: Global, output: &mut BytesMut) -> Result<(), Refusal>
-    ensures ok { OnOk result ((reply : List ℕ) × (output.new.items ≡ output.old.items ++ frame reply)
-        × SpellsAnswered (refused Refusal.FrameTooLong) reply) }
-    ensures err { OnErr result (output.new.items ≡ output.old.items) }
+/// Makes the frame of the reply to the next payload due; false where there is less than a frame. A length above the limit is
+/// answered `FrameTooLong`, and that refusal's frame is due. `Memory` where a growth was refused, and then nothing more
+/// is due.
+fn answer_next<D: Door>(
+    alloc: Global,
+    talk: &mut Conversation,
+    door: &mut D,
+) -> Result<bool, Refusal>
+    requires { talk.old.asking ≡ None }
+    ensures next { (due : List ℕ) × (talk.new.buffers.output.items ≡ talk.old.buffers.output.items ++ due)
+        × Next D.turn door.old talk.old.buffers.input.items talk.new.buffers.input.items due door.new result }
+    ensures idle { OnOk result (talk.new.asking ≡ None) }
 {
-    let Ok(last) = refusal(alloc, Refusal::FrameTooLong) else {
-        return Err(Refusal::Memory);
-    };
-    write_frame(output, last)
-}
-
-/// Cuts off the next frame and makes the frame of its reply due; false where there is less than a frame. A length above
-/// the limit is answered `FrameTooLong`, and that refusal's frame is due. `Memory` where a growth was refused, and
-/// then nothing more is due.
-fn answer_next<D: Door>(alloc: Global, buffers: &mut Buffers, door: &mut D) -> Result<bool, Refusal>
-    ensures { (due : List ℕ) × (buffers.new.output.items ≡ buffers.old.output.items ++ due)
-        × Next D.turn door.old buffers.old.input.items buffers.new.input.items due door.new result }
-{
-    match cut_off_frame(&mut buffers.input) {
-        Ok(Some(payload)) => {
-            match answer_payload(alloc, &mut buffers.output, door, payload.as_slice()) {
-                Ok(()) => Ok(true),
-                Err(_) => Err(Refusal::Memory),
-            }
+    match talk.next(alloc)? {
+        Step::Ask(message) => {
+            answer_payload(alloc, talk, door, message)?;
+            Ok(true)
         }
-        Ok(None) => Ok(false),
-        Err(Refusal::FrameTooLong) => match refuse_length(alloc, &mut buffers.output) {
-            Ok(()) => Err(Refusal::FrameTooLong),
-            Err(_) => Err(Refusal::Memory),
-        },
-        Err(_) => Err(Refusal::Memory),
+        Step::Refused => Ok(true),
+        Step::Nothing => Ok(false),
     }
 }
 
@@ -69,21 +62,23 @@ fn answer_next<D: Door>(alloc: Global, buffers: &mut Buffers, door: &mut D) -> R
 /// `Exhausted` once the count is 2^64 - 1. Where nothing was due, many bytes are due only after a frame was answered.
 fn answer_batch<D: Door>(
     alloc: Global,
-    buffers: &mut Buffers,
+    talk: &mut Conversation,
     door: &mut D,
     frames: &mut u64,
 ) -> Result<bool, Refusal>
-    ensures batch { (due : List ℕ) × (n : ℕ) × (buffers.new.output.items ≡ buffers.old.output.items ++ due)
+    requires { talk.old.asking ≡ None }
+    ensures batch { (due : List ℕ) × (n : ℕ) × (talk.new.buffers.output.items ≡ talk.old.buffers.output.items ++ due)
         × (frames.new ≡ frames.old + n)
-        × Batch D.turn door.old buffers.old.input.items buffers.new.input.items due n door.new result }
+        × Batch D.turn door.old talk.old.buffers.input.items talk.new.buffers.input.items due n door.new result }
+    ensures idle { OnOk result (talk.new.asking ≡ None) }
     ensures exhausted { result ≡ Err Refusal.Exhausted → frames.new ≡ 2 ^ 64 - 1 }
-    ensures more { result ≡ Ok false → buffers.old.output.items ≡ [] → frames.old < frames.new }
+    ensures more { result ≡ Ok false → talk.old.buffers.output.items ≡ [] → frames.old < frames.new }
 {
-    while !buffers.is_full() {
+    while !talk.is_full() {
         if *frames == u64::MAX {
             return Err(Refusal::Exhausted);
         }
-        match answer_next(alloc, buffers, door) {
+        match answer_next(alloc, talk, door) {
             Ok(true) => *frames += 1,
             Ok(false) => return Ok(true),
             Err(refusal) => return Err(refusal),
@@ -126,16 +121,16 @@ pub fn serve<R: Source, W: Sink, D: Door>(
     ensures end { IfOk result (λ n. IsAtEnd (R.remaining reader.new)) }
     ensures closed { result ≡ Err Refusal.Closed → IsAtEnd (R.remaining reader.new) }
 {
-    let mut buffers = Buffers::new(alloc);
+    let mut talk = Conversation::new(alloc);
     let mut frames = 0u64;
     for _turn in 0..u64::MAX {
-        let batch = answer_batch(alloc, &mut buffers, door, &mut frames);
-        buffers.flush(writer)?;
+        let batch = answer_batch(alloc, &mut talk, door, &mut frames);
+        talk.buffers.flush(writer)?;
         let is_drained = batch?;
         if is_drained {
-            let count = buffers.fill(reader)?;
+            let count = talk.buffers.fill(reader)?;
             if count == 0 {
-                return buffers.ended(frames);
+                return talk.buffers.ended(frames);
             }
         }
     }

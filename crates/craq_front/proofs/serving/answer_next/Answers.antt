@@ -1,21 +1,27 @@
-use Rattle.std.proofs.Common.{[], refl, sym, ◌∙◌}
-use Rattle.std.proofs.lemmas.List.{append-nil}
-use Rattle.craq_frames.specs.Frame.{frame}
-use Rattle.craq_front.specs.Serving.{begun}
-use Rattle.craq_front.proofs.Sessions.{served_one}
+use Rattle.std.proofs.lemmas.Result.{err_from_is_err_and}
+use Rattle.craq_front.proofs.Nexts.{refused_one, answered_one, begun_one}
 use Rattle.craq_front.proofs.serving.answer_next.Goals as goal
 
-pub returns-in-Ok : goal.returns-in-Ok
-returns-in-Ok g c =
-    let w = rw c.in-Ok-Some.field-0-is at c.in-Ok-Some.ensures.whole in
-    let h = rw c.as_slice.ensures at c.in-Ok.ensures.ok in (
-      frame h.0,
-      h.1,
-      served_one g.D.Door.turn c.args.door.now c.answer_payload.new.door c.args.buffers.now.input.items c.cut_off_frame.new.buffer.items (frame h.0) c.in-Ok-Some.payload.items h.0 w.0 w.1 refl h.2,
-    )
+pub returns-in_err-answer_payload-in-Ask-clause-next :
+    goal.returns-in_err-answer_payload-in-Ask-clause-next
+returns-in_err-answer_payload-in-Ask-clause-next g c =
+    let p = err_from_is_err_and c.from_residual-in_err-answer_payload-in-Ask.result c.from_residual-in_err-answer_payload-in-Ask.ensures.1 in
+    let e = c.in_err-answer_payload-in-Ask.ensures in
+    let h = rw c.in-Ask.is at c.in_ok-message.ensures in
+    rw (p.1, p.2, e.err)
+    (begun_one g.D.Door.turn c.args.door.now c.answer_payload.new.door c.args.talk.now.buffers.input.items c.next.new.self.buffers.input.items c.args.talk.now.buffers.output.items
+    c.next.new.self.buffers.output.items c.answer_payload.new.talk.buffers.output.items h.0 c.next.new.self.asking c.in-Ask.message h.2 h.1 e.begun)
 
-pub returns-in-Ok-Some : goal.returns-in-Ok-Some
-returns-in-Ok-Some g c =
-    let w = rw c.in-Ok-Some.field-0-is at c.in-Ok-Some.ensures.whole in
-    let h = rw c.as_slice.ensures at c.in-Err-answer_payload.ensures.err in
-    ([], h.0 ∙ sym (append-nil c.args.buffers.now.output.items), (begun c.in-Ok-Some.payload.items c.cut_off_frame.new.buffer.items w.1 h.1, refl))
+pub returns-in_ok-answer_payload-in-Ask-clause-next :
+    goal.returns-in_ok-answer_payload-in-Ask-clause-next
+returns-in_ok-answer_payload-in-Ask-clause-next g c =
+    let e = c.in_ok-answer_payload-in-Ask.ensures in
+    let h = rw c.in-Ask.is at c.in_ok-message.ensures in
+    rw e.input
+    (answered_one g.D.Door.turn c.args.door.now c.answer_payload.new.door c.args.talk.now.buffers.input.items c.next.new.self.buffers.input.items c.args.talk.now.buffers.output.items
+    c.next.new.self.buffers.output.items c.answer_payload.new.talk.buffers.output.items h.0 c.next.new.self.asking c.in-Ask.message h.2 h.1 e.ok)
+
+pub returns-in-Refused-clause-next : goal.returns-in-Refused-clause-next
+returns-in-Refused-clause-next g c =
+    let h = rw c.in-Refused.is at c.in_ok-message.ensures in
+    (h.0, h.1, refused_one g.D.Door.turn c.args.door.now c.args.talk.now.buffers.input.items c.next.new.self.buffers.input.items h.0 c.next.new.self.asking h.2)

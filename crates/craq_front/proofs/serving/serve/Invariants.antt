@@ -1,4 +1,4 @@
-use Rattle.std.proofs.Common.{List, ℕ, [], ◌≡◌, ◌≤◌, ◌+◌, length}
+use Rattle.std.proofs.Common.{List, ℕ, None, [], ◌≡◌, ◌≤◌, ◌+◌, length}
 use Rattle.std.specs.Io.KnownBytes.{Appends, Consumes}
 use Rattle.craq_front.specs.Serving.{Served}
 use Rattle.craq_front.proofs.serving.serve.Given as goal
@@ -10,6 +10,7 @@ invariant-loop-turn g l =
     × Appends (g.W.Sink.contents l.fn.writer) (g.W.Sink.contents l.writer) written
     × (g.R.Counted.count l.reader ≡ g.R.Counted.count l.fn.reader)
     × (g.W.Counted.count l.writer ≡ g.W.Counted.count l.fn.writer)
-    × (l.buffers.output.items ≡ [])
-    × Served g.D.Door.turn l.fn.door read l.buffers.input.items written l.frames l.door
+    × (l.talk.buffers.output.items ≡ [])
+    × Served g.D.Door.turn l.fn.door read l.talk.buffers.input.items written l.frames l.door
     × (l._turn ≤ l.frames + length read)
+    × (l.talk.asking ≡ None)

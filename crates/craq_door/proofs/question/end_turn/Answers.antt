@@ -1,0 +1,8 @@
+use Rattle.craq_door.proofs.Halves.{call_told}
+use Rattle.craq_door.proofs.question.end_turn.Goals as goal
+
+pub returns-clause-turn : goal.returns-clause-turn
+returns-clause-turn c =
+    let q = c.args.question.now in
+    call_told (λ text. ⊥) c.args.calls.now.receipts.items q.node.node q.pass q.ask c.reply_of_call.result c.told.result c.reply_of_call.new.calls.receipts.items c.reply_of_call.ensures.called
+    c.reply_of_call.ensures.same c.told.ensures.told

@@ -1,0 +1,127 @@
+//! The two halves of a turn whose call comes back later: what a message asks of a store, and its reply once the call came back.
+ghost use Rattle.std.specs.Prelude.{◌≡◌, ℕ, List, IfErr, IfOk, OnErr};
+ghost use Rattle.craq_front.specs.Door.{IsAllowed};
+ghost use Rattle.craq_door.specs.Turns.{IsAnswered, IsCalled};
+ghost use Rattle.craq_door.specs.Halves.{Asks, BeginsTurn, asked_by};
+
+use crate::{Callee, DoorCalls, told};
+use craq_calls::answer_of_call;
+use craq_frames::{ClientMessage, ClientReply};
+use craq_model::Ask;
+use craq_names::{NodeId, NodeName, Pass, Refusal};
+use craq_seat::CallReceipt;
+use std::alloc::Global;
+
+/// The call that a message asks for.
+#[derive(Debug, Drop)]
+pub struct Question {
+    pub node: NodeName,
+    pub pass: Pass,
+    pub ask: Ask,
+}
+
+/// What a message asks for.
+#[derive(Debug, Drop)]
+pub(crate) enum Demand {
+    Call(Question),
+    Status,
+}
+
+/// The first half of a turn.
+#[derive(Debug, Drop)]
+pub enum Begun {
+    /// The turn is over, with this reply.
+    Told(ClientReply),
+    /// This call is to be made, and its outcome to be given back.
+    Calls(Question),
+}
+
+/// The call of a node of the chain of the ask's first object, with this pass.
+fn call_of(node: NodeId, pass: Pass, ask: Ask) -> Question
+    ensures node { result.node.node ≡ node }
+    ensures pass { result.pass ≡ pass }
+    ensures ask { result.ask ≡ ask }
+{
+    let node = NodeName {
+        chain: ask.chain(),
+        node,
+    };
+    Question { node, pass, ask }
+}
+
+/// What a message asks for.
+fn demand_of(message: ClientMessage) -> Demand
+    ensures { Asks message result }
+{
+    match message {
+        ClientMessage::Update { node, pass, update } => {
+            Demand::Call(call_of(node, pass, Ask::Update(update)))
+        }
+        ClientMessage::Read {
+            node,
+            pass,
+            mode,
+            object,
+        } => Demand::Call(call_of(node, pass, Ask::Read { mode, object })),
+        ClientMessage::Status => Demand::Status,
+    }
+}
+
+/// The text of a status, as a reply.
+fn status_of<C: Callee>(callee: &C) -> Result<ClientReply, Refusal>
+    ensures ok { IfOk result (λ reply. (text : List ℕ) × (reply ≡ ClientReply.Status text) × C.tells callee.now text) }
+    ensures err { IfErr result (λ e. e ≡ Refusal.Memory) }
+{
+    Ok(ClientReply::Status(callee.status()?))
+}
+
+/// Begins a turn: a status is told at once. For a call the room for its receipt is made; where that is refused,
+/// `Refused(Memory)` is told.
+#[tactic(auto, using(crate::proofs::Halves::status_told, crate::proofs::Halves::memory_told))]
+pub fn begin_turn<C: Callee>(callee: &C, calls: &mut DoorCalls, message: ClientMessage) -> Begun
+    ensures begun { BeginsTurn (C.tells callee.now) calls.old.keeps calls.old.receipts.items message result calls.new.receipts.items }
+    ensures keeps { calls.new.keeps ≡ calls.old.keeps }
+{
+    calls.begin();
+    match demand_of(message) {
+        Demand::Status => Begun::Told(told(status_of(callee))),
+        Demand::Call(question) => match calls.make_room() {
+            Ok(()) => Begun::Calls(question),
+            Err(_) => Begun::Told(told(Err(Refusal::Memory))),
+        },
+    }
+}
+
+/// The reply to the message that asked for a call, where the call's receipt is that of this question.
+fn reply_of_call(
+    alloc: Global,
+    calls: &mut DoorCalls,
+    question: &Question,
+    outcome: Result<CallReceipt, Refusal>,
+) -> Result<ClientReply, Refusal>
+    ensures called { IfOk result (λ reply. IsCalled calls.old.receipts.items (asked_by question.now) reply calls.new.receipts.items) }
+    ensures same { OnErr result (calls.new.receipts.items ≡ calls.old.receipts.items) }
+    ensures keeps { calls.new.keeps ≡ calls.old.keeps }
+{
+    let receipt = outcome?;
+    calls.make_room()?;
+    let Question { node, pass, ask } = question;
+    let answer = answer_of_call(alloc, &receipt, node, ask, *pass)?;
+    Ok(calls.reply_to(answer, receipt))
+}
+
+/// Ends the turn of the message that asked for this call: its reply, where the call came back so. A receipt of another call
+/// is `Refused(Closed)`.
+pub fn end_turn(
+    alloc: Global,
+    calls: &mut DoorCalls,
+    question: &Question,
+    outcome: Result<CallReceipt, Refusal>,
+) -> ClientReply
+    // No status is told here.
+    ensures turn { IsAnswered (λ text. ⊥) calls.old.receipts.items (asked_by question.now) result calls.new.receipts.items }
+    ensures allowed { IsAllowed result }
+    ensures keeps { calls.new.keeps ≡ calls.old.keeps }
+{
+    told(reply_of_call(alloc, calls, question, outcome))
+}

@@ -1,0 +1,44 @@
+-- What is done with the next frame, by the steps of a conversation.
+use Rattle.std.proofs.Common.{◌≡◌, ℕ, List, [], ◌++◌, true, false, Option, Result, Ok, Err, refl, sym, ap, ◌∙◌}
+use Rattle.std.proofs.lemmas.List.{append-nil}
+use Rattle.craq_names.specs.declared.refusal.Refusal.{Refusal}
+use Rattle.craq_names.specs.declared.refusal.Refusal.TheVariants as refusals
+use Rattle.craq_frames.specs.declared.ask.ClientMessage.{ClientMessage}
+use Rattle.craq_frames.specs.Frame.{frame}
+use Rattle.craq_front.specs.declared.conversation.Asking.{Asking}
+use Rattle.craq_front.specs.declared.conversation.Step.TheVariants.{Ask, Refused, Nothing}
+use Rattle.craq_front.specs.Serving.{Turn, Replies, nothing, Begins, idle, begun, Next}
+use Rattle.craq_front.specs.Steps.{IsFirst, Advances}
+use Rattle.craq_front.proofs.Sessions.{served_one}
+
+-- no message is asked
+pub not_begun : {D : Type 0} (turn : Turn D) (a : D) (input rest due : List ℕ) (asking : Option Asking) (e : Refusal) → Advances input rest due asking (Err e) → Next turn a input rest due a (Err e)
+not_begun turn a input rest due asking refusals.FrameTooLong h = (h, refl)
+not_begun turn a input rest due asking refusals.Memory h = (idle refl, h)
+not_begun turn a input rest due asking _ h = absurd h
+
+-- the payload spells nothing
+pub refused_one : {D : Type 0} (turn : Turn D) (a : D) (input rest due : List ℕ) (asking : Option Asking) → Advances input rest due asking (Ok Refused) → Next turn a input rest due a (Ok true)
+refused_one turn a input rest due asking h =
+    served_one turn a a input rest due h.0 h.1 h.3 h.2 h.4 (nothing h.6 refl h.7)
+
+-- all replies to the payload
+pub answered_one : {D : Type 0} (turn : Turn D) (a c : D) (input rest old mid all due : List ℕ) (asking : Option Asking) (m : ClientMessage)
+    → Advances input rest due asking (Ok (Ask m)) → mid ≡ old ++ due
+    → ((payload : List ℕ) → IsFirst asking m payload → (reply : List ℕ) × (all ≡ mid ++ frame reply) × Replies turn a payload reply c)
+    → (due : List ℕ) × (all ≡ old ++ due) × Next turn a input rest due c (Ok true)
+answered_one turn a c input rest old mid all due asking m h e answered =
+    let r = answered h.0 h.4 in (
+      frame r.0,
+      r.1 ∙ ap (λ (x : List ℕ). x ++ frame r.0) (e ∙ ap (λ (x : List ℕ). old ++ x) h.3 ∙ append-nil old),
+      served_one turn a c input rest (frame r.0) h.0 r.0 h.2 h.1 refl r.2,
+    )
+
+-- or some
+pub begun_one : {D : Type 0} (turn : Turn D) (a c : D) (input rest old mid all due : List ℕ) (asking : Option Asking) (m : ClientMessage)
+    → Advances input rest due asking (Ok (Ask m)) → mid ≡ old ++ due
+    → ((payload : List ℕ) → IsFirst asking m payload → (all ≡ mid) × Begins turn a payload c)
+    → (due : List ℕ) × (all ≡ old ++ due) × Next turn a input rest due c (Err refusals.Memory)
+begun_one turn a c input rest old mid all due asking m h e answered =
+    let r = answered h.0 h.4 in
+    ([], r.0 ∙ e ∙ ap (λ (x : List ℕ). old ++ x) h.3, (begun h.0 rest h.1 r.1, refl))

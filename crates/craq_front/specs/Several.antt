@@ -1,0 +1,11 @@
+-- How far a payload of several messages is answered.
+use Rattle.std.specs.Prelude.{◌≤◌, ◌+◌, ℕ, List, length}
+use Rattle.std.specs.List.{AllByRecursion}
+use Rattle.craq_frames.specs.declared.answer.ClientReply.{ClientReply}
+use Rattle.craq_frames.specs.Versions.{many_limit}
+use Rattle.craq_front.specs.Door.{IsAllowed}
+
+-- one message is asked, so many wait behind it and those before it have these replies: 8 at most, and replies that a door may give
+pub record AreAnswered (waiting : ℕ) (replies : List ClientReply) : Type 0 where
+  pub few : waiting + 1 + length replies ≤ many_limit
+  pub allowed : AllByRecursion IsAllowed replies

@@ -1,0 +1,203 @@
+//! `Conversation`: what serving one client comes to, without a stream and without a door: bytes in, messages to ask, their
+//! replies, bytes out. `serve` drives one over a stream, a loop over readiness drives many.
+ghost use Rattle.std.specs.Prelude.{◌≡◌, ◌≤◌, ◌↔◌, ℕ, List, false, None, Some, [], ◌++◌, drop, length, IsTrue, OnOk, OnErr};
+ghost use Rattle.craq_frames.specs.Frame.{frame, payload_limit};
+ghost use Rattle.craq_front.specs.Door.{IsAllowed};
+ghost use Rattle.craq_front.specs.Steps.{Advances, Follows};
+
+use crate::buffers::{Buffers, MOST_DUE};
+use crate::replying::{make_due, refuse};
+use crate::several::{Replied, Several};
+use craq_frames::{Answered, ClientMessage, ClientReply, Payload, PayloadVersion, cut_off_frame};
+use craq_names::Refusal;
+use std::alloc::{AllocError, Global};
+
+/// The payload of which a message is asked just now.
+#[derive(Drop)]
+pub(crate) enum Asking {
+    /// It has one message, and is of this version.
+    One(PayloadVersion),
+    /// It has several.
+    Many(Several),
+}
+
+/// What comes next in a conversation.
+#[derive(Debug, Drop)]
+pub enum Step {
+    /// This message is to be asked, and its reply to be given back.
+    Ask(ClientMessage),
+    /// A payload that spells nothing is answered `BadFrame`.
+    Refused,
+    /// Less than a frame is there.
+    Nothing,
+}
+
+/// What serving one client comes to: the bytes that came and are not yet cut into frames, the payload that is being
+/// answered, and the bytes that are due. At most one message is asked at a time.
+#[derive(Drop)]
+pub struct Conversation {
+    pub(crate) buffers: Buffers,
+    pub(crate) asking: Option<Asking>,
+}
+
+impl Conversation {
+    /// Nothing came, and nothing is due. It takes no memory.
+    pub fn new(alloc: Global) -> Self
+        ensures input { result.buffers.input.items ≡ [] }
+        ensures output { result.buffers.output.items ≡ [] }
+        ensures asking { result.asking ≡ None }
+    {
+        Conversation {
+            buffers: Buffers::new(alloc),
+            asking: None,
+        }
+    }
+
+    /// These bytes came behind those before. It fails for want of memory alone, and nothing is changed then.
+    pub fn receive(&mut self, bytes: &[u8]) -> Result<(), AllocError>
+        ensures ok { OnOk result (self.new.buffers.input.items ≡ self.old.buffers.input.items ++ bytes.now) }
+        ensures same { OnErr result (self.new.buffers.input.items ≡ self.old.buffers.input.items) }
+        ensures output { self.new.buffers.output.items ≡ self.old.buffers.output.items }
+        ensures asking { self.new.asking ≡ self.old.asking }
+    {
+        self.buffers.input.extend_from_slice(bytes)
+    }
+
+    /// Whether no more messages are to be asked before what is due is written: 65,536 bytes or more are.
+    pub fn is_full(&self) -> bool
+        ensures { IsTrue result ↔ (MOST_DUE ≤ length self.now.buffers.output.items) }
+    {
+        self.buffers.is_full()
+    }
+
+    /// Whether the input may end here: no byte is left of it.
+    pub fn is_between(&self) -> bool
+        ensures { IsTrue result ↔ (self.now.buffers.input.items ≡ []) }
+    {
+        self.buffers.input.is_empty()
+    }
+
+    /// Whether a message is asked just now.
+    pub fn is_asking(&self) -> bool
+        ensures { (result ≡ false) ↔ (self.now.asking ≡ None) }
+    {
+        self.asking.is_some()
+    }
+
+    /// The bytes that are due.
+    pub fn due(&self) -> &[u8]
+        ensures { result.now ≡ self.now.buffers.output.items }
+    {
+        self.buffers.output.as_slice()
+    }
+
+    /// So many of the bytes that are due are written.
+    pub fn wrote(&mut self, count: usize)
+        requires { count ≤ length self.old.buffers.output.items }
+        ensures output { self.new.buffers.output.items ≡ drop count self.old.buffers.output.items }
+        ensures input { self.new.buffers.input.items ≡ self.old.buffers.input.items }
+        ensures asking { self.new.asking ≡ self.old.asking }
+    {
+        self.buffers.output.advance(count);
+    }
+
+    /// A payload that came: its first message is asked, or its refusal is due.
+    fn open(&mut self, alloc: Global, payload: &[u8]) -> Result<Step, Refusal>
+        requires few { length payload.now ≤ payload_limit }
+        requires idle { self.old.asking ≡ None }
+        ensures { (due : List ℕ) × (self.new.buffers.output.items ≡ self.old.buffers.output.items ++ due)
+            × Advances (frame payload.now ++ self.old.buffers.input.items) self.new.buffers.input.items due self.new.asking result }
+    {
+        match Payload::decode(alloc, payload) {
+            Ok(Payload::One(version, message)) => {
+                self.asking = Some(Asking::One(version));
+                Ok(Step::Ask(message))
+            }
+            Ok(Payload::Many(messages)) => {
+                let (message, several) = Several::begin(alloc, messages);
+                self.asking = Some(Asking::Many(several));
+                Ok(Step::Ask(message))
+            }
+            Err(Refusal::BadFrame) => {
+                refuse(alloc, &mut self.buffers.output, Refusal::BadFrame)?;
+                Ok(Step::Refused)
+            }
+            Err(_) => Err(Refusal::Memory),
+        }
+    }
+
+    /// What comes next, where no message is asked: the frame in front is cut off, and its first message is asked or its
+    /// refusal is due.
+    ///
+    /// - `FrameTooLong` where a length above 1,048,576 stands in front: the refusal's frame is due, and the conversation is
+    ///   over once it is written.
+    /// - `Memory` where a growth was refused: nothing more is due then, and the conversation is over.
+    pub fn next(&mut self, alloc: Global) -> Result<Step, Refusal>
+        requires { self.old.asking ≡ None }
+        ensures { (due : List ℕ) × (self.new.buffers.output.items ≡ self.old.buffers.output.items ++ due)
+            × Advances self.old.buffers.input.items self.new.buffers.input.items due self.new.asking result }
+    {
+        match cut_off_frame(&mut self.buffers.input) {
+            Ok(Some(payload)) => self.open(alloc, payload.as_slice()),
+            Ok(None) => Ok(Step::Nothing),
+            Err(Refusal::FrameTooLong) => {
+                refuse(alloc, &mut self.buffers.output, Refusal::FrameTooLong)?;
+                Err(Refusal::FrameTooLong)
+            }
+            Err(_) => Err(Refusal::Memory),
+        }
+    }
+
+    /// The message that is asked has this reply, which a door may give. The next message of the same payload is asked then
+    /// and has to get its reply; behind the last, the frame of all replies of the payload is due. Where no message is asked
+    /// nothing happens. `Memory` where a growth was refused: nothing more is due then, and the conversation is over.
+    pub fn reply(
+        &mut self,
+        alloc: Global,
+        reply: ClientReply,
+    ) -> Result<Option<ClientMessage>, Refusal>
+        requires { IsAllowed reply }
+        ensures follows { (due : List ℕ) × (self.new.buffers.output.items ≡ self.old.buffers.output.items ++ due)
+            × Follows self.old.asking reply due self.new.asking result }
+        ensures input { self.new.buffers.input.items ≡ self.old.buffers.input.items }
+    {
+        match self.asking.take() {
+            None => Ok(None),
+            Some(Asking::One(version)) => {
+                make_due(
+                    alloc,
+                    &mut self.buffers.output,
+                    Answered::One(version, reply),
+                )?;
+                Ok(None)
+            }
+            Some(Asking::Many(several)) => self.reply_of_several(alloc, several, reply),
+        }
+    }
+
+    /// The same among several messages.
+    fn reply_of_several(
+        &mut self,
+        alloc: Global,
+        several: Several,
+        reply: ClientReply,
+    ) -> Result<Option<ClientMessage>, Refusal>
+        requires allowed { IsAllowed reply }
+        requires idle { self.old.asking ≡ None }
+        ensures follows { (due : List ℕ) × (self.new.buffers.output.items ≡ self.old.buffers.output.items ++ due)
+            × Follows (Some (Asking.Many several)) reply due self.new.asking result }
+        ensures input { self.new.buffers.input.items ≡ self.old.buffers.input.items }
+    {
+        match several.add(reply) {
+            Ok(Replied::Asks(message, several)) => {
+                self.asking = Some(Asking::Many(several));
+                Ok(Some(message))
+            }
+            Ok(Replied::All(replies)) => {
+                make_due(alloc, &mut self.buffers.output, Answered::Many(replies))?;
+                Ok(None)
+            }
+            Err(_) => Err(Refusal::Memory),
+        }
+    }
+}

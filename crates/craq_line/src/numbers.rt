@@ -1,15 +1,21 @@
 //! Numbers on command lines, spelled as in scripts.
-ghost use Rattle.std.specs.Prelude.{◌≤◌, IfSome};
+ghost use Rattle.std.specs.Prelude.{◌≤◌, IfOk};
+ghost use Rattle.craq_script.specs.Reading.{Gives};
+ghost use Rattle.craq_line.specs.Numbers.{number_between};
 
-use craq_script::number_up_to;
+use craq_script::{Misread, number_up_to};
 
-/// The number that the text spells, where it is at most so great: decimal digits without a sign and without a leading
+/// The number that the text spells, where it lies within these bounds: decimal digits without a sign and without a leading
 /// zero, as in scripts.
-pub(crate) fn number_of(most: u64, text: &str) -> Option<u64>
-    ensures { IfSome result (λ n. n ≤ most) }
+///
+/// `OutsideGrammar` where it spells none.
+pub(crate) fn number_between(least: u64, most: u64, text: &[u8]) -> Result<u64, Misread>
+    ensures value { Gives (λ n. n) result (number_between least most text.now) }
+    ensures bounds { IfOk result (λ n. (least ≤ n) × (n ≤ most)) }
 {
-    match number_up_to(most, text.as_bytes()) {
-        Ok(number) => Some(number),
-        Err(_) => None,
+    match number_up_to(most, text) {
+        Ok(number) if least <= number => Ok(number),
+        Err(Misread::Memory) => Err(Misread::Memory),
+        _ => Err(Misread::OutsideGrammar),
     }
 }

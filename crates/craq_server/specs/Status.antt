@@ -1,5 +1,5 @@
 -- The status of a store as JSON.
-use Rattle.std.specs.Prelude.{ℕ, List, map, codes, string_bytes}
+use Rattle.std.specs.Prelude.{◌≡◌, ℕ, List, map, codes, string_bytes}
 use Rattle.serde_json.specs.Data.{Data, number, unsigned, string, array, object, member, no_members}
 use Rattle.serde_json.specs.View.{items_of}
 use Rattle.serde_json.specs.Written.{compact_text}
@@ -22,3 +22,7 @@ status_data chains = object (member (codes "chains") (array (items_of (map chain
 -- the compact JSON of a status
 unfoldable pub status_text : List ChainStatus → List ℕ
 status_text chains = compact_text (status_data chains)
+
+-- the text is that of the names and memberships of some chains
+abbrev pub TellsStatus : List ℕ → Type 0
+TellsStatus text = (chains : List ChainStatus) × (text ≡ status_text chains)

@@ -1,49 +1,66 @@
-ghost use Rattle.std.specs.Prelude.{◌≡◌, ◌⊎◌, IfErr};
+//! `accept`: each connection of a listener served on a thread of its own, at most so many at once.
+ghost use Rattle.std.specs.Prelude.{◌≡◌};
 
+use crate::connections::Connections;
 use crate::door::ServedStore;
+use crate::passes::Passes;
+use crate::turning::turn_away;
 use craq_door::CallDoor;
 use craq_front::{Stream, serve};
-use craq_names::Refusal;
 use craq_node::Core;
 use craq_seat::CallReceipt;
 use craq_workers::{Gate, Store};
 use std::alloc::{AllocError, Global};
 use std::net::{TcpListener, TcpStream};
-use std::sync::atomic::{AtomicU64, Ordering};
-use std::sync::{Mutex, Wait};
+use std::sync::{Arc, Mutex, Wait};
 use std::thread;
 use std::thread::{Scope, Threads};
 use std::time::{Clock, Duration};
 
-/// How often on end a listener may fail while no connection is open.
-const MOST_FAILURES: u32 = 500;
-
 /// How long a listener that fails is left alone.
 const PAUSE_MILLISECONDS: u64 = 10;
 
-/// The connections of a listener to a store.
-#[derive(Drop)]
-struct Server<'a, R, C: Core, G: Gate> {
-    rt: R,
-    alloc: Global,
-    store: &'a Store<C, G>,
+/// How connections are served.
+#[derive(Clone, Copy, Debug)]
+pub struct Serving {
     /// Whether the receipts of calls are kept.
-    keeps: bool,
-    /// How many connections are open.
-    connected: AtomicU64,
-    /// The receipts of each connection that has ended, by order of connection; none of those that have not.
-    receipts: Mutex<Vec<Vec<CallReceipt>>>,
+    pub keeps: bool,
+    /// After how many connections no more are taken; 0 where there is no end.
+    pub connections: u32,
+    /// After how many seconds without a byte a connection is ended; 0 where it is not.
+    pub idle: u32,
 }
 
-/// How serving connections ended.
-#[derive(Clone, Copy)]
-enum Ended {
-    /// Each was served to its end.
-    Served,
-    /// Some found no thread or no room, and were ended at once.
-    Lacked,
-    /// The listener failed.
-    Failed,
+/// What came of serving.
+#[derive(Drop)]
+pub struct Served {
+    /// The receipts of all calls where they are kept, by order of connection and then of calls.
+    pub receipts: Vec<Vec<CallReceipt>>,
+    /// Whether some connection found no thread or no memory, and was ended at once.
+    pub lacked: bool,
+}
+
+/// The connections of a listener to a store.
+#[derive(Drop)]
+pub(crate) struct Server<'a, R, C: Core, G: Gate> {
+    pub(crate) rt: R,
+    pub(crate) alloc: Global,
+    store: &'a Store<C, G>,
+    pub(crate) serving: Serving,
+    pub(crate) connections: &'a Connections,
+    /// The passes that were told on all connections.
+    pub(crate) passes: Passes,
+    /// The receipts of each connection that has ended, by order of connection; none of those that have not.
+    pub(crate) receipts: Mutex<Vec<Vec<CallReceipt>>>,
+}
+
+/// A stream whose reads and writes end it after so many seconds; 0 where they wait.
+fn set_patience(stream: &TcpStream, seconds: u32) {
+    if seconds > 0 {
+        let limit = Duration::from_secs(u64::from(seconds));
+        let _ = stream.set_read_timeout(Some(limit));
+        let _ = stream.set_write_timeout(Some(limit));
+    }
 }
 
 impl<'a, R, C, G> Server<'a, R, C, G>
@@ -52,29 +69,45 @@ where
     C: Core + Send + 'static,
     G: Gate + Send + Sync + 'static,
 {
-    /// The next connection. A listener that fails is asked again as long as connections are open, since what it lacks may
-    /// come free where one of them ends. After five seconds in which none was open it has failed, and there is none.
-    fn next_connection(&self, listener: &TcpListener) -> Option<TcpStream> {
-        let mut failures = 0u32;
+    /// The server of a store. It takes no memory.
+    pub(crate) fn new(
+        rt: R,
+        alloc: Global,
+        store: &'a Store<C, G>,
+        serving: Serving,
+        connections: &'a Connections,
+    ) -> Self {
+        Server {
+            rt,
+            alloc,
+            store,
+            serving,
+            connections,
+            passes: Passes::new(),
+            receipts: Mutex::new(Vec::new(alloc)),
+        }
+    }
+
+    /// The next connection; none where the server is to end. A listener that fails is asked again after a pause, until it
+    /// gives one: what it lacks comes free where a connection ends.
+    pub(crate) fn next_connection(&self, listener: &TcpListener) -> Option<TcpStream> {
         for _ in self.rt.forever() {
-            if let Ok((stream, _)) = listener.accept() {
-                return Some(stream);
-            }
-            if self.connected.load(Ordering::SeqCst) > 0 {
-                failures = 0;
-            } else if failures >= MOST_FAILURES {
+            let accepted = listener.accept();
+            if self.connections.is_ending(&self.rt) {
+                drop(accepted);
                 break;
-            } else {
-                failures += 1;
+            }
+            if let Ok((stream, _)) = accepted {
+                return Some(stream);
             }
             thread::sleep(&self.rt, Duration::from_millis(PAUSE_MILLISECONDS));
         }
         None
     }
 
-    /// The place of a new connection, with room for its receipts where they are kept.
-    fn new_place(&self) -> Result<usize, AllocError> {
-        if !self.keeps {
+    /// The place of a new connection's receipts, where they are kept.
+    pub(crate) fn new_receipts(&self) -> Result<usize, AllocError> {
+        if !self.serving.keeps {
             return Ok(0);
         }
         let mut receipts = self.receipts.lock(&self.rt);
@@ -82,131 +115,140 @@ where
         Ok(receipts.len().saturating_sub(1))
     }
 
-    /// Serves a client to the end of its stream, and gives the receipts of its calls, where they are kept.
-    fn serve_client(&self, stream: TcpStream) -> Vec<CallReceipt> {
-        let _ = stream.set_nodelay(true);
-        let mut reader = Stream::new(&stream);
-        let mut writer = Stream::new(&stream);
-        let callee = ServedStore {
+    /// The receipts of a connection that has ended go to their place, where they are kept.
+    fn put_receipts(&self, receipts: usize, calls: Vec<CallReceipt>) {
+        if let Some(kept) = self.receipts.lock(&self.rt).get_mut(receipts) {
+            *kept = calls;
+        }
+    }
+
+    /// The store, as the door of a connection calls it.
+    pub(crate) fn callee(&self) -> ServedStore<'_, R, C, G> {
+        ServedStore {
             rt: self.rt,
             alloc: self.alloc,
             store: self.store,
-        };
-        let mut door = CallDoor::new(self.alloc, callee, self.keeps);
+            passes: &self.passes,
+        }
+    }
+
+    /// Serves a client to the end of its stream, and gives the receipts of its calls, where they are kept.
+    fn serve_client(&self, stream: &TcpStream) -> Vec<CallReceipt> {
+        let _ = stream.set_nodelay(true);
+        set_patience(stream, self.serving.idle);
+        let mut reader = Stream::new(stream);
+        let mut writer = Stream::new(stream);
+        let mut door = CallDoor::new(self.alloc, self.callee(), self.serving.keeps);
         let _ = serve(self.alloc, &mut reader, &mut writer, &mut door);
-        door.calls.receipts
+        let CallDoor { callee: _, calls } = door;
+        calls.into_receipts()
     }
 
-    /// Serves a connection to its end. Its place then has the receipts of its calls, where they are kept.
-    fn attend(&self, stream: TcpStream, place: usize) {
-        let receipts = self.serve_client(stream);
-        self.connected.fetch_sub(1, Ordering::SeqCst);
-        if let Some(kept) = self.receipts.lock(&self.rt).get_mut(place) {
-            *kept = receipts;
-        }
+    /// Serves a connection to its end. Its receipts are then at their place, where they are kept, and its own place is free.
+    fn attend(&self, stream: Arc<TcpStream>, place: usize, receipts: usize) {
+        let calls = self.serve_client(&stream);
+        self.put_receipts(receipts, calls);
+        self.connections.leave(&self.rt, place);
+        drop(stream);
     }
 
-    /// A connection is served on a thread of its own. It ends at once where there is no memory for that.
-    fn begin<'s, E>(&'s self, scope: &Scope<'s, E>, stream: TcpStream) -> Result<(), AllocError> {
-        let place = self.new_place()?;
-        self.connected.fetch_add(1, Ordering::SeqCst);
-        match scope.spawn(move || self.attend(stream, place)) {
-            Ok(thread) => {
-                drop(thread);
-                Ok(())
-            }
-            Err(_) => {
-                self.connected.fetch_sub(1, Ordering::SeqCst);
-                Err(AllocError)
-            }
-        }
-    }
-
-    /// Serves so many connections, or without end where that is 0.
-    fn accept_all<'s, E>(
+    /// A connection that has a place is served on a thread of its own. It ends at once where there is no memory for that.
+    fn begin<'s, E>(
         &'s self,
         scope: &Scope<'s, E>,
-        listener: &TcpListener,
-        connections: u32,
-    ) -> Ended {
-        let mut left = connections;
-        let mut ended = Ended::Served;
+        stream: Arc<TcpStream>,
+        place: usize,
+    ) -> Result<(), AllocError> {
+        let receipts = self.new_receipts()?;
+        let thread = scope.spawn(move || self.attend(stream, place, receipts))?;
+        drop(thread);
+        Ok(())
+    }
+
+    /// A connection is served where there is a place; else it is turned away. It ends at once where there is no memory.
+    fn take_in<'s, E>(&'s self, scope: &Scope<'s, E>, stream: TcpStream) -> Result<(), AllocError> {
+        let stream = Arc::new(self.alloc, stream)?;
+        let shared = Arc::try_clone(&stream)?;
+        let Some(place) = self.connections.enter(&self.rt, shared) else {
+            let _ = turn_away(self.alloc, &mut &*stream);
+            return Ok(());
+        };
+        let begun = self.begin(scope, stream, place);
+        if begun.is_err() {
+            self.connections.leave(&self.rt, place);
+        } else if self.connections.is_ending(&self.rt) {
+            self.connections.end(&self.rt);
+        }
+        begun
+    }
+
+    /// Takes in so many connections, or without end where that is 0, until the server is to end. Tells whether some
+    /// connection was ended for want of memory.
+    fn take_all<'s, E>(&'s self, scope: &Scope<'s, E>, listener: &TcpListener) -> bool {
+        let mut left = self.serving.connections;
+        let mut lacked = false;
         for _ in self.rt.forever() {
             let Some(stream) = self.next_connection(listener) else {
-                return Ended::Failed;
+                break;
             };
-            if self.begin(scope, stream).is_err() {
-                ended = Ended::Lacked;
+            if self.take_in(scope, stream).is_err() {
+                lacked = true;
             }
             if left == 1 {
                 break;
             }
             left = left.saturating_sub(1);
         }
-        ended
+        lacked
     }
 
-    /// The receipts of all connections.
-    fn into_receipts(self) -> Vec<Vec<CallReceipt>> {
+    /// Takes connections in and waits until all have ended. Tells whether some connection was ended for want of memory.
+    fn serve_all(&self, listener: &TcpListener) -> bool {
+        self.connections.begin(&self.rt);
+        thread::scope(thread::scope_env(), &self.rt, |scope| {
+            self.take_all(scope, listener)
+        })
+    }
+
+    /// The receipts of all connections, by order of connection.
+    pub(crate) fn into_receipts(self) -> Vec<Vec<CallReceipt>> {
         let Server {
             rt: _,
             alloc: _,
             store: _,
-            keeps: _,
-            connected: _,
+            serving: _,
+            connections: _,
+            passes: _,
             receipts,
         } = self;
         receipts.into_inner()
     }
-
-    /// Serves so many connections, and waits until all have ended.
-    fn serve_all(&self, listener: &TcpListener, connections: u32) -> Ended {
-        thread::scope(thread::scope_env(), &self.rt, |scope| {
-            self.accept_all(scope, listener, connections)
-        })
-    }
 }
 
-/// All receipts, in order.
-fn joined(alloc: Global, parts: Vec<Vec<CallReceipt>>) -> Result<Vec<CallReceipt>, AllocError> {
-    let mut all = Vec::new(alloc);
-    for mut part in parts {
-        all.append(&mut part)?;
-    }
-    Ok(all)
-}
-
-/// Serves so many connections to a store, each on a thread of its own until the client ends it, and comes back once all
-/// have ended; with 0 it never does. Where the store keeps journals it gives the receipts of the calls, by order of
-/// connection and then of calls; else none.
+/// Serves the connections of a listener to a store, each on a thread of its own until the client ends it, at most as many
+/// at once as `connections` has places: one more is told `Refused(PendingFull)` and closed at once. It comes back once so
+/// many connections were made as `serving` says, or `connections` are to end, and all are over.
 ///
-/// `Io` where the listener fails for five seconds in which no connection is open.
-/// `Memory` where a connection found no thread or no room and was ended at once, or the receipts find none; all others were
-/// served.
-pub fn accept<R, C, G>(
+/// A listener that fails is asked again every 10 milliseconds until it gives a connection; those that are open are served
+/// meanwhile. A connection that finds no thread or no memory is ended at once, and the answer tells so.
+pub fn accept<'x, R, C, G>(
     rt: R,
     alloc: Global,
-    store: &Store<C, G>,
+    store: &'x Store<C, G>,
     listener: &TcpListener,
-    connections: u32,
-) -> Result<Vec<CallReceipt>, Refusal>
+    serving: Serving,
+    connections: &'x Connections,
+) -> Served
 where
     R: Threads + Wait + Clock + Copy + Drop + Send + Sync + 'static,
     C: Core + Send + 'static,
     G: Gate + Send + Sync + 'static,
-    ensures { IfErr result (λ e. (e ≡ Refusal.Memory) ⊎ (e ≡ Refusal.Io)) }
 {
-    let server = Server {
-        rt,
-        alloc,
-        store,
-        keeps: connections > 0 && store.has_journals(),
-        connected: AtomicU64::new(0),
-        receipts: Mutex::new(Vec::new(alloc)),
-    };
-    match server.serve_all(listener, connections) {
-        Ended::Served => Ok(joined(alloc, server.into_receipts())?),
-        Ended::Lacked => Err(Refusal::Memory),
-        Ended::Failed => Err(Refusal::Io),
+    let server = Server::new(rt, alloc, store, serving, connections);
+    let lacked = server.serve_all(listener);
+    connections.finish(&rt);
+    Served {
+        receipts: server.into_receipts(),
+        lacked,
     }
 }

@@ -1,21 +1,28 @@
 //! `ServedStore`: a store that runs, as the door of a connection calls it.
+ghost use Rattle.craq_server.specs.Status.{TellsStatus};
+
+use crate::passes::Passes;
 use crate::status::status_text;
-use craq_door::Callee;
+use craq_calls::pass_after;
+use craq_door::{Callee, Question};
 use craq_frames::Text;
+use craq_letters::Letterbox;
 use craq_model::{Answer, Ask};
-use craq_names::{NodeName, Pass, Refusal};
+use craq_names::{Copied, NodeName, Pass, Refusal};
 use craq_node::Core;
 use craq_seat::CallReceipt;
 use craq_workers::{Gate, Store};
 use std::alloc::{AllocError, Global};
-use std::sync::Wait;
+use std::sync::{Arc, Wait};
 
-/// A store that runs, as the door of a connection calls it.
+/// A store that runs, as the door of a connection calls it. An ask whose pass leaps too far (`Passes`) is refused
+/// (`Exhausted`) and asks no node.
 #[derive(Drop)]
 pub(crate) struct ServedStore<'a, R: Wait, C: Core, G: Gate> {
     pub(crate) rt: R,
     pub(crate) alloc: Global,
     pub(crate) store: &'a Store<C, G>,
+    pub(crate) passes: &'a Passes,
 }
 
 impl<'a, R, C, G> Callee for ServedStore<'a, R, C, G>
@@ -24,17 +31,61 @@ where
     C: Core,
     G: Gate,
 {
-    // Nothing is said of the texts of a running store's status.
-    ghost tells = { λ store text. Unit {0} };
+    ghost tells = { λ store text. TellsStatus text };
 
     fn call(&self, node: NodeName, pass: Pass, ask: Ask) -> Result<(Answer, CallReceipt), Refusal> {
+        if !self.passes.takes(pass) {
+            drop(ask);
+            return Err(Refusal::Exhausted);
+        }
         let mut client = self.store.client(pass)?;
-        client.call(&self.rt, node, ask)
+        let answered = client.call(&self.rt, node, ask)?;
+        self.passes.tell(client.pass());
+        Ok(answered)
     }
 
     fn status(&self) -> Result<Text, AllocError> {
         let chains = self.store.status(&self.rt)?;
         let text = status_text(self.alloc, chains.as_slice())?;
         Ok(Text::of(text))
+    }
+}
+
+impl<'a, R, C, G> ServedStore<'a, R, C, G>
+where
+    R: Wait + Drop,
+    C: Core,
+    G: Gate,
+{
+    /// The answer of a call is about to be told, with its client's pass after it.
+    pub(crate) fn told(&self, receipt: &CallReceipt) {
+        self.passes.tell(pass_after(receipt.pass(), receipt));
+    }
+
+    /// Makes a call without waiting: its receipt where it is in hand, or none, and then a letter with this token comes. A call
+    /// whose pass leaps too far is refused (`Exhausted`). `few` tells that the caller has few asks at hand.
+    pub(crate) fn submit(
+        &self,
+        question: &Question,
+        letters: &Arc<Letterbox>,
+        token: usize,
+        few: bool,
+    ) -> Result<Option<CallReceipt>, Refusal> {
+        let Question { node, pass, ask } = question;
+        if !self.passes.takes(*pass) {
+            return Err(Refusal::Exhausted);
+        }
+        let node = NodeName {
+            chain: node.chain,
+            node: node.node,
+        };
+        let ask = ask.copied(self.alloc)?;
+        let found = self
+            .store
+            .submit(&self.rt, node, ask, *pass, letters, token, few)?;
+        if let Some(receipt) = &found {
+            self.told(receipt);
+        }
+        Ok(found)
     }
 }

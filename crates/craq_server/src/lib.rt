@@ -4,8 +4,16 @@
 #![tactic(auto)]
 
 mod accepting;
+mod connections;
+mod crews;
 mod door;
+mod passes;
 mod status;
+mod turning;
 
-pub use accepting::accept;
+pub use accepting::{Served, Serving, accept};
+pub use connections::Connections;
+pub use crews::{Crowds, accept_by_threads};
+pub use passes::{MOST_LEAP, Passes, is_taken};
 pub use status::status_text;
+pub use turning::turn_away;

@@ -1,3 +1,4 @@
+//! `status_text`: the chains of a store and their members as JSON; for the door of a connection.
 ghost use Rattle.std.specs.Prelude.{◌≡◌, IfOk, map, string_bytes};
 ghost use Rattle.serde_json.specs.View.{view};
 ghost use Rattle.craq_server.specs.Status.{members_data, chain_data, status_data, status_text};

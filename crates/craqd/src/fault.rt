@@ -1,5 +1,6 @@
 //! Why `craqd` ends or serves nothing, with the text and the status of each reason.
 use clap::Error;
+use craq_names::Refusal;
 use std::alloc::{AllocError, AllocFailed};
 use std::io;
 use std::io::ErrorKind;
@@ -16,6 +17,9 @@ const NO_MEMORY: u8 = 3;
 /// The status where nothing can be listened to.
 const CANNOT_LISTEN: u8 = 4;
 
+/// The status where an audit was refused.
+const AUDIT_REFUSED: u8 = 5;
+
 /// Why nothing is served, or no more.
 #[derive(Debug, Drop)]
 pub enum Fault<'a> {
@@ -27,8 +31,10 @@ pub enum Fault<'a> {
     BadPlan,
     /// A growth was refused, or no thread can be made.
     Memory,
-    /// The address cannot be listened to, or the listener failed.
+    /// The address cannot be listened to.
     CannotListen,
+    /// An audit was refused.
+    AuditRefused(Refusal),
     /// The output takes no text.
     CannotPrint(io::Error),
 }
@@ -81,6 +87,11 @@ impl Fault<'_> {
             Fault::CannotListen => {
                 eprintln!(rt; "cannot listen")?;
                 Ok(CANNOT_LISTEN)
+            }
+            Fault::AuditRefused(refusal) => {
+                let number = refusal.number();
+                eprintln!(rt; "audit refused {number}")?;
+                Ok(AUDIT_REFUSED)
             }
             Fault::CannotPrint(error) => Err(error),
         }

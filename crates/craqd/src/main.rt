@@ -1,15 +1,18 @@
-//! The program: `craqd [--journal] [--connections N] PLAN ADDRESS`.
+//! The program: `craqd [OPTION ..] PLAN ADDRESS`.
 #![tactic(auto)]
 
 mod audits;
+mod closing;
 mod fault;
 mod plans;
 mod serving;
+mod telling;
+mod ways;
 
 use craq_line::Line;
 use fault::Fault;
 use std::env::Env;
-use std::io::ErrorKind;
+use std::io::{ErrorKind, Input, StdinLock};
 use std::net::{Net, TcpListener, TcpStream};
 use std::process::ExitCode;
 use std::rt::Files;
@@ -21,8 +24,9 @@ use std::{env, io};
 /// Serves as the words of a command line ask for.
 fn run_words<'a, R>(rt: R, words: &'a [&'a str]) -> Result<(), Fault<'a>>
 where
-    R: AllocGlobal + Files + Print + Clock + Threads + Wait + Copy + Drop + Send + Sync + 'static,
-    R: Net<Listener = TcpListener, Stream = TcpStream>,
+    R: AllocGlobal + Files + Input<Reader = StdinLock<'static>> + Print + Eprint + Clock,
+    R: Threads + Wait + Copy,
+    R: Drop + Send + Sync + 'static + Net<Listener = TcpListener, Stream = TcpStream>,
 {
     let line = Line::read(rt.alloc(), words)?;
     serving::serve_line(rt, &line)
@@ -42,6 +46,7 @@ fn run_texts<R>(rt: R, words: &[String]) -> io::Result<u8>
 where
     R: AllocGlobal
         + Files
+        + Input<Reader = StdinLock<'static>>
         + Print
         + Eprint
         + Clock
@@ -66,6 +71,7 @@ fn report<'a, R>(rt: R, words: &'a [&'a str]) -> io::Result<u8>
 where
     R: AllocGlobal
         + Files
+        + Input<Reader = StdinLock<'static>>
         + Print
         + Eprint
         + Clock
@@ -87,7 +93,8 @@ where
 /// Does what the command line asks for, where its words are text. Gives the status.
 fn run<R>(rt: R) -> io::Result<u8>
 where
-    R: AllocGlobal + Env + Files + Print + Eprint + Clock + Threads + Wait,
+    R: AllocGlobal + Env + Files + Input<Reader = StdinLock<'static>> + Print + Eprint + Clock,
+    R: Threads + Wait,
     R: Net<Listener = TcpListener, Stream = TcpStream> + Copy + Drop + Send + Sync + 'static,
 {
     match words_of(&rt) {

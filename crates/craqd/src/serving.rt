@@ -1,20 +1,22 @@
 //! A store started, listened for, ticked and served, as a command line asks for; called by `main`.
 use crate::audits::print_audits;
+use crate::closing::{wake, watch_input};
 use crate::fault::Fault;
 use crate::plans::plan_of;
+use crate::telling::tell_serving;
+use crate::ways::{accept_as_asked, crowds_of};
 use craq_line::Line;
 use craq_list::ListCore;
-use craq_names::Refusal;
-use craq_seat::CallReceipt;
-use craq_server::accept;
+use craq_server::{Connections, Crowds, Served as Accepted, Serving};
 use craq_workers::{OpenGate, Store};
-use std::io::ErrorKind;
-use std::net::{Net, TcpListener, TcpStream};
+use std::alloc::AllocError;
+use std::io::{ErrorKind, Input, StdinLock};
+use std::net::{Net, SocketAddr, TcpListener, TcpStream};
 use std::rt::Files;
-use std::sync::Wait;
 use std::sync::atomic::{AtomicBool, Ordering};
+use std::sync::{Arc, Mutex, Wait};
 use std::thread;
-use std::thread::Threads;
+use std::thread::{Scope, Threads};
 use std::time::{Clock, Duration};
 
 /// The stores that are served.
@@ -36,10 +38,7 @@ where
 }
 
 /// Prints at which port clients can connect.
-fn print_port<'a, R: Print>(rt: &R, listener: &TcpListener) -> Result<(), Fault<'a>> {
-    let Ok(address) = listener.local_addr() else {
-        return Err(Fault::CannotListen);
-    };
+fn print_port<'a, R: Print>(rt: &R, address: SocketAddr) -> Result<(), Fault<'a>> {
     let port = address.port();
     match println!(rt; "listening {port}") {
         Ok(()) => Ok(()),
@@ -47,66 +46,160 @@ fn print_port<'a, R: Print>(rt: &R, listener: &TcpListener) -> Result<(), Fault<
     }
 }
 
-/// Ticks a store until that is over.
-fn tick<R: Clock + Wait>(rt: &R, store: &Served, over: &AtomicBool) {
-    for _ in rt.forever() {
-        if over.load(Ordering::SeqCst) {
-            break;
-        }
-        store.tick(rt);
-        thread::sleep(rt, Duration::from_millis(TICK_MILLISECONDS));
-    }
+/// A store that is served, and where and how.
+#[derive(Drop)]
+struct Service<'s, R: Wait> {
+    rt: R,
+    store: &'s Served,
+    listener: &'s TcpListener,
+    address: SocketAddr,
+    serving: Serving,
+    connections: &'s Connections,
+    /// What the threads need that serve all connections, until these begin; none where each connection has a thread.
+    crowds: Mutex<Option<Crowds>>,
+    /// Whether the server is over.
+    over: AtomicBool,
 }
 
-/// Serves connections to a store that is ticked meanwhile.
-fn accept_ticked<R>(
-    rt: R,
-    store: &Served,
-    listener: &TcpListener,
-    connections: u32,
-) -> Result<Vec<CallReceipt>, Refusal>
+impl<R> Service<'_, R>
 where
     R: AllocGlobal + Clock + Threads + Wait + Copy + Drop + Send + Sync + 'static,
 {
-    let over = AtomicBool::new(false);
-    let ending = &over;
-    thread::scope(thread::scope_env(), &rt, |scope| {
-        if scope.spawn(move || tick(&rt, store, ending)).is_err() {
-            return Err(Refusal::Memory);
+    /// Ticks the store until the server is over.
+    fn tick(&self) {
+        for _ in self.rt.forever() {
+            if self.over.load(Ordering::SeqCst) {
+                break;
+            }
+            self.store.tick(&self.rt);
+            thread::sleep(&self.rt, Duration::from_millis(TICK_MILLISECONDS));
         }
-        let served = accept(rt, rt.alloc(), store, listener, connections);
-        ending.store(true, Ordering::SeqCst);
-        served
-    })
+    }
+
+    /// Serves the connections until the server is to end and all are over. It fails where a thread cannot be made, or what it
+    /// needs, and then no connection was taken.
+    fn accept(&self) -> Result<Accepted, AllocError> {
+        let crowds = self.crowds.lock(&self.rt).take();
+        accept_as_asked(
+            self.rt,
+            self.store,
+            self.listener,
+            self.serving,
+            self.connections,
+            crowds,
+        )
+    }
+
+    /// Prints at which port clients can connect, once all that the server needs has been made, and waits until it is to end.
+    /// Where nothing can be printed it ends at once.
+    fn follow<'a>(&self) -> Result<(), Fault<'a>>
+    where
+        R: Print + Net<Listener = TcpListener, Stream = TcpStream>,
+    {
+        if !self.connections.wait_for_begin(&self.rt) {
+            return Ok(());
+        }
+        let printed = print_port(&self.rt, self.address);
+        if printed.is_err() {
+            self.connections.end(&self.rt);
+            self.connections.cut(&self.rt);
+        }
+        self.connections.wait_for_end(&self.rt);
+        if self.connections.is_ending(&self.rt) {
+            wake(&self.rt, self.address);
+        }
+        printed
+    }
+
+    /// Serves the connections on a thread of their own, while the store is ticked on another, until all are over.
+    fn run<'a, 'e, E>(&'e self, scope: &Scope<'e, E>) -> Result<Accepted, Fault<'a>>
+    where
+        R: Print + Net<Listener = TcpListener, Stream = TcpStream>,
+    {
+        if scope.spawn(move || self.tick()).is_err() {
+            return Err(Fault::Memory);
+        }
+        let Ok(accepting) = scope.spawn(move || self.accept()) else {
+            self.over.store(true, Ordering::SeqCst);
+            return Err(Fault::Memory);
+        };
+        let followed = self.follow();
+        let accepted = accepting.join(&self.rt);
+        self.over.store(true, Ordering::SeqCst);
+        followed?;
+        Ok(accepted?)
+    }
 }
 
-/// Serves connections to a store, and prints what its audits find where it keeps journals.
-fn serve_listener<'a, R>(
-    rt: R,
-    store: &Served,
-    listener: &TcpListener,
-    connections: u32,
-) -> Result<(), Fault<'a>>
+impl<R> Service<'_, R>
 where
     R: AllocGlobal + Print + Clock + Threads + Wait + Copy + Drop + Send + Sync + 'static,
+    R: Net<Listener = TcpListener, Stream = TcpStream>,
 {
-    match accept_ticked(rt, store, listener, connections) {
-        Ok(receipts) if store.has_journals() => print_audits(&rt, store, receipts),
-        Ok(_) => Ok(()),
-        Err(Refusal::Memory) => Err(Fault::Memory),
-        Err(_) => Err(Fault::CannotListen),
+    /// Serves the connections while the store is ticked, until all of them and both threads are over.
+    fn serve<'a>(&self) -> Result<Accepted, Fault<'a>> {
+        thread::scope(thread::scope_env(), &self.rt, |scope| self.run(scope))
     }
+}
+
+/// Prints what the audits of a store with journals find. `Memory` where some connection was ended at once for want of it.
+fn finish<'a, R>(rt: &R, store: &Served, accepted: Accepted) -> Result<(), Fault<'a>>
+where
+    R: AllocGlobal + Print + Wait,
+{
+    let Accepted { receipts, lacked } = accepted;
+    if store.has_journals() {
+        print_audits(rt, store, receipts)?;
+    }
+    if lacked {
+        return Err(Fault::Memory);
+    }
+    Ok(())
 }
 
 /// Listens as a command line asks for, and serves the connections to a store.
 fn serve_store<'a, R>(rt: R, store: &Served, line: &Line<'a>) -> Result<(), Fault<'a>>
 where
-    R: AllocGlobal + Print + Clock + Threads + Wait + Copy + Drop + Send + Sync + 'static,
+    R: AllocGlobal
+        + Input<Reader = StdinLock<'static>>
+        + Print
+        + Eprint
+        + Clock
+        + Threads
+        + Wait
+        + Copy
+        + Drop
+        + Send
+        + Sync
+        + 'static,
     R: Net<Listener = TcpListener, Stream = TcpStream>,
 {
+    let connections = Arc::new(rt.alloc(), Connections::new(rt.alloc(), line.most)?)?;
     let listener = listen(&rt, line.address)?;
-    print_port(&rt, &listener)?;
-    serve_listener(rt, store, &listener, line.connections)
+    let Ok(address) = listener.local_addr() else {
+        return Err(Fault::CannotListen);
+    };
+    if line.until_input_ends {
+        watch_input(rt, &connections)?;
+    }
+    tell_serving(&rt, store, line, &listener)?;
+    let serving = Serving {
+        keeps: line.journal,
+        connections: line.connections,
+        idle: line.idle,
+    };
+    let service = Service {
+        rt,
+        store,
+        listener: &listener,
+        address,
+        serving,
+        connections: &connections,
+        crowds: Mutex::new(crowds_of(&rt, serving, line.threads)?),
+        over: AtomicBool::new(false),
+    };
+    let accepted = service.serve()?;
+    finish(&rt, store, accepted)
 }
 
 /// A store of the chains of a plan file.
@@ -115,7 +208,10 @@ where
     R: AllocGlobal + Files + Threads + Wait + Copy + Send + 'static,
 {
     let plan = plan_of(&rt, line.plan)?;
-    let gate = OpenGate { in_place: true };
+    let gate = OpenGate {
+        in_place: true,
+        carried: line.threads > 0,
+    };
     match Store::start(rt, rt.alloc(), &plan, gate, line.journal) {
         Ok(store) => Ok(store),
         Err(_) => Err(Fault::Memory),
@@ -125,8 +221,9 @@ where
 /// Serves as a command line asks for.
 pub fn serve_line<'a, R>(rt: R, line: &Line<'a>) -> Result<(), Fault<'a>>
 where
-    R: AllocGlobal + Files + Print + Clock + Threads + Wait + Copy + Drop + Send + Sync + 'static,
-    R: Net<Listener = TcpListener, Stream = TcpStream>,
+    R: AllocGlobal + Files + Input<Reader = StdinLock<'static>> + Print + Eprint + Clock,
+    R: Threads + Wait + Copy,
+    R: Drop + Send + Sync + 'static + Net<Listener = TcpListener, Stream = TcpStream>,
 {
     let store = store_of(rt, line)?;
     let served = serve_store(rt, &store, line);

@@ -1,0 +1,280 @@
+//! `Crowd`: the connections of a thread and the loop over them: it takes what came, steps each connection that has something
+//! to do, and sleeps where none has.
+use crate::connection::Connection;
+use crate::host::{Arrival, Host};
+use craq_letters::{Letter, Reply};
+use mio::event::Events;
+use mio::{Poll, Registry, Token, Waker};
+use slab::Slab;
+use std::alloc::{AllocError, Global};
+use std::mem;
+use std::net::Net;
+use std::sync::Wait;
+use std::time::Duration;
+
+/// The token under which a thread is woken.
+const WAKER: Token = Token(usize::MAX);
+
+/// The most bytes that are read at once.
+const MOST_AT_ONCE: usize = 65_536;
+
+/// The most connections whose readiness is told at once.
+const MOST_EVENTS: usize = 256;
+
+/// So many connections that have something to do at once are few.
+const FEW: usize = 2;
+
+/// The connections of a thread.
+#[derive(Drop)]
+struct Members {
+    alloc: Global,
+    connections: Slab<Connection>,
+    /// The connections that have something to do, each once.
+    busy: Vec<usize>,
+    /// Those of them that have something left to do after their turn.
+    later: Vec<usize>,
+    /// The letters that came.
+    letters: Vec<Letter>,
+    /// What one read brings.
+    chunk: Vec<u8>,
+    /// Whether the receipts of calls are kept.
+    keeps: bool,
+    /// After how many seconds without a byte a connection is over; 0 where it is not.
+    idle: u64,
+    /// The host's seconds as the turn began, where they matter.
+    now: u64,
+}
+
+impl Members {
+    /// No connections. It fails for want of memory alone.
+    fn new(alloc: Global, keeps: bool, idle: u32) -> Result<Self, AllocError> {
+        let mut chunk = Vec::new(alloc);
+        chunk.resize(MOST_AT_ONCE, 0u8)?;
+        Ok(Members {
+            alloc,
+            connections: Slab::new(alloc),
+            busy: Vec::new(alloc),
+            later: Vec::new(alloc),
+            letters: Vec::new(alloc),
+            chunk,
+            keeps,
+            idle: u64::from(idle),
+            now: 0,
+        })
+    }
+
+    /// A connection has something to do.
+    fn wake(&mut self, token: usize) {
+        if let Some(connection) = self.connections.get_mut(token) {
+            // There is room for the token of each connection.
+            if connection.is_newly_busy() {
+                let _ = self.busy.push(token);
+            }
+        }
+    }
+
+    /// A connection is taken in, with room for its token in both lists.
+    fn take_in(&mut self, registry: &Registry, arrival: Arrival) -> Result<(), AllocError> {
+        let count = self.connections.len().saturating_add(1);
+        self.busy.reserve(count)?;
+        self.later.reserve(count)?;
+        self.connections.reserve(1)?;
+        let token = self.connections.vacant_key();
+        let Ok(connection) = Connection::open(
+            self.alloc,
+            registry,
+            Token(token),
+            arrival,
+            self.keeps,
+            self.now,
+        ) else {
+            return Err(AllocError);
+        };
+        let token = self.connections.insert_reserved(connection);
+        self.wake(token);
+        Ok(())
+    }
+
+    /// The connections that came are taken in. One for which there is no room ends at once.
+    fn take_arrivals<H: Host>(&mut self, registry: &Registry, host: &H) {
+        for _ in 0..usize::MAX {
+            let Some(arrival) = host.arrival() else {
+                break;
+            };
+            let place = arrival.place;
+            let receipts = arrival.receipts;
+            if self.take_in(registry, arrival).is_err() {
+                host.ended(place, receipts, Vec::new(self.alloc));
+            }
+        }
+    }
+
+    /// The letters that came are the outcomes of their connections' calls.
+    fn take_letters<H: Host>(&mut self, host: &H) {
+        host.take_letters(&mut self.letters);
+        for _ in 0..self.letters.len() {
+            let Some(letter) = self.letters.pop() else {
+                break;
+            };
+            let Letter { token, reply } = letter;
+            self.deliver(token, reply);
+        }
+    }
+
+    /// A connection's call came back.
+    fn deliver(&mut self, token: usize, reply: Reply) {
+        if let Some(connection) = self.connections.get_mut(token) {
+            connection.answer(self.alloc, reply);
+        }
+        self.wake(token);
+    }
+
+    /// What is told of readiness.
+    fn notice(&mut self, events: &Events) {
+        for event in events.iter() {
+            let Token(token) = event.token();
+            if let Some(connection) = self.connections.get_mut(token) {
+                connection.notice(event);
+            }
+            self.wake(token);
+        }
+    }
+
+    /// A connection takes its steps. It is let go once it is done.
+    fn step<H: Host>(&mut self, registry: &Registry, host: &H, token: usize, few: bool) {
+        let Some(connection) = self.connections.get_mut(token) else {
+            return;
+        };
+        connection.step(
+            self.alloc,
+            host,
+            token,
+            few,
+            self.now,
+            self.chunk.as_mut_slice(),
+        );
+        if connection.is_done() {
+            self.let_go(registry, host, token);
+        } else if connection.stays_busy() {
+            let _ = self.later.push(token);
+        }
+    }
+
+    /// A connection has ended.
+    fn let_go<H: Host>(&mut self, registry: &Registry, host: &H, token: usize) {
+        if let Some(connection) = self.connections.try_remove(token) {
+            connection.close(registry, host);
+        }
+    }
+
+    /// Each connection that has something to do takes its steps once.
+    fn step_all<H: Host>(&mut self, registry: &Registry, host: &H) {
+        let few = self.busy.len() <= FEW;
+        for _ in 0..self.busy.len() {
+            let Some(token) = self.busy.pop() else {
+                break;
+            };
+            self.step(registry, host, token, few);
+        }
+        mem::swap(&mut self.busy, &mut self.later);
+    }
+
+    /// Once a second the connections that were left idle are over.
+    fn look_for_idle(&mut self, now: u64) {
+        if now == self.now {
+            return;
+        }
+        self.now = now;
+        for token in 0..self.connections.capacity() {
+            let is_left = match self.connections.get_mut(token) {
+                Some(connection) => connection.is_left(now, self.idle),
+                None => false,
+            };
+            if is_left {
+                self.wake(token);
+            }
+        }
+    }
+
+    /// What came is taken, and each connection that has something to do takes its steps.
+    fn round<H: Host>(&mut self, registry: &Registry, host: &H) {
+        // Letters first: what is told from then on keeps the thread awake, so no arrival is left behind.
+        self.take_letters(host);
+        self.take_arrivals(registry, host);
+        self.step_all(registry, host);
+    }
+
+    /// A round, and another one, for the replies that came to what was asked in the first: they are written before the next
+    /// look at readiness.
+    fn turn<H: Host>(&mut self, registry: &Registry, host: &H) {
+        if self.idle > 0 {
+            self.look_for_idle(host.seconds());
+        }
+        self.round(registry, host);
+        self.round(registry, host);
+    }
+
+    /// How long to wait for readiness: not at all where something is left to do or something came meanwhile, and
+    /// at most a second where idle connections are looked for.
+    fn pause<H: Host>(&self, host: &H) -> Option<Duration> {
+        if !self.busy.is_empty() || !host.may_sleep() {
+            Some(Duration::from_millis(0))
+        } else if self.idle > 0 {
+            Some(Duration::from_millis(1_000))
+        } else {
+            None
+        }
+    }
+}
+
+/// A thread's connections and what tells of their readiness.
+#[derive(Drop)]
+pub struct Crowd {
+    poll: Poll,
+    events: Events,
+    members: Members,
+}
+
+impl Crowd {
+    /// No connections, whose calls' receipts will be kept or not, and which are over after so many seconds without a byte (0:
+    /// which are not). It fails for want of memory, or where the system gives no
+    /// more descriptors.
+    pub fn new(net: &impl Net, alloc: Global, keeps: bool, idle: u32) -> Result<Self, AllocError> {
+        let Ok(poll) = Poll::new(net) else {
+            return Err(AllocError);
+        };
+        Ok(Crowd {
+            poll,
+            events: Events::with_capacity(alloc, MOST_EVENTS)?,
+            members: Members::new(alloc, keeps, idle)?,
+        })
+    }
+
+    /// What wakes the thread. It fails where the system gives no more descriptors.
+    pub fn waker(&self) -> Result<Waker, AllocError> {
+        match Waker::new(self.poll.registry(), WAKER) {
+            Ok(waker) => Ok(waker),
+            Err(_) => Err(AllocError),
+        }
+    }
+
+    /// Serves the connections that come, until no more of them come and all have ended: it takes what came, steps each
+    /// connection that has something to do, and sleeps where none has.
+    pub fn attend<R: Wait, H: Host>(self, rt: &R, host: &H) {
+        let Crowd {
+            mut poll,
+            mut events,
+            mut members,
+        } = self;
+        for _ in rt.forever() {
+            members.turn(poll.registry(), host);
+            if members.connections.is_empty() && host.is_over() {
+                break;
+            }
+            let pause = members.pause(host);
+            // A wait that fails tells of no event, and the next turn waits again.
+            let _ = poll.poll(&mut events, pause);
+            members.notice(&events);
+        }
+    }
+}

@@ -1,0 +1,48 @@
+//! `Host`: what a thread of connections reaches, a store that is asked without waiting, and where its connections come from.
+use craq_door::{Callee, Question};
+use craq_letters::Letter;
+use craq_names::Refusal;
+use craq_seat::CallReceipt;
+use std::net::TcpStream;
+use std::sync::Arc;
+
+/// A connection that came to a thread.
+#[derive(Drop)]
+pub struct Arrival {
+    pub stream: Arc<TcpStream>,
+    /// Its place among the connections that are open.
+    pub place: usize,
+    /// Where the receipts of its calls go once it has ended.
+    pub receipts: usize,
+}
+
+/// What a thread of connections reaches.
+pub trait Host: Callee {
+    /// Makes the call of a question. `Some`: its receipt. `None`: a letter with this token will come, and no other call may
+    /// have that token until then. Refused as the store refuses the call, and then no letter comes. `few` tells that few
+    /// connections have something to do just now.
+    fn submit(
+        &self,
+        question: &Question,
+        token: usize,
+        few: bool,
+    ) -> Result<Option<CallReceipt>, Refusal>;
+
+    /// The letters that have come go to the end of these.
+    fn take_letters(&self, into: &mut Vec<Letter>);
+
+    /// The next connection that came to this thread.
+    fn arrival(&self) -> Option<Arrival>;
+
+    /// Whether no connection will come any more.
+    fn is_over(&self) -> bool;
+
+    /// Whether nothing came since the last look, so that the thread may sleep; the next letter or connection then wakes it.
+    fn may_sleep(&self) -> bool;
+
+    /// The seconds since some moment. They never go back.
+    fn seconds(&self) -> u64;
+
+    /// A connection of this place has ended, and these are the receipts of its calls, where they are kept.
+    fn ended(&self, place: usize, receipts: usize, calls: Vec<CallReceipt>);
+}

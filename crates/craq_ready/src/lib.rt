@@ -1,0 +1,11 @@
+//! Threads that serve many connections each: a loop over readiness that takes the steps of the conversations whose
+//! bytes came. What it serves is behind the trait `Host`.
+//! Code that runs in the programs.
+#![tactic(auto)]
+
+mod connection;
+mod crowd;
+mod host;
+
+pub use crowd::Crowd;
+pub use host::{Arrival, Host};

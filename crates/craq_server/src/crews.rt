@@ -1,0 +1,339 @@
+//! `accept_by_threads`: the connections of a listener served by a few threads, each of which serves many.
+use crate::accepting::{Served, Server, Serving};
+use crate::connections::Connections;
+use crate::door::ServedStore;
+use crate::turning::turn_away;
+use craq_door::{Callee, Question};
+use craq_frames::Text;
+use craq_letters::{Letter, Letterbox};
+use craq_model::{Answer, Ask};
+use craq_names::{NodeName, Pass, Refusal};
+use craq_node::Core;
+use craq_ready::{Arrival, Crowd, Host};
+use craq_seat::CallReceipt;
+use craq_workers::{Gate, Store};
+use std::alloc::{AllocError, Global};
+use std::net::{Net, TcpListener, TcpStream};
+use std::sync::atomic::{AtomicBool, Ordering};
+use std::sync::{Arc, Mutex, Wait};
+use std::thread;
+use std::thread::{Scope, Threads};
+use std::time::Clock;
+
+/// What one thread of connections reaches.
+#[derive(Drop)]
+struct Crew<'s, 'a, R: Wait, C: Core, G: Gate> {
+    server: &'s Server<'a, R, C, G>,
+    callee: ServedStore<'s, R, C, G>,
+    letters: Arc<Letterbox>,
+    /// The connections that were handed to the thread, and that it has not taken in.
+    inbox: Mutex<Vec<Arrival>>,
+    /// Whether no more are handed to it.
+    over: AtomicBool,
+    /// The thread's connections, until it begins.
+    crowd: Mutex<Option<Crowd>>,
+}
+
+impl<'s, 'a, R, C, G> Callee for Crew<'s, 'a, R, C, G>
+where
+    R: Threads + Wait + Clock + Copy + Drop + Send + Sync + 'static,
+    C: Core + Send + 'static,
+    G: Gate + Send + Sync + 'static,
+{
+    ghost use Rattle.craq_server.specs.Status.{TellsStatus};
+
+    ghost tells = { λ crew text. TellsStatus text };
+
+    fn call(&self, node: NodeName, pass: Pass, ask: Ask) -> Result<(Answer, CallReceipt), Refusal> {
+        self.callee.call(node, pass, ask)
+    }
+
+    fn status(&self) -> Result<Text, AllocError> {
+        self.callee.status()
+    }
+}
+
+impl<'s, 'a, R, C, G> Host for Crew<'s, 'a, R, C, G>
+where
+    R: Threads + Wait + Clock + Copy + Drop + Send + Sync + 'static,
+    C: Core + Send + 'static,
+    G: Gate + Send + Sync + 'static,
+{
+    fn submit(
+        &self,
+        question: &Question,
+        token: usize,
+        few: bool,
+    ) -> Result<Option<CallReceipt>, Refusal> {
+        self.callee.submit(question, &self.letters, token, few)
+    }
+
+    fn take_letters(&self, into: &mut Vec<Letter>) {
+        self.letters.take(&self.server.rt, into);
+        for letter in into.iter() {
+            if let Ok(receipt) = &letter.reply {
+                self.callee.told(receipt);
+            }
+        }
+    }
+
+    fn arrival(&self) -> Option<Arrival> {
+        self.inbox.lock(&self.server.rt).pop()
+    }
+
+    fn is_over(&self) -> bool {
+        self.over.load(Ordering::SeqCst) && self.inbox.lock(&self.server.rt).is_empty()
+    }
+
+    fn may_sleep(&self) -> bool {
+        self.letters.may_sleep(&self.server.rt)
+    }
+
+    fn seconds(&self) -> u64 {
+        match self.server.rt.monotonic() {
+            Ok(time) => time.as_secs(),
+            Err(_) => 0,
+        }
+    }
+
+    fn ended(&self, place: usize, receipts: usize, calls: Vec<CallReceipt>) {
+        if let Some(kept) = self.server.receipts.lock(&self.server.rt).get_mut(receipts) {
+            *kept = calls;
+        }
+        self.server.connections.leave(&self.server.rt, place);
+    }
+}
+
+impl<'s, 'a, R, C, G> Crew<'s, 'a, R, C, G>
+where
+    R: Threads + Wait + Clock + Copy + Drop + Send + Sync + 'static,
+    C: Core + Send + 'static,
+    G: Gate + Send + Sync + 'static,
+{
+    /// What a thread reaches that is woken as this crowd is. It fails for want of memory, or where the system refuses it.
+    fn new(server: &'s Server<'a, R, C, G>, crowd: Crowd) -> Result<Self, AllocError> {
+        let letters = Letterbox::new(server.alloc, Some(crowd.waker()?));
+        Ok(Crew {
+            server,
+            callee: server.callee(),
+            letters: Arc::new(server.alloc, letters)?,
+            inbox: Mutex::new(Vec::new(server.alloc)),
+            over: AtomicBool::new(false),
+            crowd: Mutex::new(Some(crowd)),
+        })
+    }
+
+    /// A connection is handed to the thread.
+    fn hand(&self, stream: Arc<TcpStream>, place: usize) -> Result<(), AllocError> {
+        let receipts = self.server.new_receipts()?;
+        let arrival = Arrival {
+            stream,
+            place,
+            receipts,
+        };
+        self.inbox.lock(&self.server.rt).push(arrival)?;
+        self.letters.nudge(&self.server.rt);
+        Ok(())
+    }
+
+    /// A connection is handed to the thread where there is a place; else it is turned away. It ends at once where there is
+    /// no memory.
+    fn take_in(&self, stream: TcpStream) -> Result<(), AllocError> {
+        let connections = self.server.connections;
+        let stream = Arc::new(self.server.alloc, stream)?;
+        let shared = Arc::try_clone(&stream)?;
+        let Some(place) = connections.enter(&self.server.rt, shared) else {
+            let _ = turn_away(self.server.alloc, &mut &*stream);
+            return Ok(());
+        };
+        let handed = self.hand(stream, place);
+        if handed.is_err() {
+            connections.leave(&self.server.rt, place);
+        } else if connections.is_ending(&self.server.rt) {
+            connections.end(&self.server.rt);
+        }
+        handed
+    }
+
+    /// No more connections are handed to the thread.
+    fn end(&self) {
+        self.over.store(true, Ordering::SeqCst);
+        self.letters.nudge(&self.server.rt);
+    }
+}
+
+/// Hands out so many connections, or without end where that is 0, to the threads in turn, until the server is to end; none
+/// where the threads did not begin. Tells whether some connection was ended for want of memory.
+fn deal<'s, 'a, R, C, G>(
+    server: &'s Server<'a, R, C, G>,
+    crews: &[Crew<'s, 'a, R, C, G>],
+    listener: &TcpListener,
+    begun: bool,
+) -> bool
+where
+    R: Threads + Wait + Clock + Copy + Drop + Send + Sync + 'static,
+    C: Core + Send + 'static,
+    G: Gate + Send + Sync + 'static,
+{
+    let mut left = server.serving.connections;
+    let mut lacked = false;
+    let mut turn = 0usize;
+    for _ in server.rt.forever() {
+        if !begun {
+            break;
+        }
+        let Some(stream) = server.next_connection(listener) else {
+            break;
+        };
+        if turn >= crews.len() {
+            turn = 0;
+        }
+        if let Some(crew) = crews.get(turn) {
+            lacked = crew.take_in(stream).is_err() || lacked;
+        }
+        turn = turn.saturating_add(1);
+        if left == 1 {
+            break;
+        }
+        left = left.saturating_sub(1);
+    }
+    lacked
+}
+
+/// What threads need that each serve many connections: one crowd a thread.
+#[derive(Drop)]
+pub struct Crowds {
+    all: Vec<Crowd>,
+}
+
+impl Crowds {
+    /// What so many threads need, whose connections are served as `serving` says. It fails for want of memory, or where the
+    /// system refuses it.
+    pub fn new(
+        net: &impl Net,
+        alloc: Global,
+        serving: Serving,
+        threads: u32,
+    ) -> Result<Self, AllocError> {
+        let mut all = Vec::new(alloc);
+        for _ in 0..threads {
+            all.push(Crowd::new(net, alloc, serving.keeps, serving.idle)?)?;
+        }
+        Ok(Crowds { all })
+    }
+}
+
+/// Serves the connections of a listener as `accept` does, but by one thread for each of some crowds, which serves many
+/// connections: one after another they are handed to the threads in turn. It fails where a thread cannot be made, or what it
+/// needs, and then no connection was taken.
+pub fn accept_by_threads<'x, R, C, G>(
+    rt: R,
+    alloc: Global,
+    store: &'x Store<C, G>,
+    listener: &TcpListener,
+    serving: Serving,
+    connections: &'x Connections,
+    crowds: Crowds,
+) -> Result<Served, AllocError>
+where
+    R: Threads + Wait + Clock + Copy + Drop + Send + Sync + 'static,
+    C: Core + Send + 'static,
+    G: Gate + Send + Sync + 'static,
+{
+    let server = Server::new(rt, alloc, store, serving, connections);
+    let served = serve_by_threads(&server, listener, crowds);
+    connections.finish(&rt);
+    Ok(Served {
+        lacked: served?,
+        receipts: server.into_receipts(),
+    })
+}
+
+/// The threads of connections of a server.
+#[derive(Drop)]
+struct Crews<'s, 'a, R: Wait, C: Core, G: Gate> {
+    server: &'s Server<'a, R, C, G>,
+    all: Vec<Crew<'s, 'a, R, C, G>>,
+}
+
+impl<'s, 'a, R, C, G> Crew<'s, 'a, R, C, G>
+where
+    R: Threads + Wait + Clock + Copy + Drop + Send + Sync + 'static,
+    C: Core + Send + 'static,
+    G: Gate + Send + Sync + 'static,
+{
+    /// Serves the connections of the thread until no more come and all have ended.
+    fn attend(&self) {
+        let crowd = self.crowd.lock(&self.server.rt).take();
+        if let Some(crowd) = crowd {
+            crowd.attend(&self.server.rt, self);
+        }
+    }
+
+    /// The thread begins to serve. It fails where there is no thread.
+    fn begin<'e, E>(&'e self, scope: &Scope<'e, E>) -> Result<(), AllocError> {
+        let thread = scope.spawn(move || self.attend())?;
+        drop(thread);
+        Ok(())
+    }
+}
+
+impl<'s, 'a, R, C, G> Crews<'s, 'a, R, C, G>
+where
+    R: Threads + Wait + Clock + Copy + Drop + Send + Sync + 'static,
+    C: Core + Send + 'static,
+    G: Gate + Send + Sync + 'static,
+{
+    /// All threads begin, as far as there are threads. Tells whether all did.
+    fn begin_all<'e, E>(&'e self, scope: &Scope<'e, E>) -> bool {
+        let mut begun = true;
+        for crew in self.all.as_slice() {
+            begun = crew.begin(scope).is_ok() && begun;
+        }
+        begun
+    }
+
+    /// The threads begin, serve and are told to end: whether some connection was ended for want of memory. It fails where
+    /// some thread did not begin, and then no connection was taken.
+    fn serve<'e, E>(
+        &'e self,
+        scope: &Scope<'e, E>,
+        listener: &TcpListener,
+    ) -> Result<bool, AllocError> {
+        let begun = self.begin_all(scope);
+        if begun {
+            self.server.connections.begin(&self.server.rt);
+        }
+        let lacked = deal(self.server, self.all.as_slice(), listener, begun);
+        for crew in self.all.as_slice() {
+            crew.end();
+        }
+        if begun { Ok(lacked) } else { Err(AllocError) }
+    }
+
+    /// The same, until all threads have ended.
+    fn serve_all(&self, listener: &TcpListener) -> Result<bool, AllocError> {
+        thread::scope(thread::scope_env(), &self.server.rt, |scope| {
+            self.serve(scope, listener)
+        })
+    }
+}
+
+/// The threads begin, serve and end.
+fn serve_by_threads<'a, R, C, G>(
+    server: &Server<'a, R, C, G>,
+    listener: &TcpListener,
+    crowds: Crowds,
+) -> Result<bool, AllocError>
+where
+    R: Threads + Wait + Clock + Copy + Drop + Send + Sync + 'static,
+    C: Core + Send + 'static,
+    G: Gate + Send + Sync + 'static,
+{
+    let mut all = Vec::new(server.alloc);
+    for crowd in crowds.all {
+        all.push(Crew::new(server, crowd)?)?;
+    }
+    let crews = Crews { server, all };
+    crews.serve_all(listener)
+}

@@ -1,0 +1,60 @@
+//! `Passes`: which passes a server takes, by the largest that it told; shared by the doors of its connections.
+ghost use Rattle.std.specs.Prelude.{◌+◌, ◌≤◌, ◌↔◌, IsTrue};
+
+use craq_names::{Pass, Stamp};
+use std::sync::atomic::{AtomicU64, Ordering};
+
+/// How far above the largest pass that is known to be told a pass may stand.
+pub const MOST_LEAP: u64 = 1_048_576;
+
+/// How far above what is known a pass may be told before it is made known.
+const MOST_LAG: u64 = 524_288;
+
+/// Whether a pass is taken, where `told` is the largest that is known to be told: where it is at most 1,048,576 above. A
+/// node counts on from a pass that it is shown, so one that is taken brings it at most so far.
+pub fn is_taken(told: Pass, shown: Pass) -> bool
+    ensures { IsTrue result ↔ (shown ≤ told + MOST_LEAP) }
+{
+    let told = told.stamp().get();
+    let shown = shown.stamp().get();
+    shown <= told || shown - told <= MOST_LEAP
+}
+
+/// What a server knows of the passes that it told. A pass that was told is always taken.
+#[derive(Drop)]
+pub struct Passes {
+    /// No pass was told that is more than 524,288 above.
+    known: AtomicU64,
+}
+
+impl Passes {
+    /// No pass was told.
+    pub fn new() -> Self {
+        Passes {
+            known: AtomicU64::new(0),
+        }
+    }
+
+    /// Whether the pass is taken (`is_taken`).
+    pub fn takes(&self, pass: Pass) -> bool {
+        let known = Stamp::new(self.known.load(Ordering::SeqCst));
+        is_taken(Pass::of(known), pass)
+    }
+
+    /// A pass is about to be told.
+    pub fn tell(&self, pass: Pass) {
+        let told = pass.stamp().get();
+        for _ in 0..u64::MAX {
+            let known = self.known.load(Ordering::SeqCst);
+            if told <= known || told - known <= MOST_LAG {
+                break;
+            }
+            let exchanged = self
+                .known
+                .compare_exchange(known, told, Ordering::SeqCst, Ordering::SeqCst);
+            if exchanged.is_ok() {
+                break;
+            }
+        }
+    }
+}

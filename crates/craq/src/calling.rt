@@ -1,8 +1,10 @@
-//! What `main` does with a command line that was read: one request to the server, and its answer printed.
-use crate::fault::{Fault, REFUSED};
+//! One request to the server, and the text of its answer; for `main`, `shell`, `watch` and `bench`.
+ghost use Rattle.std.specs.Prelude.{◌≡◌};
+
+use crate::fault::Fault;
 use craq_frames::{ClientMessage, ClientReply};
 use craq_front::{Stream, exchange};
-use craq_line::{Asked, CallLine};
+use craq_line::Asked;
 use craq_model::{Answer, Ask};
 use craq_names::{NodeId, Pass, Refusal};
 use craq_words::{print_answer, print_refusal, read_of, update_of};
@@ -10,11 +12,37 @@ use std::alloc::{AllocError, Global};
 use std::io::ErrorKind;
 use std::net::{Net, TcpListener, TcpStream};
 
-/// What is printed of a reply, and whether it is a refusal.
+/// Who is asked, and the pass that is shown.
+#[derive(Clone, Copy, Debug)]
+pub struct Asker<'a> {
+    /// Where the server listens: a host and a port.
+    pub address: &'a str,
+    /// The node that is asked.
+    pub node: NodeId,
+    /// The largest pass that was given so far.
+    pub pass: Pass,
+}
+
+impl<'a> Asker<'a> {
+    /// The same once more.
+    pub fn same(&self) -> Asker<'a>
+        ensures { result ≡ self.now }
+    {
+        Asker {
+            address: self.address,
+            node: self.node,
+            pass: self.pass,
+        }
+    }
+}
+
+/// What is printed of a reply.
 #[derive(Drop)]
-struct Shown {
-    text: String,
-    refused: bool,
+pub struct Shown {
+    /// The answer, or the refusal, on a line of its own.
+    pub text: String,
+    /// The pass that the reply came with; none of a refusal.
+    pub pass: Option<Pass>,
 }
 
 /// The message that asks a node with this pass.
@@ -50,27 +78,28 @@ fn message_in(
 fn refused(alloc: Global, refusal: &Refusal) -> Result<Shown, AllocError> {
     let mut text = String::new(alloc);
     print_refusal(&mut text, refusal)?;
-    Ok(Shown {
-        text,
-        refused: true,
-    })
+    Ok(Shown { text, pass: None })
 }
 
-/// A text, and the pass on a line of its own.
-fn with_pass(mut text: String, pass: Pass) -> Result<Shown, AllocError> {
-    let pass = pass.stamp().get();
-    write!(text, "\npass {pass}\n")?;
-    Ok(Shown {
-        text,
-        refused: false,
-    })
-}
-
-/// The text of an answer, and the pass on a line of its own.
+/// The text of an answer that came with a pass.
 fn answered(alloc: Global, answer: &Answer, pass: Pass) -> Result<Shown, AllocError> {
     let mut text = String::new(alloc);
     print_answer(&mut text, answer)?;
-    with_pass(text, pass)
+    text.push_str("\n")?;
+    Ok(Shown {
+        text,
+        pass: Some(pass),
+    })
+}
+
+/// The text of a status, which bears no pass: it stays the one that was shown.
+fn told(alloc: Global, status: &str, pass: Pass) -> Result<Shown, AllocError> {
+    let mut text = String::from_str(alloc, status)?;
+    text.push_str("\n")?;
+    Ok(Shown {
+        text,
+        pass: Some(pass),
+    })
 }
 
 /// The text of a reply to a message that showed this pass.
@@ -83,76 +112,58 @@ fn shown_of(alloc: Global, reply: ClientReply, pass: Pass) -> Result<Shown, Allo
             value,
         } => answered(alloc, &Answer::Read { version, value }, pass),
         ClientReply::Refused(refusal) => refused(alloc, &refusal),
-        ClientReply::Status(status) => with_pass(String::from_str(alloc, status.as_str())?, pass),
+        ClientReply::Status(status) => told(alloc, status.as_str(), pass),
     }
 }
 
-/// Sends a message over a connection of its own, and gives the reply.
-fn reply_to<R>(rt: &R, address: &str, message: &ClientMessage) -> Result<ClientReply, Fault>
+/// A connection to the server.
+pub fn connection<R>(rt: &R, address: &str) -> Result<TcpStream, Fault>
 where
-    R: AllocGlobal + Net<Listener = TcpListener, Stream = TcpStream>,
+    R: Net<Listener = TcpListener, Stream = TcpStream>,
 {
-    let stream = match TcpStream::connect(rt, address) {
-        Ok(stream) => stream,
-        Err(error) if error.kind() == ErrorKind::OutOfMemory => return Err(Fault::Memory),
-        Err(_) => return Err(Fault::Connection),
-    };
-    match exchange(rt.alloc(), &mut Stream::new(stream), message) {
-        Ok(reply) => Ok(reply),
+    match TcpStream::connect(rt, address) {
+        Ok(stream) => Ok(stream),
+        Err(error) if error.kind() == ErrorKind::OutOfMemory => Err(Fault::Memory),
+        Err(_) => Err(Fault::Connection),
+    }
+}
+
+/// Sends a message over a connection, and gives the reply with the connection.
+pub fn exchange_over(
+    alloc: Global,
+    stream: TcpStream,
+    message: &ClientMessage,
+) -> Result<(ClientReply, TcpStream), Fault> {
+    let mut stream = Stream::new(stream);
+    match exchange(alloc, &mut stream, message) {
+        Ok(reply) => Ok((reply, stream.into_inner())),
         Err(Refusal::Memory) => Err(Fault::Memory),
         Err(_) => Err(Fault::Connection),
     }
 }
 
-/// What is printed of the reply to a message.
-fn shown_reply<R>(rt: &R, line: &CallLine<'_>, message: &ClientMessage) -> Result<Shown, Fault>
+/// Sends a message over a connection of its own, and gives the reply.
+pub fn reply_to<R>(rt: &R, address: &str, message: &ClientMessage) -> Result<ClientReply, Fault>
 where
     R: AllocGlobal + Net<Listener = TcpListener, Stream = TcpStream>,
 {
-    let reply = reply_to(rt, line.address, message)?;
-    match shown_of(rt.alloc(), reply, line.pass) {
-        Ok(shown) => Ok(shown),
-        Err(_) => Err(Fault::Memory),
-    }
+    let stream = connection(rt, address)?;
+    let (reply, _stream) = exchange_over(rt.alloc(), stream, message)?;
+    Ok(reply)
 }
 
-/// What is printed where nothing is sent.
-fn shown_refusal(alloc: Global, refusal: &Refusal) -> Result<Shown, Fault> {
-    if *refusal == Refusal::Memory {
-        return Err(Fault::Memory);
-    }
-    match refused(alloc, refusal) {
-        Ok(shown) => Ok(shown),
-        Err(_) => Err(Fault::Memory),
-    }
-}
-
-/// What is printed of what a command line asks for.
-fn shown_for<R>(rt: &R, line: &CallLine<'_>) -> Result<Shown, Fault>
+/// Asks over a connection of its own, and gives what is to be printed of the answer. What is refused whatever the server says is
+/// not sent.
+pub fn shown_for<R>(rt: &R, asker: &Asker<'_>, asked: &Asked) -> Result<Shown, Fault>
 where
     R: AllocGlobal + Net<Listener = TcpListener, Stream = TcpStream>,
 {
-    match message_in(rt.alloc(), line.node, line.pass, &line.asked) {
-        Ok(message) => shown_reply(rt, line, &message),
-        Err(refusal) => shown_refusal(rt.alloc(), &refusal),
+    match message_in(rt.alloc(), asker.node, asker.pass, asked) {
+        Ok(message) => {
+            let reply = reply_to(rt, asker.address, &message)?;
+            Ok(shown_of(rt.alloc(), reply, asker.pass)?)
+        }
+        Err(Refusal::Memory) => Err(Fault::Memory),
+        Err(refusal) => Ok(refused(rt.alloc(), &refusal)?),
     }
-}
-
-/// Prints the text, and gives the status.
-fn print_shown<R: Print>(rt: &R, shown: &Shown) -> Result<u8, Fault> {
-    let text = shown.text.as_str();
-    match print!(rt; "{text}") {
-        Ok(()) => Ok(if shown.refused { REFUSED } else { 0 }),
-        Err(error) => Err(Fault::CannotPrint(error)),
-    }
-}
-
-/// Asks what a command line asks for, and prints the answer. Gives the status.
-pub fn call_line<R>(rt: &R, line: &CallLine<'_>) -> Result<u8, Fault>
-where
-    R: AllocGlobal + Print,
-    R: Net<Listener = TcpListener, Stream = TcpStream>,
-{
-    let shown = shown_for(rt, line)?;
-    print_shown(rt, &shown)
 }

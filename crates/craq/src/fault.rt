@@ -1,9 +1,9 @@
-//! Why `craq` ends without an answer, with the text and the status of each reason; for `main` and `calling`.
+//! Why `craq` ends without an answer, with the text and the status of each reason; for all of its modules.
 use std::alloc::AllocError;
 use std::io;
 use std::io::ErrorKind;
 
-/// The status where the output takes no text.
+/// The status where the output takes no text, or the input gives none.
 const CANNOT_PRINT: u8 = 1;
 
 /// The status after bad words.
@@ -24,6 +24,8 @@ pub enum Fault {
     Memory,
     /// There is no connection, or it broke.
     Connection,
+    /// Nothing can be read from the input, or the clock tells no time.
+    System,
     /// The output takes no text.
     CannotPrint(io::Error),
 }
@@ -56,10 +58,6 @@ fn report_line<R: Print + Eprint>(rt: &R, fault: &craq_line::Fault) -> io::Resul
             error.print(rt)?;
             Ok(if error.use_stderr() { BAD_INPUT } else { 0 })
         }
-        craq_line::Fault::BadScript => {
-            eprintln!(rt; "script line 1")?;
-            Ok(BAD_INPUT)
-        }
         craq_line::Fault::Memory => report_memory(rt),
     }
 }
@@ -73,6 +71,10 @@ impl Fault {
             Fault::Connection => {
                 eprintln!(rt; "connection")?;
                 Ok(NO_CONNECTION)
+            }
+            Fault::System => {
+                eprintln!(rt; "cannot read")?;
+                Ok(CANNOT_PRINT)
             }
             Fault::CannotPrint(error) => Err(error),
         }

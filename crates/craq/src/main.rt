@@ -1,26 +1,71 @@
-//! The program: `craq --connect ADDRESS --node N [--pass P] COMMAND ..`.
+//! The program: `craq --connect ADDRESS --node N [--pass P] [COMMAND ..]`.
 #![tactic(auto)]
 
+mod bench;
 mod calling;
 mod fault;
+mod session;
+mod shell;
+mod tally;
+mod watch;
 
-use calling::call_line;
-use craq_line::CallLine;
-use fault::Fault;
+use calling::{Asker, shown_for};
+use craq_line::{Asked, CallLine, Task};
+use fault::{Fault, REFUSED};
 use std::env::Env;
-use std::io::ErrorKind;
+use std::io::{ErrorKind, IsTerminal};
 use std::net::{Net, TcpListener, TcpStream};
 use std::process::ExitCode;
+use std::sync::Wait;
+use std::thread::Threads;
+use std::time::Clock;
 use std::{env, io};
 
-/// Asks what the words of a command line ask for, and prints the answer. Gives the status.
-fn run_words<'a, R>(rt: &R, words: &'a [&'a str]) -> Result<u8, Fault>
+/// Whether the standard streams are terminals.
+#[derive(Clone, Copy)]
+struct Terminals {
+    input: bool,
+    errors: bool,
+}
+
+/// Asks once, and prints the answer with its pass on a line of its own, or the refusal. Gives the status.
+fn ask_once<R>(rt: &R, asker: &Asker<'_>, asked: &Asked) -> Result<u8, Fault>
 where
-    R: AllocGlobal + Print,
-    R: Net<Listener = TcpListener, Stream = TcpStream>,
+    R: AllocGlobal + Print + Net<Listener = TcpListener, Stream = TcpStream>,
+{
+    let shown = shown_for(rt, asker, asked)?;
+    let text = shown.text.as_str();
+    let (printed, status) = match shown.pass {
+        Some(pass) => {
+            let pass = pass.stamp().get();
+            (print!(rt; "{text}pass {pass}\n"), 0)
+        }
+        None => (print!(rt; "{text}"), REFUSED),
+    };
+    match printed {
+        Ok(()) => Ok(status),
+        Err(error) => Err(Fault::CannotPrint(error)),
+    }
+}
+
+/// Does what the words of a command line ask for. Gives the status.
+fn run_words<'a, R>(rt: R, terminals: Terminals, words: &'a [&'a str]) -> Result<u8, Fault>
+where
+    R: AllocGlobal + Input + Print + Eprint + Clock + Threads + Wait,
+    R: Net<Listener = TcpListener, Stream = TcpStream> + Copy + Drop + Send + Sync + 'static,
 {
     let line = CallLine::read(rt.alloc(), words)?;
-    call_line(rt, &line)
+    let asker = Asker {
+        address: line.address,
+        node: line.node,
+        pass: line.pass,
+    };
+    match &line.task {
+        Task::Ask(asked) => ask_once(&rt, &asker, asked),
+        Task::Watch(seconds) => watch::watch(&rt, line.address, *seconds),
+        Task::Bench(load) => bench::bench(rt, &asker, load, terminals.errors),
+        Task::Shell => shell::shell(&rt, &asker, terminals.input),
+    }
 }
 
 /// The words of the command line, the program's own among them.
@@ -33,38 +78,38 @@ fn words_of<R: AllocGlobal + Env>(rt: &R) -> io::Result<Vec<String>> {
 }
 
 /// Does what these words of a command line ask for, and tells what was wrong. Gives the status.
-fn report<'a, R>(rt: &R, words: &'a [&'a str]) -> io::Result<u8>
+fn report<'a, R>(rt: R, terminals: Terminals, words: &'a [&'a str]) -> io::Result<u8>
 where
-    R: AllocGlobal + Print + Eprint,
-    R: Net<Listener = TcpListener, Stream = TcpStream>,
+    R: AllocGlobal + Input + Print + Eprint + Clock + Threads + Wait,
+    R: Net<Listener = TcpListener, Stream = TcpStream> + Copy + Drop + Send + Sync + 'static,
 {
-    match run_words(rt, words) {
+    match run_words(rt, terminals, words) {
         Ok(status) => Ok(status),
-        Err(fault) => fault.report(rt),
+        Err(fault) => fault.report(&rt),
     }
 }
 
 /// Does what these words of a command line ask for. Gives the status.
-fn run_texts<R>(rt: &R, words: &[String]) -> io::Result<u8>
+fn run_texts<R>(rt: R, terminals: Terminals, words: &[String]) -> io::Result<u8>
 where
-    R: AllocGlobal + Print + Eprint,
-    R: Net<Listener = TcpListener, Stream = TcpStream>,
+    R: AllocGlobal + Input + Print + Eprint + Clock + Threads + Wait,
+    R: Net<Listener = TcpListener, Stream = TcpStream> + Copy + Drop + Send + Sync + 'static,
 {
     let mut texts = Vec::new(rt.alloc());
     for word in words {
         texts.push(word.as_str())?;
     }
-    report(rt, texts.as_slice())
+    report(rt, terminals, texts.as_slice())
 }
 
 /// Does what the command line asks for, where its words are text. Gives the status.
-fn run<R>(rt: &R) -> io::Result<u8>
+fn run<R>(rt: R, terminals: Terminals) -> io::Result<u8>
 where
-    R: AllocGlobal + Env + Print + Eprint,
-    R: Net<Listener = TcpListener, Stream = TcpStream>,
+    R: AllocGlobal + Env + Input + Print + Eprint + Clock + Threads + Wait,
+    R: Net<Listener = TcpListener, Stream = TcpStream> + Copy + Drop + Send + Sync + 'static,
 {
-    match words_of(rt) {
-        Ok(words) => run_texts(rt, words.as_slice()),
+    match words_of(&rt) {
+        Ok(words) => run_texts(rt, terminals, words.as_slice()),
         Err(error) if error.kind() == ErrorKind::InvalidData => {
             eprintln!(rt; "error: a word of the command line is not UTF-8")?;
             Ok(fault::BAD_INPUT)
@@ -74,7 +119,11 @@ where
 }
 
 fn main(rt: HostRuntime) -> ExitCode {
-    match run(&rt) {
+    let terminals = Terminals {
+        input: rt.stdin().is_terminal(),
+        errors: rt.stderr().is_terminal(),
+    };
+    match run(rt, terminals) {
         Ok(status) => ExitCode::from(status),
         Err(error) => ExitCode::from(fault::report_failure(&rt, error.kind())),
     }

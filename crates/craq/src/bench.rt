@@ -1,0 +1,271 @@
+//! `craq bench`: a load of small puts and strong reads over several connections, and what came of it as a table; called by `main`.
+use crate::calling::{Asker, connection, exchange_over};
+use crate::fault::Fault;
+use crate::tally::Tally;
+use craq_commands::{Command, ReadMode, Update};
+use craq_frames::{ClientMessage, ClientReply};
+use craq_line::Load;
+use craq_names::{ChainId, ClientId, Key, ObjectId, RequestNo, Value};
+use std::alloc::Global;
+use std::net::{Net, TcpListener, TcpStream};
+use std::sync::{Mutex, Wait};
+use std::thread;
+use std::thread::Threads;
+use std::time::{Clock, Duration};
+
+/// The value of each put, of 16 bytes.
+const PUT_VALUE: &str = "0123456789abcdef";
+
+/// What came of a load.
+#[derive(Drop)]
+struct Outcome {
+    reads: Tally,
+    puts: Tally,
+    /// Why a connection was over before the load was.
+    fault: Option<Fault>,
+}
+
+/// Who asks over one connection of a load.
+#[derive(Clone, Copy)]
+struct Caller<'a> {
+    asker: Asker<'a>,
+    load: Load,
+    /// The client whose puts it asks; no other connection has it.
+    client: u64,
+    /// When the load is over, by the clock of the system.
+    until: Duration,
+}
+
+/// The time by the clock of the system.
+fn now<R: Clock>(rt: &R) -> Result<Duration, Fault> {
+    match rt.monotonic() {
+        Ok(now) => Ok(now),
+        Err(_) => Err(Fault::System),
+    }
+}
+
+/// Whether request `number` of a connection is a read: `reads` of 100 are, spread evenly.
+fn is_read(number: u64, reads: u64) -> bool {
+    let place = number % 100;
+    place.saturating_mul(reads) % 100 < reads
+}
+
+/// The object that a client of the load reads and writes, on chain 0.
+fn object_of(alloc: Global, client: u64) -> Result<ObjectId, Fault> {
+    let key = format!(in alloc; "bench-{client}")?;
+    match Key::new(alloc, key.as_str().as_bytes()) {
+        Ok(key) => Ok(ObjectId {
+            chain: ChainId::new(0),
+            key,
+        }),
+        Err(_) => Err(Fault::Memory),
+    }
+}
+
+/// The message that reads the connection's object.
+fn read_message(alloc: Global, caller: &Caller<'_>) -> Result<ClientMessage, Fault> {
+    Ok(ClientMessage::Read {
+        node: caller.asker.node,
+        pass: caller.asker.pass,
+        mode: ReadMode::Strong,
+        object: object_of(alloc, caller.client)?,
+    })
+}
+
+/// The message of the connection's put of this number, from 1.
+fn put_message(alloc: Global, caller: &Caller<'_>, number: u64) -> Result<ClientMessage, Fault> {
+    let object = object_of(alloc, caller.client)?;
+    let (Ok(value), Ok(number)) = (
+        Value::new(alloc, PUT_VALUE.as_bytes()),
+        RequestNo::new(number),
+    ) else {
+        return Err(Fault::Memory);
+    };
+    Ok(ClientMessage::Update {
+        node: caller.asker.node,
+        pass: caller.asker.pass,
+        update: Update {
+            client: ClientId::new(caller.client),
+            number,
+            command: Command::Put { object, value },
+        },
+    })
+}
+
+/// The microseconds from one time to another; 0 where it is not later.
+fn microseconds(from: Duration, to: Duration) -> u64 {
+    let took = to.saturating_sub(from).as_micros();
+    if took < u128::from(u64::MAX) {
+        took as u64
+    } else {
+        u64::MAX
+    }
+}
+
+/// Counts a reply that took so long.
+fn count(tally: &mut Tally, reply: &ClientReply, microseconds: u64) {
+    match reply {
+        ClientReply::Refused(_) => tally.refuse(),
+        _ => tally.answer(microseconds),
+    }
+}
+
+/// One request after another over a connection, until the load is over.
+fn run_connection<R>(
+    rt: &R,
+    caller: &Caller<'_>,
+    reads: &mut Tally,
+    puts: &mut Tally,
+) -> Result<(), Fault>
+where
+    R: AllocGlobal + Clock + Net<Listener = TcpListener, Stream = TcpStream>,
+{
+    let mut stream = connection(rt, caller.asker.address)?;
+    let mut began = now(rt)?;
+    let mut put = 0u64;
+    for number in 0..u64::MAX {
+        if began >= caller.until {
+            break;
+        }
+        let is_read = is_read(number, caller.load.reads);
+        let message = if is_read {
+            read_message(rt.alloc(), caller)?
+        } else {
+            put = put.saturating_add(1);
+            put_message(rt.alloc(), caller, put)?
+        };
+        let (reply, back) = exchange_over(rt.alloc(), stream, &message)?;
+        stream = back;
+        let ended = now(rt)?;
+        let tally = if is_read { &mut *reads } else { &mut *puts };
+        count(tally, &reply, microseconds(began, ended));
+        began = ended;
+    }
+    Ok(())
+}
+
+/// Runs one connection of a load, and adds what came of it.
+fn run_caller<R>(rt: &R, caller: &Caller<'_>, outcome: &Mutex<Outcome>)
+where
+    R: AllocGlobal + Clock + Wait + Net<Listener = TcpListener, Stream = TcpStream>,
+{
+    let (Ok(mut reads), Ok(mut puts)) = (Tally::new(rt.alloc()), Tally::new(rt.alloc())) else {
+        outcome.lock(rt).fault = Some(Fault::Memory);
+        return;
+    };
+    let ran = run_connection(rt, caller, &mut reads, &mut puts);
+    let mut whole = outcome.lock(rt);
+    whole.reads.add(&reads);
+    whole.puts.add(&puts);
+    if let Err(fault) = ran {
+        whole.fault = Some(fault);
+    }
+}
+
+/// Tells each second, on standard error, how many of the seconds are over.
+fn tell_progress<R: Eprint + Clock>(rt: &R, seconds: u64) {
+    for second in 0..seconds {
+        thread::sleep(rt, Duration::from_secs(1));
+        let over = second + 1;
+        let _ = eprint!(rt; "\r{over} of {seconds} seconds");
+    }
+    let _ = eprintln!(rt; "");
+}
+
+/// Prints a line of the table.
+fn print_tally<R: Print>(rt: &R, name: &str, tally: &Tally, seconds: u64) -> Result<(), Fault> {
+    let answered = tally.answered;
+    let refused = tally.refused;
+    let rate = answered.checked_div(seconds).unwrap_or(0);
+    let (half, most, nearly_all) = (tally.within(50), tally.within(95), tally.within(99));
+    let longest = tally.longest;
+    match println!(rt;
+        "{name:<12} {answered:>10} {rate:>10} {refused:>8} {half:>8} {most:>8} {nearly_all:>8} {longest:>8}"
+    ) {
+        Ok(()) => Ok(()),
+        Err(error) => Err(Fault::CannotPrint(error)),
+    }
+}
+
+/// Prints what came of a load.
+fn print_outcome<R: Print>(rt: &R, reads: &Tally, puts: &Tally, seconds: u64) -> Result<(), Fault> {
+    let printed = println!(rt;
+        "{:<12} {:>10} {:>10} {:>8} {:>8} {:>8} {:>8} {:>8}",
+        "request", "answered", "a second", "refused", "50% us", "95% us", "99% us", "all us"
+    );
+    if let Err(error) = printed {
+        return Err(Fault::CannotPrint(error));
+    }
+    print_tally(rt, "strong read", reads, seconds)?;
+    print_tally(rt, "put", puts, seconds)
+}
+
+/// Runs all connections of a load at once, and waits for them.
+fn run_load<'a, R>(
+    rt: R,
+    asker: &Asker<'a>,
+    load: &Load,
+    first_client: u64,
+    has_progress: bool,
+    outcome: &Mutex<Outcome>,
+) -> Result<(), Fault>
+where
+    R: AllocGlobal + Eprint + Clock + Threads + Wait,
+    R: Net<Listener = TcpListener, Stream = TcpStream> + Copy + Drop + Send + Sync + 'static,
+{
+    let until = now(&rt)?.saturating_add(Duration::from_secs(load.seconds));
+    thread::scope(thread::scope_env(), &rt, |scope| {
+        for index in 0..load.connections {
+            let caller = Caller {
+                asker: asker.same(),
+                load: *load,
+                client: first_client.wrapping_add(index),
+                until,
+            };
+            if scope
+                .spawn(move || run_caller(&rt, &caller, outcome))
+                .is_err()
+            {
+                return Err(Fault::Memory);
+            }
+        }
+        if has_progress {
+            tell_progress(&rt, load.seconds);
+        }
+        Ok(())
+    })
+}
+
+/// A number that no earlier load began with: the nanoseconds since 1970.
+fn fresh_client<R: Clock>(rt: &R) -> Result<u64, Fault> {
+    match rt.since_1970() {
+        Ok(time) => Ok(
+            time.as_secs()
+                .wrapping_mul(1_000_000_000)
+                .wrapping_add(u64::from(time.subsec_nanos())),
+        ),
+        Err(_) => Err(Fault::System),
+    }
+}
+
+/// Asks a node for so many seconds over so many connections, one request each under way, and prints how many were answered and
+/// refused, and within which time half, 95 and 99 of 100 and all of the answers came. The puts are of clients of their own.
+pub fn bench<R>(rt: R, asker: &Asker<'_>, load: &Load, has_progress: bool) -> Result<u8, Fault>
+where
+    R: AllocGlobal + Print + Eprint + Clock + Threads + Wait,
+    R: Net<Listener = TcpListener, Stream = TcpStream> + Copy + Drop + Send + Sync + 'static,
+{
+    let outcome = Mutex::new(Outcome {
+        reads: Tally::new(rt.alloc())?,
+        puts: Tally::new(rt.alloc())?,
+        fault: None,
+    });
+    let first_client = fresh_client(&rt)?;
+    run_load(rt, asker, load, first_client, has_progress, &outcome)?;
+    let Outcome { reads, puts, fault } = outcome.into_inner();
+    print_outcome(&rt, &reads, &puts, load.seconds)?;
+    match fault {
+        None => Ok(0),
+        Some(fault) => Err(fault),
+    }
+}

@@ -1,6 +1,7 @@
 //! The command line of `craq_lab`: its commands, its helps, and what was asked; called by `main`.
 use clap::builder::ValueParser;
 use clap::{Arg, ArgAction, ArgMatches, Command, Error};
+use craq_line::VERSION;
 use std::alloc::{AllocError, Global};
 
 /// What the nodes of a chain keep.
@@ -265,6 +266,7 @@ fn check_command<'a>(alloc: Global) -> Result<Command<'a>, AllocError> {
 /// `craq_lab COMMAND ..`, with no command yet.
 fn bare_command<'a>(alloc: Global) -> Command<'a> {
     Command::new(alloc, "craq_lab")
+        .version(VERSION)
         .about(ABOUT)
         .long_about(LONG_ABOUT)
         .subcommand_required(true)

@@ -13,6 +13,7 @@ use craq_names::{
 };
 use craq_node::Core;
 use craq_play::{PlainCore, print_refusal, print_step};
+use craq_wire::decode;
 use std::alloc::{AllocError, Global};
 
 /// What happens at a node.
@@ -29,7 +30,16 @@ enum Happening {
         epoch: u64,
         position: u64,
     },
+    /// The message that these bytes spell arrives.
+    Arrives(&'static [u8]),
 }
+
+/// The entry of a put of `a` on `k` from node 1 to node 2, as a link carries it, but that it writes version 2.
+const ENTRY_OF_VERSION_2: [u8; 91] = [
+    2, 2, 0, 0, 0, 0, 0, 1, 0, 0, 0, 2, 0, 0, 0, 0, 0, 0, 0, 1, 0, 0, 0, 0, 0, 0, 0, 0, 0, 0, 0, 1,
+    0, 0, 0, 0, 0, 0, 0, 1, 0, 0, 0, 1, 0, 0, 0, 0, 0, 0, 0, 1, 0, 0, 0, 0, 0, 0, 0, 1, 0, 0, 0, 0,
+    0, 0, 0, 1, 1, 0, 0, 0, 0, 0, 0, 0, 1, 1, 1, 107, 0, 0, 0, 0, 0, 0, 0, 2, 0, 1, 97,
+];
 
 /// A node of a chain of these members, or one that joins where there are none, and what is printed of its steps.
 #[derive(Clone, Copy)]
@@ -41,7 +51,7 @@ pub struct Case {
     printed: &'static str,
 }
 
-pub static CASES: [Case; 7] = [
+pub static CASES: [Case; 8] = [
     Case {
         fact: "a lone node answers a put at once",
         members: &[1],
@@ -153,6 +163,13 @@ answer 1 1 written 1
 ignored AlreadyHave
 ",
     },
+    Case {
+        fact: "an entry that writes version 2 of an object that has none is ignored",
+        members: &[1, 2, 3],
+        id: 2,
+        happenings: &[Happening::Arrives(&ENTRY_OF_VERSION_2)],
+        printed: "ignored TooFar\n",
+    },
 ];
 
 /// A put of `a` as this request of client 1.
@@ -186,6 +203,14 @@ fn acknowledgement(from: u32, to: u32, epoch: u64, position: u64) -> LinkMessage
     }
 }
 
+/// The arrival of the message that these bytes spell.
+fn arrival(alloc: Global, bytes: &[u8]) -> Result<Event, Refusal>
+    ensures { IfOk result CanArrive }
+{
+    let message = decode(alloc, bytes)?;
+    Ok(Event::Deliver(message))
+}
+
 /// The event of a happening.
 fn event_of(alloc: Global, happening: Happening) -> Result<Event, Refusal>
     ensures { IfOk result CanArrive }
@@ -200,6 +225,7 @@ fn event_of(alloc: Global, happening: Happening) -> Result<Event, Refusal>
             epoch,
             position,
         } => Ok(Event::Deliver(acknowledgement(from, to, epoch, position))),
+        Happening::Arrives(bytes) => arrival(alloc, bytes),
     }
 }
 

@@ -34,3 +34,9 @@ pub mod Readying
 pub mod Whole
 pub mod Fates
 pub mod AllAnswered
+pub mod Staying
+pub mod Items
+pub mod Costs
+pub mod Spending
+pub mod Bounds
+pub mod Accounts

@@ -2,3 +2,4 @@ pub mod Rounds
 pub mod Recovered
 pub mod Taken
 pub mod Answers
+pub mod Room

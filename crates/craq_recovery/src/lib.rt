@@ -12,6 +12,7 @@ ghost use Rattle.craq_runs.specs.Typed.{IsTypedRunOf};
 ghost use Rattle.craq_runs.specs.declared.run.Run.{Run};
 ghost use Rattle.craq_recovery.specs.Answers.{AnsweredInRounds, AskWaits};
 ghost use Rattle.craq_recovery.specs.Recovered.{AllReady, AllRun, AllRunReady, AreNeighbours, HasRecovered, HaveHeard, HaveNumbersForAll, HaveNumbersForAsMany, HoldsEntries, IsReadyAt, KnowsCommitted, NoReadWaits, NoUpdateWaits, SomeReady, after_all_rounds, after_as_many, after_round, chain_after, has_recovered, rounds_to_recover};
+ghost use Rattle.craq_recovery.specs.Room.{HasRoom};
 ghost use Rattle.craq_recovery.specs.Rounds.{after_rounds, round};
 ghost use Rattle.craq_recovery.specs.Taken.{AreTakenInTurn, HaveNumbers, HaveNumbersFor};
 
@@ -120,10 +121,23 @@ pub fn all_members_become_ready()
         → AllReady (after_as_many (suc (suc count)) (chain_after chain run)) }
 {}
 
+/// A chain with room for so many rounds of so many hops has numbers for them: no move of theirs is refused.
+pub fn rounds_have_numbers()
+    ensures { (chain : ℕ) (run : Run) (count rounds : ℕ) → IsRunOf chain run → HasRoom count rounds (chain_after chain run)
+        → HaveNumbersFor count rounds (chain_after chain run) }
+{}
+
 /// Recovery: after every run, a chain of which no member has stopped and at least one member is ready recovers in rounds of at
-/// least two hops, two more than twice as many as it has members, whatever was lost, stopped, removed or joined before, unless
-/// a move of the rounds is refused for want of numbers.
+/// least two hops, two more than twice as many as it has members, whatever was lost, stopped, removed or joined before, if its
+/// counters have room for these rounds.
 pub fn chains_recover()
+    ensures { (chain : ℕ) (run : Run) (count : ℕ) → IsTypedRunOf chain run → AllRun (chain_after chain run) → SomeReady (chain_after chain run)
+        → HasRoom (suc (suc count)) (rounds_to_recover (chain_after chain run)) (chain_after chain run)
+        → HasRecovered (after_rounds after_move (suc (suc count)) (rounds_to_recover (chain_after chain run)) (chain_after chain run)) }
+{}
+
+/// It recovers likewise where it has less room, unless a move of the rounds is refused for want of numbers.
+pub fn chains_recover_while_numbers_last()
     ensures { (chain : ℕ) (run : Run) (count : ℕ) → IsTypedRunOf chain run → AllRun (chain_after chain run) → SomeReady (chain_after chain run)
         → HaveNumbersFor (suc (suc count)) (rounds_to_recover (chain_after chain run)) (chain_after chain run)
         → HasRecovered (after_rounds after_move (suc (suc count)) (rounds_to_recover (chain_after chain run)) (chain_after chain run)) }
@@ -133,9 +147,23 @@ pub fn chains_recover()
 /// ask's ticket. What it is answered with the promise says, as of every answer.
 pub fn waiting_asks_are_answered()
     ensures { (chain : ℕ) (run : Run) (count id ticket : ℕ) → IsTypedRunOf chain run → AllRun (chain_after chain run) → SomeReady (chain_after chain run)
+        → HasRoom (suc (suc count)) (rounds_to_recover (chain_after chain run)) (chain_after chain run)
+        → is_member (chain_after chain run).members id ≡ true → AskWaits (chain_after chain run) id ticket
+        → AnsweredInRounds (suc (suc count)) (rounds_to_recover (chain_after chain run)) (chain_after chain run) id ticket }
+{}
+
+/// They are answered likewise where the chain has less room, unless a move of the rounds is refused for want of numbers.
+pub fn waiting_asks_are_answered_while_numbers_last()
+    ensures { (chain : ℕ) (run : Run) (count id ticket : ℕ) → IsTypedRunOf chain run → AllRun (chain_after chain run) → SomeReady (chain_after chain run)
         → HaveNumbersFor (suc (suc count)) (rounds_to_recover (chain_after chain run)) (chain_after chain run)
         → is_member (chain_after chain run).members id ≡ true → AskWaits (chain_after chain run) id ticket
         → AnsweredInRounds (suc (suc count)) (rounds_to_recover (chain_after chain run)) (chain_after chain run) id ticket }
+{}
+
+/// A chain that has recovered stays so by rounds, of however many hops.
+pub fn recovered_chains_stay()
+    ensures { (chain : ℕ) (run : Run) (count : ℕ) → IsRunOf chain run → HasRecovered (chain_after chain run)
+        → HasRecovered (after_round count (chain_after chain run)) }
 {}
 
 /// A chain that passes the test has recovered.

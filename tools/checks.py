@@ -1,5 +1,6 @@
 """Counts checks, for the scripts that try built programs."""
 import sys
+import time
 import traceback
 
 
@@ -27,6 +28,12 @@ class Checks:
             at = traceback.extract_tb(failure.__traceback__)[-1]
             self.that(False, f"{what} stopped: {failure!r} at {at.filename.rpartition('/')[2]}:{at.lineno}")
             return None
+
+    def told(self, what, run, *given):
+        """Runs a part of the checks, and prints a line that tells what came of it."""
+        passed, failed, began = self.passed, self.failed, time.time()
+        self.part(what, run, *given)
+        print(f"{self.title}: {what}: {self.passed - passed} passed, {self.failed - failed} failed, {time.time() - began:.0f} s", flush=True)
 
 
 def shortened(it):

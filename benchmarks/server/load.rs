@@ -2,10 +2,14 @@
 //!
 //!     rustc -O --edition 2024 load.rs
 //!     ./load craq 127.0.0.1:7000 reads-one 50 2
-//!     ./load redis 127.0.0.1:6379 puts 50 2
+//!     ./load redis 127.0.0.1:6379 puts 50 2 100
+//!     ./load craq 127.0.0.1:7000 many 50 2 16 4
+//!
+//! The servers are `craq`, `redis`, `memcached` (its text protocol) and `etcd` (its JSON gateway). Behind the seconds stand the
+//! bytes of a value, 16 where nothing is said, and how many chains the connections are spread over, 1 where nothing is said.
 //!
 //! It prints the number of replies, replies a second, and the median and the 99th percentile of the times from a request to its
-//! reply, in microseconds.
+//! reply, in microseconds. `many` counts eight puts that are sent together as one request.
 
 use std::io::{Error, ErrorKind, Read, Result, Write};
 use std::net::TcpStream;
@@ -13,9 +17,10 @@ use std::sync::Barrier;
 use std::time::{Duration, Instant};
 use std::{env, process, thread};
 
-const VALUE: [u8; 16] = *b"sixteen letters.";
-/// The members of the chain that is asked; its head is the first.
+/// The members of each chain; its head is the first.
 const NODES: [u32; 3] = [1, 2, 3];
+/// How many puts are sent together under `many`.
+const MANY: usize = 8;
 
 #[derive(Clone, Copy, PartialEq)]
 enum Mix {
@@ -24,139 +29,267 @@ enum Mix {
     /// Strong reads, at each node by a third of the connections.
     ReadsAll,
     Puts,
+    /// Each tenth request is a put, the others are strong reads at the head.
+    Tenth,
+    /// Eight puts together.
+    Many,
+}
+
+impl Mix {
+    fn of(name: &str) -> Option<Mix> {
+        Some(match name {
+            "reads-one" => Mix::ReadsOne,
+            "reads-all" => Mix::ReadsAll,
+            "puts" => Mix::Puts,
+            "tenth" => Mix::Tenth,
+            "many" => Mix::Many,
+            _ => return None,
+        })
+    }
+
+    /// What the request of this count asks.
+    fn kind(self, count: usize) -> Kind {
+        match self {
+            Mix::ReadsOne | Mix::ReadsAll => Kind::Read,
+            Mix::Puts => Kind::Put,
+            Mix::Tenth => if count.is_multiple_of(10) { Kind::Put } else { Kind::Read },
+            Mix::Many => Kind::Many,
+        }
+    }
+}
+
+#[derive(Clone, Copy, PartialEq)]
+enum Kind {
+    Read,
+    Put,
+    Many,
+}
+
+impl Kind {
+    fn times(self) -> usize {
+        if self == Kind::Many { MANY } else { 1 }
+    }
 }
 
 /// What a connection asks again and again.
 trait Asks: Send {
     /// Appends the next request, with its frame.
-    fn request(&mut self, out: &mut Vec<u8>);
+    fn request(&mut self, kind: Kind, out: &mut Vec<u8>);
     /// How many bytes the reply has that begins so; `None` where that cannot be told yet.
-    fn size(&self, begun: &[u8]) -> Option<usize>;
+    fn size(&self, kind: Kind, begun: &[u8]) -> Option<usize>;
     /// Takes a whole reply.
-    fn take(&mut self, reply: &[u8]) -> Result<()>;
+    fn take(&mut self, kind: Kind, reply: &[u8]) -> Result<()>;
 }
 
 fn bad(reply: &[u8]) -> Error {
-    Error::new(ErrorKind::InvalidData, format!("an unexpected reply: {reply:02x?}"))
+    Error::new(ErrorKind::InvalidData, format!("an unexpected reply: {:02x?}", &reply[..reply.len().min(200)]))
 }
 
 fn key(connection: usize) -> String {
     format!("k{connection:02}")
 }
 
-/// Requests of version 1, as docs/use/BYTES.md has them, on one object of chain 0.
+fn value(size: usize) -> Vec<u8> {
+    b"sixteen letters.".iter().copied().cycle().take(size).collect()
+}
+
+/// Requests of version 1, and of version 2 where eight are sent together, as docs/use/BYTES.md has them, on one object.
 struct Craq {
     key: String,
+    value: Vec<u8>,
+    chain: u16,
     node: u32,
-    puts: bool,
     client: u64,
     number: u64,
     pass: u64,
 }
 
 impl Craq {
-    fn body(&mut self, out: &mut Vec<u8>) {
-        out.extend([1, if self.puts { 1 } else { 2 }]);
+    fn body(&mut self, puts: bool, out: &mut Vec<u8>) {
         out.extend(self.node.to_be_bytes());
         out.extend(self.pass.to_be_bytes());
-        if self.puts {
+        if puts {
             self.number += 1;
             out.extend(self.client.to_be_bytes());
             out.extend(self.number.to_be_bytes());
         }
         // the tag of Put, and of a strong read
         out.push(1);
-        out.extend(0u16.to_be_bytes());
+        out.extend(self.chain.to_be_bytes());
         out.push(self.key.len() as u8);
         out.extend(self.key.as_bytes());
-        if self.puts {
-            out.extend((VALUE.len() as u16).to_be_bytes());
-            out.extend(VALUE);
+        if puts {
+            out.extend((self.value.len() as u16).to_be_bytes());
+            out.extend(&self.value);
         }
+    }
+
+    /// The pass of a reply whose version and kind stand before this place.
+    fn pass_at(reply: &[u8], at: usize) -> Option<u64> {
+        Some(u64::from_be_bytes(*reply.get(at..)?.first_chunk()?))
     }
 }
 
 impl Asks for Craq {
-    fn request(&mut self, out: &mut Vec<u8>) {
+    fn request(&mut self, kind: Kind, out: &mut Vec<u8>) {
         let at = out.len();
         out.extend([0; 4]);
-        self.body(out);
+        match kind {
+            Kind::Read => out.extend([1, 2]),
+            Kind::Put => out.extend([1, 1]),
+            Kind::Many => out.extend([2, 4, MANY as u8]),
+        }
+        for _ in 0..kind.times() {
+            if kind == Kind::Many {
+                out.push(1);
+            }
+            self.body(kind != Kind::Read, out);
+        }
         let len = (out.len() - at - 4) as u32;
         out[at..at + 4].copy_from_slice(&len.to_be_bytes());
     }
 
-    fn size(&self, begun: &[u8]) -> Option<usize> {
+    fn size(&self, _kind: Kind, begun: &[u8]) -> Option<usize> {
         let len = begun.first_chunk::<4>()?;
         Some(4 + u32::from_be_bytes(*len) as usize)
     }
 
-    fn take(&mut self, reply: &[u8]) -> Result<()> {
-        let is_wanted = if self.puts {
-            reply.len() == 23 && reply[4..6] == [1, 1] && reply[14] == 1
-        } else {
-            reply.len() == 40 && reply[4..6] == [1, 2] && reply[24..] == VALUE
+    fn take(&mut self, kind: Kind, reply: &[u8]) -> Result<()> {
+        let (is_wanted, at) = match kind {
+            Kind::Read => (reply.len() == 24 + self.value.len() && reply[4..6] == [1, 2] && reply[24..] == self.value, 6),
+            Kind::Put => (reply.len() == 23 && reply[4..6] == [1, 1] && reply[14] == 1, 6),
+            Kind::Many => {
+                let all = reply.get(7..).unwrap_or_default().chunks(18);
+                let are_wanted = reply.len() == 7 + 18 * MANY && all.clone().all(|it| it[0] == 1 && it[9] == 1);
+                (are_wanted && reply[4..7] == [2, 5, MANY as u8], 8 + 18 * (MANY - 1))
+            }
         };
-        match reply.get(6..14).and_then(|it| it.try_into().ok()) {
-            Some(pass) if is_wanted => self.pass = u64::from_be_bytes(pass),
+        match Craq::pass_at(reply, at) {
+            Some(pass) if is_wanted => self.pass = pass,
             _ => return Err(bad(reply)),
         }
         Ok(())
     }
 }
 
-/// GET or SET of one key.
-struct Redis {
-    key: String,
-    puts: bool,
+/// GET or SET of one key, in the words of redis or of memcached's text protocol.
+struct Words {
+    read: Vec<u8>,
+    found: Vec<u8>,
+    put: Vec<u8>,
+    done: Vec<u8>,
+    /// How a refusal begins.
+    bad: u8,
 }
 
-impl Redis {
-    fn reply(&self) -> Vec<u8> {
-        if self.puts {
-            return b"+OK\r\n".to_vec();
-        }
-        let mut reply = format!("${}\r\n", VALUE.len()).into_bytes();
-        reply.extend(VALUE);
-        reply.extend(b"\r\n");
-        reply
-    }
-}
-
-impl Asks for Redis {
-    fn request(&mut self, out: &mut Vec<u8>) {
-        let len = self.key.len();
-        if self.puts {
-            out.extend(format!("*3\r\n$3\r\nSET\r\n${len}\r\n{}\r\n${}\r\n", self.key, VALUE.len()).bytes());
-            out.extend(VALUE);
-            out.extend(b"\r\n");
-        } else {
-            out.extend(format!("*2\r\n$3\r\nGET\r\n${len}\r\n{}\r\n", self.key).bytes());
+impl Words {
+    fn of_redis(key: &str, value: &[u8]) -> Words {
+        let (len, size) = (key.len(), value.len());
+        let with = |begin: String| [begin.as_bytes(), value, b"\r\n"].concat();
+        Words {
+            read: format!("*2\r\n$3\r\nGET\r\n${len}\r\n{key}\r\n").into_bytes(),
+            found: with(format!("${size}\r\n")),
+            put: with(format!("*3\r\n$3\r\nSET\r\n${len}\r\n{key}\r\n${size}\r\n")),
+            done: b"+OK\r\n".to_vec(),
+            bad: b'-',
         }
     }
 
-    fn size(&self, begun: &[u8]) -> Option<usize> {
+    fn of_memcached(key: &str, value: &[u8]) -> Words {
+        let size = value.len();
+        Words {
+            read: format!("get {key}\r\n").into_bytes(),
+            found: [format!("VALUE {key} 0 {size}\r\n").as_bytes(), value, b"\r\nEND\r\n"].concat(),
+            put: [format!("set {key} 0 0 {size}\r\n").as_bytes(), value, b"\r\n"].concat(),
+            done: b"STORED\r\n".to_vec(),
+            bad: b'E',
+        }
+    }
+
+    fn reply(&self, kind: Kind) -> Vec<u8> {
+        if kind == Kind::Read { self.found.clone() } else { self.done.repeat(kind.times()) }
+    }
+}
+
+impl Asks for Words {
+    fn request(&mut self, kind: Kind, out: &mut Vec<u8>) {
+        for _ in 0..kind.times() {
+            out.extend(if kind == Kind::Read { &self.read } else { &self.put });
+        }
+    }
+
+    fn size(&self, kind: Kind, begun: &[u8]) -> Option<usize> {
         // what does not begin as the wanted reply is taken as it came, and refused by `take`
-        Some(if begun.first() == Some(&b'-') { begun.len() } else { self.reply().len() })
+        let size = if kind == Kind::Read { self.found.len() } else { self.done.len() * kind.times() };
+        Some(if begun.first() == Some(&self.bad) && self.found[0] != self.bad { begun.len() } else { size })
     }
 
-    fn take(&mut self, reply: &[u8]) -> Result<()> {
-        if reply == self.reply() { Ok(()) } else { Err(bad(reply)) }
+    fn take(&mut self, kind: Kind, reply: &[u8]) -> Result<()> {
+        if reply == self.reply(kind) { Ok(()) } else { Err(bad(reply)) }
+    }
+}
+
+/// Requests of etcd's JSON gateway, over HTTP 1.1. Eight puts together are one transaction.
+struct Etcd {
+    key: String,
+    value: String,
+}
+
+fn base64(bytes: &[u8]) -> String {
+    const LETTERS: &[u8; 64] = b"ABCDEFGHIJKLMNOPQRSTUVWXYZabcdefghijklmnopqrstuvwxyz0123456789+/";
+    let mut text = String::new();
+    for part in bytes.chunks(3) {
+        let all = part.iter().fold(0u32, |all, it| all << 8 | u32::from(*it)) << (8 * (3 - part.len()));
+        for at in 0..4 {
+            let letter = LETTERS[(all >> (18 - 6 * at) & 63) as usize] as char;
+            text.push(if at <= part.len() { letter } else { '=' });
+        }
+    }
+    text
+}
+
+impl Asks for Etcd {
+    fn request(&mut self, kind: Kind, out: &mut Vec<u8>) {
+        let Etcd { key, value } = self;
+        let (path, body) = match kind {
+            Kind::Read => ("range", format!("{{\"key\":\"{key}\"}}")),
+            Kind::Put => ("put", format!("{{\"key\":\"{key}\",\"value\":\"{value}\"}}")),
+            Kind::Many => {
+                let puts: Vec<_> = (0..MANY)
+                    .map(|at| format!("{{\"requestPut\":{{\"key\":\"{}\",\"value\":\"{value}\"}}}}", base64(format!("{key}{at}").as_bytes())))
+                    .collect();
+                ("txn", format!("{{\"success\":[{}]}}", puts.join(",")))
+            }
+        };
+        let len = body.len();
+        out.extend(format!("POST /v3/kv/{path} HTTP/1.1\r\nHost: a\r\nContent-Length: {len}\r\n\r\n{body}").bytes());
+    }
+
+    fn size(&self, _kind: Kind, begun: &[u8]) -> Option<usize> {
+        let text = String::from_utf8_lossy(begun);
+        let (head, _) = text.split_once("\r\n\r\n")?;
+        let len = head.lines().find_map(|it| it.strip_prefix("Content-Length: ")?.parse::<usize>().ok())?;
+        Some(head.len() + 4 + len)
+    }
+
+    fn take(&mut self, _kind: Kind, reply: &[u8]) -> Result<()> {
+        if reply.starts_with(b"HTTP/1.1 200") { Ok(()) } else { Err(bad(reply)) }
     }
 }
 
 /// One request and its reply.
-fn exchange(stream: &mut TcpStream, asks: &mut dyn Asks, out: &mut Vec<u8>) -> Result<()> {
+fn exchange(stream: &mut TcpStream, asks: &mut dyn Asks, kind: Kind, out: &mut Vec<u8>, reply: &mut [u8]) -> Result<()> {
     out.clear();
-    asks.request(out);
+    asks.request(kind, out);
     stream.write_all(out)?;
-    let (mut reply, mut got) = ([0; 4096], 0);
+    let mut got = 0;
     loop {
         match stream.read(&mut reply[got..])? {
             0 => return Err(ErrorKind::UnexpectedEof.into()),
             more => got += more,
         }
-        if asks.size(&reply[..got]).is_some_and(|size| got >= size) {
-            return asks.take(&reply[..got]);
+        if asks.size(kind, &reply[..got]).is_some_and(|size| got >= size) {
+            return asks.take(kind, &reply[..got]);
         }
     }
 }
@@ -167,81 +300,117 @@ fn connect(address: &str) -> Result<TcpStream> {
     Ok(stream)
 }
 
-/// What connection `at` asks. Each has a key, and as a writer an id, of its own.
-fn asks_of(server: &str, at: usize, mix: Mix, client: u64) -> Box<dyn Asks> {
-    let puts = mix == Mix::Puts;
-    if server == "redis" {
-        return Box::new(Redis { key: key(at), puts });
-    }
-    let node = if mix == Mix::ReadsAll { NODES[at % NODES.len()] } else { NODES[0] };
-    Box::new(Craq { key: key(at), node, puts, client, number: 0, pass: 0 })
+/// What is measured.
+#[derive(Clone)]
+struct Load {
+    server: String,
+    address: String,
+    mix: Mix,
+    connections: usize,
+    span: Duration,
+    size: usize,
+    chains: usize,
 }
 
-/// The times of a connection's exchanges, until `span` is over.
-fn times(stream: &mut TcpStream, asks: &mut dyn Asks, span: Duration) -> Result<Vec<Duration>> {
-    let (began, mut out, mut times) = (Instant::now(), Vec::new(), Vec::with_capacity(1 << 18));
-    loop {
-        let before = began.elapsed();
-        if before >= span {
-            return Ok(times);
+impl Load {
+    /// What connection `at` asks. Each has a key, and as a writer an id, of its own.
+    fn asks_of(&self, at: usize, client: u64) -> Box<dyn Asks> {
+        let (key, value) = (key(at), value(self.size));
+        match self.server.as_str() {
+            "redis" => Box::new(Words::of_redis(&key, &value)),
+            "memcached" => Box::new(Words::of_memcached(&key, &value)),
+            "etcd" => Box::new(Etcd { key: base64(key.as_bytes()), value: base64(&value) }),
+            _ => {
+                let node = if self.mix == Mix::ReadsAll { NODES[at % NODES.len()] } else { NODES[0] };
+                Box::new(Craq { key, value, chain: (at % self.chains) as u16, node, client, number: 0, pass: 0 })
+            }
         }
-        exchange(stream, asks, &mut out)?;
-        times.push(began.elapsed() - before);
     }
-}
 
-fn run(server: &str, address: &str, mix: Mix, connections: usize, span: Duration) -> Result<()> {
-    let mut first = connect(address)?;
-    for at in 0..connections {
-        // each object is written once before anything is measured
-        let mut asks = asks_of(server, at, Mix::Puts, (connections + at) as u64);
-        exchange(&mut first, &mut *asks, &mut Vec::new())?;
+    /// Each object is written once, before anything is measured.
+    fn prepare(&self) -> Result<()> {
+        let (mut stream, puts) = (connect(&self.address)?, Load { mix: Mix::Puts, ..self.clone() });
+        for at in 0..self.connections {
+            let mut asks = puts.asks_of(at, (self.connections + at) as u64);
+            exchange(&mut stream, &mut *asks, Kind::Put, &mut Vec::new(), &mut [0; 16384])?;
+        }
+        Ok(())
     }
-    let begin = Barrier::new(connections);
-    let mut all = thread::scope(|scope| {
-        let threads: Vec<_> = (0..connections)
-            .map(|at| {
-                let begin = &begin;
-                scope.spawn(move || {
-                    let made = connect(address);
-                    begin.wait();
-                    times(&mut made?, &mut *asks_of(server, at, mix, at as u64), span)
+
+    /// The times of a connection's exchanges, until the span is over.
+    fn times(&self, stream: &mut TcpStream, asks: &mut dyn Asks) -> Result<Vec<Duration>> {
+        let (began, mut out, mut times) = (Instant::now(), Vec::new(), Vec::with_capacity(1 << 18));
+        let mut reply = vec![0; 16384];
+        loop {
+            let before = began.elapsed();
+            if before >= self.span {
+                return Ok(times);
+            }
+            exchange(stream, asks, self.mix.kind(times.len()), &mut out, &mut reply)?;
+            times.push(began.elapsed() - before);
+        }
+    }
+
+    /// The times of all exchanges.
+    fn all_times(&self) -> Result<Vec<Duration>> {
+        let begin = Barrier::new(self.connections);
+        thread::scope(|scope| {
+            let threads: Vec<_> = (0..self.connections)
+                .map(|at| {
+                    let begin = &begin;
+                    scope.spawn(move || {
+                        let made = connect(&self.address);
+                        begin.wait();
+                        self.times(&mut made?, &mut *self.asks_of(at, at as u64))
+                    })
                 })
-            })
-            .collect();
-        let mut all = Vec::new();
-        for it in threads {
-            all.extend(it.join().expect("a connection's thread")?);
-        }
-        Ok::<_, Error>(all)
-    })?;
-    if all.is_empty() {
-        return Err(Error::new(ErrorKind::TimedOut, "no reply came"));
+                .collect();
+            let mut all = Vec::new();
+            for it in threads {
+                all.extend(it.join().expect("a connection's thread")?);
+            }
+            Ok(all)
+        })
     }
-    all.sort_unstable();
-    let at = |part: f64| all[(all.len() as f64 * part) as usize].as_nanos() as f64 / 1000.0;
-    let rate = all.len() as f64 / span.as_secs_f64();
-    println!("{} {rate:.0} {:.1} {:.1}", all.len(), at(0.5), at(0.99));
-    Ok(())
+
+    fn run(&self) -> Result<()> {
+        self.prepare()?;
+        let mut all = self.all_times()?;
+        if all.is_empty() {
+            return Err(Error::new(ErrorKind::TimedOut, "no reply came"));
+        }
+        all.sort_unstable();
+        let at = |part: f64| all[(all.len() as f64 * part) as usize].as_nanos() as f64 / 1000.0;
+        let rate = all.len() as f64 / self.span.as_secs_f64();
+        println!("{} {rate:.0} {:.1} {:.1}", all.len(), at(0.5), at(0.99));
+        Ok(())
+    }
+}
+
+/// The words of the command line.
+fn load_of(words: &[String]) -> Option<Load> {
+    let [server, address, mix, connections, seconds, more @ ..] = words else {
+        return None;
+    };
+    let number = |at: usize, usual: usize| more.get(at).map_or(Some(usual), |it| it.parse().ok());
+    Some(Load {
+        server: server.clone(),
+        address: address.clone(),
+        mix: Mix::of(mix)?,
+        connections: connections.parse().ok()?,
+        span: Duration::try_from_secs_f64(seconds.parse().ok()?).ok()?,
+        size: number(0, 16)?,
+        chains: number(1, 1).filter(|it| *it > 0)?,
+    })
 }
 
 fn main() {
     let words: Vec<String> = env::args().skip(1).collect();
-    let [server, address, mix, connections, seconds] = words.as_slice() else {
-        eprintln!("load craq|redis ADDRESS reads-one|reads-all|puts CONNECTIONS SECONDS");
+    let Some(load) = load_of(&words) else {
+        eprintln!("load craq|redis|memcached|etcd ADDRESS reads-one|reads-all|puts|tenth|many CONNECTIONS SECONDS [SIZE [CHAINS]]");
         process::exit(2);
     };
-    let mix = match mix.as_str() {
-        "reads-one" => Mix::ReadsOne,
-        "reads-all" => Mix::ReadsAll,
-        _ => Mix::Puts,
-    };
-    let span = seconds.parse().ok().and_then(|it| Duration::try_from_secs_f64(it).ok());
-    let (Ok(connections), Some(span)) = (connections.parse(), span) else {
-        eprintln!("load: CONNECTIONS and SECONDS are numbers");
-        process::exit(2);
-    };
-    if let Err(fault) = run(server, address, mix, connections, span) {
+    if let Err(fault) = load.run() {
         eprintln!("load: {fault}");
         process::exit(1);
     }

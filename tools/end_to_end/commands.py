@@ -90,16 +90,26 @@ ROWS = [
     (1, "put 1 13 k z", "stale 22"),
 ]
 
-# Words that fit no line of a script.
+# Words that are no command: the word that is wrong, or None where one is missing, and what is expected there.
 NO_COMMAND = [
-    "put 1 1 k", "put 1 0 k", "put 1 1 k a b", "put 01 1 k a", "put 1 -1 k a", "put 1 1 65536/k a", "put 1 1 k. a", "put 1 1 k 0x6", "put 1 1 k 0xAB",
-    f"put 1 {MAX}0 k a", "tas 1 1 k a", "inc 1 1 k", "inc 1 1 k x", "mini 1", "mini 1 1 k", "mini 1 1 x:k", "mini 1 1 w:k:", "read k",
-    "read weak k", "read bounded:x k", "read bounded:4294967296 k", "deliver 1", "tick 1", "stop 1", "remove 1", "join 6", "explain", "status now",
+    ("put 1 1 k", None, "VALUE"), ("put 1 0 k", None, "VALUE"), ("put 1 1 k a b", "b", "no more words"), ("put 01 1 k a", "01", "CLIENT"),
+    ("put 1 -1 k a", "-1", "NUMBER"), ("put x y k", "x", "CLIENT"), ("put 1 1 65536/k a", "65536/k", "OBJECT"), ("put 1 1 k. a", "k.", "OBJECT"),
+    ("put 1 1 k 0x6", "0x6", "VALUE"), ("put 1 1 k 0xAB", "0xAB", "VALUE"), (f"put 1 {MAX}0 k a", MAX + "0", "NUMBER"), ("put", None, "CLIENT"),
+    ("append 1 1 k", None, "VALUE"), ("prepend 1 1", None, "OBJECT"), ("tas 1 1 k a", "a", "VERSION"), ("tas 1 1 k 2", None, "VALUE"),
+    ("tas 1 1 k 2 a b", "b", "no more words"), ("inc 1 1 k", None, "BY"), ("inc 1 1 k x", "x", "BY"), ("dec 1 1 k 1 1", "1", "no more words"),
+    ("mini 1", None, "NUMBER"), ("mini 1 1 k", "k", "ITEM"), ("mini 1 1 r:k x:k", "x:k", "ITEM"), ("mini 1 1 w:k:", "w:k:", "ITEM"),
+    ("read k", "k", "MODE"), ("read weak k", "weak", "MODE"), ("read bounded:x k", "bounded:x", "MODE"), ("read strong", None, "OBJECT"),
+    ("read bounded:4294967296 k", "bounded:4294967296", "MODE"), ("read strong k k", "k", "no more words"), ("deliver 1", "deliver", "a command"),
+    ("tick 1", "tick", "a command"), ("stop 1", "stop", "a command"), ("remove 1", "remove", "a command"), ("join 6", "join", "a command"),
+    ("explain", "explain", "a command"), ("status now", "now", "no more words"), ("shell now", "now", "no more words"),
+    ("watch 0", "0", "SECONDS"), ("watch 86401", "86401", "SECONDS"), ("watch 1 1", "1", "no more words"), ("bench", None, "CONNECTIONS"),
+    ("bench 0 1 50", "0", "CONNECTIONS"), ("bench 1001 1 50", "1001", "CONNECTIONS"), ("bench 1 0 50", "0", "SECONDS"),
+    ("bench 1 1 101", "101", "READS"), ("bench 1 1 50 1", "1", "no more words"),
 ]
 
 # Command lines that are none, without the address.
 NO_LINE = [
-    [], ["--node", "1"], ["read", "strong", "k"], ["--node", "01", "read", "strong", "k"], ["--node", "x", "read", "strong", "k"],
+    [], ["read", "strong", "k"], ["--node", "01", "read", "strong", "k"], ["--node", "x", "read", "strong", "k"],
     ["--node", "4294967296", "read", "strong", "k"], ["--node", "1", "--pass", "-1", "read", "strong", "k"],
     ["--node", "1", "--pass", MAX + "0", "read", "strong", "k"], ["--node", "1", "--unknown", "read", "strong", "k"],
 ]
@@ -150,6 +160,11 @@ def rows(checks, server, craq):
     shown = 0
     for row in ROWS:
         shown = check_row(checks, server, craq, row, shown)
+    found = running.ended([craq, "--connect", server.address, "--node", "1", "--pass", str(shown), "put", "2", "1", "blank", "a é"])
+    server.counts()
+    server.answers(0)
+    checks.that(found[0] == 0 and found[1].startswith("written 1\npass "), f"craq with a value with a blank: {found}")
+    shown = check_row(checks, server, craq, (2, "read strong blank", "read 1 0x6120c3a9"), shown)
     # a pass of another client, far above what the node has seen, is covered by its answer
     check_row(checks, server, craq, (3, "read strong k", "read 10 0x68"), shown + 1_000_000)
     for node in 1, 2:
@@ -165,13 +180,19 @@ def rows(checks, server, craq):
     checks.same("craq that cannot print", found, (1, "cannot print\n"))
 
 
+def is_told(err, wrong, expected):
+    """Whether standard error begins with what was expected, and what stands there in its place."""
+    found = "the end of the words" if wrong is None else f"'{wrong}'"
+    return re.match(rf"error: expected {expected}(, [^\n]*)?, and found {re.escape(found)}\n", err) is not None
+
+
 def no_commands(checks, craq, nowhere):
     """Faults of the command line come before any connection: nothing listens at `nowhere`."""
-    for words in NO_COMMAND:
-        checks.same(f"craq {words}", asked(craq, nowhere, 1, words), (2, "", "script line 1\n"))
-    for words in ["a b", "é", ""]:
-        found = running.ended([craq, "--connect", nowhere, "--node", "1", "put", "1", "1", "k", words])
-        checks.same(f"craq with the word {words!r}", found, (2, "", "script line 1\n"))
+    for words, wrong, expected in NO_COMMAND:
+        status, out, err = asked(craq, nowhere, 1, words)
+        checks.same(f"craq {words}", (status, out, is_told(err, wrong, expected)), (2, "", True))
+    status, out, err = running.ended([craq, "--connect", nowhere, "--node", "1", "put", "1", "1", "k", ""])
+    checks.same("craq with an empty value", (status, out, is_told(err, "", "VALUE")), (2, "", True))
     for words in NO_LINE:
         status, out, err = running.ended([craq, *(["--connect", nowhere] if words else []), *words])
         checks.same(f"craq {' '.join(words)}", (status, out, err != ""), (2, "", True))
@@ -210,7 +231,10 @@ def asked_of(craq, reply):
 
 
 def helps(checks, craq, craqd):
-    for program, words in (craq, "put tas append prepend inc dec mini read status --connect --node --pass"), (craqd, "--journal --connections PLAN ADDRESS"):
+    for program, words in (craq, "put tas append prepend inc dec mini read status shell watch bench --connect --node --pass"), (craqd, "--journal --connections PLAN ADDRESS"):
         status, out, err = running.ended([program, "--help"])
         missing = [it for it in words.split() if it not in out]
-        checks.same(f"{program.rpartition('/')[2]} --help", (status, missing, err), (0, [], ""))
+        name = program.rpartition("/")[2]
+        checks.same(f"{name} --help", (status, missing, err), (0, [], ""))
+        status, out, err = running.ended([program, "--version"])
+        checks.that(status == 0 and re.fullmatch(r"craqd? [0-9]+\.[0-9]+\.[0-9]+\n", out) and not err, f"{name} --version: {status} {out!r} {err!r}")

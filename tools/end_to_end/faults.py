@@ -1,5 +1,6 @@
 """craqd: each fault of its command line, its file, its text, memory and its address, in this order."""
 import os
+import re
 import tempfile
 
 import running
@@ -64,7 +65,9 @@ def plans(checks, craqd, taken):
     with running.text_file(running.PLAN) as file:
         for words in [file.name, taken], ["--journal", "--connections", "1", file.name, taken]:
             checks.same("an address in use", running.ended([craqd, *words]), (4, "", "cannot listen\n"))
-        checks.same("craqd that cannot print", running.unheard([craqd, file.name, "127.0.0.1:0"]), (1, "cannot print\n"))
+        status, err = running.unheard([craqd, file.name, "127.0.0.1:0"])
+        served = running.served_line(file, 0, "a thread for each connection", "at most 1024", "no journals")
+        checks.that(status == 1 and re.fullmatch(served + "cannot print\n", err), f"craqd that cannot print: {status} {err!r}")
 
 
 def great_plan(checks, craqd, craq):

@@ -6,6 +6,7 @@ import socket
 import subprocess
 import tempfile
 import time
+import tomllib
 
 PATIENCE = 20
 PLAN = """\
@@ -46,11 +47,22 @@ def ended(words, space=None):
     return ran.returncode, ran.stdout.decode(), ran.stderr.decode()
 
 
+def served_line(file, port, *way, plan=None):
+    """What craqd tells on standard error of the plan in this file, by a pattern: where it listens, at any port where none is known, the chains,
+    and how it serves them."""
+    chains = "".join(f" chain {it['name']} of nodes {' '.join(map(str, it['nodes']))}," for it in tomllib.loads(plan or PLAN)["chain"])
+    told = re.escape(f"serves {file.name} at 127.0.0.1:0, port "), port or "[0-9]+", re.escape(f":{chains} {', '.join(way)}\n")
+    return r"craqd [0-9]+\.[0-9]+\.[0-9]+ {}{}{}".format(*told)
+
+
 def unheard(words):
     """Runs a program whose standard output takes nothing: its status and standard error."""
     with open("/dev/full", "wb") as full:
         ran = subprocess.run(words, stdin=subprocess.DEVNULL, stdout=full, stderr=subprocess.PIPE, timeout=PATIENCE)
     return ran.returncode, ran.stderr.decode()
+
+# The options of craqd beside those that a check needs, for each server.
+OPTIONS = []
 
 
 class Server:
@@ -61,8 +73,10 @@ class Server:
 
     def __init__(self, craqd, plan, connections, journal=True, files=None, env=None):
         self.left = connections
+        self.plan, self.journal = plan, journal
         self.file = text_file(plan)
-        words = [craqd, *(["--journal"] if journal else []), "--connections", str(connections), self.file.name, "127.0.0.1:0"]
+        words = [craqd, *(["--journal"] if journal else []), "--connections", str(connections), *OPTIONS,
+                 self.file.name, "127.0.0.1:0"]
         self.process = subprocess.Popen(words, stdin=subprocess.DEVNULL, stdout=subprocess.PIPE, stderr=subprocess.PIPE, env=env,
                                         preexec_fn=limited(resource.RLIMIT_NOFILE, files))
         tells, _, _ = select.select([self.process.stdout], [], [], PATIENCE)
@@ -74,6 +88,11 @@ class Server:
     @property
     def address(self):
         return f"127.0.0.1:{self.port}"
+
+    def served(self):
+        """What it tells on standard error as it begins, by a pattern."""
+        way = "a thread for each connection", "at most 1024", "journals" if self.journal else "no journals"
+        return served_line(self.file, self.port, *way, plan=self.plan)
 
     def counts(self, connections=1):
         self.left -= connections
@@ -116,10 +135,11 @@ class Server:
             checks.that(False, f"{what}: {self.left} connections before its last: {failure}")
         try:
             out, err = self.process.communicate(timeout=PATIENCE)
-            found = (self.process.returncode, self.first + out.decode(), err.decode())
+            found = (self.process.returncode, self.first + out.decode())
+            checks.that(re.fullmatch(self.served(), err.decode()), f"{what}: on standard error {err.decode()!r} and not {self.served()!r}")
         except subprocess.TimeoutExpired:
             found = "no end"
-        checks.same(what, found, (0, f"listening {self.port}\n" + wanted, ""))
+        checks.same(what, found, (0, f"listening {self.port}\n" + wanted))
         self.kill()
 
     def kill(self):

@@ -140,6 +140,7 @@ def served(craqd, env):
     finally:
         server.kill()
     status, out, err = told
+    err = re.sub(server.served(), "", err, count=1)
     has_no_memory = (status, err) == (refused.NO_MEMORY, "no memory\n")
     served_on = (status, err) == (0, "") and right == ASKS and audited(out[len(server.first):], right, asker.asked)
     if not has_no_memory and not served_on:

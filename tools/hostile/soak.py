@@ -14,6 +14,7 @@ kept as a file that `craq_lab play` reads.
 """
 import multiprocessing
 import random
+import re
 import tempfile
 import time
 
@@ -246,7 +247,8 @@ def ends(checks, server, seen, journal):
     while server.left > 0 and server.runs():
         server.connect().close()
     out, err = server.process.communicate(timeout=running.PATIENCE * 30)
-    checks.same("how the server of the soak ends", (server.process.returncode, err.decode()), (0, ""))
+    checks.same("how the server of the soak ends", server.process.returncode, 0)
+    checks.that(re.fullmatch(server.served(), err.decode()), f"the server of the soak: on standard error {err.decode()!r}")
     audits = out.decode().splitlines()
     checks.same("how many chains are audited", len(audits), CHAINS if journal else 0)
     for chain, line in enumerate(audits):

@@ -39,6 +39,15 @@ def stray(checks):
             checks.same(f"files of crates/{name}/{part}", found, [])
         for part in "specs", "proofs":
             listed(checks, name, part)
+        modules(checks, name)
+
+
+def modules(checks, name):
+    """The root file names each module beside it."""
+    top = repository.path("crates", name, "src")
+    found = {it.removesuffix(".rt") for it in os.listdir(top) if it.endswith(".rt")} - {"lib", "main"}
+    named = {*re.findall(r"(?m)^\s*(?:pub(?:\(crate\))? )?mod (\w+);", repository.text_of("crates", name, root_of(name)))}
+    checks.same(f"modules of crates/{name}/src that {root_of(name)} does not name", sorted(found - named), [])
 
 
 def listed(checks, name, part):

@@ -175,7 +175,9 @@ def serve_proved(checks, clone):
     clone.words()
     status, out, _ = clone.ran("serve", plan, "127.0.0.1:7123")
     lines = out.splitlines()
-    checks.same("the proved server", (status, lines[0], lines[-1]), (0, "listening 7123", f"2: {plan} 127.0.0.1:7123"))
+    checks.same("the proved server", (status, lines[0], lines[-1]), (0, "listening 7123", f"3: --until-input-ends {plan} 127.0.0.1:7123"))
+    _, out, _ = clone.ran("serve", "--journal", "--most", "9", plan)
+    checks.same("its options", out.splitlines()[-1], f"6: --until-input-ends --journal --most 9 {plan} 127.0.0.1:0")
     checks.that(any("examples/client.py 127.0.0.1:7123 put" in it for it in lines), f"it tells of the client in Python: {lines}")
     clone.built("craq", "exit 0\n")
     _, out, _ = clone.ran("serve", plan, "127.0.0.1:7123")
@@ -185,6 +187,18 @@ def serve_proved(checks, clone):
     checks.same("after a change of the sources", clone.ran("serve")[0], 4)
     checks.that(clone.words() != [], "rt is asked after a change of the sources")
     clone.write(source, "//! A program.\n")
+
+
+def serve_ends(checks, clone):
+    """./serve ends the proved server in order: at SIGTERM or SIGINT its standard input ends, and what it then prints is passed on."""
+    for ending in signal.SIGTERM, signal.SIGINT:
+        clone.built("craqd", 'echo "listening 7123"; cat >/dev/null; echo "audit merged 0"; exit 3\n')
+        it = clone.started("serve", "--journal")
+        first = it.stdout.readline()
+        time.sleep(0.3)
+        it.send_signal(ending)
+        out, _ = it.communicate(timeout=PATIENCE)
+        checks.same(f"./serve at {ending.name}", (first, out.splitlines()[-1], it.returncode), ("listening 7123\n", "audit merged 0", 3))
 
 
 def play(checks, clone):
@@ -285,7 +299,7 @@ def test(checks, clone):
 
 def main():
     checks = Checks("top")
-    for part in has_no_rt, serve_unproved, serve_fails, serve_proved, play, build, plant, refuse, hostile, test:
+    for part in has_no_rt, serve_unproved, serve_fails, serve_proved, serve_ends, play, build, plant, refuse, hostile, test:
         with tempfile.TemporaryDirectory(prefix="top-") as room:
             checks.part(part.__doc__, part, Clone(os.path.realpath(room)))
     print(f"top: {checks.passed} passed, {checks.failed} failed")

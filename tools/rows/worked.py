@@ -64,6 +64,7 @@ def no_scripts(checks, program):
             checks.same(f"{text!r} with {core}", told, playing.Told(2, b"", b"script line %d\n" % line))
     for words, errors in NOT_PLAYED.items():
         checks.same(" ".join(words), playing.told(program, words, b""), playing.Told(2, b"", errors))
+    checks.same("--version", playing.told(program, ["--version"], b""), playing.Told(0, b"craq_lab 0.1.0\n", b""))
     plain, other = playing.on_both(program, ["play"], bytes_of("forms.script"))
     checks.that(plain.status == 0 and not plain.errors, f"each form of line is played: {plain.errors}")
     checks.same("each form of line", other, plain)

@@ -1,0 +1,148 @@
+"""What a server does at its limits: too many connections, idle ones, a pass that leaps, the end of its standard input."""
+import re
+import socket
+import subprocess
+import time
+
+import running
+from bad_input import framed, rest, taken
+
+FULL = bytes.fromhex("0000000b01030c0000000000000000")
+LEAP = 1_048_576
+
+
+class Limited:
+    """A craqd with these options, which ends once its standard input does."""
+
+    def __init__(self, craqd, *options):
+        self.file, self.options = running.text_file(running.PLAN), options
+        words = [craqd, "--until-input-ends", *options, self.file.name, "127.0.0.1:0"]
+        self.process = subprocess.Popen(words, stdin=subprocess.PIPE, stdout=subprocess.PIPE, stderr=subprocess.PIPE)
+        found = re.fullmatch(rb"listening ([1-9][0-9]*)\n", self.process.stdout.readline())
+        self.port = int(found[1]) if found else 0
+
+    def __enter__(self):
+        return self
+
+    def __exit__(self, *_):
+        if self.process.poll() is None:
+            self.process.kill()
+            self.process.wait()
+        self.file.close()
+
+    def connect(self):
+        return socket.create_connection(("127.0.0.1", self.port), running.PATIENCE)
+
+    def way(self):
+        """How it serves, as it tells it."""
+        given = dict(zip(self.options, self.options[1:]))
+        threads, idle = given.get("--threads", "0"), given.get("--idle", "0")
+        yield "a thread for each connection" if threads == "0" else f"{threads} threads for all connections"
+        yield f"at most {given.get('--most', '1024')}"
+        if idle != "0":
+            yield f"each ended after {idle} silent seconds"
+        yield "journals" if "--journal" in self.options else "no journals"
+
+    def finish(self, checks, what, wanted):
+        """Ends its standard input, and looks at what it then tells."""
+        try:
+            out, err = self.process.communicate(timeout=running.PATIENCE)
+            found = (self.process.returncode, out.decode())
+            served = running.served_line(self.file, self.port, *self.way())
+            checks.that(re.fullmatch(served, err.decode()), f"{what}: on standard error {err.decode()!r} and not {served!r}")
+        except subprocess.TimeoutExpired:
+            found = "no end"
+        checks.same(what, found, (0, wanted))
+
+
+def read_of(node, shown):
+    """A strong read of k, with this pass."""
+    return framed(bytes.fromhex("0102") + node.to_bytes(4, "big") + shown.to_bytes(8, "big") + bytes.fromhex("010000016b"))
+
+
+def reply(made):
+    """The payload of the next reply."""
+    return taken(made, int.from_bytes(taken(made, 4), "big"))
+
+
+def is_served(made):
+    """Whether a connection is answered."""
+    made.sendall(framed(bytes.fromhex("0103")))
+    return reply(made)[:2] == bytes.fromhex("0104")
+
+
+def most(checks, craqd):
+    """One connection more than there may be is told so and closed; once another has ended there is a place."""
+    with Limited(craqd, "--most", "2") as server:
+        some = [server.connect() for _ in range(2)]
+        checks.that(all(is_served(made) for made in some), "as many connections as there may be are served")
+        for _ in range(3):
+            with server.connect() as made:
+                checks.same("one connection more", rest(made), FULL)
+        some[0].close()
+        ends = time.time() + running.PATIENCE
+        again = server.connect()
+        while rest_or_none(again) == FULL and time.time() < ends:
+            again = server.connect()
+        checks.that(is_served(again), "there is a place once a connection has ended")
+        checks.that(is_served(some[1]), "another connection is served all the while")
+        server.finish(checks, "a server with few places", "")
+
+
+def rest_or_none(made):
+    """All that a connection brings where it ends at once; none where it stays open."""
+    made.settimeout(0.3)
+    try:
+        found = rest(made)
+    except OSError:
+        found = None
+    made.settimeout(running.PATIENCE)
+    return found
+
+
+def idle(checks, craqd):
+    """A connection on which nothing comes is ended; one that asks now and then is not."""
+    with Limited(craqd, "--idle", "1") as server:
+        silent, lively = server.connect(), server.connect()
+        began = time.time()
+        while time.time() < began + 1.5:
+            checks.that(is_served(lively), "a connection that asks is served")
+            time.sleep(0.3)
+        checks.same("a connection on which nothing comes", rest(silent), b"")
+        server.finish(checks, "a server that waits a second", "")
+
+
+def leaps(checks, craqd):
+    """A pass that leaps too far is refused, asks no node, and disables none."""
+    with Limited(craqd, "--journal") as server, server.connect() as made:
+        for shown, kind in (2 ** 64 - 1, 3), (2 ** 64 - 2, 3), (LEAP + 1, 3), (LEAP, 2), (2 * LEAP, 2), (2 ** 40, 3), (0, 2):
+            made.sendall(read_of(3, shown))
+            found = reply(made)
+            checks.same(f"a read with pass {shown}", (found[1], found[2] == 13 if kind == 3 else True), (kind, True))
+        server.finish(checks, "a server after such passes", "audit merged 3\naudit merged 0\n")
+
+
+def input_ends(checks, craqd):
+    """What was asked before the end is answered and audited, whoever keeps a connection open."""
+    with Limited(craqd, "--journal") as server:
+        some = [server.connect() for _ in range(5)]
+        some[0].sendall(read_of(1, 0) * 100)
+        checks.that(all(reply(some[0])[1:2] == b"\2" for _ in range(100)), "reads are answered")
+        some[1].sendall(read_of(1, 0)[:10])
+        began = time.time()
+        server.finish(checks, "a server whose input ends", "audit merged 100\naudit merged 0\n")
+        checks.that(time.time() - began < 10, "it ends at once")
+        for made in some[2:]:
+            checks.same("a connection that is open at the end", rest(made), b"")
+
+
+def journals(checks, craqd):
+    """Journals that nothing would audit are refused."""
+    with running.text_file(running.PLAN) as file:
+        status, out, err = running.ended([craqd, "--journal", file.name, "127.0.0.1:0"])
+        checks.same("--journal alone", (status, out, bool(err)), (2, "", True))
+
+
+def tried(checks, craqd):
+    for part in most, idle, leaps, input_ends, journals:
+        checks.part(f"limits: {part.__name__.replace('_', ' ')}", part, craqd)

@@ -40,7 +40,9 @@ def main():
     for objects, count in TIMES.items():
         for role in ("single", "head", "middle", "tail"):
             found = {name: {} for name in programs}
-            for _ in range(count):
+            for turn in range(count):
+                if sys.stderr.isatty():
+                    sys.stderr.write(f"\r{role}, {objects:,} objects, run {turn + 1} of {count}{'':20}\r")
                 dids = set()
                 for name, words in programs.items():
                     did, times = ran([*words, role, str(objects)], processor)

@@ -21,6 +21,8 @@ def main():
     with tempfile.TemporaryDirectory() as folder:
         script, wanted = f"{folder}/script", f"{folder}/wanted"
         for seed in range(count):
+            if sys.stderr.isatty():
+                sys.stderr.write(f"\r{seed} of {count} scripts\r")
             nodes = str(seed % 5 + 1)
             subprocess.run([plain, "script", str(seed), nodes, str(200 + seed % 7 * 300), script, wanted], check=True)
             played = subprocess.run([lab, "play", "--nodes", nodes, script], check=True, capture_output=True).stdout

@@ -1,7 +1,7 @@
 -- A step keeps the node's invariant, and all that it sends can be encoded as bytes.
 use Rattle.std.proofs.Common.{◌≡◌, ◌≤◌, true, false, Ok, Err, [], refl, sym, ap, ◌∙◌, subst}
 use Rattle.std.proofs.Math.Bool.{or-false}
-use Rattle.std.specs.Prelude.{Bool, Result, IfOk}
+use Rattle.std.specs.Prelude.{Bool, Result, IfOk, ◌==◌}
 use Rattle.craq_names.specs.declared.name.NodeName.{NodeName}
 use Rattle.craq_names.specs.declared.refusal.Refusal.{Refusal}
 use Rattle.craq_model.specs.declared.ask.Event.{Event}
@@ -11,7 +11,7 @@ use Rattle.craq_model.specs.declared.ask.Ask.{Ask}
 use Rattle.craq_model.specs.declared.ask.Event.TheVariants as events
 use Rattle.craq_model.specs.declared.message.LinkMessage.{LinkMessage}
 use Rattle.craq_model.specs.Asks.{ask_turn}
-use Rattle.craq_model.specs.Deliveries.{delivery_turn}
+use Rattle.craq_model.specs.Deliveries.{delivery_turn, turn_in_epoch}
 use Rattle.craq_model.specs.Node.{event_turn, is_for, outs_fit, within_counts}
 use Rattle.craq_model.specs.Settle.{Turn}
 use Rattle.craq_model.specs.Spelled.{IsSpelled}
@@ -19,12 +19,13 @@ use Rattle.craq_history.specs.declared.change.Change.{Change}
 use Rattle.craq_history.specs.Change.{changed, no_change}
 use Rattle.craq_compaction.specs.Compacted.{remembered, remembered_turn}
 use Rattle.craq_compaction.proofs.Soundness.{remembered_is}
+use Rattle.craq_admission.specs.Admitted.{is_heeded, tells_membership}
 use Rattle.craq_node.proofs.Turns.{turn_in}
 use Rattle.craq_model.specs.Plain.{Plain, opening_member}
 use Rattle.craq_node_invariant.specs.Sound.{AreSpelled, IsSound, IsSpelledEvent}
 use Rattle.craq_node_invariant.proofs.Openings.{member_is_sound, joined_is_sound}
 use Rattle.craq_node_invariant.proofs.Steps.{turn_is_sound}
-use Rattle.craq_node.specs.Represented.{Gives, IsFirstWith}
+use Rattle.craq_node.specs.Represented.{Gives, IsFirstWith, LeadsToSound}
 
 -- a turn of whose node this much is remembered
 pub taken : (forgets : Bool) (r : Result Turn Refusal) (n : Plain) (s : Step) → remembered_turn forgets r ≡ Ok (n, s) → (q : Plain) × (r ≡ Ok (q, s)) × (remembered forgets q ≡ n)
@@ -52,11 +53,24 @@ sound_turn p q e s h a is fits =
     let fitting : within_counts turn ≡ turn = rw fits refl in
     (turn_is_sound p q e s h a (ap (λ (r : Result Turn Refusal). within_counts r) is ∙ fitting)).0
 
-pub sound_after_ask : (p : Plain) (ask : Ask) (c : Change) (s : Step) → IsSound p → IsSpelledEvent (events.Ask ask) → ask_turn p ask ≡ Ok (changed p c, s) → outs_fit s.outs ≡ true → IsSound (changed p c)
-sound_after_ask p ask c s h a is fits = sound_turn p (changed p c) (events.Ask ask) s h a is fits
+pub ask_leads : (p : Plain) (ask : Ask) (wanted : Result Turn Refusal) → IsSound p → IsSpelledEvent (events.Ask ask) → ask_turn p ask ≡ wanted → LeadsToSound wanted
+ask_leads p ask wanted h a is = record { sound = λ q s e fits. sound_turn p q (events.Ask ask) s h a (is ∙ e) fits }
 
-pub sound_after_delivery : (p : Plain) (m : LinkMessage) (c : Change) (s : Step) → IsSound p → IsSpelled m → is_for p m ≡ true → delivery_turn p m ≡ (changed p c, s) → outs_fit s.outs ≡ true → IsSound (changed p c)
-sound_after_delivery p m c s h a here is fits = sound_turn p (changed p c) (events.Deliver m) s h a (rw (here, is) refl) fits
+pub delivery_leads : (p : Plain) (m : LinkMessage) (turn : Turn) → IsSound p → IsSpelled m → is_for p m ≡ true → delivery_turn p m ≡ turn → LeadsToSound (Ok turn)
+delivery_leads p m turn h a here is = record { sound = λ q s e fits. sound_turn p q (events.Deliver m) s h a (rw here (ap (λ (t : Turn). Ok t) is ∙ e)) fits }
+
+-- the same of a heeded message other than a membership: it is of the node's epoch
+pub in_epoch_leads : (p : Plain) (m : LinkMessage) (turn : Turn) → IsSound p → IsSpelled m → is_for p m ≡ true → is_heeded p m ≡ true → tells_membership m.body ≡ false → delivery_turn p m ≡ turn_in_epoch p m turn → LeadsToSound (Ok turn)
+in_epoch_leads p m turn h a here heeded tells is =
+    let same : (m.epoch == p.epoch) ≡ true = rw tells at heeded in
+    delivery_leads p m turn h a here (is ∙ rw same refl)
+
+-- a change that is planned of a turn leads where the turn does
+pub planned_sound : (p : Plain) (c : Change) (s : Step) (wanted : Result Turn Refusal) → LeadsToSound wanted → wanted ≡ Ok (changed p c, s) → outs_fit s.outs ≡ true → IsSound (changed p c)
+planned_sound p c s wanted leads is fits = leads.sound (changed p c) s is fits
+
+pub turn_sound : (p : Plain) (c : Change) (s : Step) (turn : Turn) → LeadsToSound (Ok turn) → turn ≡ (changed p c, s) → outs_fit s.outs ≡ true → IsSound (changed p c)
+turn_sound p c s turn leads is fits = leads.sound (changed p c) s (ap (λ (t : Turn). Ok t) is) fits
 
 -- a change of nothing leaves a sound node
 pub still_sound : (p : Plain) (c : Change) → c ≡ no_change → IsSound p → IsSound (changed p c)

@@ -1,15 +1,18 @@
 -- A core is seen as what it remembers of each node that it represents.
-use Rattle.std.proofs.Common.{◌≡◌, true, false, cond, Ok, Err, inl, inr, refl, sym, ap, ◌∙◌, subst}
+use Rattle.std.proofs.Common.{◌≡◌, true, false, cond, [], None, Some, Ok, Err, inl, inr, refl, sym, ap, ◌∙◌, subst}
 use Rattle.std.specs.Prelude.{Bool, Result, IsOk, IsSome}
 use Rattle.craq_names.specs.declared.refusal.Refusal.{Refusal}
 use Rattle.craq_names.specs.declared.refusal.Refusal.TheVariants as refusals
 use Rattle.craq_model.specs.declared.ask.Event.{Event}
 use Rattle.craq_model.specs.declared.ask.Event.TheVariants.{Ask, Deliver, Tick, Stop}
+use Rattle.craq_model.specs.declared.message.LinkMessage.{LinkMessage}
 use Rattle.craq_model.specs.declared.step.Step.{Step}
-use Rattle.craq_model.specs.Node.{event_turn, node_step, outs_fit, within_counts}
+use Rattle.craq_model.specs.declared.step.Why.TheVariants.{OtherEpoch}
+use Rattle.craq_model.specs.Deliveries.{delivery_turn}
+use Rattle.craq_model.specs.Node.{event_turn, is_for, node_step, outs_fit, within_counts}
 use Rattle.craq_model.specs.Past.{Past, no_past}
 use Rattle.craq_model.specs.Plain.{Plain}
-use Rattle.craq_model.specs.Settle.{Turn}
+use Rattle.craq_model.specs.Settle.{Turn, turn_ignoring}
 use Rattle.craq_node_invariant.specs.Sound.{IsSound, IsSpelledEvent}
 use Rattle.craq_node_invariant.proofs.Steps.{step_is_sound}
 use Rattle.craq_compaction.specs.Compacted.{remembered_in, remembered, remembered_turn}
@@ -19,6 +22,7 @@ use Rattle.craq_history.specs.declared.change.Change.{Change}
 use Rattle.craq_history.specs.Change.{changed}
 use Rattle.craq_node.specs.Represented.{Answers, Gives, IsFree, IsRemembered, uncounted_step}
 use Rattle.craq_node.proofs.Kept.{taken}
+use Rattle.craq_node.proofs.Stops.{nothing_fits}
 
 -- ---- what is remembered
 
@@ -45,6 +49,13 @@ made_given forgets old new c s fits e =
     let turn : Result Turn Refusal = Ok (changed old c, s) in
     let fitting : within_counts turn ≡ turn = rw fits refl in
     ap (λ (r : Result Turn Refusal). remembered_turn forgets r) fitting ∙ ap (λ (q : Plain). Ok (q, s)) (sym e)
+
+-- a message that is ignored leaves a node that is as it is remembered
+pub ignored_gives : (forgets : Bool) (p : Plain) (m : LinkMessage) (s : Step) → remembered forgets p ≡ p → is_for p m ≡ true → delivery_turn p m ≡ turn_ignoring p OtherEpoch → s ≡ record { ticket = None; outs = []; ignored = Some OtherEpoch } → Gives forgets p p (Ok s) (event_turn p (Deliver m))
+ignored_gives forgets p m s same here is said =
+    let turn : Result Turn Refusal = Ok (turn_ignoring p OtherEpoch) in
+    let fitting : within_counts turn ≡ turn = rw (nothing_fits [] refl) refl in
+    rw (here, is, said) (ap (λ (r : Result Turn Refusal). remembered_turn forgets r) fitting ∙ ap (λ (q : Plain). Ok (q, (turn_ignoring p OtherEpoch).1)) same)
 
 -- ---- a step of what is seen
 

@@ -6,10 +6,10 @@ use Rattle.craq_model.specs.declared.step.Out.{Out}
 use Rattle.craq_model.specs.declared.step.Step.{Step}
 use Rattle.craq_model.specs.Plain.{Plain}
 use Rattle.craq_names.specs.declared.refusal.Refusal.{Refusal}
-use Rattle.craq_model.specs.declared.message.LinkMessage.{LinkMessage}
 use Rattle.craq_model.specs.Deliveries.{delivery_turn}
-use Rattle.craq_model.specs.Node.{event_turn, is_for, node_step, outs_fit}
+use Rattle.craq_model.specs.Node.{event_turn, node_step, outs_fit}
 use Rattle.craq_admission.specs.Admitted.{uncounted_step}
+use Rattle.craq_model.specs.Settle.{Turn}
 use Rattle.craq_node.specs.Represented.{Gives, IsFree}
 use Rattle.craq_write.specs.Sent.{LacksOrOutgrows}
 
@@ -32,7 +32,7 @@ pub nothing_fits : (os : List Out) → os ≡ [] → outs_fit os ≡ true
 unfolding outs_fit
 nothing_fits os e = rw e refl
 
--- a delivery that is refused: memory ran out, or what would be sent cannot be counted
-pub delivery_refused : (forgets : Bool) (p q : Plain) (m : LinkMessage) (e : Refusal) → is_for p m ≡ true → LacksOrOutgrows (delivery_turn p m) e → q ≡ p → Gives forgets p q (Err e) (event_turn p (Deliver m))
-delivery_refused forgets p q m e here (inl lacks) same = rw here (inl (lacks, refl), same)
-delivery_refused forgets p q m e here (inr grown) same = rw (here, grown.1) (inr (ap Err (sym grown.0)), same)
+-- a turn that is refused: memory ran out, or what would be sent cannot be counted
+pub turn_refused : (forgets : Bool) (p q : Plain) (turn : Turn) (e : Refusal) → LacksOrOutgrows turn e → q ≡ p → Gives forgets p q (Err e) (Ok turn)
+turn_refused forgets p q turn e (inl lacks) same = (inl (lacks, refl), same)
+turn_refused forgets p q turn e (inr grown) same = rw grown.1 (inr (ap Err (sym grown.0)), same)

@@ -9,7 +9,7 @@ use Rattle.craq_model.specs.declared.config.Config.{Config}
 use Rattle.craq_model.specs.declared.step.Step.{Step}
 use Rattle.craq_model.specs.Deliveries.{delivery_turn}
 use Rattle.craq_model.specs.Members.{IsMembership, is_member}
-use Rattle.craq_model.specs.Node.{is_for, node_step, within_counts}
+use Rattle.craq_model.specs.Node.{is_for, node_step, outs_fit, within_counts}
 use Rattle.craq_model.specs.Plain.{Plain, opening_joined, opening_member}
 use Rattle.craq_model.specs.Settle.{Turn}
 use Rattle.craq_model.specs.Spelled.{IsSpelled}
@@ -60,6 +60,10 @@ IsFree p Stop = p.running ≡ true
 abbrev pub Gives : Bool → Plain → Plain → Result Step Refusal → Result Turn Refusal → Type 0
 Gives forgets old new (Ok step) turn = remembered_turn forgets (within_counts turn) ≡ Ok (new, step)
 Gives forgets old new (Err e) turn = RefusesWhere (IsOk turn) e (within_counts turn) × (new ≡ old)
+
+-- where there is a turn whose sends fit messages, the node that it leads to is sound
+pub record LeadsToSound (wanted : Result Turn Refusal) : Type 0 where
+  pub sound : (q : Plain) (s : Step) → wanted ≡ Ok (q, s) → outs_fit s.outs ≡ true → IsSound q
 
 -- a plain node of which a node remembers what it is seen as
 pub record IsRemembered (forgets : Bool) (p seen : Plain) : Type 0 where

@@ -1,27 +1,24 @@
 //! `NodeCore`: the one core that is here, over any `History`. It admits an event, has a rule plan it, and makes the change.
-ghost use Rattle.std.specs.Prelude.{◌≡◌, ◌≢◌, true, [], IfOk, IsOk, IsSome, Ok};
+ghost use Rattle.std.specs.Prelude.{◌≡◌, ◌≢◌, true, IfOk, IsOk, IsSome};
 ghost use Rattle.craq_model.specs.Deliveries.{delivery_turn};
 ghost use Rattle.craq_model.specs.Plain.{Plain, opening_member};
-ghost use Rattle.craq_model.specs.Node.{event_turn, is_for, outs_fit};
+ghost use Rattle.craq_model.specs.Node.{event_turn, is_for};
 ghost use Rattle.craq_model.specs.Spelled.{IsSpelled};
 ghost use Rattle.craq_node_invariant.specs.Sound.{AreSpelled, IsSound, IsSpelledAsk, IsSpelledEvent};
 ghost use Rattle.craq_node_invariant.proofs.Props.{IsSound-prop};
 ghost use Rattle.craq_compaction.specs.Compacted.{remembered};
-ghost use Rattle.craq_history.specs.Change.{changed, no_change};
 ghost use Rattle.craq_history.specs.Nodes.{plain_of};
-ghost use Rattle.craq_history.specs.Plans.{CanMake};
 ghost use Rattle.craq_admission.specs.Admitted.{IsAdmitted};
 ghost use Rattle.craq_node.specs.Represented.{Answers, CanArrive, Gives, IsFree, IsRemembered, plain_at};
 
 use crate::Core;
-use crate::fitting::are_fitting;
-use crate::planning::{plan_ask, plan_delivery};
-use craq_admission::admit;
+use crate::planning::{heed, made, take_ask};
+use craq_admission::{admit, is_heeded};
 use craq_commands::Command;
 use craq_epochs::{Config, Switch};
-use craq_history::steps::done;
+use craq_history::steps::{done, ignoring};
 use craq_history::{Change, History, Node};
-use craq_model::{Ask, Event, LinkMessage, Step};
+use craq_model::{Ask, Event, LinkMessage, Step, Why};
 use craq_names::{Copied, Epoch, Items, NodeId, NodeName, Refusal, Ticket};
 use craq_write::add_tick_outs;
 use std::alloc::Global;
@@ -47,29 +44,8 @@ fn keep_limits(event: &Event)
     }
 }
 
-/// Makes a change that was planned, unless the sends do not fit messages.
-#[tactic(auto, using(crate::proofs::Stops::nothing_fits, crate::proofs::Remembered::made_given))]
-fn made<H: History>(
-    alloc: Global,
-    node: &mut Node<H>,
-    change: Change,
-    step: Step,
-) -> Result<Step, Refusal>
-    requires can { CanMake (plain_of H.past node.old) change }
-    requires sound { outs_fit step.outs ≡ true → IsSound (changed (plain_of H.past node.old) change) }
-    ensures gives { Gives H.forgets (plain_of H.past node.old) (plain_of H.past node.new) result (Ok (changed (plain_of H.past node.old) change, step)) }
-    ensures name { (plain_of H.past node.new).name ≡ (plain_of H.past node.old).name }
-    ensures free { change ≡ no_change → step.outs ≡ [] → IsOk result }
-{
-    if !are_fitting(step.outs.as_slice()) {
-        return Err(Refusal::Exhausted);
-    }
-    node.apply(alloc, change)?;
-    Ok(step)
-}
-
-/// A message for this node, at a running node.
-#[tactic(auto, using(crate::proofs::Stops::delivery_refused))]
+/// A message for this node, at a running node. Any but a membership has to be of the node's epoch (`OtherEpoch`). Refused for
+/// want of memory (`Memory`), and where what is sent has more parts than 32 bits count (`Exhausted`).
 fn hear<H: History>(
     alloc: Global,
     node: &mut Node<H>,
@@ -82,12 +58,25 @@ fn hear<H: History>(
     ensures name { (plain_of H.past node.new).name ≡ (plain_of H.past node.old).name }
     ensures free { IsSome (delivery_turn (plain_of H.past node.old) message).1.ignored → IsOk result }
 {
-    let (change, step) = plan_delivery(alloc, node, message)?;
-    made(alloc, node, change, step)
+    if !is_heeded(node, &message) {
+        return Ok(ignoring(alloc, Why::OtherEpoch));
+    }
+    heed(alloc, node, message)
+}
+
+/// A tick: what the node repeats is sent.
+#[tactic(auto, using(crate::proofs::Kept::still_sound), unfolding(craq_model::specs::Sends::tick_sends))]
+fn tick<H: History>(alloc: Global, node: &mut Node<H>) -> Result<Step, Refusal>
+    requires sound { IsSound (plain_of H.past node.old) }
+    ensures gives { Gives H.forgets (plain_of H.past node.old) (plain_of H.past node.new) result (event_turn (plain_of H.past node.old) Event.Tick) }
+    ensures name { (plain_of H.past node.new).name ≡ (plain_of H.past node.old).name }
+{
+    let mut outs = Vec::new(alloc);
+    add_tick_outs(&mut outs, alloc, node)?;
+    made(alloc, node, Change::none(), done(outs))
 }
 
 /// Meets an admitted event, other than a stop, at a running node: its rule plans the change, which is then made.
-#[tactic(auto, using(crate::proofs::Kept::still_sound), unfolding(craq_model::specs::Sends::tick_sends))]
 fn meet<H: History>(alloc: Global, node: &mut Node<H>, event: Event) -> Result<Step, Refusal>
     requires sound { IsSound (plain_of H.past node.old) }
     requires arrives { CanArrive event }
@@ -99,16 +88,9 @@ fn meet<H: History>(alloc: Global, node: &mut Node<H>, event: Event) -> Result<S
     ensures free { IsFree (plain_of H.past node.old) event → IsOk result }
 {
     match event {
-        Event::Ask(ask) => {
-            let (change, step) = plan_ask(alloc, node, ask)?;
-            made(alloc, node, change, step)
-        }
+        Event::Ask(ask) => take_ask(alloc, node, ask),
         Event::Deliver(message) => hear(alloc, node, message),
-        Event::Tick => {
-            let mut outs = Vec::new(alloc);
-            add_tick_outs(&mut outs, alloc, node)?;
-            made(alloc, node, Change::none(), done(outs))
-        }
+        Event::Tick => tick(alloc, node),
         Event::Stop => Ok(done(Vec::new(alloc))),
     }
 }

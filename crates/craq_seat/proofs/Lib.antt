@@ -4,3 +4,4 @@ pub mod Sending
 pub mod Spoken
 pub mod Keeping
 pub mod Booking
+pub mod Own

@@ -1,5 +1,5 @@
 -- Calls that wait at a desk, and what a step answers of them.
-use Rattle.std.specs.Prelude.{◌≡◌, ℕ, ◌==◌, not, Bool, false, List, [], ◌∷◌, ◌++◌, filter, find, flat_map, Option, Some, None, Result, Ok, Err, IsErr, Vec}
+use Rattle.std.specs.Prelude.{◌≡◌, ℕ, ◌==◌, not, Bool, true, false, List, [], ◌∷◌, ◌++◌, filter, find, flat_map, map, Option, Some, None, Result, Ok, Err, IsErr, Vec}
 use Rattle.std.specs.List.{list_any}
 use Rattle.std.specs.declared.alloc.AllocError.{AllocError}
 use Rattle.std.specs.declared.alloc.Global.{Global}
@@ -61,9 +61,24 @@ abbrev pub answers_to : ℕ → Out → Bool
 answers_to ticket (outs.Send to m) = false
 answers_to ticket (outs.Answer t answer) = t == ticket
 
+abbrev pub is_answer : Out → Bool
+is_answer (outs.Send to m) = false
+is_answer (outs.Answer ticket answer) = true
+
 -- the calls that no out answers
 abbrev pub waiting_after : List Call → List Out → List Call
 waiting_after calls os = filter (λ (call : Call). not (list_any (answers_to call.ticket) os)) calls
+
+-- a step only answers the ask that it accepts, under a ticket that no waiting call has
+pub record AnswersItself (waiting : List Call) (accepted : Option ℕ) (os : List Out) (answer : Answer) : Type 0 where
+  pub own : ℕ  -- the ticket
+  pub its : accepted ≡ Some own
+  pub alone : os ≡ outs.Answer own answer ∷ []
+  pub free : call_under waiting own ≡ None
+
+-- calls that all have this answer
+abbrev pub all_answered : List Call → Receipt → Answer → List Called
+all_answered calls receipt answer = map (λ (call : Call). record { call = call; answered = receipt; answer = answer }) calls
 
 -- the calls of a step are answered, and the others wait on; without memory the calls that it would accept or answer are dropped
 abbrev pub Serves : List Call → List Call → List Call → Receipt → List Out → Result (Vec Called Global) AllocError → Type 0

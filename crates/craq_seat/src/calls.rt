@@ -1,8 +1,8 @@
 //! Calls that wait at a desk, and their receipts once a step answers them; called by `desk`.
-ghost use Rattle.std.specs.Prelude.{◌≡◌, ◌++◌, IfOk, OnErr, OnOk};
+ghost use Rattle.std.specs.Prelude.{◌≡◌, ◌++◌, IfOk, IfSome, OnErr, OnOk};
 ghost use Rattle.std.specs.List.{list_any};
 ghost use Rattle.std.specs.Option.{option_copied};
-ghost use Rattle.craq_seat.specs.Calls.{ServesAsked, accepted, answers_to, ask_of, call_under, called_in, waiting_after};
+ghost use Rattle.craq_seat.specs.Calls.{AnswersItself, ServesAsked, accepted, all_answered, answers_to, ask_of, call_under, called_in, is_answer, waiting_after};
 
 use crate::Receipt;
 use craq_model::{Answer, Ask, Event, Out, Step};
@@ -153,11 +153,20 @@ fn is_answered(outs: &[Out], ticket: Ticket) -> bool
     false
 }
 
-/// Leaves the calls that no out answers.
+/// Whether one of the outs is an answer.
+fn answers_any(outs: &[Out]) -> bool
+    ensures { result ≡ list_any is_answer outs.now }
+{
+    outs.iter().any(|out| matches!(out, Out::Answer { .. }))
+}
+
+/// Removes the calls that an out answers.
 fn forget_answered(waiting: &mut Vec<Call>, outs: &[Out])
     ensures { waiting.new.items ≡ waiting_after waiting.old.items outs.now }
 {
-    waiting.retain(|call| !is_answered(outs, call.ticket));
+    if answers_any(outs) {
+        waiting.retain(|call| !is_answered(outs, call.ticket));
+    }
 }
 
 /// The accepted ask waits from now on, if there is one.
@@ -209,6 +218,56 @@ fn answer_calls(
     receipts
 }
 
+/// The answer of a step that only answers the ask that it accepts, under a ticket that no waiting call has.
+fn own_answer<'a>(waiting: &[Call], step: &'a Step) -> Option<&'a Answer>
+    ensures { IfSome result (λ answer. AnswersItself waiting.now step.now.ticket step.now.outs answer.now) }
+{
+    let ticket = step.ticket?;
+    match step.outs.as_slice() {
+        [
+            Out::Answer {
+                ticket: own,
+                answer,
+            },
+        ] if *own == ticket && call_under(waiting, ticket).is_none() => Some(answer),
+        _ => None,
+    }
+}
+
+/// The receipt of an ask that is answered in the step that accepts it, so that its call need not wait.
+fn answer_own(
+    alloc: Global,
+    asked: Option<Ask>,
+    ticket: Option<Ticket>,
+    answer: &Answer,
+    receipt: &Receipt,
+    pass: Pass,
+) -> Result<Vec<CallReceipt>, AllocError>
+    ensures { IfOk result (λ receipts. receipts.items ≡ all_answered (accepted asked ticket receipt.now pass) receipt.now answer.now) }
+{
+    let Some(ask) = asked else {
+        return Ok(Vec::new(alloc));
+    };
+    let Some(ticket) = ticket else {
+        drop(ask);
+        return Ok(Vec::new(alloc));
+    };
+    let call = Call {
+        asked: *receipt,
+        ticket,
+        pass,
+        ask,
+    };
+    let answer = answer.copied(alloc)?;
+    let mut receipts = Vec::new(alloc);
+    receipts.push(CallReceipt {
+        call,
+        answered: *receipt,
+        answer,
+    })?;
+    Ok(receipts)
+}
+
 /// The calls of a step: the accepted ask waits from now on, and each waiting call that the step answers has its
 /// receipt and waits no more. Without memory the calls that the step accepts or answers are dropped.
 pub(crate) fn serve(
@@ -226,10 +285,13 @@ pub(crate) fn serve(
             forget_answered(waiting, step.outs.as_slice());
             Err(AllocError)
         }
-        Ok(asked) => {
-            let calls = answer_calls(alloc, waiting, asked, receipt, pass, step);
-            forget_answered(waiting, step.outs.as_slice());
-            calls
-        }
+        Ok(asked) => match own_answer(waiting.as_slice(), step) {
+            Some(answer) => answer_own(alloc, asked, step.ticket, answer, receipt, pass),
+            None => {
+                let calls = answer_calls(alloc, waiting, asked, receipt, pass, step);
+                forget_answered(waiting, step.outs.as_slice());
+                calls
+            }
+        },
     }
 }

@@ -50,7 +50,8 @@ fn act(alloc: Global, master: &mut Master, event: BookEvent) -> Result<Step, Ref
     }
 }
 
-/// The same, and the master has a membership after it. Refused as `BookCell::take` says, with nothing changed.
+/// As `act`; `config` shows that the master has a membership afterwards. Refused as `BookCell::take` says, with nothing
+/// changed.
 pub(crate) fn turn(alloc: Global, master: &mut Master, event: BookEvent) -> Result<Step, Refusal>
     ensures step { Turns master.old master.new result (book_step master.old event) }
     ensures mastered { IsMastered master.new }

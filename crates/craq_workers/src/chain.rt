@@ -62,9 +62,18 @@ impl<C: Core> Way<C> {
     fn bring<R: Wait>(&self, rt: &R, brought: Brought) {
         if let (Some(node), Some(entrances)) = (&self.node, &self.entrances) {
             if node.admits(&brought) {
-                let _ = entrances.links.send(rt, brought);
+                put_on_link(rt, node, entrances, brought);
             }
         }
+    }
+}
+
+/// Something goes into a queue, or is lost for want of memory.
+fn put_on_link<R: Wait, C: Core>(rt: &R, node: &Node<C>, entrances: &Entrances, brought: Brought) {
+    match entrances.links.send(rt, brought) {
+        Ok(()) => (),
+        Err(SendError::OutOfMemory(lost)) => node.lose(lost),
+        Err(SendError::Disconnected(lost)) => node.lose(lost),
     }
 }
 

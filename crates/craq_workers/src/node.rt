@@ -109,6 +109,16 @@ impl<C: Core> Node<C> {
         self.blanks.store(false, Ordering::SeqCst);
     }
 
+    /// What was admitted is lost on its way to the queue: another of its kind may wait.
+    pub(crate) fn lose(&self, brought: Brought) {
+        match &brought {
+            Brought::Message(_) => (),
+            Brought::Blank(_) => self.blank_taken(),
+            Brought::Tick => self.tick_taken(),
+        }
+        drop(brought);
+    }
+
     /// Whether anything waits at the node.
     pub(crate) fn has_work(&self) -> bool {
         !self.queues.links.is_empty() || !self.queues.asks.is_empty()

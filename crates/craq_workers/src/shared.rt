@@ -1,20 +1,17 @@
 //! What all threads of a store share, how a step's messages go out, and how one ask is served.
-ghost use Rattle.std.specs.List.{AllByRecursion};
-ghost use Rattle.craq_model.specs.Spelled.{IsSpelled};
-
 use crate::carrying::carry_on;
 use crate::chain::Chain;
 use crate::gate::{Gate, Work};
 use crate::node::{Brought, Node};
 use crate::outbox::Outbox;
 use crate::replies::Replies;
-use crate::steps::{Asked, Served, node_messages, refuse_asked, take_own, take_queued};
+use crate::steps::{Asked, Served, refuse_asked, sent_by_node, take_own, take_queued};
 use craq_letters::{Addressee, Letterbox, Reply};
-use craq_model::{Ask, Body, LinkMessage};
+use craq_model::Ask;
 use craq_names::{ChainId, NodeName, Pass, Refusal};
 use craq_node::Core;
 use craq_seat::CallReceipt;
-use craq_wire::encode;
+use craq_sending::{Kind, Sent};
 use std::alloc::Global;
 use std::sync::{Arc, Wait};
 
@@ -51,22 +48,19 @@ impl<C: Core, G: Gate> Shared<C, G> {
         }
     }
 
-    /// Sends messages, in order. One that the gate does not carry, or for which there is no memory, is lost.
+    /// Sends messages, in order. One that the gate does not carry is lost.
     pub(crate) fn post<R: Wait>(
         &self,
         rt: &R,
-        alloc: Global,
         from: &NodeName,
-        messages: &[LinkMessage],
+        sent: Vec<Sent>,
         outbox: &mut Outbox,
-    )
-        requires { AllByRecursion IsSpelled messages.now }
-    {
+    ) {
         let Ok(chain) = self.chain(from.chain) else {
             return;
         };
-        for message in messages {
-            self.send(rt, alloc, chain, from, message, outbox);
+        for message in sent {
+            self.send(rt, chain, from, message, outbox);
         }
     }
 
@@ -74,28 +68,24 @@ impl<C: Core, G: Gate> Shared<C, G> {
     fn send<R: Wait>(
         &self,
         rt: &R,
-        alloc: Global,
         chain: &Chain<C>,
         from: &NodeName,
-        message: &LinkMessage,
+        message: Sent,
         outbox: &mut Outbox,
-    )
-        requires { IsSpelled message.now }
-    {
-        let to = NodeName {
+    ) {
+        let Sent { to, kind, bytes } = message;
+        let name = NodeName {
             chain: from.chain,
-            node: message.receiver,
+            node: to,
         };
-        if !self.gate.carries(*from, to) {
+        if !self.gate.carries(*from, name) {
+            drop(bytes);
             return;
         }
-        let Ok(bytes) = encode(alloc, message) else {
-            return;
-        };
-        match &message.body {
-            Body::Ack(_) => outbox.keep(rt, chain, message.receiver, Brought::Message(bytes)),
-            Body::Blank(_) => outbox.send(rt, chain, message.receiver, Brought::Blank(bytes)),
-            _ => outbox.send(rt, chain, message.receiver, Brought::Message(bytes)),
+        match kind {
+            Kind::Ack => outbox.keep(rt, chain, to, Brought::Message(bytes)),
+            Kind::Blank => outbox.send(rt, chain, to, Brought::Blank(bytes)),
+            Kind::Other => outbox.send(rt, chain, to, Brought::Message(bytes)),
         }
     }
 
@@ -108,8 +98,8 @@ impl<C: Core, G: Gate> Shared<C, G> {
         seated: &Served<C>,
         outbox: &mut Outbox,
     ) {
-        let messages = node_messages(alloc, seated.desk.cell());
-        self.post(rt, alloc, &node.name, messages.as_slice(), outbox);
+        let sent = sent_by_node(alloc, seated.desk.cell());
+        self.post(rt, &node.name, sent, outbox);
     }
 
     /// The last acknowledgement of a piece of work goes out.

@@ -1,18 +1,19 @@
 //! A step of a node whose seat is locked: an ask's or another event's, with its replies; and the messages of the last step.
-ghost use Rattle.std.specs.Prelude.{◌≡◌, IfSome};
-ghost use Rattle.std.specs.List.{AllByRecursion};
+ghost use Rattle.std.specs.Prelude.{◌≡◌, ◌⊎◌, [], None, IfSome};
 ghost use Rattle.std.specs.Option.{option_copied};
-ghost use Rattle.craq_model.specs.Spelled.{IsSpelled};
 ghost use Rattle.craq_node.specs.Represented.{CanArrive};
+ghost use Rattle.craq_runs.specs.Chain.{sent_in};
 ghost use Rattle.craq_seat.specs.Cells.{receipt_of};
-ghost use Rattle.craq_seat.specs.Numbered.{CanBeSent};
+ghost use Rattle.craq_seat.specs.Numbered.{CanBeSent, numbered_from};
+ghost use Rattle.craq_sending.specs.Sent.{AreSentAs};
 
 use crate::replies::{Replies, take_caller};
 use craq_letters::{Addressee, Letterbox, Reply};
-use craq_model::{Ask, Event, LinkMessage, Out, Step};
+use craq_model::{Ask, Event, Out, Step};
 use craq_names::{Pass, Refusal, Ticket};
 use craq_node::Core;
-use craq_seat::{BookCell, CallReceipt, Caller, Cell, Receipt, Seated, numbered};
+use craq_seat::{BookCell, CallReceipt, Caller, Cell, Receipt, Seated};
+use craq_sending::{Sent, encode_sent};
 use std::alloc::{AllocError, AllocFailed, Global};
 use std::mem;
 use std::sync::{Arc, Wait};
@@ -35,15 +36,16 @@ struct Taken {
     reply: Option<Reply>,
 }
 
-/// The messages of a step under its receipt, each with a spelling. Without memory they are lost.
-fn messages_of(alloc: Global, step: Option<&Step>, receipt: Receipt) -> Vec<LinkMessage>
+/// What a step sends, under its receipt. Without memory it is lost.
+fn sent_by(alloc: Global, step: Option<&Step>, receipt: Receipt) -> Vec<Sent>
     requires { IfSome (option_copied step) (λ s. CanBeSent receipt s.outs) }
-    ensures { AllByRecursion IsSpelled result.items }
+    ensures sent { IfSome (option_copied step.entry) (λ s. (result.items ≡ []) ⊎ AreSentAs result.items (numbered_from 0 receipt (sent_in s.outs))) }
+    ensures none { option_copied step.entry ≡ None → result.items ≡ [] }
 {
     match step {
         None => Vec::new(alloc),
-        Some(step) => match numbered(alloc, step, receipt) {
-            Ok(messages) => messages,
+        Some(step) => match encode_sent(alloc, step, receipt) {
+            Ok(sent) => sent,
             Err(_) => Vec::new(alloc),
         },
     }
@@ -59,22 +61,24 @@ fn last_receipt<C: Core>(cell: &Cell<C>) -> Receipt
     }
 }
 
-/// The messages of a node's last step, each with a spelling. Without memory they are lost.
-pub(crate) fn node_messages<C: Core>(alloc: Global, cell: &Cell<C>) -> Vec<LinkMessage>
-    ensures { AllByRecursion IsSpelled result.items }
+/// What a node's last step sends. Without memory it is lost.
+pub(crate) fn sent_by_node<C: Core>(alloc: Global, cell: &Cell<C>) -> Vec<Sent>
+    ensures sent { IfSome cell.now.last (λ s. (result.items ≡ []) ⊎ AreSentAs result.items (numbered_from 0 (receipt_of cell.now) (sent_in s.outs))) }
+    ensures none { cell.now.last ≡ None → result.items ≡ [] }
 {
-    messages_of(alloc, cell.last(), last_receipt(cell))
+    sent_by(alloc, cell.last(), last_receipt(cell))
 }
 
-/// The messages of a master's last step, likewise.
-pub(crate) fn book_messages(alloc: Global, book: &BookCell) -> Vec<LinkMessage>
-    ensures { AllByRecursion IsSpelled result.items }
+/// What a master's last step sends, likewise.
+pub(crate) fn sent_by_book(alloc: Global, book: &BookCell) -> Vec<Sent>
+    ensures sent { IfSome book.now.last (λ s. (result.items ≡ []) ⊎ AreSentAs result.items (numbered_from 0 (receipt_of book.now) (sent_in s.outs))) }
+    ensures none { book.now.last ≡ None → result.items ≡ [] }
 {
     let receipt = Receipt {
         node: book.opening().name.node,
         stamp: book.stamp(),
     };
-    messages_of(alloc, book.last(), receipt)
+    sent_by(alloc, book.last(), receipt)
 }
 
 /// The callers of these receipts are answered. The receipt of this ticket is the caller's own, whose step it is.

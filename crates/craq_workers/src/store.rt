@@ -1,7 +1,5 @@
 //! `Store`, the primary object of the crate: it starts, stops, removes, joins and closes.
 ghost use Rattle.std.specs.Prelude.{◌≡◌, ◌≤◌, IfErr, IfOk, OnOk};
-ghost use Rattle.std.specs.List.{AllByRecursion};
-ghost use Rattle.craq_model.specs.Spelled.{IsSpelled};
 ghost use Rattle.craq_place.specs.Plan.{IsPlan};
 
 use crate::chain::{Chain, refuse_queued};
@@ -12,15 +10,16 @@ use crate::opening::{Form, add_workers, open_chains, open_node};
 use crate::outbox::Outbox;
 use crate::replies::Replies;
 use crate::shared::{Return, Shared};
-use crate::steps::{book_messages, dismiss};
+use crate::steps::{dismiss, sent_by_book};
 use crate::work::{Worker, master_of, work};
 use craq_epochs::{MEMBER_LIMIT, is_among};
 use craq_letters::Letterbox;
-use craq_model::{Ask, Config, Event, LinkMessage};
+use craq_model::{Ask, Config, Event};
 use craq_names::{ChainId, Copied, NodeId, NodeName, Pass, Refusal, Stamp};
 use craq_node::Core;
 use craq_place::Plan;
 use craq_seat::{BookCell, BookEvent, CallReceipt, Receipt};
+use craq_sending::Sent;
 use crossbeam_channel::{Receiver, Sender};
 use std::alloc::{AllocError, Global};
 use std::sync::{Arc, Wait};
@@ -235,12 +234,12 @@ impl<C: Core + Send + 'static, G: Gate + Send + Sync + 'static> Store<C, G> {
         };
         let event = BookEvent::Remove { stopped, stop };
         let receipt = book.take(self.alloc, event, Pass::start())?;
-        let messages = book_messages(self.alloc, &book);
+        let sent = sent_by_book(self.alloc, &book);
         drop(book);
         place.retire(rt, node, self.form.journal);
         place.bell.change();
         refuse_queued(rt, &member, &Refusal::Stopped);
-        self.announce(rt, place, chain, messages.as_slice());
+        self.announce(rt, place, chain, sent);
         Ok(receipt)
     }
 
@@ -264,10 +263,10 @@ impl<C: Core + Send + 'static, G: Gate + Send + Sync + 'static> Store<C, G> {
         let mut hired = Vec::with_capacity(self.alloc, 2)?;
         match self.join_opened(rt, place, &mut book, node, way, &mut hired) {
             Ok(receipt) => {
-                let messages = book_messages(self.alloc, &book);
+                let sent = sent_by_book(self.alloc, &book);
                 drop(book);
                 place.bell.change();
-                self.announce(&rt, place, chain, messages.as_slice());
+                self.announce(&rt, place, chain, sent);
                 Ok(receipt)
             }
             Err(refusal) => {
@@ -318,12 +317,9 @@ impl<C: Core + Send + 'static, G: Gate + Send + Sync + 'static> Store<C, G> {
     }
 
     /// The master's messages go out.
-    fn announce<R: Wait>(&self, rt: &R, place: &Chain<C>, chain: ChainId, messages: &[LinkMessage])
-        requires { AllByRecursion IsSpelled messages.now }
-    {
+    fn announce<R: Wait>(&self, rt: &R, place: &Chain<C>, chain: ChainId, sent: Vec<Sent>) {
         let mut outbox = Outbox::new(false);
-        self.shared
-            .post(rt, self.alloc, &master_of(chain), messages, &mut outbox);
+        self.shared.post(rt, &master_of(chain), sent, &mut outbox);
         outbox.close(rt, place);
     }
 

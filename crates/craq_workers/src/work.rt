@@ -1,6 +1,4 @@
 //! What each thread of a store does, from its start to its end.
-ghost use Rattle.std.specs.List.{AllByRecursion};
-ghost use Rattle.craq_model.specs.Spelled.{IsSpelled};
 ghost use Rattle.craq_node.specs.Represented.{CanArrive};
 
 use crate::carrying::carry;
@@ -10,12 +8,13 @@ use crate::node::{Brought, Node};
 use crate::outbox::Outbox;
 use crate::replies::Replies;
 use crate::shared::Shared;
-use crate::steps::{Served, book_messages, take_event};
+use crate::steps::{Served, sent_by_book, take_event};
 use bytes::Bytes;
-use craq_model::{Event, LinkMessage};
+use craq_model::Event;
 use craq_names::{ChainId, NodeId, NodeName, Pass};
 use craq_node::Core;
 use craq_seat::BookEvent;
+use craq_sending::Sent;
 use craq_wire::decode;
 use crossbeam_channel::{Receiver, Sender};
 use std::alloc::Global;
@@ -212,9 +211,9 @@ fn announce<R: Wait, C: Core, G: Gate>(
         return;
     };
     shared.gate.before(*name, Work::Deliveries, count);
-    let messages = tick(rt, alloc, shared, chain, name, count);
+    let sent = tick(rt, alloc, shared, chain, name, count);
     let mut outbox = Outbox::new(false);
-    shared.post(rt, alloc, name, messages.as_slice(), &mut outbox);
+    shared.post(rt, name, sent, &mut outbox);
     outbox.close(rt, chain);
     shared.gate.after(*name, Work::Deliveries, count);
 }
@@ -227,13 +226,11 @@ fn tick<R: Wait, C: Core, G: Gate>(
     chain: &Chain<C>,
     name: &NodeName,
     count: u64,
-) -> Vec<LinkMessage>
-    ensures { AllByRecursion IsSpelled result.items }
-{
+) -> Vec<Sent> {
     let mut book = chain.book.lock(rt);
     shared.gate.within(*name, Work::Deliveries, count);
     match book.take(alloc, BookEvent::Tick, Pass::start()) {
-        Ok(_) => book_messages(alloc, &book),
+        Ok(_) => sent_by_book(alloc, &book),
         Err(_) => Vec::new(alloc),
     }
 }

@@ -1,0 +1,82 @@
+-- Messages that are sent one after another.
+use Rattle.std.proofs.Common.{◌≡◌, ◌≤◌, ◌<◌, ◌+◌, ◌^◌, ◌++◌, ◌∙◌, ℕ, List, [], ◌∷◌, length, length-append, get_or, drop, refl, sym, ap, subst, arith}
+use Rattle.std.specs.List.{AllByRecursion}
+use Rattle.std.proofs.lemmas.List.{drop_all, drop_more}
+use Rattle.craq_model.specs.declared.message.LinkMessage.{LinkMessage}
+use Rattle.craq_model.specs.declared.ask.Answer.{Answer}
+use Rattle.craq_model.specs.declared.step.Out.{Out}
+use Rattle.craq_model.specs.declared.step.Out.TheVariants as outs
+use Rattle.craq_model.specs.Spelled.{IsSpelled}
+use Rattle.craq_runs.specs.Chain.{sent_in}
+use Rattle.craq_seat.specs.declared.journal.Receipt.{Receipt}
+use Rattle.craq_seat.specs.Numbered.{named, numbered_from}
+use Rattle.craq_sending.specs.declared.sending.Sent.{Sent}
+use Rattle.craq_sending.specs.Sent.{Adds, AreSentAs, CanAdd, IsSentAs}
+
+-- these are sent as the first of the messages, and the rest is to come
+abbrev pub Begins : List Sent → List LinkMessage → List LinkMessage → Type 0
+Begins [] all rest = all ≡ rest
+Begins (s ∷ ss) [] rest = ⊥
+Begins (s ∷ ss) (m ∷ all) rest = IsSentAs s m × Begins ss all rest
+
+more : (ss : List Sent) (all rest : List LinkMessage) (s : Sent) (m : LinkMessage) → Begins ss all (m ∷ rest) → IsSentAs s m → Begins (ss ++ s ∷ []) all rest
+more [] all rest s m is one = rw is (one, refl)
+more (x ∷ ss) [] rest s m is one = is
+more (x ∷ ss) (a ∷ all) rest s m (first, is) one = (first, more ss all rest s m is one)
+
+whole : (ss : List Sent) (all : List LinkMessage) → Begins ss all [] → AreSentAs ss all
+whole [] all is = rw is tt
+whole (s ∷ ss) [] is = is
+whole (s ∷ ss) (m ∷ all) (first, is) = (first, whole ss all is)
+
+-- the messages of all outs but these last ones are sent; those of the rest are few, and can be spelled
+pub record Goes (receipt : Receipt) (all : List Out) (sent : List Sent) (rest : List Out) : Type 0 where
+  pub begun : Begins sent (numbered_from 0 receipt (sent_in all)) (numbered_from (length sent) receipt (sent_in rest))
+  pub few : length sent + length (sent_in rest) ≤ 2 ^ 32
+  pub spelled : AllByRecursion IsSpelled (numbered_from (length sent) receipt (sent_in rest))
+
+-- the first of the rest
+next : (receipt : Receipt) (all : List Out) (sent : List Sent) (i : ℕ) (out : Out) → Goes receipt all sent (drop i all) → i < length all → out ≡ get_or all i out → Goes receipt all sent (out ∷ drop (i + 1) all)
+next receipt all sent i out h below is =
+    subst (λ (rest : List Out). Goes receipt all sent rest) (drop_more all i out below ∙ ap (λ (o : Out). o ∷ drop (i + 1) all) (sym is)) h
+
+first_sent : (receipt : Receipt) (all rest : List Out) (sent : List Sent) (to : ℕ) (m : LinkMessage) (s : Sent) → Goes receipt all sent (outs.Send to m ∷ rest) → IsSentAs s (named receipt (length sent) m) → Goes receipt all (sent ++ s ∷ []) rest
+unfolding sent_in
+first_sent receipt all rest sent to m s h one =
+    let n : length (sent ++ s ∷ []) ≡ length sent + 1 = length-append sent (s ∷ []) in
+    let few = h.few in
+    record {
+      begun = rw n (more sent (numbered_from 0 receipt (sent_in all)) (numbered_from (length sent + 1) receipt (sent_in rest)) s (named receipt (length sent) m) h.begun one);
+      few = omega (arith, n, few);
+      spelled = rw n h.spelled.1;
+    }
+
+first_answered : (receipt : Receipt) (all rest : List Out) (sent : List Sent) (ticket : ℕ) (answer : Answer) → Goes receipt all sent (outs.Answer ticket answer ∷ rest) → Goes receipt all sent rest
+unfolding sent_in
+first_answered receipt all rest sent ticket answer h = record { begun = h.begun; few = h.few; spelled = h.spelled }
+
+added : (receipt : Receipt) (all rest : List Out) (old new : List Sent) (out : Out) → Goes receipt all old (out ∷ rest) → Adds receipt old new out → Goes receipt all new rest
+added receipt all rest old new (outs.Send to m) h (s, is, one) = subst (λ (sent : List Sent). Goes receipt all sent rest) (sym is) (first_sent receipt all rest old to m s h one)
+added receipt all rest old new (outs.Answer ticket answer) h is = subst (λ (sent : List Sent). Goes receipt all sent rest) (sym is) (first_answered receipt all rest old ticket answer h)
+
+first_can : (receipt : Receipt) (all rest : List Out) (sent : List Sent) (out : Out) → Goes receipt all sent (out ∷ rest) → CanAdd receipt (length sent) out
+unfolding sent_in
+first_can receipt all rest sent (outs.Send to m) h = (let few = h.few in omega (arith, few), h.spelled.0)
+first_can receipt all rest sent (outs.Answer ticket answer) h = tt
+
+pub can_add : (receipt : Receipt) (all : List Out) (sent : List Sent) (i : ℕ) (out : Out) → Goes receipt all sent (drop i all) → i < length all → out ≡ get_or all i out → CanAdd receipt (length sent) out
+can_add receipt all sent i out h below is = first_can receipt all (drop (i + 1) all) sent out (next receipt all sent i out h below is)
+
+pub adds_next : (receipt : Receipt) (all : List Out) (old new : List Sent) (i : ℕ) (out : Out) → Goes receipt all old (drop i all) → i < length all → out ≡ get_or all i out → Adds receipt old new out → Goes receipt all new (drop (i + 1) all)
+adds_next receipt all old new i out h below is adds = added receipt all (drop (i + 1) all) old new out (next receipt all old i out h below is) adds
+
+pub begins : (receipt : Receipt) (all : List Out) (sent : List Sent) → sent ≡ [] → length (sent_in all) ≤ 2 ^ 32 → AllByRecursion IsSpelled (numbered_from 0 receipt (sent_in all)) → Goes receipt all sent all
+begins receipt all sent none few spelled =
+    let count : length {A = Sent} [] + length (sent_in all) ≤ 2 ^ 32 = omega (arith, few) in
+    subst (λ (first : List Sent). Goes receipt all first all) (sym none) (record { begun = refl; few = count; spelled = spelled })
+
+pub all_sent : (receipt : Receipt) (all : List Out) (sent : List Sent) (i : ℕ) → Goes receipt all sent (drop i all) → length all ≤ i → AreSentAs sent (numbered_from 0 receipt (sent_in all))
+unfolding sent_in
+all_sent receipt all sent i h end =
+    let g : Goes receipt all sent [] = subst (λ (rest : List Out). Goes receipt all sent rest) (drop_all i all end) h in
+    whole sent (numbered_from 0 receipt (sent_in all)) g.begun

@@ -1,13 +1,7 @@
 //! Why `craq` ends without an answer, with the text and the status of each reason; for all of its modules.
+use craq_line::{CANNOT_PRINT, report_memory, report_words};
 use std::alloc::AllocError;
 use std::io;
-use std::io::ErrorKind;
-
-/// The status where the output takes no text, or the input gives none.
-const CANNOT_PRINT: u8 = 1;
-
-/// The status after bad words.
-pub const BAD_INPUT: u8 = 2;
 
 /// The status after a refusal, and where a growth was refused.
 pub const REFUSED: u8 = 3;
@@ -42,23 +36,11 @@ impl From<AllocError> for Fault {
     }
 }
 
-/// Tells that a growth was refused. Gives the status.
-fn report_memory<R: Eprint>(rt: &R) -> io::Result<u8> {
-    eprintln!(rt; "no memory")?;
-    Ok(REFUSED)
-}
-
 /// Tells what is wrong with the words of the command line, or prints the help that they ask for. Gives the status.
 fn report_line<R: Print + Eprint>(rt: &R, fault: &craq_line::Fault) -> io::Result<u8> {
     match fault {
-        craq_line::Fault::Words(error) => {
-            if error.kind() == clap::error::ErrorKind::OutOfMemory {
-                return report_memory(rt);
-            }
-            error.print(rt)?;
-            Ok(if error.use_stderr() { BAD_INPUT } else { 0 })
-        }
-        craq_line::Fault::Memory => report_memory(rt),
+        craq_line::Fault::Words(error) => report_words(rt, error, REFUSED),
+        craq_line::Fault::Memory => report_memory(rt, REFUSED),
     }
 }
 
@@ -67,7 +49,7 @@ impl Fault {
     pub fn report<R: Print + Eprint>(self, rt: &R) -> io::Result<u8> {
         match self {
             Fault::Line(fault) => report_line(rt, &fault),
-            Fault::Memory => report_memory(rt),
+            Fault::Memory => report_memory(rt, REFUSED),
             Fault::Connection => {
                 eprintln!(rt; "connection")?;
                 Ok(NO_CONNECTION)
@@ -79,14 +61,4 @@ impl Fault {
             Fault::CannotPrint(error) => Err(error),
         }
     }
-}
-
-/// Tells why nothing more is printed: there was no memory, or the output takes no text. Gives the status.
-pub fn report_failure<R: Eprint>(rt: &R, kind: ErrorKind) -> u8 {
-    if kind == ErrorKind::OutOfMemory {
-        let _ = eprintln!(rt; "no memory");
-        return REFUSED;
-    }
-    let _ = eprintln!(rt; "cannot print");
-    CANNOT_PRINT
 }

@@ -10,16 +10,16 @@ mod tally;
 mod watch;
 
 use calling::{Asker, shown_for};
-use craq_line::{Asked, CallLine, Task};
+use craq_line::{Asked, CallLine, Task, report_failure, report_no_text, words_of};
 use fault::{Fault, REFUSED};
 use std::env::Env;
+use std::io;
 use std::io::{ErrorKind, IsTerminal};
 use std::net::{Net, TcpListener, TcpStream};
 use std::process::ExitCode;
 use std::sync::Wait;
 use std::thread::Threads;
 use std::time::Clock;
-use std::{env, io};
 
 /// Whether the standard streams are terminals.
 #[derive(Clone, Copy)]
@@ -68,15 +68,6 @@ where
     }
 }
 
-/// The words of the command line, the program's own among them.
-fn words_of<R: AllocGlobal + Env>(rt: &R) -> io::Result<Vec<String>> {
-    let mut words = Vec::new(rt.alloc());
-    for word in env::args(rt)? {
-        words.push(word)?;
-    }
-    Ok(words)
-}
-
 /// Does what these words of a command line ask for, and tells what was wrong. Gives the status.
 fn report<'a, R>(rt: R, terminals: Terminals, words: &'a [&'a str]) -> io::Result<u8>
 where
@@ -110,10 +101,7 @@ where
 {
     match words_of(&rt) {
         Ok(words) => run_texts(rt, terminals, words.as_slice()),
-        Err(error) if error.kind() == ErrorKind::InvalidData => {
-            eprintln!(rt; "error: a word of the command line is not UTF-8")?;
-            Ok(fault::BAD_INPUT)
-        }
+        Err(error) if error.kind() == ErrorKind::InvalidData => report_no_text(&rt),
         Err(error) => Err(error),
     }
 }
@@ -125,6 +113,6 @@ fn main(rt: HostRuntime) -> ExitCode {
     };
     match run(rt, terminals) {
         Ok(status) => ExitCode::from(status),
-        Err(error) => ExitCode::from(fault::report_failure(&rt, error.kind())),
+        Err(error) => ExitCode::from(report_failure(&rt, error.kind(), REFUSED)),
     }
 }

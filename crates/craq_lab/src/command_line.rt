@@ -2,6 +2,7 @@
 use clap::builder::ValueParser;
 use clap::{Arg, ArgAction, ArgMatches, Command, Error};
 use craq_line::VERSION;
+use craq_script::GREATEST_NODE;
 use std::alloc::{AllocError, Global};
 
 /// What the nodes of a chain keep.
@@ -54,9 +55,6 @@ pub enum Asked<'a> {
     /// Nothing: the command line names no command.
     Nothing,
 }
-
-/// The greatest id of a node.
-const GREATEST_NODE: u64 = 0xffff_ffff;
 
 static NODE_COUNTS: [&str; 8] = ["1", "2", "3", "4", "5", "6", "7", "8"];
 

@@ -9,9 +9,9 @@ mod command_line;
 mod numbers;
 mod runs;
 
-use clap::Error;
 use command_line::{Asked, CoreKind, Nodes, asked_by};
 use craq_claim::{Misread, explanation_of};
+use craq_line::{BAD_INPUT, report_failure, report_memory, report_no_text, report_words, words_of};
 use craq_list::ListCore;
 use craq_names::{NodeId, Refusal};
 use craq_node::Core;
@@ -25,16 +25,10 @@ use std::io::{ErrorKind, Read};
 use std::process::ExitCode;
 use std::rt::Files;
 use std::sync::Wait;
-use std::{env, fs, io};
+use std::{fs, io};
 
 /// How many nodes a chain may have; the command line is read for no more.
 const GREATEST_COUNT: u32 = 8;
-
-/// The status where the output takes no text.
-const CANNOT_PRINT: u8 = 1;
-
-/// The status after bad words, a file that cannot be read, or a line outside the grammar.
-const BAD_INPUT: u8 = 2;
 
 /// The status where a growth was refused.
 const NO_MEMORY: u8 = 3;
@@ -72,10 +66,7 @@ where
             eprintln!(rt; "a cell and the chain differ")?;
             Ok(CELLS_DIFFER)
         }
-        _ => {
-            eprintln!(rt; "no memory")?;
-            Ok(NO_MEMORY)
-        }
+        _ => report_memory(rt, NO_MEMORY),
     }
 }
 
@@ -85,8 +76,7 @@ where
     R: AllocGlobal + Eprint,
 {
     if kind == ErrorKind::OutOfMemory {
-        eprintln!(rt; "no memory")?;
-        return Ok(NO_MEMORY);
+        return report_memory(rt, NO_MEMORY);
     }
     let name = file.unwrap_or("-");
     eprintln!(rt; "cannot read {name}")?;
@@ -192,8 +182,7 @@ where
     R: AllocGlobal + Eprint,
 {
     if *misread == Misread::Memory {
-        eprintln!(rt; "no memory")?;
-        return Ok(NO_MEMORY);
+        return report_memory(rt, NO_MEMORY);
     }
     eprintln!(rt; "{file}: {misread}")?;
     Ok(BAD_INPUT)
@@ -212,20 +201,6 @@ where
         Ok(explanation) => play_file(rt, nodes, Some(file), &Way::Check(&explanation)),
         Err(misread) => report_misread(rt, claimed, &misread),
     }
-}
-
-/// Tells what is wrong with the words of the command line, or prints the help that they ask for. Gives
-/// the status.
-fn report_words<R>(rt: &R, error: &Error) -> io::Result<u8>
-where
-    R: AllocGlobal + Print + Eprint,
-{
-    if error.kind() == clap::error::ErrorKind::OutOfMemory {
-        eprintln!(rt; "no memory")?;
-        return Ok(NO_MEMORY);
-    }
-    error.print(rt)?;
-    Ok(if error.use_stderr() { BAD_INPUT } else { 0 })
 }
 
 /// Does what the words of the command line ask for. Gives the status.
@@ -252,17 +227,8 @@ where
             },
         ) => check_file(rt, nodes, file, explanation),
         Ok(Asked::Nothing) => Ok(BAD_INPUT),
-        Err(error) => report_words(rt, &error),
+        Err(error) => report_words(rt, &error, NO_MEMORY),
     }
-}
-
-/// The words of the command line, the program's own among them.
-fn words_of<R: AllocGlobal + Env>(rt: &R) -> io::Result<Vec<String>> {
-    let mut words = Vec::new(rt.alloc());
-    for word in env::args(rt)? {
-        words.push(word)?;
-    }
-    Ok(words)
 }
 
 /// Does what these words of a command line ask for. Gives the status.
@@ -284,28 +250,14 @@ where
 {
     match words_of(rt) {
         Ok(words) => run_words(rt, words.as_slice()),
-        Err(error) if error.kind() == ErrorKind::InvalidData => {
-            eprintln!(rt; "error: a word of the command line is not UTF-8")?;
-            Ok(BAD_INPUT)
-        }
+        Err(error) if error.kind() == ErrorKind::InvalidData => report_no_text(rt),
         Err(error) => Err(error),
     }
-}
-
-/// Tells why nothing more is printed: there was no memory, or the output takes no text. Gives the
-/// status.
-fn report_failure<R: AllocGlobal + Eprint>(rt: &R, kind: ErrorKind) -> u8 {
-    if kind == ErrorKind::OutOfMemory {
-        let _ = eprintln!(rt; "no memory");
-        return NO_MEMORY;
-    }
-    let _ = eprintln!(rt; "cannot print");
-    CANNOT_PRINT
 }
 
 fn main(rt: HostRuntime) -> ExitCode {
     match run(&rt) {
         Ok(status) => ExitCode::from(status),
-        Err(error) => ExitCode::from(report_failure(&rt, error.kind())),
+        Err(error) => ExitCode::from(report_failure(&rt, error.kind(), NO_MEMORY)),
     }
 }

@@ -1,4 +1,4 @@
-//! The command lines of the programs `craqd` and `craq`, and the words of a command.
+//! The command lines of the programs `craqd` and `craq`, the words of a command, and what each program does around its work.
 //! Code that runs in the programs.
 #![tactic(auto)]
 
@@ -7,6 +7,7 @@ mod commands;
 mod expected;
 mod numbers;
 mod options;
+mod program;
 mod server;
 mod task;
 mod words;
@@ -14,6 +15,9 @@ mod words;
 pub use client::{CallLine, Fault};
 pub use commands::asked_of;
 pub use expected::{BadWord, Expected, Unread};
+pub use program::{
+    BAD_INPUT, CANNOT_PRINT, report_failure, report_memory, report_no_text, report_words, words_of,
+};
 pub use server::Line;
 pub use task::{Asked, Load, Task};
 

@@ -27,6 +27,8 @@ pub struct Line<'a> {
     pub until_input_ends: bool,
     /// Whether journals are kept; only of a server that ends.
     pub journal: bool,
+    /// Whether connections and refusals are told of on standard error.
+    pub log: bool,
 }
 
 const ABOUT: &str = "Runs a replicated object store, and serves it to clients over TCP";
@@ -38,6 +40,8 @@ answered once the last one has it; every node answers reads. All nodes run in th
 in threads, and everything is kept in memory: it is gone when the server ends.";
 
 const JOURNAL: &str = "Keep a journal of each node, and audit them in the end";
+
+const LOG: &str = "Print connections and refusals on standard error";
 
 const UNTIL_INPUT_ENDS: &str = "End in order once standard input ends";
 
@@ -110,9 +114,15 @@ fn command_with_options<'a>(alloc: Global) -> Result<Command<'a>, AllocError> {
     command.arg(number_arg(alloc, NumberOption::Idle))
 }
 
+/// `[--log]` behind these.
+fn command_with_log<'a>(alloc: Global) -> Result<Command<'a>, AllocError> {
+    let command = command_with_options(alloc)?;
+    command.arg(flag_arg(alloc, "log", LOG))
+}
+
 /// `craqd [OPTION ..] PLAN ADDRESS`.
 fn whole_command<'a>(alloc: Global) -> Result<Command<'a>, AllocError> {
-    let command = command_with_options(alloc)?;
+    let command = command_with_log(alloc)?;
     let command = command.arg(needed_arg(alloc, "PLAN", "The plan file"))?;
     command.arg(needed_arg(
         alloc,
@@ -156,6 +166,7 @@ fn line_of<'a>(matches: &ArgMatches<'a>) -> Result<Line<'a>, &'static str>
         idle: numbers.idle,
         until_input_ends,
         journal,
+        log: matches.get_flag("log"),
     })
 }
 

@@ -15,7 +15,7 @@ use std::time::Clock;
 /// Runs the test. A refusal is told by its number.
 fn run<R>(rt: R) -> u8
 where
-    R: AllocGlobal + Print + Clock + Threads + Wait + Copy + Drop + Send + Sync + 'static,
+    R: AllocGlobal + Print + Eprint + Clock + Threads + Wait + Copy + Drop + Send + Sync + 'static,
     R: Net<Listener = TcpListener, Stream = TcpStream>,
 {
     match server::serve_clients(rt) {

@@ -5,7 +5,7 @@ use craq_list::ListCore;
 use craq_names::{ChainId, Refusal};
 use craq_place::Plan;
 use craq_seat::CallReceipt;
-use craq_server::{Connections, Served, Serving, accept};
+use craq_server::{Connections, Log, Served, Serving, accept};
 use craq_workers::{OpenGate, Store};
 use std::alloc::{AllocError, Global};
 use std::net::{Net, TcpListener, TcpStream};
@@ -28,6 +28,7 @@ const SERVING: Serving = Serving {
     keeps: true,
     connections: 3,
     idle: 0,
+    log: Log::Silent,
 };
 
 /// Ticks a store until that is over.
@@ -49,7 +50,7 @@ fn ask_served<R>(
     connections: &Connections,
 ) -> Result<Served, Refusal>
 where
-    R: AllocGlobal + Print + Clock + Threads + Wait + Copy + Drop + Send + Sync + 'static,
+    R: AllocGlobal + Print + Eprint + Clock + Threads + Wait + Copy + Drop + Send + Sync + 'static,
     R: Net<Listener = TcpListener, Stream = TcpStream>,
 {
     let Ok(address) = listener.local_addr() else {
@@ -112,7 +113,7 @@ where
 /// Serves the clients at any free port of the loopback, and audits the store.
 fn serve_store<R>(rt: R, store: &Running) -> Result<(), Refusal>
 where
-    R: AllocGlobal + Print + Clock + Threads + Wait + Copy + Drop + Send + Sync + 'static,
+    R: AllocGlobal + Print + Eprint + Clock + Threads + Wait + Copy + Drop + Send + Sync + 'static,
     R: Net<Listener = TcpListener, Stream = TcpStream>,
 {
     let Ok(listener) = TcpListener::bind(&rt, "127.0.0.1:0") else {
@@ -126,7 +127,7 @@ where
 /// Starts the store, serves the clients, audits it and closes it.
 pub fn serve_clients<R>(rt: R) -> Result<(), Refusal>
 where
-    R: AllocGlobal + Print + Clock + Threads + Wait + Copy + Drop + Send + Sync + 'static,
+    R: AllocGlobal + Print + Eprint + Clock + Threads + Wait + Copy + Drop + Send + Sync + 'static,
     R: Net<Listener = TcpListener, Stream = TcpStream>,
 {
     let plan = Plan::read(rt.alloc(), PLAN)?;

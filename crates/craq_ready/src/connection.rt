@@ -211,10 +211,9 @@ impl Connection {
     }
 
     /// The call that was submitted came back.
-    pub(crate) fn answer(&mut self, alloc: Global, outcome: Reply) {
+    pub(crate) fn answer<H: Host>(&mut self, alloc: Global, host: &H, outcome: Reply) {
         if let Some(question) = self.question.take() {
-            let reply = end_turn(alloc, &mut self.calls, &question, outcome);
-            self.reply(alloc, reply);
+            self.end(alloc, host, &question, outcome);
         }
     }
 
@@ -229,13 +228,16 @@ impl Connection {
     ) {
         match host.submit(&question, token, few) {
             Ok(None) => self.question = Some(question),
-            Ok(Some(receipt)) => self.end(alloc, &question, Ok(receipt)),
-            Err(refusal) => self.end(alloc, &question, Err(refusal)),
+            Ok(Some(receipt)) => self.end(alloc, host, &question, Ok(receipt)),
+            Err(refusal) => self.end(alloc, host, &question, Err(refusal)),
         }
     }
 
-    /// A call came back in hand.
-    fn end(&mut self, alloc: Global, question: &Question, outcome: Reply) {
+    /// A call came back.
+    fn end<H: Host>(&mut self, alloc: Global, host: &H, question: &Question, outcome: Reply) {
+        if let Err(refusal) = &outcome {
+            host.refused(self.place, *refusal);
+        }
         let reply = end_turn(alloc, &mut self.calls, question, outcome);
         self.reply(alloc, reply);
     }

@@ -117,14 +117,14 @@ impl Members {
                 break;
             };
             let Letter { token, reply } = letter;
-            self.deliver(token, reply);
+            self.deliver(host, token, reply);
         }
     }
 
     /// A connection's call came back.
-    fn deliver(&mut self, token: usize, reply: Reply) {
+    fn deliver<H: Host>(&mut self, host: &H, token: usize, reply: Reply) {
         if let Some(connection) = self.connections.get_mut(token) {
-            connection.answer(self.alloc, reply);
+            connection.answer(self.alloc, host, reply);
         }
         self.wake(token);
     }

@@ -43,6 +43,9 @@ pub trait Host: Callee {
     /// The seconds since some moment. They never go back.
     fn seconds(&self) -> u64;
 
+    /// A call of the connection of this place is refused.
+    fn refused(&self, place: usize, refusal: Refusal);
+
     /// A connection of this place has ended, and these are the receipts of its calls, where they are kept.
     fn ended(&self, place: usize, receipts: usize, calls: Vec<CallReceipt>);
 }

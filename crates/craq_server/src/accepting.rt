@@ -3,6 +3,7 @@ ghost use Rattle.std.specs.Prelude.{◌≡◌};
 
 use crate::connections::Connections;
 use crate::door::ServedStore;
+use crate::logging::Log;
 use crate::passes::Passes;
 use crate::turning::turn_away;
 use craq_door::CallDoor;
@@ -29,6 +30,8 @@ pub struct Serving {
     pub connections: u32,
     /// After how many seconds without a byte a connection is ended; 0 where it is not.
     pub idle: u32,
+    /// What is told meanwhile.
+    pub log: Log,
 }
 
 /// What came of serving.
@@ -65,7 +68,7 @@ fn set_patience(stream: &TcpStream, seconds: u32) {
 
 impl<'a, R, C, G> Server<'a, R, C, G>
 where
-    R: Threads + Wait + Clock + Copy + Drop + Send + Sync + 'static,
+    R: Eprint + Threads + Wait + Clock + Copy + Drop + Send + Sync + 'static,
     C: Core + Send + 'static,
     G: Gate + Send + Sync + 'static,
 {
@@ -122,23 +125,26 @@ where
         }
     }
 
-    /// The store, as the door of a connection calls it.
-    pub(crate) fn callee(&self) -> ServedStore<'_, R, C, G> {
+    /// The store, as the door of the connection of a place calls it, and what is told of the calls that it refuses.
+    pub(crate) fn callee(&self, log: Log, place: usize) -> ServedStore<'_, R, C, G> {
         ServedStore {
             rt: self.rt,
             alloc: self.alloc,
             store: self.store,
             passes: &self.passes,
+            log,
+            place,
         }
     }
 
     /// Serves a client to the end of its stream, and gives the receipts of its calls, where they are kept.
-    fn serve_client(&self, stream: &TcpStream) -> Vec<CallReceipt> {
+    fn serve_client(&self, stream: &TcpStream, place: usize) -> Vec<CallReceipt> {
         let _ = stream.set_nodelay(true);
         set_patience(stream, self.serving.idle);
         let mut reader = Stream::new(stream);
         let mut writer = Stream::new(stream);
-        let mut door = CallDoor::new(self.alloc, self.callee(), self.serving.keeps);
+        let callee = self.callee(self.serving.log, place);
+        let mut door = CallDoor::new(self.alloc, callee, self.serving.keeps);
         let _ = serve(self.alloc, &mut reader, &mut writer, &mut door);
         let CallDoor { callee: _, calls } = door;
         calls.into_receipts()
@@ -146,8 +152,9 @@ where
 
     /// Serves a connection to its end. Its receipts are then at their place, where they are kept, and its own place is free.
     fn attend(&self, stream: Arc<TcpStream>, place: usize, receipts: usize) {
-        let calls = self.serve_client(&stream);
+        let calls = self.serve_client(&stream, place);
         self.put_receipts(receipts, calls);
+        self.serving.log.ended(&self.rt, place);
         self.connections.leave(&self.rt, place);
         drop(stream);
     }
@@ -170,11 +177,14 @@ where
         let stream = Arc::new(self.alloc, stream)?;
         let shared = Arc::try_clone(&stream)?;
         let Some(place) = self.connections.enter(&self.rt, shared) else {
+            self.serving.log.turned_away(&self.rt, &stream);
             let _ = turn_away(self.alloc, &mut &*stream);
             return Ok(());
         };
+        self.serving.log.begun(&self.rt, place, &stream);
         let begun = self.begin(scope, stream, place);
         if begun.is_err() {
+            self.serving.log.ended(&self.rt, place);
             self.connections.leave(&self.rt, place);
         } else if self.connections.is_ending(&self.rt) {
             self.connections.end(&self.rt);
@@ -240,7 +250,7 @@ pub fn accept<'x, R, C, G>(
     connections: &'x Connections,
 ) -> Served
 where
-    R: Threads + Wait + Clock + Copy + Drop + Send + Sync + 'static,
+    R: Eprint + Threads + Wait + Clock + Copy + Drop + Send + Sync + 'static,
     C: Core + Send + 'static,
     G: Gate + Send + Sync + 'static,
 {

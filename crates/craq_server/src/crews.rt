@@ -2,6 +2,7 @@
 use crate::accepting::{Served, Server, Serving};
 use crate::connections::Connections;
 use crate::door::ServedStore;
+use crate::logging::Log;
 use crate::turning::turn_away;
 use craq_door::{Callee, Question};
 use craq_frames::Text;
@@ -36,7 +37,7 @@ struct Crew<'s, 'a, R: Wait, C: Core, G: Gate> {
 
 impl<'s, 'a, R, C, G> Callee for Crew<'s, 'a, R, C, G>
 where
-    R: Threads + Wait + Clock + Copy + Drop + Send + Sync + 'static,
+    R: Eprint + Threads + Wait + Clock + Copy + Drop + Send + Sync + 'static,
     C: Core + Send + 'static,
     G: Gate + Send + Sync + 'static,
 {
@@ -55,7 +56,7 @@ where
 
 impl<'s, 'a, R, C, G> Host for Crew<'s, 'a, R, C, G>
 where
-    R: Threads + Wait + Clock + Copy + Drop + Send + Sync + 'static,
+    R: Eprint + Threads + Wait + Clock + Copy + Drop + Send + Sync + 'static,
     C: Core + Send + 'static,
     G: Gate + Send + Sync + 'static,
 {
@@ -96,17 +97,25 @@ where
         }
     }
 
+    fn refused(&self, place: usize, refusal: Refusal) {
+        self.server
+            .serving
+            .log
+            .refused(&self.server.rt, place, refusal);
+    }
+
     fn ended(&self, place: usize, receipts: usize, calls: Vec<CallReceipt>) {
         if let Some(kept) = self.server.receipts.lock(&self.server.rt).get_mut(receipts) {
             *kept = calls;
         }
+        self.server.serving.log.ended(&self.server.rt, place);
         self.server.connections.leave(&self.server.rt, place);
     }
 }
 
 impl<'s, 'a, R, C, G> Crew<'s, 'a, R, C, G>
 where
-    R: Threads + Wait + Clock + Copy + Drop + Send + Sync + 'static,
+    R: Eprint + Threads + Wait + Clock + Copy + Drop + Send + Sync + 'static,
     C: Core + Send + 'static,
     G: Gate + Send + Sync + 'static,
 {
@@ -115,7 +124,8 @@ where
         let letters = Letterbox::new(server.alloc, Some(crowd.waker()?));
         Ok(Crew {
             server,
-            callee: server.callee(),
+            // What it refuses is told with the place, by `refused`.
+            callee: server.callee(Log::Silent, 0),
             letters: Arc::new(server.alloc, letters)?,
             inbox: Mutex::new(Vec::new(server.alloc)),
             over: AtomicBool::new(false),
@@ -140,14 +150,18 @@ where
     /// no memory.
     fn take_in(&self, stream: TcpStream) -> Result<(), AllocError> {
         let connections = self.server.connections;
+        let log = self.server.serving.log;
         let stream = Arc::new(self.server.alloc, stream)?;
         let shared = Arc::try_clone(&stream)?;
         let Some(place) = connections.enter(&self.server.rt, shared) else {
+            log.turned_away(&self.server.rt, &stream);
             let _ = turn_away(self.server.alloc, &mut &*stream);
             return Ok(());
         };
+        log.begun(&self.server.rt, place, &stream);
         let handed = self.hand(stream, place);
         if handed.is_err() {
+            log.ended(&self.server.rt, place);
             connections.leave(&self.server.rt, place);
         } else if connections.is_ending(&self.server.rt) {
             connections.end(&self.server.rt);
@@ -171,7 +185,7 @@ fn deal<'s, 'a, R, C, G>(
     begun: bool,
 ) -> bool
 where
-    R: Threads + Wait + Clock + Copy + Drop + Send + Sync + 'static,
+    R: Eprint + Threads + Wait + Clock + Copy + Drop + Send + Sync + 'static,
     C: Core + Send + 'static,
     G: Gate + Send + Sync + 'static,
 {
@@ -236,7 +250,7 @@ pub fn accept_by_threads<'x, R, C, G>(
     crowds: Crowds,
 ) -> Result<Served, AllocError>
 where
-    R: Threads + Wait + Clock + Copy + Drop + Send + Sync + 'static,
+    R: Eprint + Threads + Wait + Clock + Copy + Drop + Send + Sync + 'static,
     C: Core + Send + 'static,
     G: Gate + Send + Sync + 'static,
 {
@@ -258,7 +272,7 @@ struct Crews<'s, 'a, R: Wait, C: Core, G: Gate> {
 
 impl<'s, 'a, R, C, G> Crew<'s, 'a, R, C, G>
 where
-    R: Threads + Wait + Clock + Copy + Drop + Send + Sync + 'static,
+    R: Eprint + Threads + Wait + Clock + Copy + Drop + Send + Sync + 'static,
     C: Core + Send + 'static,
     G: Gate + Send + Sync + 'static,
 {
@@ -280,7 +294,7 @@ where
 
 impl<'s, 'a, R, C, G> Crews<'s, 'a, R, C, G>
 where
-    R: Threads + Wait + Clock + Copy + Drop + Send + Sync + 'static,
+    R: Eprint + Threads + Wait + Clock + Copy + Drop + Send + Sync + 'static,
     C: Core + Send + 'static,
     G: Gate + Send + Sync + 'static,
 {
@@ -326,7 +340,7 @@ fn serve_by_threads<'a, R, C, G>(
     crowds: Crowds,
 ) -> Result<bool, AllocError>
 where
-    R: Threads + Wait + Clock + Copy + Drop + Send + Sync + 'static,
+    R: Eprint + Threads + Wait + Clock + Copy + Drop + Send + Sync + 'static,
     C: Core + Send + 'static,
     G: Gate + Send + Sync + 'static,
 {

@@ -1,6 +1,9 @@
 //! `ServedStore`: a store that runs, as the door of a connection calls it.
+ghost use Rattle.std.specs.Prelude.{IfOk};
+ghost use Rattle.craq_calls.specs.Calls.{IsCallOf};
 ghost use Rattle.craq_server.specs.Status.{TellsStatus};
 
+use crate::logging::Log;
 use crate::passes::Passes;
 use crate::status::status_text;
 use craq_calls::pass_after;
@@ -23,25 +26,24 @@ pub(crate) struct ServedStore<'a, R: Wait, C: Core, G: Gate> {
     pub(crate) alloc: Global,
     pub(crate) store: &'a Store<C, G>,
     pub(crate) passes: &'a Passes,
+    /// What is told of the calls that are refused.
+    pub(crate) log: Log,
+    /// The place of the connection whose calls they are.
+    pub(crate) place: usize,
 }
 
 impl<'a, R, C, G> Callee for ServedStore<'a, R, C, G>
 where
-    R: Wait + Drop,
+    R: Eprint + Wait + Drop,
     C: Core,
     G: Gate,
 {
     ghost tells = { λ store text. TellsStatus text };
 
     fn call(&self, node: NodeName, pass: Pass, ask: Ask) -> Result<(Answer, CallReceipt), Refusal> {
-        if !self.passes.takes(pass) {
-            drop(ask);
-            return Err(Refusal::Exhausted);
-        }
-        let mut client = self.store.client(pass)?;
-        let answered = client.call(&self.rt, node, ask)?;
-        self.passes.tell(client.pass());
-        Ok(answered)
+        let called = self.ask(node, pass, ask);
+        self.tell(&called);
+        called
     }
 
     fn status(&self) -> Result<Text, AllocError> {
@@ -53,10 +55,32 @@ where
 
 impl<'a, R, C, G> ServedStore<'a, R, C, G>
 where
-    R: Wait + Drop,
+    R: Eprint + Wait + Drop,
     C: Core,
     G: Gate,
 {
+    /// Asks a node, with this pass: the answer, and the receipt of the call. Refused as the store refuses the call, or
+    /// (`Exhausted`) for the pass.
+    fn ask(&self, node: NodeName, pass: Pass, ask: Ask) -> Result<(Answer, CallReceipt), Refusal>
+        ensures { IfOk result (λ r. IsCallOf node ask pass r.0 r.1) }
+    {
+        if !self.passes.takes(pass) {
+            drop(ask);
+            return Err(Refusal::Exhausted);
+        }
+        let mut client = self.store.client(pass)?;
+        let answered = client.call(&self.rt, node, ask)?;
+        self.passes.tell(client.pass());
+        Ok(answered)
+    }
+
+    /// A call that is refused is told of, where the server tells.
+    fn tell(&self, called: &Result<(Answer, CallReceipt), Refusal>) {
+        if let Err(refusal) = called {
+            self.log.refused(&self.rt, self.place, *refusal);
+        }
+    }
+
     /// The answer of a call is about to be told, with its client's pass after it.
     pub(crate) fn told(&self, receipt: &CallReceipt) {
         self.passes.tell(pass_after(receipt.pass(), receipt));

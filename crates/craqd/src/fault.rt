@@ -1,18 +1,12 @@
 //! Why `craqd` ends or serves nothing, with the text and the status of each reason.
 use clap::Error;
+use craq_line::{BAD_INPUT, report_memory, report_words};
 use craq_names::Refusal;
 use std::alloc::{AllocError, AllocFailed};
 use std::io;
-use std::io::ErrorKind;
-
-/// The status where the output takes no text.
-const CANNOT_PRINT: u8 = 1;
-
-/// The status after bad words, a file that cannot be read, or a text that is no plan.
-pub const BAD_INPUT: u8 = 2;
 
 /// The status where a growth was refused.
-const NO_MEMORY: u8 = 3;
+pub const NO_MEMORY: u8 = 3;
 
 /// The status where nothing can be listened to.
 const CANNOT_LISTEN: u8 = 4;
@@ -57,21 +51,11 @@ impl<T: Drop> From<AllocFailed<T>> for Fault<'_> {
     }
 }
 
-/// Tells what is wrong with the words of the command line, or prints the help that they ask for. Gives the status.
-fn report_words<R: Print + Eprint>(rt: &R, error: &Error) -> io::Result<u8> {
-    if error.kind() == clap::error::ErrorKind::OutOfMemory {
-        eprintln!(rt; "no memory")?;
-        return Ok(NO_MEMORY);
-    }
-    error.print(rt)?;
-    Ok(if error.use_stderr() { BAD_INPUT } else { 0 })
-}
-
 impl Fault<'_> {
     /// Tells what was wrong, and gives the status.
     pub fn report<R: Print + Eprint>(self, rt: &R) -> io::Result<u8> {
         match self {
-            Fault::Words(error) => report_words(rt, &error),
+            Fault::Words(error) => report_words(rt, &error, NO_MEMORY),
             Fault::CannotRead(name) => {
                 eprintln!(rt; "cannot read {name}")?;
                 Ok(BAD_INPUT)
@@ -80,10 +64,7 @@ impl Fault<'_> {
                 eprintln!(rt; "plan refused")?;
                 Ok(BAD_INPUT)
             }
-            Fault::Memory => {
-                eprintln!(rt; "no memory")?;
-                Ok(NO_MEMORY)
-            }
+            Fault::Memory => report_memory(rt, NO_MEMORY),
             Fault::CannotListen => {
                 eprintln!(rt; "cannot listen")?;
                 Ok(CANNOT_LISTEN)
@@ -96,14 +77,4 @@ impl Fault<'_> {
             Fault::CannotPrint(error) => Err(error),
         }
     }
-}
-
-/// Tells why nothing more is printed: there was no memory, or the output takes no text. Gives the status.
-pub fn report_failure<R: Eprint>(rt: &R, kind: ErrorKind) -> u8 {
-    if kind == ErrorKind::OutOfMemory {
-        let _ = eprintln!(rt; "no memory");
-        return NO_MEMORY;
-    }
-    let _ = eprintln!(rt; "cannot print");
-    CANNOT_PRINT
 }

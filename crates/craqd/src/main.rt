@@ -9,9 +9,10 @@ mod serving;
 mod telling;
 mod ways;
 
-use craq_line::Line;
-use fault::Fault;
+use craq_line::{Line, report_failure, report_no_text, words_of};
+use fault::{Fault, NO_MEMORY};
 use std::env::Env;
+use std::io;
 use std::io::{ErrorKind, Input, StdinLock};
 use std::net::{Net, TcpListener, TcpStream};
 use std::process::ExitCode;
@@ -19,7 +20,6 @@ use std::rt::Files;
 use std::sync::Wait;
 use std::thread::Threads;
 use std::time::Clock;
-use std::{env, io};
 
 /// Serves as the words of a command line ask for.
 fn run_words<'a, R>(rt: R, words: &'a [&'a str]) -> Result<(), Fault<'a>>
@@ -30,15 +30,6 @@ where
 {
     let line = Line::read(rt.alloc(), words)?;
     serving::serve_line(rt, &line)
-}
-
-/// The words of the command line, the program's own among them.
-fn words_of<R: AllocGlobal + Env>(rt: &R) -> io::Result<Vec<String>> {
-    let mut words = Vec::new(rt.alloc());
-    for word in env::args(rt)? {
-        words.push(word)?;
-    }
-    Ok(words)
 }
 
 /// Does what these words of a command line ask for. Gives the status.
@@ -99,10 +90,7 @@ where
 {
     match words_of(&rt) {
         Ok(words) => run_texts(rt, words.as_slice()),
-        Err(error) if error.kind() == ErrorKind::InvalidData => {
-            eprintln!(rt; "error: a word of the command line is not UTF-8")?;
-            Ok(fault::BAD_INPUT)
-        }
+        Err(error) if error.kind() == ErrorKind::InvalidData => report_no_text(&rt),
         Err(error) => Err(error),
     }
 }
@@ -110,6 +98,6 @@ where
 fn main(rt: HostRuntime) -> ExitCode {
     match run(rt) {
         Ok(status) => ExitCode::from(status),
-        Err(error) => ExitCode::from(fault::report_failure(&rt, error.kind())),
+        Err(error) => ExitCode::from(report_failure(&rt, error.kind(), NO_MEMORY)),
     }
 }

@@ -7,7 +7,7 @@ use crate::telling::tell_serving;
 use crate::ways::{accept_as_asked, crowds_of};
 use craq_line::Line;
 use craq_list::ListCore;
-use craq_server::{Connections, Crowds, Served as Accepted, Serving};
+use craq_server::{Connections, Crowds, Log, Served as Accepted, Serving};
 use craq_workers::{OpenGate, Store};
 use std::alloc::AllocError;
 use std::io::{ErrorKind, Input, StdinLock};
@@ -63,7 +63,7 @@ struct Service<'s, R: Wait> {
 
 impl<R> Service<'_, R>
 where
-    R: AllocGlobal + Clock + Threads + Wait + Copy + Drop + Send + Sync + 'static,
+    R: AllocGlobal + Eprint + Clock + Threads + Wait + Copy + Drop + Send + Sync + 'static,
 {
     /// Ticks the store until the server is over.
     fn tick(&self) {
@@ -133,7 +133,8 @@ where
 
 impl<R> Service<'_, R>
 where
-    R: AllocGlobal + Print + Clock + Threads + Wait + Copy + Drop + Send + Sync + 'static,
+    R: AllocGlobal + Print + Eprint + Clock + Threads + Wait + Copy,
+    R: Drop + Send + Sync + 'static,
     R: Net<Listener = TcpListener, Stream = TcpStream>,
 {
     /// Serves the connections while the store is ticked, until all of them and both threads are over.
@@ -155,6 +156,11 @@ where
         return Err(Fault::Memory);
     }
     Ok(())
+}
+
+/// What a command line asks to be told.
+const fn log_of(line: &Line<'_>) -> Log {
+    if line.log { Log::Lines } else { Log::Silent }
 }
 
 /// Listens as a command line asks for, and serves the connections to a store.
@@ -187,6 +193,7 @@ where
         keeps: line.journal,
         connections: line.connections,
         idle: line.idle,
+        log: log_of(line),
     };
     let service = Service {
         rt,

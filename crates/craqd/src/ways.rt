@@ -30,7 +30,7 @@ pub fn accept_as_asked<R>(
     crowds: Option<Crowds>,
 ) -> Result<Accepted, AllocError>
 where
-    R: AllocGlobal + Clock + Threads + Wait + Copy + Drop + Send + Sync + 'static,
+    R: AllocGlobal + Eprint + Clock + Threads + Wait + Copy + Drop + Send + Sync + 'static,
 {
     let alloc = rt.alloc();
     let Some(crowds) = crowds else {

@@ -1,0 +1,238 @@
+//! A store in a process of one's own: three nodes, a client, a node that stops, one that joins, and the audit of all of it.
+#![tactic(auto)]
+
+use craq_audit::Audit;
+use craq_commands::{Command, ReadMode, Update};
+use craq_list::ListCore;
+use craq_model::{Answer, Ask};
+use craq_names::{
+    ChainId, ClientId, Key, NodeId, NodeName, ObjectId, Pass, Refusal, RequestNo, Value,
+};
+use craq_place::Plan;
+use craq_seat::CallReceipt;
+use craq_words::print_answer;
+use craq_workers::{Client, OpenGate, Store};
+use std::alloc::{AllocError, Global};
+use std::process::ExitCode;
+use std::sync::Wait;
+use std::sync::atomic::{AtomicBool, Ordering};
+use std::thread::Threads;
+use std::time::{Clock, Duration};
+use std::{io, thread};
+use thiserror::Error;
+
+/// The stores of this program: their nodes forget what they no longer need, and callers take their steps themselves.
+type Embedded = Store<ListCore, OpenGate>;
+
+/// What is asked: a put with its number and value, or a strong read.
+#[derive(Clone, Copy)]
+enum Wish<'a> {
+    Put(u64, &'a str),
+    Read,
+}
+
+/// A client of a store, and the receipts of its calls.
+#[derive(Drop)]
+struct Caller {
+    client: Client<ListCore, OpenGate>,
+    receipts: Vec<CallReceipt>,
+}
+
+/// Why the program ends early.
+#[derive(Debug, Drop, Error)]
+enum Fault {
+    #[error("{0}")]
+    Refused(#[from] Refusal),
+    #[error("{0}")]
+    Print(#[from] io::Error),
+    #[error("{0}")]
+    Memory(#[from] AllocError),
+}
+
+/// The one chain, its head first.
+const PLAN_TEXT: &str = "[[chain]]\nname = \"a\"\nnodes = [1, 2, 3]\n";
+
+/// The chain's id: its place in the plan.
+const CHAIN: u16 = 0;
+
+/// The one object.
+fn object(alloc: Global) -> Result<ObjectId, Refusal> {
+    Ok(ObjectId {
+        key: Key::new(alloc, b"colour")?,
+        chain: ChainId::new(CHAIN),
+    })
+}
+
+/// Put `number` of client 7.
+fn put(alloc: Global, number: u64, value: &str) -> Result<Update, Refusal> {
+    let number = RequestNo::new(number)?;
+    let object = object(alloc)?;
+    match Value::new(alloc, value.as_bytes()) {
+        Ok(value) => Ok(Update {
+            client: ClientId::new(7),
+            number,
+            command: Command::Put { object, value },
+        }),
+        Err(refusal) => Err(refusal),
+    }
+}
+
+/// What a node is asked.
+fn ask_of(alloc: Global, wish: Wish<'_>) -> Result<Ask, Refusal> {
+    match wish {
+        Wish::Put(number, value) => Ok(Ask::Update(put(alloc, number, value)?)),
+        Wish::Read => Ok(Ask::Read {
+            object: object(alloc)?,
+            mode: ReadMode::Strong,
+        }),
+    }
+}
+
+/// An answer in words.
+fn text_of(alloc: Global, answer: &Answer) -> Result<String, Refusal> {
+    let mut text = String::new(alloc);
+    print_answer(&mut text, answer)?;
+    Ok(text)
+}
+
+impl Caller {
+    /// Asks a node once: its answer in words. The receipt is kept.
+    fn call<R>(&mut self, rt: &R, node: NodeName, wish: Wish<'_>) -> Result<String, Refusal>
+    where
+        R: AllocGlobal + Wait,
+    {
+        self.receipts.reserve(1)?;
+        let ask = ask_of(rt.alloc(), wish)?;
+        let (answer, receipt) = self.client.call(rt, node, ask)?;
+        self.receipts.push_reserved(receipt);
+        text_of(rt.alloc(), &answer)
+    }
+
+    /// Asks a node and prints its answer. A node that has joined is asked again until it holds the chain's history.
+    fn ask<R>(&mut self, rt: &R, id: u32, wish: Wish<'_>) -> Result<(), Fault>
+    where
+        R: AllocGlobal + Print + Clock + Wait,
+    {
+        let node = NodeName {
+            chain: ChainId::new(CHAIN),
+            node: NodeId::new(id),
+        };
+        for _ in rt.forever() {
+            match self.call(rt, node, wish) {
+                Ok(text) => return Ok(println!(rt; "node {id}: {}", text.as_str())?),
+                Err(Refusal::NotReady) => thread::sleep(rt, Duration::from_millis(10)),
+                Err(refusal) => return Err(Fault::Refused(refusal)),
+            }
+        }
+        Ok(())
+    }
+
+    /// Asks before and after the tail changes, and has all of it audited.
+    fn work<R>(&mut self, rt: R, store: &Embedded) -> Result<(), Fault>
+    where
+        R: AllocGlobal + Print + Clock + Threads + Wait + Copy + Send + 'static,
+    {
+        self.ask(&rt, 1, Wish::Put(1, "blue"))?;
+        self.ask(&rt, 3, Wish::Read)?;
+        change_tail(rt, store)?;
+        self.ask(&rt, 1, Wish::Put(2, "green"))?;
+        self.ask(&rt, 4, Wish::Read)?;
+        print_audit(&rt, store, self.receipts.as_slice())
+    }
+}
+
+/// The tail stops and is removed, and another node joins.
+fn change_tail<R>(rt: R, store: &Embedded) -> Result<(), Fault>
+where
+    R: Print + Threads + Wait + Copy + Send + 'static,
+{
+    let chain = ChainId::new(CHAIN);
+    store.stop(&rt, chain, NodeId::new(3))?;
+    store.remove(&rt, chain, NodeId::new(3))?;
+    store.join(rt, chain, NodeId::new(4))?;
+    Ok(println!(rt; "node 3 stopped and went, node 4 joined")?)
+}
+
+/// Prints what the audit finds of the chain's journals and these receipts.
+fn print_audit<R: Print + Wait>(
+    rt: &R,
+    store: &Embedded,
+    receipts: &[CallReceipt],
+) -> Result<(), Fault> {
+    let count = receipts.len();
+    let printed = match store.audit(rt, ChainId::new(CHAIN), receipts)? {
+        Audit::Merged(_) => println!(rt; "audit: one run, with all {count} calls"),
+        Audit::NoSender(..) => println!(rt; "audit: a message was never sent"),
+        Audit::NoReceipt(_) => println!(rt; "audit: a call is in no journal"),
+    };
+    Ok(printed?)
+}
+
+/// Works with a store as a client of it.
+fn work<R>(rt: R, store: &Embedded) -> Result<(), Fault>
+where
+    R: AllocGlobal + Print + Clock + Threads + Wait + Copy + Send + 'static,
+{
+    let mut caller = Caller {
+        client: store.client(Pass::start())?,
+        receipts: Vec::new(rt.alloc()),
+    };
+    caller.work(rt, store)
+}
+
+/// Lets each node send again what others may lack, until that is over.
+fn tick<R: Clock + Wait>(rt: &R, store: &Embedded, over: &AtomicBool) {
+    for _ in rt.forever() {
+        if over.load(Ordering::SeqCst) {
+            break;
+        }
+        store.tick(rt);
+        thread::sleep(rt, Duration::from_millis(20));
+    }
+}
+
+/// Works with a store that is ticked meanwhile.
+fn work_ticked<R>(rt: R, store: &Embedded) -> Result<(), Fault>
+where
+    R: AllocGlobal + Print + Clock + Threads + Wait + Copy + Drop + Send + Sync + 'static,
+{
+    let over = AtomicBool::new(false);
+    let ending = &over;
+    thread::scope(thread::scope_env(), &rt, |scope| {
+        if scope.spawn(move || tick(&rt, store, ending)).is_err() {
+            return Err(Fault::Refused(Refusal::Memory));
+        }
+        let worked = work(rt, store);
+        ending.store(true, Ordering::SeqCst);
+        worked
+    })
+}
+
+/// Starts the store, works with it and closes it.
+fn run<R>(rt: R) -> Result<(), Fault>
+where
+    R: AllocGlobal + Print + Clock + Threads + Wait + Copy + Drop + Send + Sync + 'static,
+{
+    let plan = Plan::read(rt.alloc(), PLAN_TEXT)?;
+    let gate = OpenGate {
+        in_place: true,
+        carried: false,
+    };
+    let store = Store::start(rt, rt.alloc(), &plan, gate, true)?;
+    let worked = work_ticked(rt, &store);
+    store.close(&rt);
+    worked
+}
+
+/// Tells why the program ended early. Gives the status.
+fn report<R: Eprint>(rt: &R, fault: &Fault) -> u8 {
+    let _ = eprintln!(rt; "{fault}");
+    1
+}
+
+fn main(rt: HostRuntime) -> ExitCode {
+    match run(rt) {
+        Ok(()) => ExitCode::from(0),
+        Err(fault) => ExitCode::from(report(&rt, &fault)),
+    }
+}

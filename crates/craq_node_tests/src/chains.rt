@@ -1,29 +1,27 @@
 //! Scripts on a chain, and explanations of what they do: those that the definitions choose and that hold, and spoiled
 //! ones, which do not.
-use crate::moves::{members, moves_of};
+use crate::moves::members;
 use craq_chain::ChainCore;
 use craq_check::check;
+use craq_claim::explanation_of;
+use craq_commands::ReadMode;
 use craq_explain::explain_run_of;
-use craq_list::ListCore;
-use craq_model::{Answer, Out, Step};
-use craq_names::{ChainId, Items, NodeId, Refusal, Seq, Ticket, Value, Version};
-use craq_runs::{Explanation, Place, Run, Taken};
+use craq_model::{Answer, Ask, Out, Step};
+use craq_names::{ChainId, Items, Key, NodeId, ObjectId, Refusal, Ticket, Value, Version};
+use craq_node::Core;
+use craq_play::explanation_text;
+use craq_runs::{Explanation, Move, Run, Taken};
+use craq_schedules::chain_after;
 use craq_world::explain_run;
 use std::alloc::{AllocError, Global};
 
-type Chain = ChainCore<ListCore>;
-
-/// A script on a chain of these members, an explanation of what it does, each place told as node, ticket and position,
-/// and whether it holds.
+/// A script on a chain of so many nodes, and an explanation of what it does, as JSON.
 #[derive(Clone, Copy)]
 pub struct Case {
     pub fact: &'static str,
-    members: &'static [u32],
+    nodes: u32,
     script: &'static str,
-    asks: &'static [u64],
-    lens: &'static [u64],
-    places: &'static [(u32, u64, u64)],
-    holds: bool,
+    explained: &'static str,
 }
 
 /// On one node: a put, a test-and-set that is refused, the same again, and a strong read.
@@ -39,11 +37,10 @@ deliver 1
 deliver 2
 ";
 
-/// What is told of chains.
 pub static CASES: [Case; 21] = [
     Case {
         fact: "a put and clean reads",
-        members: &[1, 2, 3],
+        nodes: 3,
         script: "put 1 1 1 k a
 deliver 1
 deliver 2
@@ -53,36 +50,27 @@ read 1 strong k
 read 2 strong k
 read 3 strong k
 ",
-        asks: &[1],
-        lens: &[0, 0, 1, 1, 1, 1, 1, 1],
-        places: &[(1, 1, 1), (1, 2, 1), (2, 1, 1), (3, 1, 1)],
-        holds: true,
+        explained: r#"{"asks":[1],"lens":[0,0,1,1,1,1,1,1],"places":[[1,1,1],[1,2,1],[2,1,1],[3,1,1]]}"#,
     },
     Case {
         fact: "weak reads have no place",
-        members: &[1, 2],
+        nodes: 2,
         script: "read 1 eventual k
 read 2 bounded:3 k
 ",
-        asks: &[],
-        lens: &[0, 0],
-        places: &[],
-        holds: true,
+        explained: r#"{"asks":[],"lens":[0,0],"places":[]}"#,
     },
     Case {
         fact: "nothing is asked",
-        members: &[1, 2],
+        nodes: 2,
         script: "tick 1
 tick 0
 ",
-        asks: &[],
-        lens: &[0, 0],
-        places: &[],
-        holds: true,
+        explained: r#"{"asks":[],"lens":[0,0],"places":[]}"#,
     },
     Case {
         fact: "dirty reads stand where the tail spoke: before the entry reaches it, and after",
-        members: &[1, 2, 3],
+        nodes: 3,
         script: "put 1 1 1 k a
 deliver 1
 read 2 strong k
@@ -93,14 +81,11 @@ read 2 strong k
 deliver 6
 deliver 7
 ",
-        asks: &[1],
-        lens: &[0, 0, 0, 0, 1, 1, 1, 1, 1],
-        places: &[(2, 1, 0), (2, 2, 1)],
-        holds: true,
+        explained: r#"{"asks":[1],"lens":[0,0,0,0,1,1,1,1,1],"places":[[2,1,0],[2,2,1]]}"#,
     },
     Case {
         fact: "a late word gives way to a clean version",
-        members: &[1, 2, 3],
+        nodes: 3,
         script: "put 1 1 1 k a
 deliver 1
 read 2 strong k
@@ -112,14 +97,11 @@ deliver 7
 deliver 8
 deliver 4
 ",
-        asks: &[1, 7],
-        lens: &[0, 0, 0, 0, 1, 1, 1, 1, 2, 2],
-        places: &[(2, 1, 1)],
-        holds: true,
+        explained: r#"{"asks":[1,7],"lens":[0,0,0,0,1,1,1,1,2,2],"places":[[2,1,1]]}"#,
     },
     Case {
         fact: "a retry stands after what is committed",
-        members: &[1, 2],
+        nodes: 2,
         script: "put 1 1 1 k a
 deliver 1
 deliver 2
@@ -128,14 +110,11 @@ deliver 3
 deliver 4
 put 1 1 1 k a
 ",
-        asks: &[1, 4],
-        lens: &[0, 1, 1, 1, 2, 2, 2],
-        places: &[(1, 1, 1), (1, 2, 2), (1, 3, 2)],
-        holds: true,
+        explained: r#"{"asks":[1,4],"lens":[0,1,1,1,2,2,2],"places":[[1,1,1],[1,2,2],[1,3,2]]}"#,
     },
     Case {
         fact: "a node that joined commits",
-        members: &[1, 2],
+        nodes: 2,
         script: "put 1 1 1 k a
 deliver 1
 deliver 2
@@ -157,14 +136,11 @@ deliver 15
 deliver 16
 read 3 strong k
 ",
-        asks: &[1, 15],
-        lens: &[0, 1, 1, 1, 1, 1, 1, 1, 1, 1, 1, 1, 1, 1, 1, 1, 2, 2, 2, 2],
-        places: &[(1, 1, 1), (1, 2, 2), (3, 1, 2)],
-        holds: true,
+        explained: r#"{"asks":[1,15],"lens":[0,1,1,1,1,1,1,1,1,1,1,1,1,1,1,1,2,2,2,2],"places":[[1,1,1],[1,2,2],[3,1,2]]}"#,
     },
     Case {
         fact: "a tail that is removed leaves the commit to the next",
-        members: &[1, 2, 3],
+        nodes: 3,
         script: "put 1 1 1 k a
 deliver 1
 stop 3
@@ -172,14 +148,11 @@ remove 3
 deliver 3
 deliver 4
 ",
-        asks: &[1],
-        lens: &[0, 0, 0, 0, 0, 1],
-        places: &[],
-        holds: true,
+        explained: r#"{"asks":[1],"lens":[0,0,0,0,0,1],"places":[]}"#,
     },
     Case {
         fact: "the next node is read",
-        members: &[1, 2, 3],
+        nodes: 3,
         script: "put 1 1 1 k a
 deliver 1
 stop 3
@@ -191,201 +164,153 @@ deliver 6
 deliver 7
 read 2 strong k
 ",
-        asks: &[1],
-        lens: &[0, 0, 0, 0, 0, 1, 1, 1, 1, 1],
-        places: &[(1, 1, 1), (2, 1, 1)],
-        holds: true,
+        explained: r#"{"asks":[1],"lens":[0,0,0,0,0,1,1,1,1,1],"places":[[1,1,1],[2,1,1]]}"#,
     },
     Case {
         fact: "four asks",
-        members: &[1],
+        nodes: 1,
         script: FOUR_ASKS,
-        asks: &[1, 2],
-        lens: &[1, 2, 2, 2],
-        places: &[(1, 1, 1), (1, 2, 2), (1, 3, 2), (1, 4, 2)],
-        holds: true,
+        explained: r#"{"asks":[1,2],"lens":[1,2,2,2],"places":[[1,1,1],[1,2,2],[1,3,2],[1,4,2]]}"#,
     },
     Case {
         fact: "spoiled: updates in another order",
-        members: &[1],
+        nodes: 1,
         script: FOUR_ASKS,
-        asks: &[2, 1],
-        lens: &[1, 2, 2, 2],
-        places: &[(1, 1, 1), (1, 2, 2), (1, 3, 2), (1, 4, 2)],
-        holds: false,
+        explained: r#"{"asks":[2,1],"lens":[1,2,2,2],"places":[[1,1,1],[1,2,2],[1,3,2],[1,4,2]]}"#,
     },
     Case {
         fact: "spoiled: a request twice",
-        members: &[1],
+        nodes: 1,
         script: FOUR_ASKS,
-        asks: &[1, 2, 3],
-        lens: &[1, 2, 3, 3],
-        places: &[(1, 1, 1), (1, 2, 2), (1, 3, 3), (1, 4, 3)],
-        holds: false,
+        explained: r#"{"asks":[1,2,3],"lens":[1,2,3,3],"places":[[1,1,1],[1,2,2],[1,3,3],[1,4,3]]}"#,
     },
     Case {
         fact: "spoiled: a length too few",
-        members: &[1],
+        nodes: 1,
         script: FOUR_ASKS,
-        asks: &[1, 2],
-        lens: &[1, 2, 2],
-        places: &[(1, 1, 1), (1, 2, 2), (1, 3, 2), (1, 4, 2)],
-        holds: false,
+        explained: r#"{"asks":[1,2],"lens":[1,2,2],"places":[[1,1,1],[1,2,2],[1,3,2],[1,4,2]]}"#,
     },
     Case {
         fact: "spoiled: a length that falls",
-        members: &[1],
+        nodes: 1,
         script: FOUR_ASKS,
-        asks: &[1, 2],
-        lens: &[1, 2, 1, 2],
-        places: &[(1, 1, 1), (1, 2, 2), (1, 3, 2), (1, 4, 2)],
-        holds: false,
+        explained: r#"{"asks":[1,2],"lens":[1,2,1,2],"places":[[1,1,1],[1,2,2],[1,3,2],[1,4,2]]}"#,
     },
     Case {
         fact: "spoiled: a read as an update",
-        members: &[1],
+        nodes: 1,
         script: FOUR_ASKS,
-        asks: &[1, 4],
-        lens: &[1, 1, 1, 2],
-        places: &[(1, 1, 1), (1, 2, 1), (1, 3, 1), (1, 4, 2)],
-        holds: false,
+        explained: r#"{"asks":[1,4],"lens":[1,1,1,2],"places":[[1,1,1],[1,2,1],[1,3,1],[1,4,2]]}"#,
     },
     Case {
         fact: "spoiled: a place too few",
-        members: &[1],
+        nodes: 1,
         script: FOUR_ASKS,
-        asks: &[1, 2],
-        lens: &[1, 2, 2, 2],
-        places: &[(1, 1, 1), (1, 2, 2), (1, 3, 2)],
-        holds: false,
+        explained: r#"{"asks":[1,2],"lens":[1,2,2,2],"places":[[1,1,1],[1,2,2],[1,3,2]]}"#,
     },
     Case {
         fact: "spoiled: a read before an update that was committed",
-        members: &[1],
+        nodes: 1,
         script: FOUR_ASKS,
-        asks: &[1, 2],
-        lens: &[1, 2, 2, 2],
-        places: &[(1, 1, 1), (1, 2, 2), (1, 3, 2), (1, 4, 1)],
-        holds: false,
+        explained: r#"{"asks":[1,2],"lens":[1,2,2,2],"places":[[1,1,1],[1,2,2],[1,3,2],[1,4,1]]}"#,
     },
     Case {
         fact: "spoiled: an update before itself",
-        members: &[1],
+        nodes: 1,
         script: FOUR_ASKS,
-        asks: &[1, 2],
-        lens: &[1, 2, 2, 2],
-        places: &[(1, 1, 1), (1, 2, 1), (1, 3, 2), (1, 4, 2)],
-        holds: false,
+        explained: r#"{"asks":[1,2],"lens":[1,2,2,2],"places":[[1,1,1],[1,2,1],[1,3,2],[1,4,2]]}"#,
     },
     Case {
         fact: "spoiled: an answer before its update was committed",
-        members: &[1],
+        nodes: 1,
         script: FOUR_ASKS,
-        asks: &[1, 2],
-        lens: &[0, 2, 2, 2],
-        places: &[(1, 1, 0), (1, 2, 2), (1, 3, 2), (1, 4, 2)],
-        holds: false,
+        explained: r#"{"asks":[1,2],"lens":[0,2,2,2],"places":[[1,1,0],[1,2,2],[1,3,2],[1,4,2]]}"#,
     },
     Case {
         fact: "an answer after a message",
-        members: &[1, 2],
+        nodes: 2,
         script: ONE_PUT,
-        asks: &[1],
-        lens: &[0, 1, 1],
-        places: &[(1, 1, 1)],
-        holds: true,
+        explained: r#"{"asks":[1],"lens":[0,1,1],"places":[[1,1,1]]}"#,
     },
     Case {
         fact: "spoiled: an answer to what was never committed",
-        members: &[1, 2],
+        nodes: 2,
         script: ONE_PUT,
-        asks: &[1],
-        lens: &[0, 0, 0],
-        places: &[(1, 1, 0)],
-        holds: false,
+        explained: r#"{"asks":[1],"lens":[0,0,0],"places":[[1,1,0]]}"#,
     },
 ];
 
-/// A chain on which a script was played.
-fn played(alloc: Global, ids: &[u32], script: &str) -> Result<Chain, Refusal> {
-    let ids = members(alloc, ids)?;
-    let moves = moves_of(alloc, script)?;
-    let mut chain: Chain = ChainCore::open(alloc, ChainId::new(0), ids.as_slice())?;
-    for chosen in moves {
-        chain.take(alloc, chosen)?;
+/// The explanation of this text. A text that is none is refused as `BadFrame`.
+fn explanation(alloc: Global, text: &str) -> Result<Explanation, Refusal> {
+    match explanation_of(alloc, text.as_bytes()) {
+        Ok(given) => Ok(given),
+        Err(_) => Err(Refusal::BadFrame),
     }
-    Ok(chain)
 }
 
-/// Places, each told as node, ticket and position.
-fn places_of(alloc: Global, told: &[(u32, u64, u64)]) -> Result<Items<Place>, AllocError> {
-    let mut places = Vec::new(alloc);
-    for (node, ticket, position) in told {
-        places.push(Place {
-            node: NodeId::new(*node),
-            ticket: Ticket::new(*ticket),
-            position: Seq::new(*position),
-        })?;
-    }
-    Ok(Items::of(places))
+/// Whether the explanation of this text holds of a run.
+fn holds(alloc: Global, run: &Run, text: &str) -> Result<bool, Refusal> {
+    let given = explanation(alloc, text)?;
+    Ok(check(alloc, run, &given)?)
 }
 
-/// An explanation of these numbers.
-fn explanation(
-    alloc: Global,
-    asks: &[u64],
-    lens: &[u64],
-    places: &[(u32, u64, u64)],
-) -> Result<Explanation, AllocError> {
-    let places = places_of(alloc, places)?;
-    let asks = Items::of(Vec::from_slice(alloc, asks)?);
-    let lens = Items::of(Vec::from_slice(alloc, lens)?);
-    Ok(Explanation { asks, lens, places })
+/// Whether an explanation is spelled so.
+fn is_spelled(alloc: Global, explanation: &Explanation, text: &str) -> Result<bool, AllocError> {
+    Ok(explanation_text(alloc, explanation)?.as_str() == text)
 }
 
-/// Whether two explanations say the same.
-fn are_same(one: &Explanation, other: &Explanation) -> bool {
-    one.asks.as_slice() == other.asks.as_slice()
-        && one.lens.as_slice() == other.lens.as_slice()
-        && one.places.as_slice() == other.places.as_slice()
-}
-
-/// Whether an explanation is the one that the definitions choose, for whoever knows the run's chain and for whoever does
-/// not.
-fn is_chosen(alloc: Global, chain: &Chain, given: &Explanation) -> Result<bool, AllocError> {
+/// Whether this is the explanation that the definitions choose, for whoever knows the run's chain.
+fn is_chosen<C: Core>(alloc: Global, chain: &ChainCore<C>, text: &str) -> Result<bool, AllocError> {
     let chosen = explain_run_of(alloc, chain.chain(), chain.run())?;
-    let anywhere = explain_run(alloc, chain.run())?;
-    Ok(are_same(given, &chosen) && are_same(given, &anywhere))
+    is_spelled(alloc, &chosen, text)
 }
 
-/// Whether an explanation holds of a chain exactly where it should, and is the chosen one there.
-fn is_judged(
+/// The same for whoever does not know the chain.
+fn is_chosen_anywhere<C: Core>(
     alloc: Global,
-    chain: &Chain,
-    given: &Explanation,
-    holds: bool,
+    chain: &ChainCore<C>,
+    text: &str,
 ) -> Result<bool, AllocError> {
-    let told = check(alloc, chain.run(), given)?;
-    let chosen = is_chosen(alloc, chain, given)?;
-    Ok(told == holds && chosen == holds)
+    let chosen = explain_run(alloc, chain.run())?;
+    is_spelled(alloc, &chosen, text)
 }
 
-/// Whether the explanation of a case holds or not, as the case says, and is the one that is chosen where it holds.
-pub fn is_told(alloc: Global, case: &Case) -> Result<bool, Refusal> {
-    let given = explanation(alloc, case.asks, case.lens, case.places)?;
-    let chain = played(alloc, case.members, case.script)?;
-    Ok(is_judged(alloc, &chain, &given, case.holds)?)
+/// Prints whether an explanation holds of a chain; whether it is the one that the definitions choose, for whoever knows the
+/// run's chain and for whoever does not; and how many messages the chain sent.
+fn print_verdict<C: Core>(
+    alloc: Global,
+    chain: &ChainCore<C>,
+    explained: &str,
+    text: &mut String,
+) -> Result<(), Refusal> {
+    let holds = holds(alloc, chain.run(), explained)?;
+    let known = is_chosen(alloc, chain, explained)?;
+    let anywhere = is_chosen_anywhere(alloc, chain, explained)?;
+    let sent = chain.sent();
+    writeln!(text, "{holds}, chosen {known} {anywhere}, {sent} sent")?;
+    Ok(())
 }
 
-/// Whether a chain counts the messages that it sent: the entry to the second node, and from it to the third.
-pub fn counts_messages(alloc: Global) -> Result<bool, Refusal> {
-    let chain = played(alloc, &[1, 2, 3], "put 1 1 1 k a\ndeliver 1\n")?;
-    Ok(chain.sent() == 2)
+/// Plays a script, and prints what there is to say of its explanation.
+fn print_case<C: Core>(alloc: Global, case: &Case, text: &mut String) -> Result<(), Refusal> {
+    let nodes = case.nodes.max(1).min(8);
+    let chain: ChainCore<C> = chain_after(alloc, nodes, case.script.as_bytes())?;
+    print_verdict(alloc, &chain, case.explained, text)
 }
 
-/// The step of an ask that is answered at once.
-fn answering(alloc: Global, answer: Answer) -> Result<Step, AllocError> {
+/// What is printed of a case.
+pub fn told<C: Core>(alloc: Global, case: &Case) -> Result<String, Refusal> {
+    let mut text = String::new(alloc);
+    print_case::<C>(alloc, case, &mut text)?;
+    Ok(text)
+}
+
+/// The step of a read that gives this value of an object that was never put.
+fn reading(alloc: Global, value: &[u8]) -> Result<Step, Refusal> {
+    let value = Value::new(alloc, value)?;
+    let version = Version::new(0);
     let ticket = Ticket::new(1);
+    let answer = Answer::Read { version, value };
     let mut outs = Items::new(alloc);
     outs.push(Out::Answer { ticket, answer })?;
     Ok(Step {
@@ -395,29 +320,55 @@ fn answering(alloc: Global, answer: Answer) -> Result<Step, AllocError> {
     })
 }
 
-/// The moves of a run that has one, a strong read that gives this value of an object that was never put.
-fn one_read(alloc: Global, value: &[u8]) -> Result<Items<Taken>, Refusal> {
-    let mut moves = Items::new(alloc);
-    for chosen in moves_of(alloc, "read 1 strong k")? {
-        let value = Value::new(alloc, value)?;
-        let version = Version::new(0);
-        let step = answering(alloc, Answer::Read { version, value })?;
-        moves.push(Taken { chosen, step })?;
+/// A strong read at node 1.
+fn strong_read(alloc: Global) -> Result<Move, Refusal> {
+    let key = Key::new(alloc, b"k")?;
+    let chain = ChainId::new(0);
+    let ask = Ask::Read {
+        mode: ReadMode::Strong,
+        object: ObjectId { chain, key },
+    };
+    Ok(Move::Ask {
+        node: NodeId::new(1),
+        ask,
+    })
+}
+
+/// That read, which gives this value of an object that was never put.
+fn read_giving(alloc: Global, value: &[u8]) -> Result<Taken, Refusal> {
+    let step = reading(alloc, value)?;
+    match strong_read(alloc) {
+        Ok(chosen) => Ok(Taken { chosen, step }),
+        Err(refusal) => {
+            drop(step);
+            Err(refusal)
+        }
     }
-    Ok(moves)
 }
 
-/// Whether one strong read that gives this value of an object that was never put is rightly explained.
-fn is_right(alloc: Global, value: &[u8]) -> Result<bool, Refusal> {
-    let given = explanation(alloc, &[], &[0], &[(1, 1, 0)])?;
+/// The run of this one move.
+fn one_read(alloc: Global, value: &[u8]) -> Result<Run, Refusal> {
+    let mut moves = Items::new(alloc);
+    moves.push(read_giving(alloc, value)?)?;
     let members = members(alloc, &[1])?;
-    let moves = one_read(alloc, value)?;
-    Ok(check(alloc, &Run { members, moves }, &given)?)
+    Ok(Run { members, moves })
 }
 
-/// Whether a read that gives another value than the object has is refused.
-pub fn refuses_values(alloc: Global) -> Result<bool, Refusal> {
-    let right = is_right(alloc, b"")?;
-    let spoiled = is_right(alloc, b"b")?;
-    Ok(right && !spoiled)
+/// An explanation of one strong read.
+const ONE_READ: &str = r#"{"asks":[],"lens":[0],"places":[[1,1,0]]}"#;
+
+/// Prints whether that holds of a read that gives this value.
+fn print_read(alloc: Global, value: &[u8], text: &mut String) -> Result<(), Refusal> {
+    let run = one_read(alloc, value)?;
+    let holds = holds(alloc, &run, ONE_READ)?;
+    writeln!(text, "{holds}")?;
+    Ok(())
+}
+
+/// What is printed of a read that gives the value of an object that was never put, and of one that gives another value.
+pub fn told_of_values(alloc: Global) -> Result<String, Refusal> {
+    let mut text = String::new(alloc);
+    print_read(alloc, b"", &mut text)?;
+    print_read(alloc, b"b", &mut text)?;
+    Ok(text)
 }

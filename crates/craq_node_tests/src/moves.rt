@@ -1,7 +1,7 @@
-//! Moves, told as the lines of a script.
+//! Moves, told as the lines of a script, and how explanations are printed.
 use craq_names::{ChainId, Items, NodeId, Refusal};
-use craq_play::{Script, move_of, read_of, update_of};
-use craq_runs::Move;
+use craq_play::{Script, explanation_text, move_of, read_of, update_of};
+use craq_runs::{Explanation, Move};
 use craq_script::Line;
 use std::alloc::{AllocError, Global};
 
@@ -40,4 +40,14 @@ pub fn moves_of(alloc: Global, text: &str) -> Result<Vec<Move>, Refusal> {
         }
     }
     Ok(moves)
+}
+
+/// Prints an explanation, on a line.
+pub fn print_explanation(
+    alloc: Global,
+    explanation: &Explanation,
+    text: &mut String,
+) -> Result<(), AllocError> {
+    let line = explanation_text(alloc, explanation)?;
+    writeln!(text, "{line}")
 }

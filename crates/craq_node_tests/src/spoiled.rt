@@ -1,25 +1,34 @@
-//! Scripts on both chains, a message that nobody sent arriving after each move.
-use crate::both::Both;
-use crate::dice::Dice;
+//! Scripts on chains of both cores, messages that nobody sent arriving after each move: each core has to take the same steps.
+ghost use Rattle.std.specs.Prelude.{◌<◌, ◌≤◌};
+ghost use Rattle.craq_model.specs.Spelled.{IsSpelled};
+
+use crate::cells::{deliver_at, opened};
 use crate::moves::moves_of;
-use crate::spoiling::{any_node, spoil};
-use craq_model::Why;
-use craq_names::{Copied, Refusal};
-use craq_wire::spelled;
-use std::alloc::Global;
+use craq_list::ListCore;
+use craq_locked::LockedChain;
+use craq_model::{LinkMessage, Out, Why};
+use craq_names::{NodeId, Pass, Refusal, Same};
+use craq_node::Core;
+use craq_play::{PlainCore, word_of};
+use craq_runs::Move;
+use craq_seat::{Receipt, Record};
+use craq_wire::{decode, encode, spelled};
+use rand_core::utils::NextWord;
+use rand_pcg::Pcg32;
+use std::alloc::{AllocError, Global};
 use std::fs;
 use std::rt::Files;
 use std::sync::Wait;
 
 /// A script of `data/`, and the members of its chain.
 #[derive(Clone, Copy)]
-struct Case {
-    file: &'static str,
+pub struct Case {
+    pub file: &'static str,
     members: &'static [u32],
 }
 
 /// Scripts that were drawn by lot; those of one node write so many objects that a state is sent in parts.
-static CASES: [Case; 4] = [
+pub static CASES: [Case; 4] = [
     Case {
         file: "random-1.script",
         members: &[1, 2, 3],
@@ -38,65 +47,264 @@ static CASES: [Case; 4] = [
     },
 ];
 
-/// The greatest id of a node at which such a message may arrive.
-const MOST_NODES: u64 = 8;
+/// The greatest id of a node.
+const MOST_NODES: u32 = 8;
 
-/// A message that was sent lately arrives with a number changed, at its receiver or at another node: whether both chains do
-/// the same.
-fn deliver_spoiled<R: Wait>(
-    rt: &R,
-    alloc: Global,
-    dice: &mut Dice,
-    both: &mut Both,
-) -> Result<bool, Refusal> {
-    let sent = both.sent.as_slice();
-    let place = sent.len() as u64;
-    let place = place.saturating_sub(dice.below(12).wrapping_add(1)) as usize;
-    let Some(message) = sent.get(place) else {
-        return Ok(true);
-    };
-    let mut message = message.copied(alloc)?;
-    spoil(alloc, dice, &mut message);
-    let to = if dice.below(10) == 0 {
-        any_node(dice, MOST_NODES)
-    } else {
-        message.receiver
-    };
-    if !spelled(&message) {
-        return Ok(true);
-    }
-    both.deliver(rt, to, &message)
+/// How often a message of each cell arrives after a move.
+const TIMES: u32 = 2;
+
+/// How many of its steps back a node sent a message that arrives again.
+const LATELY: usize = 12;
+
+/// What became of a move or of a message that nobody sent: the receipt of the step, none where no cell could take it, or the
+/// refusal.
+type Taken = Result<Option<Receipt>, Refusal>;
+
+/// A number below the bound, by lot.
+fn below(dice: &mut Pcg32, bound: u32) -> u32
+    ensures { 1 ≤ bound → result < bound }
+{
+    let word = dice.next_word();
+    if bound == 0 { 0 } else { word % bound }
 }
 
-/// Whether both chains do the same throughout the script. The reasons for which nodes ignored a message come to those that
-/// came up before.
-fn is_same<R: Wait>(
+/// A place in a list of so many items, by lot.
+fn place_in(dice: &mut Pcg32, count: usize) -> usize {
+    let word = dice.next_word() as usize;
+    if count == 0 { 0 } else { word % count }
+}
+
+/// A message that was sent in one of the last steps, by lot, if there is one.
+fn sent_lately<'a, E>(dice: &mut Pcg32, steps: &'a [Record<E>]) -> Option<&'a LinkMessage> {
+    let back = place_in(dice, LATELY).saturating_add(1);
+    let record = steps.get(steps.len().checked_sub(back)?)?;
+    let outs = record.step.outs.as_slice();
+    match outs.get(place_in(dice, outs.len()))? {
+        Out::Send { message, .. } => Some(message),
+        Out::Answer { .. } => None,
+    }
+}
+
+/// The place of the first byte that is not 0, from this place on; 0 where there is none.
+fn next_filled(bytes: &[u8], from: usize) -> usize {
+    for (at, byte) in bytes.iter().enumerate() {
+        if at >= from && *byte != 0 {
+            return at;
+        }
+    }
+    0
+}
+
+/// A byte that is not 0 is changed, the first from a place on that is drawn by lot.
+fn spoil(dice: &mut Pcg32, bytes: &mut [u8]) {
+    let from = place_in(dice, bytes.len());
+    let by = match below(dice, 4) {
+        0 => 1,
+        1 => u8::MAX,
+        2 => 2,
+        _ => below(dice, 256) as u8,
+    };
+    let at = next_filled(bytes, from);
+    if let Some(byte) = bytes.get_mut(at) {
+        *byte = byte.wrapping_add(by);
+    }
+}
+
+/// The bytes of a message that was sent lately, one of them changed; none where there is no such message.
+fn spoiled<E>(alloc: Global, dice: &mut Pcg32, steps: &[Record<E>]) -> Result<Vec<u8>, AllocError> {
+    let mut bytes = Vec::new(alloc);
+    if let Some(message) = sent_lately(dice, steps) {
+        if spelled(message) {
+            bytes.extend_from_slice(encode(alloc, message)?.as_slice())?;
+            spoil(dice, bytes.as_mut_slice());
+        }
+    }
+    Ok(bytes)
+}
+
+/// The same of a message of the cell of this id, 0 the master.
+fn spoiled_of<C: Core, R: AllocGlobal + Wait>(
     rt: &R,
-    alloc: Global,
-    case: &Case,
+    cells: &LockedChain<C>,
+    id: u32,
+    dice: &mut Pcg32,
+) -> Result<Vec<u8>, AllocError> {
+    let alloc = rt.alloc();
+    if id == 0 {
+        let book = cells.book().lock(rt);
+        return spoiled(alloc, dice, book.journal().unwrap_or(&[]));
+    }
+    match cells.seat(NodeId::new(id)) {
+        None => Ok(Vec::new(alloc)),
+        Some(seat) => {
+            let seated = seat.lock(rt);
+            spoiled(alloc, dice, seated.desk.cell().journal().unwrap_or(&[]))
+        }
+    }
+}
+
+/// A message arrives that nobody sent, at its receiver or at another node, if there is one: what becomes of it.
+fn deliver<C: Core, R: AllocGlobal + Wait>(
+    rt: &R,
+    cells: &LockedChain<C>,
+    dice: &mut Pcg32,
+    message: LinkMessage,
+) -> Taken
+    requires { IsSpelled message }
+{
+    let to = match below(dice, 10) {
+        0 => NodeId::new(below(dice, MOST_NODES) + 1),
+        _ => message.receiver,
+    };
+    let Some(seat) = cells.seat(to) else {
+        drop(message);
+        return Ok(None);
+    };
+    let receipt = deliver_at(rt, seat, message)?;
+    Ok(Some(receipt))
+}
+
+/// Messages of each cell arrive that still are messages with a byte changed. What becomes of them is kept.
+fn deliver_spoiled<C: Core, R: AllocGlobal + Wait>(
+    rt: &R,
+    cells: &LockedChain<C>,
+    dice: &mut Pcg32,
+    taken: &mut Vec<Taken>,
+) -> Result<(), AllocError> {
+    for turn in 0..TIMES * (MOST_NODES + 1) {
+        let bytes = spoiled_of(rt, cells, turn % (MOST_NODES + 1), dice)?;
+        if let Ok(message) = decode(rt.alloc(), bytes.as_slice()) {
+            taken.push(deliver(rt, cells, dice, message))?;
+        }
+    }
+    Ok(())
+}
+
+/// Takes the moves, messages that nobody sent arriving after each, and keeps what becomes of them: how many calls were
+/// answered.
+fn play<C: Core, R: AllocGlobal + Wait>(
+    rt: &R,
+    cells: &mut LockedChain<C>,
+    moves: &[Move],
+    taken: &mut Vec<Taken>,
+) -> Result<usize, AllocError> {
+    let mut dice = Pcg32::new(1, 1);
+    let mut calls = Vec::new(rt.alloc());
+    for chosen in moves {
+        taken.push(cells.take(rt, rt.alloc(), chosen, Pass::start(), &mut calls))?;
+        deliver_spoiled(rt, cells, &mut dice, taken)?;
+    }
+    Ok(calls.len())
+}
+
+/// Whether the same steps stand in two journals, under the same stamps.
+fn are_same<E>(one: &[Record<E>], other: &[Record<E>]) -> bool {
+    for (mine, theirs) in one.iter().zip(other) {
+        if mine.stamp != theirs.stamp || !mine.step.is_same(&theirs.step) {
+            return false;
+        }
+    }
+    one.len() == other.len()
+}
+
+/// Whether the nodes of this id took the same steps, or there is none in both chains.
+fn agree_at<P: Core, L: Core, R: Wait>(
+    rt: &R,
+    plain: &LockedChain<P>,
+    list: &LockedChain<L>,
+    id: NodeId,
+) -> bool {
+    match (plain.seat(id), list.seat(id)) {
+        (None, None) => true,
+        (Some(one), Some(other)) => are_same(
+            one.lock(rt).desk.cell().journal().unwrap_or(&[]),
+            other.lock(rt).desk.cell().journal().unwrap_or(&[]),
+        ),
+        _ => false,
+    }
+}
+
+/// Whether the cells of two chains took the same steps.
+fn agree<P: Core, L: Core, R: Wait>(rt: &R, plain: &LockedChain<P>, list: &LockedChain<L>) -> bool {
+    for id in 1..MOST_NODES + 1 {
+        if !agree_at(rt, plain, list, NodeId::new(id)) {
+            return false;
+        }
+    }
+    are_same(
+        plain.book().lock(rt).journal().unwrap_or(&[]),
+        list.book().lock(rt).journal().unwrap_or(&[]),
+    )
+}
+
+/// The reasons for which nodes ignored messages in these steps come after others, unless they are among them.
+fn add_reasons<E>(steps: &[Record<E>], reasons: &mut Vec<Why>) -> Result<(), AllocError> {
+    for record in steps {
+        if let Some(why) = record.step.ignored {
+            if !reasons.iter().any(|known| *known == why) {
+                reasons.push(why)?;
+            }
+        }
+    }
+    Ok(())
+}
+
+/// Prints the reasons for which the nodes of a chain ignored messages, each once.
+fn print_reasons<C: Core, R: AllocGlobal + Wait>(
+    rt: &R,
+    cells: &LockedChain<C>,
+    text: &mut String,
+) -> Result<(), AllocError> {
+    let mut reasons = Vec::new(rt.alloc());
+    for id in 1..MOST_NODES + 1 {
+        if let Some(seat) = cells.seat(NodeId::new(id)) {
+            let seated = seat.lock(rt);
+            add_reasons(seated.desk.cell().journal().unwrap_or(&[]), &mut reasons)?;
+        }
+    }
+    for why in reasons.as_slice() {
+        let word = word_of(*why);
+        writeln!(text, "{word}")?;
+    }
+    Ok(())
+}
+
+/// Prints whether both chains do the same by these moves, how many moves there were, and how many with messages, and for which reasons
+/// messages were ignored.
+fn play_both<P: Core, L: Core, R: AllocGlobal + Wait>(
+    rt: &R,
+    plain: &mut LockedChain<P>,
+    list: &mut LockedChain<L>,
+    moves: &[Move],
+    text: &mut String,
+) -> Result<(), AllocError> {
+    let (mut one, mut other) = (Vec::new(rt.alloc()), Vec::new(rt.alloc()));
+    let calls = play(rt, plain, moves, &mut one)?;
+    let others = play(rt, list, moves, &mut other)?;
+    let is_same = calls == others && one.as_slice() == other.as_slice() && agree(rt, plain, list);
+    let (asked, came) = (moves.len(), other.len());
+    writeln!(text, "{is_same}\n{asked} moves\n{came} with messages")?;
+    print_reasons(rt, list, text)
+}
+
+/// The same of new chains and the moves of a script.
+fn play_new<P: Core, L: Core, R: AllocGlobal + Wait>(
+    rt: &R,
+    members: &[u32],
     script: &str,
-    reasons: Vec<Why>,
-) -> Result<(bool, Vec<Why>), Refusal> {
-    let mut both = Both::open(alloc, case.members, reasons)?;
-    let mut dice = Dice::new(1);
-    let mut is_same = true;
-    for chosen in moves_of(alloc, script)?.as_slice() {
-        is_same = is_same
-            && both.take(rt, chosen)?
-            && deliver_spoiled(rt, alloc, &mut dice, &mut both)?;
-    }
-    let Both { reasons, .. } = both;
-    Ok((is_same, reasons))
+    text: &mut String,
+) -> Result<(), Refusal> {
+    let moves = moves_of(rt.alloc(), script)?;
+    let mut plain: LockedChain<P> = opened(rt.alloc(), members, true)?;
+    let mut list: LockedChain<L> = opened(rt.alloc(), members, true)?;
+    play_both(rt, &mut plain, &mut list, moves.as_slice(), text)?;
+    Ok(())
 }
 
-/// Whether both chains do the same throughout each script, and for how many reasons nodes ignored a message.
-pub fn are_same<R: AllocGlobal + Files + Wait>(rt: &R) -> Result<(bool, usize), Refusal> {
-    let (mut are_same, mut reasons) = (true, Vec::new(rt.alloc()));
-    for case in &CASES {
-        let script = fs::read_to_string(rt, case.file).map_err(|_| Refusal::Memory)?;
-        let (is_same, seen) = is_same(rt, rt.alloc(), case, script.as_str(), reasons)?;
-        are_same = are_same && is_same;
-        reasons = seen;
-    }
-    Ok((are_same, reasons.len()))
+/// What is printed of a case.
+pub fn told<R: AllocGlobal + Files + Wait>(rt: &R, case: &Case) -> Result<String, Refusal> {
+    let mut text = String::new(rt.alloc());
+    let script = fs::read_to_string(rt, case.file).map_err(|_| Refusal::Memory)?;
+    play_new::<PlainCore, ListCore, R>(rt, case.members, script.as_str(), &mut text)?;
+    Ok(text)
 }

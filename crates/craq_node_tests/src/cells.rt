@@ -1,0 +1,147 @@
+//! Locked cells of a chain, and steps on them beside those of scripts: at the last stamp, and in two threads.
+ghost use Rattle.craq_model.specs.Spelled.{IsSpelled};
+
+use crate::moves::{members, moves_of};
+use craq_list::ListCore;
+use craq_locked::LockedChain;
+use craq_model::{Event, LinkMessage};
+use craq_names::{ChainId, NodeId, NodeName, Pass, Refusal, Stamp};
+use craq_node::Core;
+use craq_play::print_refusal;
+use craq_seat::{CallReceipt, Cell, Receipt, Seat};
+use std::alloc::{AllocError, Global};
+use std::sync::Wait;
+use std::thread;
+use std::thread::Threads;
+
+/// New locked cells of chain 0, with journals or without.
+pub fn opened<C: Core>(
+    alloc: Global,
+    ids: &[u32],
+    journal: bool,
+) -> Result<LockedChain<C>, Refusal> {
+    let members = members(alloc, ids)?;
+    LockedChain::open(alloc, ChainId::new(0), members.as_slice(), journal)
+}
+
+/// Prints the node and the stamp of a receipt, if there is one.
+fn print_receipt(text: &mut String, receipt: Option<Receipt>) -> Result<(), AllocError> {
+    match receipt {
+        None => Ok(()),
+        Some(receipt) => {
+            let node = receipt.node.get();
+            let stamp = receipt.stamp.get();
+            writeln!(text, "{node}@{stamp}")
+        }
+    }
+}
+
+/// Takes the moves of scripts, each with the stamp of the pass that its moves show, and prints the receipts of the steps. The
+/// receipts of answered calls are added to the others.
+pub fn take_all<C: Core, R: AllocGlobal + Wait>(
+    rt: &R,
+    cells: &mut LockedChain<C>,
+    moves: &[(u64, &str)],
+    calls: &mut Vec<CallReceipt>,
+    text: &mut String,
+) -> Result<(), Refusal> {
+    let alloc = rt.alloc();
+    for (shown, script) in moves {
+        let pass = Pass::of(Stamp::new(*shown));
+        for chosen in &moves_of(alloc, script)? {
+            print_receipt(text, cells.take(rt, alloc, chosen, pass, calls)?)?;
+        }
+    }
+    Ok(())
+}
+
+/// The step of a node's cell in which this message arrives, which nobody sent.
+pub fn deliver_at<C: Core, R: AllocGlobal + Wait>(
+    rt: &R,
+    seat: &Seat<C>,
+    message: LinkMessage,
+) -> Result<Receipt, Refusal>
+    requires { IsSpelled message }
+{
+    let event = Event::Deliver(message);
+    let (receipt, calls) = seat.lock(rt).desk.take(rt.alloc(), event, Pass::start())?;
+    drop(calls?);
+    Ok(receipt)
+}
+
+/// Stops a node, lets it tick, and prints the receipts, or the refusal.
+fn stop_and_tick<C: Core>(
+    alloc: Global,
+    cell: &mut Cell<C>,
+    text: &mut String,
+) -> Result<(), Refusal> {
+    let stopped = cell.take(alloc, Event::Stop, Pass::start())?;
+    print_receipt(text, Some(stopped))?;
+    match cell.take(alloc, Event::Tick, Pass::start()) {
+        Ok(receipt) => print_receipt(text, Some(receipt))?,
+        Err(refusal) => print_refusal(text, &refusal)?,
+    }
+    Ok(())
+}
+
+/// The same of a node whose cell stands one below the last stamp.
+fn stop_at_last<C: Core>(alloc: Global, text: &mut String) -> Result<(), Refusal> {
+    let name = NodeName {
+        chain: ChainId::new(0),
+        node: NodeId::new(1),
+    };
+    let mut cell: Cell<C> = Cell::open(alloc, name, None, true, Stamp::new(u64::MAX - 1))?;
+    stop_and_tick(alloc, &mut cell, text)
+}
+
+/// What is printed there: the stopped node is refused for want of a stamp, and not as stopped.
+pub fn told_of_last_stamp<C: Core>(alloc: Global) -> Result<String, Refusal> {
+    let mut text = String::new(alloc);
+    stop_at_last::<C>(alloc, &mut text)?;
+    Ok(text)
+}
+
+/// How many steps each thread takes.
+const STEPS: u64 = 100;
+
+/// Ticks of a node, each under its lock: the stamp of the last.
+fn tick<R: Wait>(rt: &R, alloc: Global, seat: &Seat<ListCore>) -> Result<u64, Refusal> {
+    let mut last = 0;
+    for _ in 0..STEPS {
+        let (receipt, made) = seat.lock(rt).desk.take(alloc, Event::Tick, Pass::start())?;
+        drop(made);
+        last = receipt.stamp.get();
+    }
+    Ok(last)
+}
+
+/// Prints the stamps of the last ticks of two threads that each tick a node of their own.
+fn tick_in_threads<R: AllocGlobal + Threads + Wait + Sync>(
+    rt: &R,
+    cells: &LockedChain<ListCore>,
+    text: &mut String,
+) -> Result<(), Refusal> {
+    let alloc = rt.alloc();
+    if let (Some(first), Some(second)) = (cells.seat(NodeId::new(1)), cells.seat(NodeId::new(2))) {
+        let (one, two) = thread::join(rt, || tick(rt, alloc, first), || tick(rt, alloc, second));
+        let (one, two) = (one?, two?);
+        writeln!(text, "{one} and {two}")?;
+    }
+    Ok(())
+}
+
+/// The same on new cells.
+fn tick_new<R: AllocGlobal + Threads + Wait + Sync>(
+    rt: &R,
+    text: &mut String,
+) -> Result<(), Refusal> {
+    let cells = opened(rt.alloc(), &[1, 2], true)?;
+    tick_in_threads(rt, &cells, text)
+}
+
+/// What is printed there.
+pub fn told_of_threads<R: AllocGlobal + Threads + Wait + Sync>(rt: &R) -> Result<String, Refusal> {
+    let mut text = String::new(rt.alloc());
+    tick_new(rt, &mut text)?;
+    Ok(text)
+}

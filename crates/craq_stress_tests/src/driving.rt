@@ -1,0 +1,259 @@
+//! What each trial does with its store.
+use crate::asking::{Asker, Tried};
+use crate::course::Course;
+use crate::gate::{LIMIT, rest};
+use crate::trials::{Fact, Fault, Trial, expect};
+use craq_audit::Audit;
+use craq_names::{ChainId, NodeId, Refusal};
+use std::sync::atomic::{AtomicU64, Ordering};
+use std::sync::{Arc, Wait};
+use std::thread;
+use std::thread::{JoinHandle, Threads};
+
+/// How many clients ask at once.
+const CLIENTS: u8 = 4;
+
+/// The most ticks that a call takes while messages are lost, and afterwards.
+const MOST_TICKS: u64 = 300;
+
+/// For how many turns clients ask after messages were lost.
+const CALM: u64 = 50;
+
+/// The most nodes that ever join.
+const MOST_JOINS: u32 = 10_000;
+
+/// No more numbers than these.
+const MANY: u64 = 1_000_000;
+
+/// The chain of each store.
+fn chain() -> ChainId {
+    ChainId::new(0)
+}
+
+/// A store that runs, and its course.
+pub struct Ground {
+    pub host: HostRuntime,
+    pub store: Tried,
+    pub course: Arc<Course>,
+}
+
+/// The threads of clients.
+pub type Askers = Vec<JoinHandle<()>>;
+
+impl Ground {
+    /// A client of this id begins to ask, so many numbers.
+    fn start_asker<R>(&self, rt: R, id: u8, numbers: u64, askers: &mut Askers) -> Result<(), Fault>
+    where
+        R: Threads + Wait + Copy + Send + 'static,
+    {
+        askers.reserve(1)?;
+        let host = self.host;
+        let course = Arc::try_clone(&self.course)?;
+        let asker = Asker::new(host.alloc(), &self.store, id)?;
+        match thread::spawn(&rt, move || asker.ask_on(&rt, host, &course, numbers)) {
+            Ok(spawned) => {
+                self.course.begun.fetch_add(1, Ordering::SeqCst);
+                askers.push(spawned)?;
+                Ok(())
+            }
+            Err(_) => Err(Fault::Refused(Refusal::Memory)),
+        }
+    }
+
+    /// All clients begin to ask.
+    fn start_all<R>(&self, rt: R, askers: &mut Askers) -> Result<(), Fault>
+    where
+        R: Threads + Wait + Copy + Send + 'static,
+    {
+        for id in 1..=CLIENTS {
+            self.start_asker(rt, id, MANY, askers)?;
+        }
+        Ok(())
+    }
+
+    /// Ticks, a turn apart, until a counter has come to a number, for at most so many turns. Whether it has.
+    fn tick_until<R: Wait>(&self, rt: &R, counter: &AtomicU64, wanted: u64, turns: u64) -> bool {
+        for _ in 0..turns {
+            if counter.load(Ordering::SeqCst) >= wanted {
+                return true;
+            }
+            self.store.tick(rt);
+            self.course.ticks.fetch_add(1, Ordering::SeqCst);
+            rest(self.host);
+        }
+        counter.load(Ordering::SeqCst) >= wanted
+    }
+
+    /// Does what a trial does, for the time of this number that it is tried.
+    pub fn drive<R>(&self, rt: R, trial: Trial, time: u64, askers: &mut Askers) -> Result<(), Fault>
+    where
+        R: Threads + Wait + Copy + Send + 'static,
+    {
+        match trial {
+            Trial::Stop(_) => self.stop(rt, askers)?,
+            Trial::Before | Trial::After => self.hold(rt, askers, false)?,
+            Trial::Within => self.hold(rt, askers, true)?,
+            Trial::Losses(turns) => self.lose(rt, turns, askers)?,
+            Trial::SlowJoin(calls) => self.join_slowly(rt, calls, askers)?,
+            Trial::Changes(calls) => self.change(rt, calls, askers)?,
+            Trial::Closes(_) => return self.ask_a_while(rt, time, askers),
+        }
+        self.end(&rt)
+    }
+
+    /// A put is under way while node 2 is held, stops and is removed. Then it is asked again.
+    fn stop<R>(&self, rt: R, askers: &mut Askers) -> Result<(), Fault>
+    where
+        R: Threads + Wait + Copy + Send + 'static,
+    {
+        self.start_asker(rt, 1, 1, askers)?;
+        expect(
+            self.tick_until(&rt, &self.course.held, 1, LIMIT),
+            Fact::IsHeld,
+        )?;
+        self.store.stop(&rt, chain(), NodeId::new(2))?;
+        self.store.remove(&rt, chain(), NodeId::new(2))?;
+        self.course.open.store(true, Ordering::SeqCst);
+        self.start_asker(rt, 1, 1, askers)
+    }
+
+    /// A put is under way while node 2 is held, and meanwhile the locks are free, but that of node 2 where it is held within
+    /// its work.
+    fn hold<R>(&self, rt: R, askers: &mut Askers, within: bool) -> Result<(), Fault>
+    where
+        R: Threads + Wait + Copy + Send + 'static,
+    {
+        self.start_asker(rt, 1, 1, askers)?;
+        expect(
+            self.tick_until(&rt, &self.course.held, 1, LIMIT),
+            Fact::IsHeld,
+        )?;
+        if within {
+            self.look(&rt)?;
+        } else {
+            self.audit(&rt)?;
+        }
+        let late = self.course.late.load(Ordering::SeqCst);
+        self.course.open.store(true, Ordering::SeqCst);
+        expect(!late, Fact::IsFree)
+    }
+
+    /// The master tells its membership, and the nodes 1 and 3 answer.
+    fn look<R: Wait>(&self, rt: &R) -> Result<(), Fault> {
+        let told = self.store.status(rt)?;
+        drop(told);
+        let mut asker = Asker::new(self.host.alloc(), &self.store, CLIENTS.wrapping_add(1))?;
+        asker.glance(rt, &self.course, 1)?;
+        asker.glance(rt, &self.course, 3)?;
+        Ok(())
+    }
+
+    /// Clients ask while messages are lost, for so many turns, and while none is.
+    fn lose<R>(&self, rt: R, turns: u64, askers: &mut Askers) -> Result<(), Fault>
+    where
+        R: Threads + Wait + Copy + Send + 'static,
+    {
+        self.start_all(rt, askers)?;
+        self.tick_until(&rt, &self.course.answered, u64::MAX, turns);
+        self.course.calm.store(true, Ordering::SeqCst);
+        self.tick_until(&rt, &self.course.answered, u64::MAX, CALM);
+        self.end_asking(&rt)?;
+        let refused = self.course.refused.load(Ordering::SeqCst);
+        let longest = self.course.longest.load(Ordering::SeqCst);
+        expect(refused == 0, Fact::IsAnswered)?;
+        expect(longest <= MOST_TICKS, Fact::IsInTime)
+    }
+
+    /// Node 4 joins, to which messages go slowly, while clients ask.
+    fn join_slowly<R>(&self, rt: R, calls: u64, askers: &mut Askers) -> Result<(), Fault>
+    where
+        R: Threads + Wait + Copy + Send + 'static,
+    {
+        self.start_all(rt, askers)?;
+        expect(
+            self.tick_until(&rt, &self.course.answered, calls, LIMIT),
+            Fact::IsAnswered,
+        )?;
+        self.join(rt, 4)
+    }
+
+    /// A node of this id joins, reads go to it, and it comes to answer them.
+    fn join<R>(&self, rt: R, id: u32) -> Result<(), Fault>
+    where
+        R: Threads + Wait + Copy + Send + 'static,
+    {
+        self.store.join(rt, chain(), NodeId::new(id))?;
+        self.course.tail.store(id, Ordering::SeqCst);
+        let ready = self.tick_until(&rt, &self.course.ready, u64::from(id), LIMIT);
+        expect(ready, Fact::IsReady)
+    }
+
+    /// Members stop, are removed and join while clients ask, until so many calls are answered.
+    fn change<R>(&self, rt: R, calls: u64, askers: &mut Askers) -> Result<(), Fault>
+    where
+        R: Threads + Wait + Copy + Send + 'static,
+    {
+        self.start_all(rt, askers)?;
+        let mut members = [1, 2, 3];
+        for next in 4..MOST_JOINS {
+            if self.course.answered.load(Ordering::SeqCst) >= calls {
+                return Ok(());
+            }
+            members = self.replace(rt, members, next)?;
+        }
+        expect(false, Fact::IsAnswered)
+    }
+
+    /// The head, the middle or the tail by turns stops and is removed, and the next node joins: the members afterwards.
+    fn replace<R>(&self, rt: R, members: [u32; 3], next: u32) -> Result<[u32; 3], Fault>
+    where
+        R: Threads + Wait + Copy + Send + 'static,
+    {
+        let [first, second, third] = members;
+        let (gone, others) = match next % 3 {
+            0 => (first, [second, third, next]),
+            1 => (second, [first, third, next]),
+            _ => (third, [first, second, next]),
+        };
+        self.store.stop(&rt, chain(), NodeId::new(gone))?;
+        self.store.remove(&rt, chain(), NodeId::new(gone))?;
+        self.course.head.store(others[0], Ordering::SeqCst);
+        self.join(rt, next)?;
+        Ok(others)
+    }
+
+    /// Clients ask for a while, from none to four turns.
+    fn ask_a_while<R>(&self, rt: R, time: u64, askers: &mut Askers) -> Result<(), Fault>
+    where
+        R: Threads + Wait + Copy + Send + 'static,
+    {
+        self.start_all(rt, askers)?;
+        self.tick_until(&rt, &self.course.answered, u64::MAX, time % 5);
+        Ok(())
+    }
+
+    /// The clients end.
+    fn end_asking<R: Wait>(&self, rt: &R) -> Result<(), Fault> {
+        self.course.over.store(true, Ordering::SeqCst);
+        let begun = self.course.begun.load(Ordering::SeqCst);
+        let ended = self.tick_until(rt, &self.course.ended, begun, LIMIT);
+        expect(ended, Fact::IsAnswered)
+    }
+
+    /// The clients end, all versions were right, and the audit finds a run with every receipt.
+    fn end<R: Wait>(&self, rt: &R) -> Result<(), Fault> {
+        self.end_asking(rt)?;
+        let wrong = self.course.wrong.load(Ordering::SeqCst);
+        expect(wrong == 0, Fact::HasItsVersion)?;
+        self.audit(rt)
+    }
+
+    /// The audit finds a run with every receipt.
+    fn audit<R: Wait>(&self, rt: &R) -> Result<(), Fault> {
+        let receipts = self.course.receipts.lock(rt);
+        let audited = self.store.audit(rt, chain(), receipts.as_slice());
+        let is_merged = matches!(&audited, Ok(Audit::Merged(_)));
+        drop(audited);
+        expect(is_merged, Fact::IsMerged)
+    }
+}

@@ -1,0 +1,109 @@
+//! The gate of a trial, which holds node 2 up, loses messages and slows them.
+use crate::course::Course;
+use crate::trials::{Form, Place, Trial};
+use craq_names::NodeName;
+use craq_workers::{Gate, Work};
+use std::sync::Arc;
+use std::sync::atomic::{AtomicBool, Ordering};
+use std::thread;
+use std::time::Duration;
+
+/// The most turns of a wait.
+pub const LIMIT: u64 = 1000;
+
+/// How long a turn takes, in milliseconds: a tick is a turn after the one before.
+const TURN: u64 = 10;
+
+/// How long each message from node 3 to node 4 takes in a slow join, in milliseconds.
+const SLOW: u64 = 50;
+
+/// Of how many messages one is lost while they are, and of how many while members change.
+const THIRD: u64 = 3;
+
+const HUNDREDTH: u64 = 100;
+
+/// Rests for a turn.
+pub fn rest(clock: HostRuntime) {
+    thread::sleep(&clock, Duration::from_millis(TURN));
+}
+
+/// Waits until a flag is set, for at most so many turns, and tells whether it is.
+pub fn wait_for(clock: HostRuntime, flag: &AtomicBool, turns: u64) -> bool {
+    for _ in 0..turns {
+        if flag.load(Ordering::SeqCst) {
+            return true;
+        }
+        rest(clock);
+    }
+    flag.load(Ordering::SeqCst)
+}
+
+/// The number of a message, spread as if by chance.
+fn spread(number: u64) -> u64 {
+    number.wrapping_mul(0x9e37_79b9_7f4a_7c15) >> 40
+}
+
+/// The gate.
+#[derive(Drop)]
+pub struct StressGate {
+    pub clock: HostRuntime,
+    pub form: Form,
+    pub trial: Trial,
+    pub course: Arc<Course>,
+}
+
+impl StressGate {
+    /// Holds node 2 here, if this is where the trial does, until it may go on.
+    fn pass(&self, node: NodeName, work: Work, count: u64, place: Place) {
+        let carried = matches!(self.form, Form::Carried);
+        if node.node.get() != 2
+            || matches!(work, Work::Asks) != carried
+            || !self.trial.holds(place, count)
+        {
+            return;
+        }
+        self.course.held.fetch_add(1, Ordering::SeqCst);
+        if !wait_for(self.clock, &self.course.open, LIMIT) {
+            self.course.late.store(true, Ordering::SeqCst);
+        }
+    }
+}
+
+impl Gate for StressGate {
+    fn before(&self, node: NodeName, work: Work, count: u64) {
+        self.pass(node, work, count, Place::Before);
+    }
+
+    fn after(&self, node: NodeName, work: Work, count: u64) {
+        self.pass(node, work, count, Place::After);
+    }
+
+    fn within(&self, node: NodeName, work: Work, count: u64) {
+        self.pass(node, work, count, Place::Within);
+    }
+
+    fn carries(&self, from: NodeName, to: NodeName) -> bool {
+        let number = self.course.sent.fetch_add(1, Ordering::SeqCst);
+        match self.trial {
+            Trial::Losses(_) => {
+                self.course.calm.load(Ordering::SeqCst) || spread(number) % THIRD != 0
+            }
+            Trial::Changes(_) => spread(number) % HUNDREDTH != 0,
+            Trial::SlowJoin(_) => {
+                if from.node.get() == 3 && to.node.get() == 4 {
+                    thread::sleep(&self.clock, Duration::from_millis(SLOW));
+                }
+                true
+            }
+            _ => true,
+        }
+    }
+
+    fn in_place(&self) -> bool {
+        matches!(self.form, Form::InPlace)
+    }
+
+    fn carried(&self) -> bool {
+        matches!(self.form, Form::Carried)
+    }
+}

@@ -1,0 +1,130 @@
+//! One trial on a thread of its own, with a limit of time.
+ghost use Rattle.std.specs.Prelude.{IfOk};
+ghost use Rattle.craq_place.specs.Plan.{IsPlan};
+
+use crate::asking::Tried;
+use crate::course::Course;
+use crate::driving::{Askers, Ground};
+use crate::gate::{LIMIT, StressGate, rest, wait_for};
+use crate::trials::{Fact, Fault, Form, Trial, expect};
+use craq_names::Refusal;
+use craq_place::Plan;
+use craq_workers::Store;
+use std::alloc::Global;
+use std::sync::atomic::{AtomicBool, Ordering};
+use std::sync::{Arc, Wait};
+use std::thread::Threads;
+use std::{fs, thread};
+
+/// The chain of each store.
+const PLAN: &str = "[[chain]]\nname = \"a\"\nnodes = [1, 2, 3]\n";
+
+/// What the system tells of this process with two threads: its own and that of a trial.
+const ALONE: &str = "\nThreads:\t2\n";
+
+/// The most turns that a trial takes: so many, and so many more for each of its number.
+const MOST_TURNS: u64 = 6000;
+
+const MORE_TURNS: u64 = 10;
+
+fn plan(alloc: Global) -> Result<Plan, Refusal>
+    ensures { IfOk result IsPlan }
+{
+    Plan::read(alloc, PLAN)
+}
+
+/// A store for a trial.
+fn start<R>(rt: R, host: HostRuntime, trial: Trial, form: Form) -> Result<Ground, Fault>
+where
+    R: Threads + Wait + Copy + Send + 'static,
+{
+    let plan = plan(host.alloc())?;
+    let course = Arc::new(host.alloc(), Course::new(host.alloc()))?;
+    let gate = StressGate {
+        clock: host,
+        form,
+        trial,
+        course: Arc::try_clone(&course)?,
+    };
+    let store: Tried = Store::start(rt, host.alloc(), &plan, gate, true)?;
+    Ok(Ground {
+        host,
+        store,
+        course,
+    })
+}
+
+/// This process is to come to have two threads.
+fn expect_alone(host: HostRuntime) -> Result<(), Fault> {
+    for _ in 0..LIMIT {
+        if let Ok(status) = fs::read_to_string(&host, "/proc/self/status") {
+            if status.as_str().contains(ALONE) {
+                return Ok(());
+            }
+        }
+        rest(host);
+    }
+    Err(Fault::Unmet(Fact::LeavesNone))
+}
+
+/// Tries a trial once, on a store that is closed in the end.
+fn try_once<R>(rt: R, host: HostRuntime, trial: Trial, form: Form, time: u64) -> Result<(), Fault>
+where
+    R: Threads + Wait + Copy + Send + 'static,
+{
+    let ground = start(rt, host, trial, form)?;
+    let mut askers: Askers = Vec::new(host.alloc());
+    let tried = ground.drive(rt, trial, time, &mut askers);
+    ground.course.open.store(true, Ordering::SeqCst);
+    let Ground {
+        host: _,
+        store,
+        course,
+    } = ground;
+    store.close(&rt);
+    for asker in askers {
+        asker.join(&rt);
+    }
+    let wrong = course.wrong.load(Ordering::SeqCst);
+    course.tell(host);
+    drop(course);
+    tried?;
+    expect(wrong == 0, Fact::HasItsVersion)?;
+    expect_alone(host)
+}
+
+/// Tries a trial as often as it is to be.
+fn try_all<R>(rt: R, host: HostRuntime, trial: Trial, form: Form) -> Result<(), Fault>
+where
+    R: Threads + Wait + Copy + Send + 'static,
+{
+    for time in 0..trial.times() {
+        try_once(rt, host, trial, form, time)?;
+    }
+    Ok(())
+}
+
+/// Tries a trial on a thread of its own, and waits for its end as long as it may take.
+pub fn judge<R>(rt: R, host: HostRuntime, trial: Trial, form: Form) -> Result<(), Fault>
+where
+    R: Threads + Wait + Copy + Send + 'static,
+{
+    let over = Arc::new(host.alloc(), AtomicBool::new(false))?;
+    let theirs = Arc::try_clone(&over)?;
+    let spawned = thread::spawn(&rt, move || {
+        let tried = try_all(rt, host, trial, form);
+        theirs.store(true, Ordering::SeqCst);
+        tried
+    });
+    let turns = MOST_TURNS.saturating_add(trial.number().saturating_mul(MORE_TURNS));
+    match spawned {
+        Ok(trial) => {
+            if wait_for(host, &over, turns) {
+                trial.join(&rt)
+            } else {
+                Err(Fault::Unmet(Fact::Ends))
+            }
+        }
+        Err(_) => Err(Fault::Refused(Refusal::Memory)),
+    }
+}

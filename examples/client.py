@@ -12,18 +12,19 @@ As a module:
 
 As a command:
 
-    examples/client.py ADDRESS [--node N] [--pass P] COMMAND
+    examples/client.py ADDRESS [--node N] [--pass P] [--client ID] [--number N] COMMAND
         put, append or prepend OBJECT VALUE     read OBJECT [strong, eventual or bounded:K]
         tas OBJECT VERSION VALUE                inc or dec OBJECT BY                         status
     examples/client.py ADDRESS                  runs the calls above and prints what comes back
 
 An OBJECT is a key of chain 0, or CHAIN/KEY. A VALUE is its characters, or 0x and hexadecimal digits. The command prints the
 answer, and the pass to show from then on. Its status is 0 after an answer, 2 after bad words, 3 after a refusal, and 4 where no
-server answers.
+server answers. Where an update may have been done even so, standard error has the id and the number under which it was asked: the
+same command with these is done once.
 
 A Client has an id, drawn by chance, under which it numbers its updates of each chain from 1. What a lost connection or a passing
 refusal left open it asks again with the same number: so it is done once. With each request it shows its pass, the largest that it
-was given: so no strong read is older than what it has seen. What the store refuses is raised as Refused. A Client is for one
+was given: so no strong read is older than a strong answer that it had. What the store refuses is raised as Refused. A Client is for one
 thread. examples/test_client.py tries it.
 """
 import json
@@ -477,14 +478,15 @@ def object_of(text):
     return (int(chain), key) if slash else (0, text)
 
 
-def run_command(store, node, command, words):
+def run_command(store, options, command, words):
     """Asks what a command says, and gives what is printed."""
     if command == "status" and not words:
         return json.dumps({"chains": store.chains}, separators=(",", ":"))
     chain, key = object_of(words[0])
-    where = {"chain": chain, "node": node}
+    where = {"chain": chain, "node": options["--node"]}
     if command == "read" and len(words) in (1, 2):
         return printed(store.read(key, mode_of(*words[1:] or ["strong"]), **where))
+    where["request"] = options["--number"]
     if command in ("put", "append", "prepend") and len(words) == 2:
         return printed(getattr(store, command)(key, bytes_of(words[1]), **where))
     if command in ("inc", "dec") and len(words) == 2:
@@ -496,10 +498,18 @@ def run_command(store, node, command, words):
 
 def options_of(words):
     """The options in front of a command, and the words after them."""
-    found = {"--node": None, "--pass": 0}
+    found = {"--node": None, "--pass": 0, "--client": None, "--number": None}
     while len(words) > 1 and words[0] in found:
         found[words[0]], words = int(words[1]), words[2:]
-    return found["--node"], found["--pass"], words
+    return found, words
+
+
+def tell_open(store, options, fault):
+    """Tells how to ask an update again that may have been done."""
+    numbers = [it for it in (options["--number"], *store.numbers.values()) if it is not None]
+    is_open = not isinstance(fault, Refused) or fault.number in (STOPPED, MEMORY, CLOSED)
+    if numbers and is_open:
+        print(f"client: it may have been done; ask it again with --client {store.id} --number {numbers[0]}", file=sys.stderr)
 
 
 def tour(address):
@@ -526,9 +536,13 @@ def main():
         if not words:
             tour(address)
             return 0
-        node, shown, (command, *rest) = options_of(words)
-        with Client(address, shown=shown) as store:
-            print(run_command(store, node, command, rest))
+        options, (command, *rest) = options_of(words)
+        with Client(address, client=options["--client"], shown=options["--pass"]) as store:
+            try:
+                print(run_command(store, options, command, rest))
+            except (OSError, BadReply, Refused) as fault:
+                tell_open(store, options, fault)
+                raise
             print("pass", store.shown)
     except Refused as refused:
         print("refused", refused)

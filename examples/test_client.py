@@ -229,7 +229,7 @@ def ran(server, *words):
             ended = client.main()
     finally:
         sys.argv = before
-    return ended, out.getvalue(), bool(err.getvalue())
+    return ended, out.getvalue(), err.getvalue()
 
 
 def command(checks):
@@ -247,13 +247,31 @@ def command(checks):
                                                       ["inc", "k", str(2 ** 64)], ["--node", "1"], ["put", "k", "0xf"])]
     for words, replies, wanted in rows:
         with Played(status(1), *replies) as server:
-            checks.same(" ".join(words), ran(server, *words), wanted)
+            ended, out, err = ran(server, *words)
+            checks.same(" ".join(words), (ended, out, bool(err)), wanted)
+
+
+def left_open(checks):
+    """An update that may have been done is told with its client and number, and asked again under them; no other is told."""
+    words = ["--client", "7", "--number", "3", "append", "k", "a"]
+    told = "client: it may have been done; ask it again with --client 7 --number 3\n"
+    for node, replies in ([], [refused(client.MEMORY)] * 6), (["--node", "1"], [refused(client.STOPPED)]), (["--node", "1"], [CLOSES]):
+        every = [it for one in replies for it in (one, status(1))][:-1]
+        with Played(status(1), *every) as server:
+            ended, out, err = ran(server, *node, *words)
+            asked = {(it.id, it.number) for it in server.asked if it.kind == client.UPDATE}
+            checks.that(told in err, f"an update that is left open: {err!r}")
+            checks.same("its client and number", asked, {(7, 3)})
+            checks.same("the status of an update that is left open", ended, 4 if replies == [CLOSES] else 3)
+    for words, replies in (["inc", "k", "2"], [refused(15)]), (["--node", "1", "read", "k"], [CLOSES]):
+        with Played(status(1), *replies) as server:
+            checks.that("may have been done" not in ran(server, *words)[2], f"{words[-2]} that is not left open")
 
 
 def main():
     checks = Checks("client")
     socket.setdefaulttimeout(PATIENCE)
-    for part in (lost_replies, passing_refusals, a_full_server, lasting_refusals, named_nodes, tries, passes, bad_replies, several, stale_numbers, command):
+    for part in (lost_replies, passing_refusals, a_full_server, lasting_refusals, named_nodes, tries, passes, bad_replies, several, stale_numbers, command, left_open):
         checks.part(part.__doc__, part)
     print(f"client: {checks.passed} passed, {checks.failed} failed")
     return 1 if checks.failed else 0

@@ -5,10 +5,12 @@ import traceback
 
 
 class Checks:
-    """How many checks passed and failed. A failed one is told on standard error, after the title."""
+    """How many checks passed and failed. A failed one is told on standard error, after the title; with `progress`, on a terminal, also
+    which part runs."""
 
-    def __init__(self, title):
+    def __init__(self, title, progress=False):
         self.title, self.passed, self.failed = title, 0, 0
+        self.progress = progress and sys.stderr.isatty()
 
     def that(self, holds, what):
         if holds:
@@ -22,6 +24,8 @@ class Checks:
 
     def part(self, what, run, *given):
         """Runs a part of the checks. What stops it is a check that failed, and the next part is run as ever."""
+        if self.progress:
+            sys.stderr.write(f"\r{self.title}: {what}{'':30}\r")
         try:
             return run(self, *given)
         except Exception as failure:

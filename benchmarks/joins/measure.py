@@ -17,8 +17,10 @@ HERE = os.path.dirname(os.path.realpath(__file__))
 TIMES = 3
 
 
-def counted(program, objects, library):
+def counted(program, objects, library, turn):
     """The steps in order: by whom the objects were put, name, nanoseconds, bytes."""
+    if sys.stderr.isatty():
+        sys.stderr.write(f"\rrun {turn + 1} of {TIMES}\r")
     ran = subprocess.run([program, objects], env={**os.environ, "LD_PRELOAD": library}, check=True, capture_output=True, text=True)
     steps, start, end, whose = [], 0, 0, ""
     for line, total in zip(ran.stdout.splitlines(), map(int, ran.stderr.split()), strict=True):
@@ -57,7 +59,7 @@ def main():
         library = f"{folder}/allocated.so"
         source = f"{HERE}/allocated.rs"
         subprocess.run(["rustc", "--edition", "2021", "-O", "--crate-type", "cdylib", "-o", library, source], check=True)
-        runs = [counted(os.path.realpath(sys.argv[1]), (sys.argv + ["10000"])[2], library) for _ in range(TIMES)]
+        runs = [counted(os.path.realpath(sys.argv[1]), (sys.argv + ["10000"])[2], library, turn) for turn in range(TIMES)]
     if any([it[:2] + it[3:] for it in run] != [it[:2] + it[3:] for it in runs[0]] for run in runs):
         sys.exit("the runs allocate differently")
     steps = [(*now[0][:2], min(it[2] for it in now), now[0][3]) for now in zip(*runs, strict=True)]

@@ -66,7 +66,7 @@ def plans(checks, craqd, taken):
         for words in [file.name, taken], ["--journal", "--connections", "1", file.name, taken]:
             checks.same("an address in use", running.ended([craqd, *words]), (4, "", "cannot listen\n"))
         status, err = running.unheard([craqd, file.name, "127.0.0.1:0"])
-        served = running.served_line(file, 0, "a thread for each connection", "at most 1024", "no journals")
+        served = running.served_line(file, 0, *running.way([]))
         checks.that(status == 1 and re.fullmatch(served + "cannot print\n", err), f"craqd that cannot print: {status} {err!r}")
 
 

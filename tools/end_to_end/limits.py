@@ -14,10 +14,10 @@ LEAP = 1_048_576
 class Limited:
     """A craqd with these options, which ends once its standard input does."""
 
-    def __init__(self, craqd, *options):
+    def __init__(self, craqd, *options, errors=subprocess.PIPE):
         self.file, self.options = running.text_file(running.PLAN), options
         words = [craqd, "--until-input-ends", *options, self.file.name, "127.0.0.1:0"]
-        self.process = subprocess.Popen(words, stdin=subprocess.PIPE, stdout=subprocess.PIPE, stderr=subprocess.PIPE)
+        self.process = subprocess.Popen(words, stdin=subprocess.PIPE, stdout=subprocess.PIPE, stderr=errors)
         found = re.fullmatch(rb"listening ([1-9][0-9]*)\n", self.process.stdout.readline())
         self.port = int(found[1]) if found else 0
 
@@ -33,23 +33,13 @@ class Limited:
     def connect(self):
         return socket.create_connection(("127.0.0.1", self.port), running.PATIENCE)
 
-    def way(self):
-        """How it serves, as it tells it."""
-        given = dict(zip(self.options, self.options[1:]))
-        threads, idle = given.get("--threads", "0"), given.get("--idle", "0")
-        yield "a thread for each connection" if threads == "0" else f"{threads} threads for all connections"
-        yield f"at most {given.get('--most', '1024')}"
-        if idle != "0":
-            yield f"each ended after {idle} silent seconds"
-        yield "journals" if "--journal" in self.options else "no journals"
-
-    def finish(self, checks, what, wanted):
-        """Ends its standard input, and looks at what it then tells."""
+    def finish(self, checks, what, wanted, log=""):
+        """Ends its standard input, and looks at what it then tells; on standard error also this log."""
         try:
             out, err = self.process.communicate(timeout=running.PATIENCE)
             found = (self.process.returncode, out.decode())
-            served = running.served_line(self.file, self.port, *self.way())
-            checks.that(re.fullmatch(served, err.decode()), f"{what}: on standard error {err.decode()!r} and not {served!r}")
+            served = running.served_line(self.file, self.port, *running.way(self.options)) + re.escape(log)
+            checks.that(err is None or re.fullmatch(served, err.decode()), f"{what}: on standard error {err!r} and not {served!r}")
         except subprocess.TimeoutExpired:
             found = "no end"
         checks.same(what, found, (0, wanted))
@@ -143,6 +133,43 @@ def journals(checks, craqd):
         checks.same("--journal alone", (status, out, bool(err)), (2, "", True))
 
 
+def port_of(made):
+    """From where a connection comes."""
+    return made.getsockname()[1]
+
+
+def logged(checks, craqd, *options):
+    """What is told of connections and refusals, in order."""
+    with Limited(craqd, "--log", "--most", "1", *options) as server:
+        first = server.connect()
+        checks.that(is_served(first), "a connection that is told of is served")
+        first.sendall(read_of(9, 0))
+        checks.same("a read at a node that is not there", reply(first)[1:3], bytes([3, 23]))
+        first.sendall(read_of(3, 2 ** 40))
+        checks.same("a read with a pass that leaps", reply(first)[1:3], bytes([3, 13]))
+        second = server.connect()
+        checks.same("one connection more", rest(second), FULL)
+        log = (f"connection 0 from 127.0.0.1:{port_of(first)}\n"
+               "connection 0: refused 23, the chain has no such node, or the message is for another\n"
+               "connection 0: refused 13, a counter has no next number\n"
+               f"connection from 127.0.0.1:{port_of(second)} turned away\n"
+               "connection 0 ended\n")
+        first.shutdown(socket.SHUT_WR)
+        checks.same("a connection at its end", rest(first), b"")
+        server.finish(checks, f"a server with --log {' '.join(options)}", "", log)
+
+
+def log(checks, craqd):
+    """The log, both where each connection has a thread and where a few threads serve all; one that nothing takes costs no reply."""
+    logged(checks, craqd)
+    logged(checks, craqd, "--threads", "2")
+    with open("/dev/full", "wb") as full, Limited(craqd, "--log", errors=full) as server, server.connect() as made:
+        made.sendall(read_of(9, 0))
+        checks.same("a refusal that is told to nobody", reply(made)[1:3], bytes([3, 23]))
+        checks.that(is_served(made), "a connection is served whose log is lost")
+        server.finish(checks, "a server whose log is lost", "")
+
+
 def tried(checks, craqd):
-    for part in most, idle, leaps, input_ends, journals:
+    for part in most, idle, leaps, input_ends, journals, log:
         checks.part(f"limits: {part.__name__.replace('_', ' ')}", part, craqd)

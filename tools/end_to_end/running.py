@@ -47,6 +47,17 @@ def ended(words, space=None):
     return ran.returncode, ran.stdout.decode(), ran.stderr.decode()
 
 
+def way(options):
+    """How a craqd with these options serves, as it tells it."""
+    given = dict(zip(options, options[1:]))
+    threads, idle = given.get("--threads", "0"), given.get("--idle", "0")
+    yield "a thread for each connection" if threads == "0" else f"{threads} threads for all connections"
+    yield f"at most {given.get('--most', '1024')}"
+    if idle != "0":
+        yield f"each ended after {idle} silent seconds"
+    yield "journals" if "--journal" in options else "no journals"
+
+
 def served_line(file, port, *way, plan=None):
     """What craqd tells on standard error of the plan in this file, by a pattern: where it listens, at any port where none is known, the chains,
     and how it serves them."""
@@ -91,8 +102,7 @@ class Server:
 
     def served(self):
         """What it tells on standard error as it begins, by a pattern."""
-        way = "a thread for each connection", "at most 1024", "journals" if self.journal else "no journals"
-        return served_line(self.file, self.port, *way, plan=self.plan)
+        return served_line(self.file, self.port, *way(["--journal"] * self.journal + OPTIONS), plan=self.plan)
 
     def counts(self, connections=1):
         self.left -= connections

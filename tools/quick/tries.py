@@ -37,6 +37,15 @@ def data_of(name):
     return [word for it in names for word in ("--data", f"{it}={folder}/{it}")]
 
 
+def args_of(where):
+    """The words that the file args gives a program, one a line, as rt takes them."""
+    try:
+        with open(f"{where}/args", encoding="utf-8") as it:
+            return ["--", *it.read().splitlines()]
+    except FileNotFoundError:
+        return []
+
+
 def unlike(found, wanted):
     """The lines of two texts that differ, as difflib tells them."""
     texts = [it.decode(errors="replace").splitlines() for it in (wanted, found)]
@@ -44,11 +53,11 @@ def unlike(found, wanted):
 
 
 def prints_its_file(checks, name, where=None):
-    """A crate of tests prints what its file stdout has."""
+    """A crate prints what its file stdout has."""
     where = where or repository.path("crates", name)
     with open(f"{where}/stdout", "rb") as it:
         wanted = it.read()
-    status, found = tried(checks, where, *data_of(name))
+    status, found = tried(checks, where, *data_of(name), *args_of(where))
     checks.same(f"lines that {name} prints otherwise", unlike(found, wanted), [])
     checks.same(f"the status of {name}", status, 0)
     return f"{len(wanted.splitlines())} lines"

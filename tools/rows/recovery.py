@@ -219,7 +219,7 @@ def main(words):
     if not os.access(program, os.X_OK):
         print(f"recovery: there is no program {program}", file=sys.stderr)
         return 1
-    checks, began = Checks("recovery"), time.time()
+    checks, began = Checks("recovery", progress=True), time.time()
     checks.told("scripts that rounds follow", worked_recoveries, program, names)
     if not names:
         checks.told("random scripts that rounds follow", random_recoveries, program, count)

@@ -7,8 +7,10 @@
      REFUSE_AFTER=TEXT  nothing counts before the program wrote something that begins with TEXT to its standard output
      REFUSE_WITHIN=A-B,A-B..  an ask for memory counts only while one of these calls runs in its thread: the addresses, in
                         hexadecimal, from A up to B of the program's file, as `nm` has them. A call that was inlined has none
-     REFUSE_TOLD=FILE   a line `refused` is added to FILE at each refusal, and one with the counts where the program ends by `exit`,
-                        as craq_lab does and craqd does not
+     REFUSE_CALL=NAME   an ask for memory, or for a thread, counts only in a thread that wrote `begin NAME` to its standard error, until it
+                        writes `end NAME` there: craq_refusal_tests does. Such marks, of any name, are not passed on
+     REFUSE_TOLD=FILE   a line `refused` is added to FILE at each refusal, and one with the counts where a call of REFUSE_CALL ends, and
+                        where the program ends by `exit`, as craq_lab does and craqd does not
 
    It finds the calls that run by frame pointers, which programs that are built without proofs keep, while C libraries do not: so it
    sees only calls that are not above a frame of a C library. Built by tools/hostile/refused.py. */
@@ -25,7 +27,7 @@
 #include <string.h>
 #include <unistd.h>
 
-enum { MOST_CALLS = 256, MOST_FRAMES = 4096 };
+enum { MOST_CALLS = 256, MOST_FRAMES = 4096, MOST_MARK = 128 };
 
 extern void *__libc_malloc(size_t), *__libc_calloc(size_t, size_t), *__libc_realloc(void *, size_t), *__libc_memalign(size_t, size_t);
 extern void *__libc_stack_end;
@@ -35,10 +37,11 @@ struct call { uintptr_t from, to; };
 static struct call calls[MOST_CALLS];
 static int calls_known, told = -1, refuses_on;
 static long memory_at, thread_at;
-static const char *after;
+static const char *after, *call;
 static atomic_long memory_asked, threads_asked;
 static atomic_int counts;
 static __thread uintptr_t stack_end;
+static __thread int runs_call;
 
 static long number_of(const char *name) {
     const char *text = getenv(name);
@@ -75,11 +78,13 @@ __attribute__((constructor)) static void begin(void) {
     thread_at = number_of("REFUSE_THREAD");
     refuses_on = number_of("REFUSE_ON") != 0;
     after = getenv("REFUSE_AFTER");
+    call = getenv("REFUSE_CALL");
     learn_calls(getenv("REFUSE_WITHIN"));
     counts = after == NULL;
 }
 
-__attribute__((destructor)) static void end(void) {
+/* Tells how many asks counted so far. */
+__attribute__((destructor)) static void tell_counts(void) {
     char line[96];
     snprintf(line, sizeof line, "memory %ld threads %ld\n", memory_asked, threads_asked);
     tell(line);
@@ -106,8 +111,13 @@ static int refuses(atomic_long *asked, long at) {
     return 1;
 }
 
+/* Whether what this thread asks for counts now. */
+static int is_counted(void) {
+    return counts && (!call || runs_call);
+}
+
 static int has_none(void) {
-    if (!counts || (calls_known && !runs_within()) || !refuses(&memory_asked, memory_at)) return 0;
+    if (!is_counted() || (calls_known && !runs_within()) || !refuses(&memory_asked, memory_at)) return 0;
     errno = ENOMEM;
     return 1;
 }
@@ -139,7 +149,7 @@ static void *begin_thread(void *it) {
 int pthread_create(pthread_t *made, const pthread_attr_t *how, void *(*run)(void *), void *given) {
     static int (*real)(pthread_t *, const pthread_attr_t *, void *(*)(void *), void *);
     if (!real) real = (int (*)(pthread_t *, const pthread_attr_t *, void *(*)(void *), void *))dlsym(RTLD_NEXT, "pthread_create");
-    if (counts && refuses(&threads_asked, thread_at)) return EAGAIN;
+    if (is_counted() && refuses(&threads_asked, thread_at)) return EAGAIN;
     struct start *start = __libc_malloc(sizeof *start);
     if (!start) return EAGAIN;
     *start = (struct start){run, given};
@@ -148,9 +158,27 @@ int pthread_create(pthread_t *made, const pthread_attr_t *how, void *(*run)(void
     return status;
 }
 
+/* Whether these bytes are the mark of this word, as `begin`, and of which call: of the one that counts (2), or of another (1). */
+static int is_mark(const char *word, const char *bytes, size_t size) {
+    char line[MOST_MARK];
+    int length = snprintf(line, sizeof line, "%s %s\n", word, call);
+    if (size == (size_t)length && !memcmp(bytes, line, size)) return 2;
+    size_t front = strlen(word) + 1;
+    return size > front && !memcmp(bytes, line, front);
+}
+
 ssize_t write(int file, const void *bytes, size_t size) {
     static ssize_t (*real)(int, const void *, size_t);
     if (!real) real = (ssize_t (*)(int, const void *, size_t))dlsym(RTLD_NEXT, "write");
+    if (file == 2 && call) {
+        int begins = is_mark("begin", bytes, size), ends = is_mark("end", bytes, size);
+        if (begins == 2) runs_call = 1;
+        if (ends == 2) {
+            runs_call = 0;
+            tell_counts();
+        }
+        if (begins || ends) return (ssize_t)size;
+    }
     ssize_t wrote = real(file, bytes, size);
     if (file == 1 && after && wrote > 0 && size >= strlen(after) && !memcmp(bytes, after, strlen(after))) counts = 1;
     return wrote;

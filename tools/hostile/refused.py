@@ -49,8 +49,8 @@ def told_in(env):
         os.unlink(env["REFUSE_TOLD"])
     except FileNotFoundError:
         text = ""
-    counts = re.search(r"memory (\d+) threads (\d+)\n", text)
-    return "refused\n" in text, tuple(map(int, counts.groups())) if counts else (0, 0)
+    counts = re.findall(r"memory (\d+) threads (\d+)\n", text)
+    return "refused\n" in text, tuple(map(int, counts[-1])) if counts else (0, 0)
 
 
 def keeps_frames(program, start):

@@ -14,8 +14,13 @@ STEPS, SECONDS = "1", "300"
 # files, so that each of its 4 clients makes 100 calls.
 FEWER_CALLS = {
     "src/changes.rt": ("const CALLS: u64 = 2500;", "const CALLS: u64 = 100;", 1),
-    "stdout": ("10000 calls come back, 5000 of them puts", "400 calls come back, 200 of them puts", 2),
+    "stdout": ("10000 calls come back, 5000 of them puts", "400 calls come back, 200 of them puts", 3),
 }
+
+
+# Those of craq_stress_tests are smaller here: the numbers that it is given, and what stands in the place of what in its file stdout.
+SMALL_TRIALS = ("20", "2", "200")
+SMALLER_TRIALS = {b"turns 100:": b"turns 20:", b"ask, times 20:": b"ask, times 2:", b"at least 2000:": b"at least 200:"}
 
 
 def words_of(*more, seconds=SECONDS):
@@ -76,6 +81,20 @@ def thread_tests(checks):
             with open(f"{crate}/{file}", "w", encoding="utf-8") as it:
                 it.write(text.replace(many, few))
         return prints_its_file(checks, "craq_thread_tests", crate)
+
+
+def stress_tests(checks):
+    """The trials of stores on threads, smaller."""
+    where = repository.path("crates", "craq_stress_tests")
+    with open(f"{where}/stdout", "rb") as it:
+        wanted = it.read()
+    for many, few in SMALLER_TRIALS.items():
+        checks.same(f"how often the stdout of craq_stress_tests has {many!r}", wanted.count(many), 3)
+        wanted = wanted.replace(many, few)
+    status, found = tried(checks, where, "--", *SMALL_TRIALS)
+    checks.same("lines that craq_stress_tests prints otherwise", unlike(found, wanted), [])
+    checks.same("the status of craq_stress_tests", status, 0)
+    return f"{len(wanted.splitlines())} lines"
 
 
 def case(room, name, script, words, expected=None):

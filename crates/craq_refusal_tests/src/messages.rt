@@ -1,0 +1,71 @@
+//! The messages between nodes and the asks of clients, read from their bytes.
+use crate::connections::messages_of;
+use crate::rows::{Row, chain};
+use crate::teller::{Call, TRIES, Teller};
+use craq_frames::ClientMessage;
+use craq_model::{Out, Step};
+use craq_names::Refusal;
+use craq_node::Core;
+use craq_wire::{decode, encode, spelled};
+use craq_world::World;
+
+/// The message of a link that the bytes spell.
+fn read(teller: Teller, bytes: &[u8]) {
+    for _ in 0..TRIES {
+        teller.begin(Call::Decode);
+        let message = decode(teller.alloc, bytes);
+        if teller.end(Call::Decode, matches!(&message, Err(Refusal::Memory))) {
+            let _ = println!(teller.host; "{message:?}");
+            break;
+        }
+    }
+}
+
+/// The ask of a client that the bytes spell.
+fn read_ask(teller: Teller, bytes: &[u8]) {
+    for _ in 0..TRIES {
+        teller.begin(Call::Decode);
+        let message = ClientMessage::decode(teller.alloc, bytes);
+        if teller.end(Call::Decode, matches!(&message, Err(Refusal::Memory))) {
+            let _ = println!(teller.host; "{message:?}");
+            break;
+        }
+    }
+}
+
+/// Each message that a step sends.
+fn read_sends(teller: Teller, step: &Step) {
+    for out in step.outs.as_slice() {
+        if let Out::Send { message, .. } = out {
+            if spelled(message) {
+                if let Ok(bytes) = encode(teller.alloc, message) {
+                    read(teller, bytes.as_slice());
+                }
+            }
+        }
+    }
+}
+
+/// All asks.
+fn read_asks(teller: Teller, row: &Row) {
+    for message in &messages_of(teller.alloc, row) {
+        if let Ok(bytes) = message.encode(teller.alloc) {
+            read_ask(teller, bytes.as_slice());
+        }
+    }
+}
+
+/// All asks, and all messages that nodes and the master send.
+pub fn play<C: Core>(teller: Teller, row: &Row) -> Result<(), Refusal> {
+    read_asks(teller, row);
+    let mut world: World<C> = row.world(teller.alloc)?;
+    let moves = row.listed(teller.alloc);
+    let report = world.run(teller.alloc, moves.as_slice());
+    drop(report);
+    if let Ok(run) = world.run_of(chain()) {
+        for taken in run.moves.as_slice() {
+            read_sends(teller, &taken.step);
+        }
+    }
+    Ok(())
+}

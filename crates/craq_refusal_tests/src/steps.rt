@@ -1,0 +1,177 @@
+//! All that happened at each node, taken again by a new node, and at a new desk.
+ghost use Rattle.std.specs.Prelude.{IfOk, IsTrue};
+ghost use Rattle.craq_node.specs.Represented.{CanArrive, CanOpen};
+
+use crate::rows::{MOST_NODES, Row};
+use crate::teller::{Call, TRIES, Teller};
+use craq_epochs::{is_among, is_membership};
+use craq_locked::LockedChain;
+use craq_model::{Event, Step};
+use craq_names::{Copied, NodeId, Refusal, Same};
+use craq_node::Core;
+use craq_seat::{CallReceipt, Cell, Desk, Opening, Receipt, Record};
+use craq_wire::spelled;
+use std::alloc::{AllocError, Global};
+use std::sync::Wait;
+
+/// Whether a node may be given the event: a message that arrives can be spelled.
+fn arrives(event: &Event) -> bool
+    ensures { IsTrue result → CanArrive event.now }
+{
+    match event {
+        Event::Deliver(message) => spelled(message),
+        _ => true,
+    }
+}
+
+/// A copy of an event that a node may be given.
+fn arriving(alloc: Global, event: &Event) -> Result<Event, Refusal>
+    ensures { IfOk result CanArrive }
+{
+    if !arrives(event) {
+        return Err(Refusal::BadFrame);
+    }
+    Ok(event.copied(alloc)?)
+}
+
+/// Whether a node may be opened so: it has an id, and is in the membership that it is given, a first one.
+fn can_open(opening: &Opening) -> bool
+    ensures { IsTrue result → CanOpen opening.now.name opening.now.config }
+{
+    let id = opening.name.node;
+    id.get() >= 1
+        && match &opening.config {
+            None => true,
+            Some(config) => {
+                config.epoch.get() == 1
+                    && is_membership(config.members.as_slice())
+                    && is_among(config.members.as_slice(), id)
+            }
+        }
+}
+
+/// The call that the step of this event is: a stop and a message that is ignored take no memory.
+fn call_of(record: &Record<Event>) -> Call {
+    match &record.event {
+        Event::Stop => Call::QuietStep,
+        _ if record.step.ignored.is_some() => Call::QuietStep,
+        _ => Call::Step,
+    }
+}
+
+/// Tells a step, and whether it is the wanted one.
+fn tell_step(teller: Teller, step: &Result<Step, Refusal>, wanted: &Step) {
+    let is_same = match step {
+        Ok(step) => step.is_same(wanted),
+        Err(_) => false,
+    };
+    let _ = println!(teller.host; "same: {is_same} {step:?}");
+}
+
+/// The step of a node where this happens.
+fn step<C: Core>(teller: Teller, node: &mut C, record: &Record<Event>) {
+    let call = call_of(record);
+    for _ in 0..TRIES {
+        if let Ok(event) = arriving(teller.alloc, &record.event) {
+            teller.begin(call);
+            let stepped = node.step(teller.alloc, event);
+            if teller.end(call, matches!(&stepped, Err(Refusal::Memory))) {
+                tell_step(teller, &stepped, &record.step);
+                break;
+            }
+        }
+    }
+}
+
+/// The steps of a new node in the place of this cell's, each of which has to be the cell's own.
+fn step_again<C: Core>(teller: Teller, cell: &Cell<C>) -> Result<(), Refusal> {
+    let opening = cell.opening();
+    if !can_open(opening) {
+        return Err(Refusal::UsedId);
+    }
+    let mut node = C::open(teller.alloc, opening.name, opening.config.as_ref())?;
+    for record in cell.journal().unwrap_or(&[]) {
+        step(teller, &mut node, record);
+    }
+    Ok(())
+}
+
+/// The receipt of a desk's step, and those of the calls that it answers, in lines that begin with `call`.
+fn tell_taken(teller: Teller, receipt: &Receipt, calls: &Result<Vec<CallReceipt>, AllocError>) {
+    let _ = println!(teller.host; "{receipt:?}");
+    match calls {
+        Ok(calls) => {
+            for call in calls {
+                let _ = println!(teller.host; "call {call:?}");
+            }
+        }
+        Err(_) => teller.took_step(Call::DeskTake),
+    }
+}
+
+/// What a desk does where this happens.
+fn take<C: Core>(teller: Teller, desk: &mut Desk<C>, record: &Record<Event>) {
+    for _ in 0..TRIES {
+        if let Ok(event) = arriving(teller.alloc, &record.event) {
+            teller.begin(Call::DeskTake);
+            let taken = desk.take(teller.alloc, event, record.pass);
+            if teller.end(Call::DeskTake, matches!(&taken, Err(Refusal::Memory))) {
+                if let Ok((receipt, calls)) = &taken {
+                    tell_taken(teller, receipt, calls);
+                }
+                break;
+            }
+        }
+    }
+}
+
+/// What a new desk in the place of this cell's does, whose steps have to be the cell's own.
+fn take_again<C: Core>(teller: Teller, cell: &Cell<C>) -> Result<(), Refusal> {
+    let opening = cell.opening();
+    if !can_open(opening) {
+        return Err(Refusal::UsedId);
+    }
+    let opened: Cell<C> = Cell::open(
+        teller.alloc,
+        opening.name,
+        opening.config.as_ref(),
+        true,
+        opening.stamp,
+    )?;
+    let mut desk = Desk::new(teller.alloc, opened);
+    for record in cell.journal().unwrap_or(&[]) {
+        take(teller, &mut desk, record);
+        let is_same = match desk.cell().last() {
+            Some(step) => step.is_same(&record.step),
+            None => false,
+        };
+        let _ = println!(teller.host; "same: {is_same}");
+    }
+    Ok(())
+}
+
+/// The steps of a new node, or a new desk, in the place of each.
+pub fn play<C: Core, R: Wait>(
+    rt: &R,
+    teller: Teller,
+    row: &Row,
+    desks: bool,
+) -> Result<(), Refusal> {
+    let (cells, calls): (LockedChain<C>, Vec<CallReceipt>) = row.cells(rt, teller.alloc)?;
+    drop(calls);
+    for id in 1..=MOST_NODES {
+        if let Some(seat) = cells.seat(NodeId::new(id)) {
+            let seated = seat.lock(rt);
+            let cell = seated.desk.cell();
+            let told = if desks {
+                take_again(teller, cell)
+            } else {
+                step_again(teller, cell)
+            };
+            if told.is_err() {
+                let _ = println!(teller.host; "node {id} is not opened");
+            }
+        }
+    }
+    Ok(())
+}

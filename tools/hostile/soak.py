@@ -1,20 +1,27 @@
-"""A soak: for some minutes processes ask a server of 64 chains, lose replies and ask again, and random scripts are played.
+"""A soak: for some minutes clients ask stores on threads whose nodes stop, go and join, then processes ask a server of 64 chains, and
+random scripts are played.
 
-The server runs once with journals, which are audited in its end, and once without, where its memory may not grow, since the clients
-and their objects stay the same. Each process has some connections, one client each, and looks at all that a client can see:
+Most of the time, where `rt` is there to build it, a program without proofs and with checks of addresses, which is slow, runs stores of
+64 chains, one after another (stores.py): it loses messages, lets some come late, stops nodes, takes them out and has others join. Its
+8 clients look at what the clients below look at, each chain is audited with every receipt, and the memory of the process is back after
+each store. The run of a chain in which something is wrong is kept as a file that `craq_lab play` reads.
+
+The rest of the time processes ask a server, lose replies and ask again. The server runs once with journals, which are audited in its
+end, and once without, where its memory may not grow, since the clients and their objects stay the same. Each process has some connections, one client each, and looks at all that a client can see:
 
 - the versions of an object that one client alone writes follow one another, and a read of it gives what was put
 - the versions that all clients were given of an object that they count up together are 1, 2, 3 and so on, each given once
 - no strong read is older than any answer, of any process, that ended before it was asked
 - an update that is asked again with its number has the reply that it had, whether that was lost or not
 
-A running server lets no client stop, remove or join a node. These come up in the random scripts, with lost, late and repeated
-messages: both cores print the same, and the verdict on schedules that are drawn of them is true. A script for which that fails is
+A running server lets no client stop, remove or join a node. These come up in the stores and in the random scripts, with lost, late and
+repeated messages: both cores print the same, and the verdict on schedules that are drawn of them is true. A script for which that fails is
 kept as a file that `craq_lab play` reads.
 """
 import multiprocessing
 import random
 import re
+import shutil
 import tempfile
 import time
 
@@ -22,6 +29,7 @@ import playing
 import running
 import schedules
 import scripts
+import stores
 from asked import example
 
 CHAINS, NODES = 64, (1, 2, 3)
@@ -29,6 +37,8 @@ CHAINS, NODES = 64, (1, 2, 3)
 PROCESSES, ATONCE, CONNECTS = 3, 4, 400
 ASKS, LOST, KEPT = 8, 0.005, 8
 OPEN = (example.STOPPED, example.PENDING_FULL, example.MEMORY, example.CLOSED)
+# In which part of the time stores on threads run.
+STORED = 0.6
 # How many seconds a server runs with journals at most: they grow by some 10 MiB a second.
 JOURNALED = 120
 # How many MiB a server without journals may grow by from the second tenth of its time on.
@@ -283,14 +293,32 @@ def scripted(craq_lab, seed, until, given):
     given.put((count, stops, joins, failed))
 
 
+def stored(checks, seconds):
+    """Stores on threads for so long; gives what was done, in words."""
+    seed, folder = int(time.time()), tempfile.mkdtemp(prefix="hostile-soak-")
+    ran = stores.soaked(seconds, seed, f"{folder}/chain-")
+    told = re.fullmatch(r"(\d+) stores, (\d+) calls answered, (\d+) refused, (\d+) repeated, (\d+) stops, (\d+) joins, (\d+) messages lost, "
+                        r"(\d+) late; (\d+) to (\d+) KiB\n", ran.stdout)
+    checks.that(ran.returncode == 0 and told, f"stores on threads from seed {seed} on, whose runs are in {folder}: {ran.stdout}{ran.stderr}"[:1500])
+    if not told:
+        return "stores on threads failed"
+    shutil.rmtree(folder)
+    calls, stops, joins, first, last = (int(told[at]) for at in (2, 5, 6, 9, 10))
+    checks.that(min(calls, stops, joins) > 0, f"stores on threads did nothing: {ran.stdout}")
+    checks.that(last <= first + GROWTH * 1024, f"after each store the memory is back: {ran.stdout}")
+    return f"without proofs, from seed {seed} on: " + ran.stdout.strip()
+
+
 def tried(checks, craq_lab, craqd, minutes):
     """The soak, and what was tried, in words."""
+    told = [stored(checks, minutes * STORED * 60)] if shutil.which("rt") else []
+    minutes = minutes * (1 - STORED) if told else minutes
     seed, given, until = int(time.time()), multiprocessing.Queue(), time.monotonic() + minutes * 60
     beside = [multiprocessing.Process(target=scripted, args=(craq_lab, seed + at * FAR, until, given), daemon=True) for at in range(PLAYERS)]
     for it in beside:
         it.start()
     journaled = min(minutes * 30, JOURNALED)
-    told = [served(checks, craqd, journaled, True), served(checks, craqd, minutes * 60 - journaled, False)]
+    told += [served(checks, craqd, journaled, True), served(checks, craqd, minutes * 60 - journaled, False)]
     played = [given.get(timeout=minutes * 60 + running.PATIENCE * 30) for _ in beside]
     for it in beside:
         it.join()

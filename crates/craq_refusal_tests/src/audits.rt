@@ -13,8 +13,12 @@ fn tell<C: Core>(teller: Teller, held: &HeldChain<'_, '_, C>, calls: &[CallRecei
     for _ in 0..TRIES {
         teller.begin(Call::Audit);
         let found = held.audit(calls);
-        if teller.end(Call::Audit, matches!(&found, Err(Refusal::Memory))) {
+        let is_done = teller.end(Call::Audit, matches!(&found, Err(Refusal::Memory)));
+        if is_done {
             let _ = println!(teller.host; "{found:?}");
+        }
+        drop(found);
+        if is_done {
             break;
         }
     }

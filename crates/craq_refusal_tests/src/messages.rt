@@ -14,8 +14,12 @@ fn read(teller: Teller, bytes: &[u8]) {
     for _ in 0..TRIES {
         teller.begin(Call::Decode);
         let message = decode(teller.alloc, bytes);
-        if teller.end(Call::Decode, matches!(&message, Err(Refusal::Memory))) {
+        let is_done = teller.end(Call::Decode, matches!(&message, Err(Refusal::Memory)));
+        if is_done {
             let _ = println!(teller.host; "{message:?}");
+        }
+        drop(message);
+        if is_done {
             break;
         }
     }
@@ -26,8 +30,12 @@ fn read_ask(teller: Teller, bytes: &[u8]) {
     for _ in 0..TRIES {
         teller.begin(Call::Decode);
         let message = ClientMessage::decode(teller.alloc, bytes);
-        if teller.end(Call::Decode, matches!(&message, Err(Refusal::Memory))) {
+        let is_done = teller.end(Call::Decode, matches!(&message, Err(Refusal::Memory)));
+        if is_done {
             let _ = println!(teller.host; "{message:?}");
+        }
+        drop(message);
+        if is_done {
             break;
         }
     }

@@ -75,8 +75,12 @@ fn step<C: Core>(teller: Teller, node: &mut C, record: &Record<Event>) {
         if let Ok(event) = arriving(teller.alloc, &record.event) {
             teller.begin(call);
             let stepped = node.step(teller.alloc, event);
-            if teller.end(call, matches!(&stepped, Err(Refusal::Memory))) {
+            let is_done = teller.end(call, matches!(&stepped, Err(Refusal::Memory)));
+            if is_done {
                 tell_step(teller, &stepped, &record.step);
+            }
+            drop(stepped);
+            if is_done {
                 break;
             }
         }

@@ -190,18 +190,10 @@ where
     let joins = NodeId::new(MOST_NODES);
     join(rt, teller, store, joins)?;
     for chosen in &row.moves {
-        if let Move::Ask {
-            ask: Ask::Read { mode, object },
-            ..
-        } = chosen
-        {
-            let ask = Ask::Read {
-                mode: *mode,
-                object: object.copied(teller.alloc)?,
-            };
-            let told = tell_when_ready(&rt, teller, store, joins, &ask);
-            drop(ask);
-            told?;
+        if let Move::Ask { ask, .. } = chosen {
+            if matches!(ask, Ask::Read { .. }) {
+                tell_when_ready(&rt, teller, store, joins, ask)?;
+            }
         }
     }
     let members = epoch(&rt, store)?;

@@ -28,8 +28,12 @@ fn tell<C: Core>(teller: Teller, world: &World<C>) {
     for _ in 0..TRIES {
         teller.begin(Call::WorldExplain);
         let told = world.explain(teller.alloc, chain());
-        if teller.end(Call::WorldExplain, matches!(&told, Err(Refusal::Memory))) {
+        let is_done = teller.end(Call::WorldExplain, matches!(&told, Err(Refusal::Memory)));
+        if is_done {
             let _ = println!(teller.host; "{told:?}");
+        }
+        drop(told);
+        if is_done {
             break;
         }
     }

@@ -1,3 +1,4 @@
 pub mod Places
 pub mod Puts
 pub mod Refusals
+pub mod Words

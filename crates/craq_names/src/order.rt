@@ -1,12 +1,13 @@
-//! Comparing bytes one by one: keys are short, so a plain loop is faster than a scan by groups. `Key` alone calls it.
+//! Comparing bytes, by words of 8 as long as there are so many, then one by one. `Key` alone calls it.
 ghost use Rattle.std.specs.Prelude.{◌≡◌, nat_eq};
 ghost use Rattle.std.specs.Ordering.{nat_cmp};
 ghost use Rattle.std.specs.Cmp.Lexicographic.{pointwise, slice_cmp};
 
 use std::cmp::Ordering;
 
-/// The order of two lists of bytes: their first bytes that differ decide, or else the shorter one stands first.
-pub(crate) fn order_of(bytes: &[u8], others: &[u8]) -> Ordering
+/// The order of two lists of bytes, told byte by byte: the first bytes that differ decide, or else the shorter list stands
+/// first.
+fn order_by_byte(bytes: &[u8], others: &[u8]) -> Ordering
     ensures { result ≡ slice_cmp nat_cmp bytes.now others.now }
 {
     let mut left = bytes.iter();
@@ -23,6 +24,28 @@ pub(crate) fn order_of(bytes: &[u8], others: &[u8]) -> Ordering
         Some(_) => Ordering::Less,
         None => Ordering::Equal,
     }
+}
+
+/// The order of two lists of bytes: their first bytes that differ decide, or else the shorter one stands first. As long as
+/// both have 8 bytes left, these are compared as one number.
+pub(crate) fn order_of(bytes: &[u8], others: &[u8]) -> Ordering
+    ensures { result ≡ slice_cmp nat_cmp bytes.now others.now }
+{
+    let mut left = bytes;
+    let mut right = others;
+    while let Some((word, rest)) = left.split_first_chunk::<8>() {
+        let Some((other, others)) = right.split_first_chunk::<8>() else {
+            break;
+        };
+        let word = u64::from_be_bytes(*word);
+        let other = u64::from_be_bytes(*other);
+        if word != other {
+            return word.cmp(&other);
+        }
+        left = rest;
+        right = others;
+    }
+    order_by_byte(left, right)
 }
 
 /// Whether two lists of bytes are as long, with the same byte at each place.

@@ -73,13 +73,17 @@ Printed:
   toolong, notanumber, overflow, underflow    nothing was written
   done V:VALUE ..    the transaction was made; what it read
   comparefailed I    compare I (from 0) failed, and nothing was written
-  stale N            nothing was done: NUMBER is below the 8 largest that were, and N is the largest
+  stale N            nothing was done now: NUMBER is below the 8 largest that were done, and N is the
+                     largest; whether it was done before is not known any more
   read V VALUE       the object's version, 0 where it is absent, and its value
-  refused N          nothing was done; after 9 the head of the chain. 1 a key of more than 128
-                     bytes, 2 a value of more than 4096, 3 more than 16 items in a list, 4 no
-                     item, 5 an object twice in a list, 6 number 0, 7 no such chain, 8 two chains,
-                     9 not the head, 10 not ready, 11 stopped, 12 too many asks wait, 13 a counter
-                     at its greatest number, 14 the server lacks memory, 23 no such node
+  refused N          nothing was done; but after 11, 14 and 27 an update may have been done: ask it
+                     again under its NUMBER. 1 a key of more than 128 bytes, 2 a value of more than
+                     4096, 3 more than 16 items in a list, 4 no item, 5 an object twice in a list,
+                     6 number 0, 7 no such chain, 8 two chains, 9 not the head, which follows,
+                     10 not ready, 11 stopped, 12 too many asks wait or too many are connected,
+                     13 a counter at its greatest number or a pass far above any that the server
+                     told, 14 the server lacks memory, 15 no request, 16 a request that is too
+                     long, 23 no such node, 27 the server closes
 
 Status: 0 after an answer; 1 with `cannot print` where the output takes no text; 2 after a bad
 command line, with the word that was expected; 3 with `refused N`, or with `no memory`; 4 with

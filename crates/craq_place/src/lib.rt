@@ -5,4 +5,4 @@
 mod plan;
 mod reading;
 
-pub use plan::Plan;
+pub use plan::{MOST_CHAINS, Plan};

@@ -17,7 +17,7 @@ use std::marker::Model;
 use toml::Table;
 
 /// The most chains of a plan.
-const MOST_CHAINS: usize = 64;
+pub const MOST_CHAINS: u16 = 64;
 
 /// The chains of a store, by name, in the order of the plan: a chain's id is its place, from 0.
 #[derive(Drop)]
@@ -97,7 +97,7 @@ fn has_chain(chains: &IndexMap<String, Items<NodeId>>, name: &str) -> bool
 fn is_full(chains: &IndexMap<String, Items<NodeId>>) -> bool
     ensures { result ≡ nat_le 64 (length (chains_of chains.now.entries)) }
 {
-    chains.len() >= MOST_CHAINS
+    chains.len() >= MOST_CHAINS as usize
 }
 
 /// A chain more at the end, whose name is not there. Where memory is refused the chains stay.

@@ -7,11 +7,9 @@ ghost use Rattle.craq_wire.specs.Tests.{are_consecutive, has_version, is_batch, 
 use crate::alike::{has_twice, rises};
 use craq_codec::{is_fresh_reply, is_spelled_reply};
 use craq_commands::{Entry, Kept, Mini, State, WINDOW_LIMIT, Window, Write};
+use craq_epochs::MEMBER_LIMIT;
 use craq_model::{Body, LinkMessage, StatePart};
 use craq_names::{ClientId, Key, NodeId, Value, Version};
-
-/// The most members of a chain.
-const MOST_MEMBERS: usize = 8;
 
 /// The most values that a count of a state can tell.
 const MOST_COPIED: usize = 0xffff_ffff;
@@ -162,7 +160,7 @@ fn test_membership(members: &[NodeId]) -> bool
     ensures { result ≡ is_membership members.now }
 {
     !members.is_empty()
-        && members.len() <= MOST_MEMBERS
+        && members.len() <= MEMBER_LIMIT
         && are_nodes(members)
         && !has_twice(members)
 }

@@ -12,7 +12,7 @@ use crate::work::Worker;
 use craq_model::Config;
 use craq_names::{ChainId, NodeId, NodeName, Refusal, Stamp};
 use craq_node::Core;
-use craq_place::Plan;
+use craq_place::{MOST_CHAINS, Plan};
 use craq_seat::{BookCell, Cell, Desk};
 use crossbeam_channel::Sender;
 use std::alloc::{AllocError, Global};
@@ -26,9 +26,6 @@ pub(crate) struct Form {
     /// One thread carries each chain.
     pub carried: bool,
 }
-
-/// The most chains of a plan.
-const MOST_CHAINS: u16 = 64;
 
 /// The way to a node of this desk. It fails for want of memory alone.
 fn way_to<C: Core>(alloc: Global, name: &NodeName, desk: Desk<C>) -> Result<Way<C>, AllocError> {

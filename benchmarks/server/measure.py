@@ -20,6 +20,8 @@ import tempfile
 import time
 
 HERE = os.path.dirname(os.path.realpath(__file__))
+# What ./serve adds to the environment of craqd, unless it is set there.
+AS_SERVED = {"GLIBC_TUNABLES": "glibc.malloc.tcache_count=2000"}
 # What is asked, and what it is called. Of redis reads are GET and puts SET.
 MIXES = {
     "reads-one": "strong reads at one node",
@@ -56,7 +58,7 @@ def craqd(options, threads, folder):
     # With journals the server is one that ends with its input, which stays open.
     words = [os.path.realpath(options.craqd), *(["--journal", "--until-input-ends"] if options.journal else [])]
     words += ["--threads", str(threads), path, "127.0.0.1:0"]
-    server = subprocess.Popen(words, stdin=subprocess.PIPE, stdout=subprocess.PIPE, stderr=subprocess.DEVNULL, text=True)
+    server = subprocess.Popen(words, stdin=subprocess.PIPE, stdout=subprocess.PIPE, stderr=subprocess.DEVNULL, text=True, env=AS_SERVED | os.environ)
     found = re.fullmatch(r"listening (\d+)\n", server.stdout.readline())
     return server, found[1] if found else sys.exit("craqd does not listen")
 

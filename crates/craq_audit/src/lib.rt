@@ -13,7 +13,6 @@ mod merging;
 mod numbers;
 mod receipts;
 mod senders;
-mod sends;
 
 pub use auditing::audit;
 pub use finding::Audit;

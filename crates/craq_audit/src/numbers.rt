@@ -6,7 +6,7 @@ ghost use Rattle.craq_seat.specs.Merge.{AreInOrder, Line, number_among};
 ghost use Rattle.craq_audit.specs.Lines.{IsSentIn, sums_from};
 
 use crate::lines::LentLine;
-use crate::sends::sends_in;
+use craq_chain::sends_in;
 use craq_model::LinkMessage;
 use craq_names::Refusal;
 use std::alloc::Global;

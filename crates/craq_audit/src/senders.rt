@@ -10,7 +10,7 @@ ghost use Rattle.craq_audit.specs.Journals.{AreSent, journals_of, kept_of, recor
 ghost use Rattle.craq_audit.specs.Lookups.{Found, HasSent, HaveSent, IsBest, IsFirstNot, IsNamed, IsSend, Rise, cells_of};
 
 use crate::journals::{book_records, record_at, records_of};
-use crate::sends::message_after;
+use craq_chain::message_after;
 use craq_model::{Event, LinkMessage, Step};
 use craq_names::{NodeId, Same, Stamp};
 use craq_node::Core;

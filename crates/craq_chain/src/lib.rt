@@ -12,3 +12,4 @@ mod nodes;
 pub use chain::ChainCore;
 pub use limits::keep_limits;
 pub use masters::{announce, plan_join, plan_removal};
+pub use messages::{message_after, sends_in};

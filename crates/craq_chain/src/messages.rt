@@ -1,4 +1,5 @@
-//! The messages that were sent, counted over the steps of a run; called by `chain` and `moving`.
+//! The messages that were sent, counted over the steps of a run; called by `chain` and `moving`, and by
+//! whoever looks for a message among outs.
 ghost use Rattle.std.specs.Prelude.{◌≡◌, ◌<◌, ◌≤◌, ◌-◌, ◌∷◌, length, slice_get, slice_index};
 ghost use Rattle.std.specs.Option.{option_copied};
 ghost use Rattle.craq_runs.specs.Chain.{message_at, sent_in};
@@ -7,9 +8,9 @@ ghost use Rattle.craq_chain.specs.Sent.{counts_from, sent_by};
 use craq_model::{LinkMessage, Out};
 use craq_runs::Taken;
 
-/// How many messages a step sends.
+/// How many messages outs send.
 #[tactic(auto, unfolding(craq_runs::specs::Chain::sent_in))]
-pub(crate) fn sends_in(outs: &[Out]) -> usize
+pub fn sends_in(outs: &[Out]) -> usize
     ensures count { result ≡ length (sent_in outs.now) }
     ensures few { result ≤ length outs.now }
 {
@@ -24,7 +25,7 @@ pub(crate) fn sends_in(outs: &[Out]) -> usize
 
 /// The message after so many others among outs.
 #[tactic(auto, unfolding(craq_runs::specs::Chain::sent_in))]
-fn message_after(outs: &[Out], others: usize) -> Option<&LinkMessage>
+pub fn message_after(outs: &[Out], others: usize) -> Option<&LinkMessage>
     ensures { option_copied result ≡ slice_get (sent_in outs.now) others }
 {
     let mut left = others;

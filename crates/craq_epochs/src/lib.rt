@@ -8,5 +8,5 @@ mod switch;
 
 pub use craq_model::Config;
 pub use master::Master;
-pub use membership::{MEMBER_LIMIT, all_but, is_among, is_membership};
+pub use membership::{MEMBER_LIMIT, MOST_CHAINS, all_but, is_among, is_membership};
 pub use switch::{StopReceipt, Switch};

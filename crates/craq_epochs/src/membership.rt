@@ -1,4 +1,4 @@
-//! Tests of lists of ids: which can be members of a chain.
+//! Tests of lists of ids: which can be members of a chain; and how many members and chains there can be.
 ghost use Rattle.std.specs.Prelude.{◌≡◌, ◌≤◌, ◌↔◌, ℕ, IsTrue, IfOk};
 ghost use Rattle.std.specs.List.{AllByRecursion};
 ghost use Rattle.craq_names.specs.Limits.{greatest_count};
@@ -10,6 +10,9 @@ use std::alloc::{AllocError, Global};
 
 /// The most members of a chain.
 pub const MEMBER_LIMIT: usize = 8;
+
+/// The most chains of a store, and of a world.
+pub const MOST_CHAINS: u16 = 64;
 
 /// Whether the id is one of these.
 #[tactic(auto, unfolding(craq_model::specs::Members::is_member))]

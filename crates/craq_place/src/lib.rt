@@ -5,4 +5,5 @@
 mod plan;
 mod reading;
 
-pub use plan::{MOST_CHAINS, Plan};
+pub use craq_epochs::MOST_CHAINS;
+pub use plan::Plan;

@@ -10,14 +10,12 @@ ghost use Rattle.craq_place.specs.Reading.{Reads, chains_from, has_name, plan_in
 
 use crate::reading::{field, read_chain};
 use craq_commands::Mini;
+use craq_epochs::MOST_CHAINS;
 use craq_names::{ChainId, Items, NodeId, ObjectId, Refusal, Value, Version};
 use indexmap::IndexMap;
 use std::alloc::{AllocError, Global};
 use std::marker::Model;
 use toml::Table;
-
-/// The most chains of a plan.
-pub const MOST_CHAINS: u16 = 64;
 
 /// The chains of a store, by name, in the order of the plan: a chain's id is its place, from 0.
 #[derive(Drop)]

@@ -12,16 +12,13 @@ ghost use Rattle.craq_world.specs.Promise.{AreExplained, NothingIsTakenBack};
 ghost use Rattle.craq_world.specs.Worlds.{AreChains, GivesWorld, HasFoundIn, RunsTo, opened_from};
 
 use craq_chain::ChainCore;
-use craq_epochs::is_membership;
+use craq_epochs::{MOST_CHAINS, is_membership};
 use craq_explain::explain_run_of;
 use craq_names::{ChainId, Copied, Items, NodeId, Refusal};
 use craq_node::Core;
 use craq_runs::{Explanation, Move, Run};
 use std::alloc::{AllocError, Global};
 use std::marker::Model;
-
-/// The most chains of a world.
-const CHAIN_LIMIT: usize = 64;
 
 /// Chains with the ids from 0 on, which take moves one after another. A contract sees the chains in order, each as its
 /// id and its run.
@@ -94,7 +91,7 @@ impl<C: Core> World<C> {
         if count == 0 {
             return Err(Refusal::BadConfig);
         }
-        if count > CHAIN_LIMIT {
+        if count > MOST_CHAINS as usize {
             return Err(Refusal::BadConfig);
         }
         if !are_memberships(lists) {

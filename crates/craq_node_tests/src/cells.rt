@@ -84,20 +84,16 @@ fn stop_and_tick<C: Core>(
     Ok(())
 }
 
-/// The same of a node whose cell stands one below the last stamp.
-fn stop_at_last<C: Core>(alloc: Global, text: &mut String) -> Result<(), Refusal> {
+/// What is printed of a node whose cell stands one below the last stamp: once stopped it is refused for want of a stamp, and
+/// not as stopped.
+pub fn told_of_last_stamp<C: Core>(alloc: Global) -> Result<String, Refusal> {
+    let mut text = String::new(alloc);
     let name = NodeName {
         chain: ChainId::new(0),
         node: NodeId::new(1),
     };
     let mut cell: Cell<C> = Cell::open(alloc, name, None, true, Stamp::new(u64::MAX - 1))?;
-    stop_and_tick(alloc, &mut cell, text)
-}
-
-/// What is printed there: the stopped node is refused for want of a stamp, and not as stopped.
-pub fn told_of_last_stamp<C: Core>(alloc: Global) -> Result<String, Refusal> {
-    let mut text = String::new(alloc);
-    stop_at_last::<C>(alloc, &mut text)?;
+    stop_and_tick(alloc, &mut cell, &mut text)?;
     Ok(text)
 }
 
@@ -130,18 +126,10 @@ fn tick_in_threads<R: AllocGlobal + Threads + Wait + Sync>(
     Ok(())
 }
 
-/// The same on new cells.
-fn tick_new<R: AllocGlobal + Threads + Wait + Sync>(
-    rt: &R,
-    text: &mut String,
-) -> Result<(), Refusal> {
-    let cells = opened(rt.alloc(), &[1, 2], true)?;
-    tick_in_threads(rt, &cells, text)
-}
-
-/// What is printed there.
+/// What is printed of new cells.
 pub fn told_of_threads<R: AllocGlobal + Threads + Wait + Sync>(rt: &R) -> Result<String, Refusal> {
     let mut text = String::new(rt.alloc());
-    tick_new(rt, &mut text)?;
+    let cells = opened(rt.alloc(), &[1, 2], true)?;
+    tick_in_threads(rt, &cells, &mut text)?;
     Ok(text)
 }

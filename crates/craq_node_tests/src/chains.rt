@@ -259,22 +259,6 @@ fn is_spelled(alloc: Global, explanation: &Explanation, text: &str) -> Result<bo
     Ok(explanation_text(alloc, explanation)?.as_str() == text)
 }
 
-/// Whether this is the explanation that the definitions choose, for whoever knows the run's chain.
-fn is_chosen<C: Core>(alloc: Global, chain: &ChainCore<C>, text: &str) -> Result<bool, AllocError> {
-    let chosen = explain_run_of(alloc, chain.chain(), chain.run())?;
-    is_spelled(alloc, &chosen, text)
-}
-
-/// The same for whoever does not know the chain.
-fn is_chosen_anywhere<C: Core>(
-    alloc: Global,
-    chain: &ChainCore<C>,
-    text: &str,
-) -> Result<bool, AllocError> {
-    let chosen = explain_run(alloc, chain.run())?;
-    is_spelled(alloc, &chosen, text)
-}
-
 /// Prints whether an explanation holds of a chain; whether it is the one that the definitions choose, for whoever knows the
 /// run's chain and for whoever does not; and how many messages the chain sent.
 fn print_verdict<C: Core>(
@@ -284,24 +268,21 @@ fn print_verdict<C: Core>(
     text: &mut String,
 ) -> Result<(), Refusal> {
     let holds = holds(alloc, chain.run(), explained)?;
-    let known = is_chosen(alloc, chain, explained)?;
-    let anywhere = is_chosen_anywhere(alloc, chain, explained)?;
+    let known = explain_run_of(alloc, chain.chain(), chain.run())?;
+    let known = is_spelled(alloc, &known, explained)?;
+    let anywhere = explain_run(alloc, chain.run())?;
+    let anywhere = is_spelled(alloc, &anywhere, explained)?;
     let sent = chain.sent();
     writeln!(text, "{holds}, chosen {known} {anywhere}, {sent} sent")?;
     Ok(())
 }
 
-/// Plays a script, and prints what there is to say of its explanation.
-fn print_case<C: Core>(alloc: Global, case: &Case, text: &mut String) -> Result<(), Refusal> {
-    let nodes = case.nodes.max(1).min(8);
-    let chain: ChainCore<C> = chain_after(alloc, nodes, case.script.as_bytes())?;
-    print_verdict(alloc, &chain, case.explained, text)
-}
-
-/// What is printed of a case.
+/// Plays the script of a case: what there is to say of its explanation.
 pub fn told<C: Core>(alloc: Global, case: &Case) -> Result<String, Refusal> {
     let mut text = String::new(alloc);
-    print_case::<C>(alloc, case, &mut text)?;
+    let nodes = case.nodes.max(1).min(8);
+    let chain: ChainCore<C> = chain_after(alloc, nodes, case.script.as_bytes())?;
+    print_verdict(alloc, &chain, case.explained, &mut text)?;
     Ok(text)
 }
 

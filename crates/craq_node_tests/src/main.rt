@@ -51,11 +51,6 @@ fn tell_core<C: Core, R: AllocGlobal + Print>(rt: &R) -> io::Result<()> {
     }
     tell(
         rt,
-        "a world of two chains has no chain 2",
-        &worlds::told_of_chain_2::<C>(alloc),
-    )?;
-    tell(
-        rt,
         "a list of moves goes on after a refusal",
         &worlds::told_of_list::<C>(alloc),
     )?;

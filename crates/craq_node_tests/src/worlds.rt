@@ -89,7 +89,7 @@ const PUT_AND_READ: &[Line] = &[
     (0, "read 2 strong k"),
 ];
 
-pub static SCENES: [Scene; 5] = [
+pub static SCENES: [Scene; 6] = [
     Scene {
         fact: "chains do not meet: the first of two that take moves in turn",
         moves: IN_BOTH,
@@ -127,6 +127,12 @@ pub static SCENES: [Scene; 5] = [
         ],
         alone: &[(0, "put 1 1 1 k a")],
         chain: 0,
+    },
+    Scene {
+        fact: "a world of two chains has no chain 2",
+        moves: &[],
+        alone: &[],
+        chain: 2,
     },
 ];
 
@@ -179,19 +185,22 @@ struct Seen {
     explanation: String,
 }
 
-/// Looks at the run of a chain, and at its explanation.
+/// Looks at the run of a chain, and at its explanation, or at what the world answers that has no such chain.
 fn look<C: Core>(
     alloc: Global,
     world: &World<C>,
     chain: ChainId,
     seen: &mut Seen,
-) -> Result<(), Refusal> {
-    let run = world.run_of(chain)?;
+) -> Result<(), AllocError> {
     let text = &mut seen.run;
-    write!(text, "{run:?}")?;
-    let explanation = world.explain(alloc, chain)?;
-    print_explanation(alloc, &explanation, &mut seen.explanation)?;
-    Ok(())
+    match world.run_of(chain) {
+        Ok(run) => write!(text, "{run:?}")?,
+        Err(refusal) => print_refusal(&mut seen.results, &refusal)?,
+    }
+    match &world.explain(alloc, chain) {
+        Ok(explanation) => print_explanation(alloc, explanation, &mut seen.explanation),
+        Err(refusal) => print_refusal(&mut seen.explanation, refusal),
+    }
 }
 
 /// Takes these moves in a new world, and looks at a chain.
@@ -203,7 +212,8 @@ fn come_to<C: Core>(
 ) -> Result<(), Refusal> {
     let mut world: World<C> = opened(alloc, 2, &[1, 2])?;
     take_all(alloc, &mut world, lines, &mut seen.results)?;
-    look(alloc, &world, chain, seen)
+    look(alloc, &world, chain, seen)?;
+    Ok(())
 }
 
 /// What a chain comes to in a new world by these moves.
@@ -232,31 +242,6 @@ pub fn told<C: Core>(alloc: Global, scene: &Scene) -> Result<String, Refusal> {
     let one = come_to_by::<C>(alloc, scene.moves, chain)?;
     let other = come_to_by::<C>(alloc, scene.alone, chain)?;
     print_seen(&mut text, &one, &other)?;
-    Ok(text)
-}
-
-/// Prints what a world of two chains says of chain 2.
-fn print_chain_2<C: Core>(
-    alloc: Global,
-    world: &World<C>,
-    text: &mut String,
-) -> Result<(), AllocError> {
-    let two = ChainId::new(2);
-    match world.run_of(two) {
-        Ok(_) => text.push_str("a run\n")?,
-        Err(refusal) => print_refusal(text, &refusal)?,
-    }
-    match &world.explain(alloc, two) {
-        Ok(_) => text.push_str("an explanation\n"),
-        Err(refusal) => print_refusal(text, refusal),
-    }
-}
-
-/// What a world of two chains says of chain 2.
-pub fn told_of_chain_2<C: Core>(alloc: Global) -> Result<String, Refusal> {
-    let mut text = String::new(alloc);
-    let world: World<C> = opened(alloc, 2, &[1, 2])?;
-    print_chain_2(alloc, &world, &mut text)?;
     Ok(text)
 }
 

@@ -11,6 +11,7 @@ mod runs;
 
 use command_line::{Asked, CoreKind, Nodes, asked_by};
 use craq_claim::{Misread, explanation_of};
+use craq_epochs::MEMBER_LIMIT;
 use craq_line::{BAD_INPUT, report_failure, report_memory, report_no_text, report_words, words_of};
 use craq_list::ListCore;
 use craq_names::{NodeId, Refusal};
@@ -26,9 +27,6 @@ use std::process::ExitCode;
 use std::rt::Files;
 use std::sync::Wait;
 use std::{fs, io};
-
-/// How many nodes a chain may have; the command line is read for no more.
-const GREATEST_COUNT: u32 = 8;
 
 /// The status where a growth was refused.
 const NO_MEMORY: u8 = 3;
@@ -139,7 +137,7 @@ where
         Ok(bytes) => bytes,
         Err(error) => return report_unread(rt, file, error.kind()),
     };
-    let count = nodes.count.max(1).min(GREATEST_COUNT);
+    let count = nodes.count.max(1).min(MEMBER_LIMIT as u32);
     let script = bytes.as_slice();
     let printed = match nodes.core {
         CoreKind::Plain => played::<PlainCore, R>(rt, count, script, way),

@@ -125,6 +125,9 @@ fn called_in(
     ensures { IfOk result (λ receipts. receipts.items ≡ called_in calls.now answered outs.now) }
 {
     let mut receipts = Vec::new(alloc);
+    if answers_any(outs) {
+        receipts.reserve(outs.len())?;
+    }
     for out in outs {
         if let Out::Answer { ticket, answer } = out {
             if let Some(call) = call_under(calls, *ticket) {

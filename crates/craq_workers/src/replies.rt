@@ -12,6 +12,9 @@ struct Told {
     reply: Reply,
 }
 
+/// How many replies there is room for once there is one.
+const ROOM: usize = 16;
+
 /// The replies of a step, until they are told.
 #[derive(Drop)]
 pub(crate) struct Replies {
@@ -34,6 +37,9 @@ impl Replies {
 
     /// A reply more. Where there is no room for it the caller is told at once.
     pub(crate) fn add<R: Wait>(&mut self, rt: &R, caller: Addressee, reply: Reply) {
+        if self.waiting.is_empty() {
+            drop(self.waiting.reserve(ROOM));
+        }
         if let Err(refused) = self.waiting.push(Told { caller, reply }) {
             let AllocFailed { value } = refused;
             tell(rt, value);

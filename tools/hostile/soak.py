@@ -1,10 +1,11 @@
 """A soak: for some minutes clients ask stores on threads whose nodes stop, go and join, then processes ask a server of 64 chains, and
 random scripts are played.
 
-Most of the time, where `rt` is there to build it, a program without proofs and with checks of addresses, which is slow, runs stores of
-64 chains, one after another (stores.py): it loses messages, lets some come late, stops nodes, takes them out and has others join. Its
-8 clients look at what the clients below look at, each chain is audited with every receipt, and the memory of the process is back after
-each store. The run of a chain in which something is wrong is kept as a file that `craq_lab play` reads.
+Most of the time, where `rt` is there to build them, programs without proofs run stores of 64 chains, one after another (stores.py): first
+with checks of addresses and of lost memory, then optimized. They lose messages, let some come late, stop nodes, take them out and have
+others join. Their clients look at what the clients below look at, each chain is audited with every receipt, and the memory of the process
+is back after the stores. The run of a chain in which something is wrong is kept as a file that `craq_lab play` reads. What building
+takes is told, and does not count as time of the soak.
 
 The rest of the time processes ask a server, lose replies and ask again. The server runs once with journals, which are audited in its
 end, and once without, where its memory may not grow, since the clients and their objects stay the same. Each process has some connections, one client each, and looks at all that a client can see:
@@ -18,6 +19,8 @@ A running server lets no client stop, remove or join a node. These come up in th
 repeated messages: both cores print the same, and the verdict on schedules that are drawn of them is true. A script for which that fails is
 kept as a file that `craq_lab play` reads.
 """
+import collections
+import itertools
 import multiprocessing
 import random
 import re
@@ -45,6 +48,9 @@ JOURNALED = 120
 GROWTH = 24
 # How many processes play scripts, how far apart their seeds begin, and how many schedules are drawn of a script.
 PLAYERS, FAR, DRAWS = 2, 1_000_000, 3
+# What is counted in all parts together, with its name in words.
+COUNTED = {"answered": "calls answered", "stops": "stops", "joins": "joins", "lost": "messages lost", "late": "late", "twice": "arrived twice",
+           "unheard": "replies lost", "repeated": "updates repeated", "merged": "audits merged"}
 
 
 def plan():
@@ -229,7 +235,7 @@ def memory_of(server, until):
 
 
 def served(checks, craqd, seconds, journal):
-    """One server that is asked for so long; gives how many asks were answered, in words."""
+    """One server that is asked for so long; gives what was counted, and how many asks were answered, in words."""
     server = running.Server(craqd, plan(), PROCESSES * CONNECTS + 1, journal=journal)
     try:
         newest, given, until = multiprocessing.Array("Q", CHAINS, lock=False), multiprocessing.Queue(), time.monotonic() + seconds
@@ -249,7 +255,8 @@ def served(checks, craqd, seconds, journal):
     finally:
         server.kill()
     asks, lost, again = (sum(map(count, seen)) for count in (lambda it: sum(it.answered), lambda it: it.lost, lambda it: it.repeated))
-    return f"{asks} asks answered {'with' if journal else 'without'} journals, {lost} replies lost, {again} updates repeated, {early:.0f} to {late:.0f} MiB"
+    counts = collections.Counter(answered=asks, unheard=lost, repeated=again, merged=CHAINS if journal else 0)
+    return counts, f"{asks} asks answered {'with' if journal else 'without'} journals, {lost} replies lost, {again} updates repeated, {early:.0f} to {late:.0f} MiB"
 
 
 def ends(checks, server, seen, journal):
@@ -268,7 +275,7 @@ def ends(checks, server, seen, journal):
 
 
 def script_of(craq_lab, seed):
-    """A random script: its text, whether all is well, how often nodes stop and join in it, and how many schedules were drawn."""
+    """A random script: its text, whether all is well with it, and what was counted in it."""
     kind = scripts.KINDS[seed % len(scripts.KINDS)]
     text, (plain, other) = scripts.played(craq_lab, kind, seed)
     is_well = plain.status == 0 and not plain.errors and plain == other
@@ -276,53 +283,54 @@ def script_of(craq_lab, seed):
         words = ["draw", "--nodes", str(kind.nodes), "/dev/stdin", schedules.choices_of(seed * DRAWS + at)]
         plain, other = playing.on_both(craq_lab, words, text)
         is_well = is_well and plain == other and plain.output.endswith(b"valid true\n")
-    return text, is_well, text.count(b"\nstop "), text.count(b"\njoin ")
+    arrivals = [int(it) for it in re.findall(rb"^deliver (\d+)$", text, re.M)]
+    late = sum(number < largest for number, largest in zip(arrivals[1:], itertools.accumulate(arrivals, max)))
+    twice = len(arrivals) - len({*arrivals})
+    return text, is_well, collections.Counter(scripts=1, stops=text.count(b"\nstop "), joins=text.count(b"\njoin "), late=late, twice=twice)
 
 
 def scripted(craq_lab, seed, until, given):
-    """Random scripts until that time: how many, stops, joins, and the names of files with those that failed."""
-    count = stops = joins = 0
-    failed = []
+    """Random scripts until that time: what was counted, and the names of files with those that failed."""
+    counts, failed = collections.Counter(), []
     while time.monotonic() < until:
-        text, is_well, stopped, joined = script_of(craq_lab, seed + count)
-        count, stops, joins = count + 1, stops + stopped, joins + joined
+        at = seed + counts["scripts"]
+        text, is_well, more = script_of(craq_lab, at)
+        counts += more
         if not is_well:
-            with tempfile.NamedTemporaryFile(prefix=f"hostile-{seed + count - 1}-", suffix=".script", delete=False) as it:
+            with tempfile.NamedTemporaryFile(prefix=f"hostile-{at}-", suffix=".script", delete=False) as it:
                 it.write(text)
                 failed.append(it.name)
-    given.put((count, stops, joins, failed))
+    given.put((counts, failed))
 
 
-def stored(checks, seconds):
-    """Stores on threads for so long; gives what was done, in words."""
-    seed, folder = int(time.time()), tempfile.mkdtemp(prefix="hostile-soak-")
-    ran = stores.soaked(seconds, seed, f"{folder}/chain-")
-    told = re.fullmatch(r"(\d+) stores, (\d+) calls answered, (\d+) refused, (\d+) repeated, (\d+) stops, (\d+) joins, (\d+) messages lost, "
-                        r"(\d+) late; (\d+) to (\d+) KiB\n", ran.stdout)
-    checks.that(ran.returncode == 0 and told, f"stores on threads from seed {seed} on, whose runs are in {folder}: {ran.stdout}{ran.stderr}"[:1500])
-    if not told:
-        return "stores on threads failed"
-    shutil.rmtree(folder)
-    calls, stops, joins, first, last = (int(told[at]) for at in (2, 5, 6, 9, 10))
-    checks.that(min(calls, stops, joins) > 0, f"stores on threads did nothing: {ran.stdout}")
-    checks.that(last <= first + GROWTH * 1024, f"after each store the memory is back: {ran.stdout}")
-    return f"without proofs, from seed {seed} on: " + ran.stdout.strip()
+def in_all(counts):
+    """What was counted in all parts of the soak, in words."""
+    return "in all " + ", ".join(f"{counts[name]} {words}" for name, words in COUNTED.items())
 
 
 def tried(checks, craq_lab, craqd, minutes):
     """The soak, and what was tried, in words."""
-    told = [stored(checks, minutes * STORED * 60)] if shutil.which("rt") else []
-    minutes = minutes * (1 - STORED) if told else minutes
+    if shutil.which("rt"):
+        counts, stored = stores.tried(checks, minutes * STORED * 60)
+        minutes *= 1 - STORED
+    else:
+        counts, stored = collections.Counter(), "stores on threads are left out: there is no rt to build them"
     seed, given, until = int(time.time()), multiprocessing.Queue(), time.monotonic() + minutes * 60
     beside = [multiprocessing.Process(target=scripted, args=(craq_lab, seed + at * FAR, until, given), daemon=True) for at in range(PLAYERS)]
     for it in beside:
         it.start()
     journaled = min(minutes * 30, JOURNALED)
-    told += [served(checks, craqd, journaled, True), served(checks, craqd, minutes * 60 - journaled, False)]
+    told = [stored]
+    for seconds, journal in (journaled, True), (minutes * 60 - journaled, False):
+        more, words = served(checks, craqd, seconds, journal)
+        counts += more
+        told.append(words)
     played = [given.get(timeout=minutes * 60 + running.PATIENCE * 30) for _ in beside]
     for it in beside:
         it.join()
-    count, stops, joins = (sum(it[at] for it in played) for at in range(3))
-    checks.same("scripts of the soak that failed", [name for it in played for name in it[3]], [])
-    checks.that(min(it[0] for it in played) > 0, "the soak plays scripts")
-    return "; ".join([*told, f"{count} scripts from seed {seed} on, {stops} stops and {joins} joins in them, {DRAWS * count} schedules"])
+    checks.same("scripts of the soak that failed", [name for _, failed in played for name in failed], [])
+    checks.that(min(it["scripts"] for it, _ in played) > 0, "the soak plays scripts")
+    scripts_played = sum((it for it, _ in played), collections.Counter())
+    told.append(f"{scripts_played['scripts']} scripts from seed {seed} on, {scripts_played['stops']} stops and {scripts_played['joins']} joins in them, "
+                f"{DRAWS * scripts_played['scripts']} schedules")
+    return "; ".join([*told, in_all(counts + scripts_played)])

@@ -1,29 +1,44 @@
-"""Stores on threads whose nodes stop, go and join, for the soak: a program that `rt try` builds without its proofs and runs.
+"""Stores on threads whose nodes stop, go and join, for the soak: a program that is built without its proofs, and run.
 
 Its texts are stores/*.txt, no `.rt` files where they stand, since the gate takes each of those for part of a crate. Here they become a
-crate, in a copy of the sources that it stands on. What such a run shows it shows of the library's code as it stands; that the code
-meets its contracts the gate proves, and this does not.
+crate, in a copy of the sources that it stands on, which is built twice (tools/unproved.py). What such a run shows it shows of the
+library's code as it stands; that the code meets its contracts the gate proves, and this does not.
+
+The one with checks of addresses runs small stores, one of each form. What it finds is a bad access, and after the last store each piece
+of memory that nothing refers to any more. The optimized one runs large stores for the rest of the time.
 """
+import collections
 import os
+import re
 import shutil
+import signal
 import subprocess
 import tempfile
+import time
 
 import repository
+import unproved
 
 TEXTS = os.path.join(os.path.dirname(os.path.realpath(__file__)), "stores")
 NAME, KIT = "craq_soak", ("rand_core", "rand_pcg")
 OWN = ("craq_names", "craq_commands", "craq_model", "craq_runs", "craq_list", "craq_seat", "craq_audit", "craq_place", "craq_workers")
-# What building it and its last store may take beside the time that it is given.
-MORE = 1_200
+CHAINS = 64
+# How many clients a store has, and how many calls each makes: of the small stores, and of the large ones.
+SMALL, LARGE = (8, 250), (32, 3_125)
+# What the last store may take beside the time that it is given.
+MORE = 600
+# The checks also look for memory that is lost. Where threads keep no cache of what they free, the C library gives most of it back.
+LEAKS, GIVES_BACK = {"ASAN_OPTIONS": "detect_leaks=1"}, {"GLIBC_TUNABLES": "glibc.malloc.tcache_count=0"}
+# Of how many stores one after another the least memory after each counts, and how many MiB more the last may have than the first.
+TURN, GROWTH = 3, 24
+COUNTED = "answered refused repeated stops joins lost late merged".split()
+Store = collections.namedtuple("Store", ["seed", *COUNTED, "kib", "threads"])
+TOLD = re.compile(r"store (\d+): " + ", ".join(rf"(\d+) {it}" for it in COUNTED) + r"; (\d+) KiB, (\d+) threads")
 
 
 def copied(room, crate):
-    """A copy of a crate, over what was built of it."""
+    """A copy of a crate."""
     here, there = repository.path("crates", crate), os.path.join(room, "crates", crate)
-    os.makedirs(f"{here}/out", exist_ok=True)
-    os.makedirs(there)
-    os.symlink(f"{here}/out", f"{there}/out")
     for part in "src", "specs", "proofs":
         if os.path.isdir(f"{here}/{part}"):
             shutil.copytree(f"{here}/{part}", f"{there}/{part}")
@@ -46,8 +61,62 @@ def made(room):
     return folder
 
 
-def soaked(seconds, seed, file):
-    """The run of so many seconds from a seed on; where something is wrong in a chain its run is a script in a file of this beginning."""
+def soaked(checks, program, seconds, seed, file, length, env):
+    """The stores that a program ran for so many seconds from a seed on; what it found wrong is a check that failed."""
+    words = [program, *map(str, (int(seconds), seed, file, *length))]
+    process = subprocess.Popen(words, stdin=subprocess.DEVNULL, stdout=subprocess.PIPE, stderr=subprocess.PIPE, text=True, errors="replace",
+                               env={**os.environ, **env})
+    try:
+        out, err = process.communicate(timeout=seconds + MORE)
+    except subprocess.TimeoutExpired:
+        process.kill()
+        out, err = process.communicate()
+        err += f"\nit did not end within {seconds + MORE:.0f} s"
+    found = [Store(*map(int, it.groups())) for it in map(TOLD.fullmatch, out.splitlines()) if it]
+    other = "".join(f"{it}\n" for it in out.splitlines() if not TOLD.fullmatch(it))
+    how = signal.Signals(-process.returncode).name if process.returncode < 0 else process.returncode
+    checks.that((how, other, err) == (0, "", ""), f"stores on threads from seed {seed} on, whose runs are in {file}*: status {how}: {other}{err}"[:3000])
+    for it in found:
+        checks.same(f"threads that are left after store {it.seed}", it.threads, 1)
+        checks.same(f"chains of store {it.seed} whose audit is merged", it.merged, CHAINS)
+        checks.that(min(it.answered, it.repeated, it.stops, it.joins, it.lost) > 0, f"store {it.seed} did nothing: {it}")
+    return found
+
+
+def counted(found):
+    """All counts of some stores together."""
+    return collections.Counter({name: sum(getattr(it, name) for it in found) for name in COUNTED})
+
+
+def in_words(found):
+    """What was done with some stores."""
+    counts = counted(found)
+    return (f"{len(found)} stores, {counts['answered']} calls answered, {counts['refused']} refused, {counts['repeated']} updates repeated, "
+            f"{counts['stops']} stops, {counts['joins']} joins, {counts['lost']} messages lost, {counts['late']} pieces of work late, "
+            f"{counts['merged']} audits merged, {min((it.kib for it in found), default=0) // 1024} to {max((it.kib for it in found), default=0) // 1024} MiB after a store")
+
+
+def looked_at(checks, found):
+    """The memory of the process is back after the stores: what they need is a hundred times what may be added."""
+    least = [min(it.kib for it in part) // 1024 for part in (found[:TURN], found[-TURN:])]
+    checks.that(least[1] <= least[0] + GROWTH, f"memory grows from store to store, from {least[0]} to {least[1]} MiB: {[it.kib for it in found]} KiB")
+
+
+def tried(checks, seconds):
+    """Both programs, built and run; gives what was counted, and what was tried, in words."""
+    began, seed, folder = time.monotonic(), int(time.time()), tempfile.mkdtemp(prefix="hostile-soak-")
     with tempfile.TemporaryDirectory(prefix="stores-") as room:
-        words = ["rt", "try", "--steps", "1", "--seconds", str(int(seconds) + MORE), "--", str(int(seconds)), str(seed), file]
-        return subprocess.run(words, cwd=made(room), stdin=subprocess.DEVNULL, capture_output=True, text=True, errors="replace")
+        try:
+            fast, checked = unproved.built(made(room), os.path.join(room, NAME))
+        except unproved.Unbuilt as why:
+            checks.that(False, f"stores on threads cannot be built: {why}")
+            return collections.Counter(), "stores on threads could not be built"
+        ready = time.monotonic()
+        small = soaked(checks, checked, 0, seed, f"{folder}/checked-", SMALL, LEAKS)
+        large = soaked(checks, fast, max(0, ready + seconds - time.monotonic()), seed, f"{folder}/", LARGE, GIVES_BACK)
+    if large:
+        looked_at(checks, large)
+    if not os.listdir(folder):
+        os.rmdir(folder)
+    words = f"stores without proofs from seed {seed} on, built in {ready - began:.0f} s: with checks of addresses {in_words(small)}; optimized {in_words(large)}"
+    return counted([*small, *large]), words

@@ -1,0 +1,115 @@
+#!/usr/bin/env python3
+"""Builds a program without its proofs, to run it much: optimized, and once more with checks of addresses.
+
+    tools/unproved.py FOLDER OUT    the program of the crate in that folder: OUT, and OUT.checked
+
+`rt try` builds without proofs, but does not optimize, and keeps no program. Here it runs out of a copy of the kit, which is links but
+for what stands in the place of the compiler and of the linker of its toolchain: this script, which calls these. Of the program's own
+code they make two programs, both of which are kept. What is built has the tests that `rt try` puts in, as of an index out of bounds.
+"""
+import os
+import shlex
+import shutil
+import subprocess
+import sys
+import tempfile
+
+# The words of the compiler and of the linker that this script looks for. Only the program's own code is compiled with checks.
+CHECKS, PLAIN = "-fsanitize=address", "-O0"
+# The archive of the checks stands between these; the program's own code is the first file, and the program has this name.
+FROM, TO, CODE, PROGRAM = "--whole-archive", "--no-whole-archive", "input-0", "program"
+# How well each of the two is optimized: the one with checks somewhat.
+FAST, CHECKED = "-O2", "-O1"
+TOOLS = {"clang": "compiled", "ld.lld": "linked"}
+
+
+class Unbuilt(Exception):
+    """Why there is no program."""
+
+
+def with_links(there, here, but=()):
+    """A folder of links to what another holds, but for these."""
+    os.makedirs(there)
+    for name in os.listdir(here):
+        if name not in but:
+            os.symlink(f"{here}/{name}", f"{there}/{name}")
+
+
+def kit_of(room, out):
+    """A copy of the kit in which this script stands for the compiler and the linker, and makes these programs; gives its rt."""
+    found = shutil.which("rt")
+    if not found:
+        raise Unbuilt("there is no rt on the path")
+    here = os.path.dirname(os.path.dirname(os.path.realpath(found)))
+    lacking = [it for it in ("bin/rt", "bin/rtlib.py", *(f"toolchain/bin/{it}" for it in TOOLS)) if not os.path.isfile(f"{here}/{it}")]
+    if lacking:
+        raise Unbuilt(f"the kit in {here} has no {lacking[0]}: it is another one than tools/unproved.py was written for")
+    with_links(f"{room}/kit", here, ("bin", "toolchain"))
+    # These look for the kit from where they stand, also through links. A check would only tell of reserved names.
+    with_links(f"{room}/kit/bin", f"{here}/bin", ("rt", "rtlib.py", "rattle"))
+    for name in "rt", "rtlib.py":
+        shutil.copy2(f"{here}/bin/{name}", f"{room}/kit/bin")
+    os.symlink(os.path.realpath(shutil.which("true")), f"{room}/kit/bin/rattle")
+    with_links(f"{room}/kit/toolchain", f"{here}/toolchain", ("bin",))
+    with_links(f"{room}/kit/toolchain/bin", f"{here}/toolchain/bin", TOOLS)
+    for name, does in TOOLS.items():
+        words = [sys.executable, os.path.realpath(__file__), does, out, f"{here}/toolchain/bin/{name}"]
+        with open(f"{room}/kit/toolchain/bin/{name}", "w", encoding="utf-8", opener=lambda path, flags: os.open(path, flags, 0o700)) as it:
+            it.write(f'#!/bin/sh\nexec {shlex.join(words)} "$@"\n')
+    return f"{room}/kit/bin/rt"
+
+
+def compiled(out, tool, words):
+    """Stands for the compiler: the program's own code is compiled optimized too, without checks."""
+    if CHECKS not in words:
+        return subprocess.call([tool, *words])
+    status = subprocess.call([tool, *(CHECKED if it == PLAIN else it for it in words)])
+    fast = [FAST if it == PLAIN else it for it in words if it != CHECKS]
+    fast[fast.index("-o") + 1] = f"{out}.o"
+    return status or subprocess.call([tool, *fast])
+
+
+def linked(out, tool, words):
+    """Stands for the linker: makes both programs, and keeps them."""
+    status = subprocess.call([tool, *words])
+    fast = words[:words.index(FROM)] + words[words.index(TO) + 1:]
+    fast[fast.index(CODE)] = f"{out}.o"
+    fast[fast.index("-o") + 1] = out
+    status = status or subprocess.call([tool, *fast])
+    if not status:
+        shutil.copy2(PROGRAM, f"{out}.checked")
+    return status
+
+
+def built(folder, out):
+    """The program of the crate in that folder, optimized, and with checks of addresses as OUT.checked; `Unbuilt` where that fails."""
+    made = (out, f"{out}.checked")
+    for it in made:
+        if os.path.exists(it):
+            os.unlink(it)
+    with tempfile.TemporaryDirectory(prefix="unproved-") as room:
+        words = [kit_of(room, out), "try", "--steps", "1", "--", "--help"]
+        ran = subprocess.run(words, cwd=folder, stdin=subprocess.DEVNULL, capture_output=True, text=True, errors="replace")
+    if os.path.exists(f"{out}.o"):
+        os.unlink(f"{out}.o")
+    if not all(os.access(it, os.X_OK) for it in made) or "run=ended" not in ran.stderr:
+        raise Unbuilt(f"rt try in {folder} ended with status {ran.returncode}: {ran.stderr[-1500:]}")
+    return made
+
+
+def main(words):
+    if len(words) > 3 and words[0] in TOOLS.values():
+        return {"compiled": compiled, "linked": linked}[words[0]](words[1], words[2], words[3:])
+    if len(words) != 2:
+        print(__doc__.partition("\n\n")[2], file=sys.stderr)
+        return 2
+    try:
+        print("built", *built(words[0], os.path.realpath(words[1])))
+    except Unbuilt as why:
+        print(f"unproved: {why}", file=sys.stderr)
+        return 1
+    return 0
+
+
+if __name__ == "__main__":
+    sys.exit(main(sys.argv[1:]))

@@ -6,8 +6,12 @@ library's code as it stands; that the code meets its contracts the gate proves, 
 
 The one with checks of addresses runs small stores, one of each form. What it finds is a bad access, and after the last store each piece
 of memory that nothing refers to any more. The optimized one runs large stores for the rest of the time.
+
+A call that has no answer in 30 s is told at once. Then all nodes of its store stop, which ends each call, and each chain is audited with
+the steps that it took. A program in which that does not come to its end either is killed, and keeps no run.
 """
 import collections
+import glob
 import os
 import re
 import shutil
@@ -75,7 +79,8 @@ def soaked(checks, program, seconds, seed, file, length, env):
     found = [Store(*map(int, it.groups())) for it in map(TOLD.fullmatch, out.splitlines()) if it]
     other = "".join(f"{it}\n" for it in out.splitlines() if not TOLD.fullmatch(it))
     how = signal.Signals(-process.returncode).name if process.returncode < 0 else process.returncode
-    checks.that((how, other, err) == (0, "", ""), f"stores on threads from seed {seed} on, whose runs are in {file}*: status {how}: {other}{err}"[:3000])
+    kept = sorted(glob.glob(f"{glob.escape(file)}[0-9]*.script"))
+    checks.that((how, other, err) == (0, "", ""), f"stores on threads from seed {seed} on: status {how}: {other}{err}"[:3000] + f"kept: {kept}")
     for it in found:
         checks.same(f"threads that are left after store {it.seed}", it.threads, 1)
         checks.same(f"chains of store {it.seed} whose audit is merged", it.merged, CHAINS)

@@ -5,7 +5,8 @@
 
 `rt try` builds without proofs, but does not optimize, and keeps no program. Here it runs out of a copy of the kit, which is links but
 for what stands in the place of the compiler and of the linker of its toolchain: this script, which calls these. Of the program's own
-code they make two programs, both of which are kept. What is built has the tests that `rt try` puts in, as of an index out of bounds.
+code they make two programs, both of which are kept; or one without checks of addresses, for `./test --quick`. What is built has the
+tests that `rt try` puts in, as of an index out of bounds.
 """
 import os
 import shlex
@@ -20,7 +21,11 @@ CHECKS, PLAIN = "-fsanitize=address", "-O0"
 FROM, TO, CODE, PROGRAM = "--whole-archive", "--no-whole-archive", "input-0", "program"
 # How well each of the two is optimized: the one with checks somewhat.
 FAST, CHECKED = "-O2", "-O1"
+# What stands for the compiler and the linker where both programs are made, and where one without checks is, optimized or as it is.
 TOOLS = {"clang": "compiled", "ld.lld": "linked"}
+ONE = {True: {"clang": "fast_compiled", "ld.lld": "alone_linked"}, False: {"clang": "soon_compiled", "ld.lld": "alone_linked"}}
+# A program that does nothing.
+NOTHING = os.path.realpath("/bin/true")
 
 
 class Unbuilt(Exception):
@@ -35,13 +40,13 @@ def with_links(there, here, but=()):
             os.symlink(f"{here}/{name}", f"{there}/{name}")
 
 
-def kit_of(room, out):
-    """A copy of the kit in which this script stands for the compiler and the linker, and makes these programs; gives its rt."""
+def kit_of(room, out, tools):
+    """A copy of the kit in which this script stands for the compiler and the linker, and makes programs; gives its rt."""
     found = shutil.which("rt")
     if not found:
         raise Unbuilt("there is no rt on the path")
     here = os.path.dirname(os.path.dirname(os.path.realpath(found)))
-    lacking = [it for it in ("bin/rt", "bin/rtlib.py", *(f"toolchain/bin/{it}" for it in TOOLS)) if not os.path.isfile(f"{here}/{it}")]
+    lacking = [it for it in ("bin/rt", "bin/rtlib.py", *(f"toolchain/bin/{it}" for it in tools)) if not os.path.isfile(f"{here}/{it}")]
     if lacking:
         raise Unbuilt(f"the kit in {here} has no {lacking[0]}: it is another one than tools/unproved.py was written for")
     with_links(f"{room}/kit", here, ("bin", "toolchain"))
@@ -49,10 +54,10 @@ def kit_of(room, out):
     with_links(f"{room}/kit/bin", f"{here}/bin", ("rt", "rtlib.py", "rattle"))
     for name in "rt", "rtlib.py":
         shutil.copy2(f"{here}/bin/{name}", f"{room}/kit/bin")
-    os.symlink(os.path.realpath(shutil.which("true")), f"{room}/kit/bin/rattle")
+    os.symlink(NOTHING, f"{room}/kit/bin/rattle")
     with_links(f"{room}/kit/toolchain", f"{here}/toolchain", ("bin",))
-    with_links(f"{room}/kit/toolchain/bin", f"{here}/toolchain/bin", TOOLS)
-    for name, does in TOOLS.items():
+    with_links(f"{room}/kit/toolchain/bin", f"{here}/toolchain/bin", tools)
+    for name, does in tools.items():
         words = [sys.executable, os.path.realpath(__file__), does, out, f"{here}/toolchain/bin/{name}"]
         with open(f"{room}/kit/toolchain/bin/{name}", "w", encoding="utf-8", opener=lambda path, flags: os.open(path, flags, 0o700)) as it:
             it.write(f'#!/bin/sh\nexec {shlex.join(words)} "$@"\n')
@@ -81,14 +86,43 @@ def linked(out, tool, words):
     return status
 
 
+def fast_compiled(_, tool, words):
+    """Stands for the compiler: the program's own code is optimized, without checks."""
+    return subprocess.call([tool, *(FAST if it == PLAIN and CHECKS in words else it for it in words if it != CHECKS)])
+
+
+def soon_compiled(_, tool, words):
+    """Stands for the compiler: nothing is optimized or checked, which takes least time."""
+    return subprocess.call([tool, *(it for it in words if it != CHECKS)])
+
+
+def alone_linked(out, tool, words):
+    """Stands for the linker: makes the program without the archive of the checks, and keeps it. What `rt try` then runs does nothing."""
+    status = subprocess.call([tool, *words[:words.index(FROM)], *words[words.index(TO) + 1:]])
+    if not status:
+        shutil.move(PROGRAM, out)
+        shutil.copy2(NOTHING, PROGRAM)
+    return status
+
+
+def built_alone(folder, out, is_fast=False):
+    """The program of the crate in that folder without checks of addresses, optimized or not; `Unbuilt` where that fails."""
+    made_by(ONE[is_fast], folder, out, (out,))
+    return out
+
+
 def built(folder, out):
     """The program of the crate in that folder, optimized, and with checks of addresses as OUT.checked; `Unbuilt` where that fails."""
-    made = (out, f"{out}.checked")
+    return made_by(TOOLS, folder, out, (out, f"{out}.checked"))
+
+
+def made_by(tools, folder, out, made):
+    """The programs that these tools make of the crate in that folder."""
     for it in made:
         if os.path.exists(it):
             os.unlink(it)
     with tempfile.TemporaryDirectory(prefix="unproved-") as room:
-        words = [kit_of(room, out), "try", "--steps", "1", "--", "--help"]
+        words = [kit_of(room, out, tools), "try", "--steps", "1", "--", "--help"]
         ran = subprocess.run(words, cwd=folder, stdin=subprocess.DEVNULL, capture_output=True, text=True, errors="replace")
     if os.path.exists(f"{out}.o"):
         os.unlink(f"{out}.o")
@@ -98,8 +132,9 @@ def built(folder, out):
 
 
 def main(words):
-    if len(words) > 3 and words[0] in TOOLS.values():
-        return {"compiled": compiled, "linked": linked}[words[0]](words[1], words[2], words[3:])
+    does = {it.__name__: it for it in (compiled, linked, fast_compiled, soon_compiled, alone_linked)}
+    if len(words) > 3 and words[0] in does:
+        return does[words[0]](words[1], words[2], words[3:])
     if len(words) != 2:
         print(__doc__.partition("\n\n")[2], file=sys.stderr)
         return 2

@@ -45,6 +45,7 @@ class Counted:
     def __init__(self, server, version, chain=0):
         server.counts()
         self.server, self.client, self.chain = server, Client(server.address, version), chain
+        self.client.connection.socket.settimeout(running.PATIENCE)
         self.asks = 0
 
     def ask(self, name, *words, **more):

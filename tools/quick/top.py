@@ -102,10 +102,12 @@ class Clone:
         self.write(f"crates/{name}/out/{name}.of", sum_of)
 
     def started(self, *words, has_rt=True):
-        """A script that runs, from another folder than its own."""
+        """A script that runs, from another folder than its own. SIGINT is ignored in what a shell runs in the background, and bash cannot
+        trap what was ignored before it began."""
         path = (self.bin + ":" if has_rt else "") + "/usr/bin:/bin"
         return subprocess.Popen([os.path.join(self.top, words[0]), *words[1:]], cwd=self.bin, env={**os.environ, "PATH": path},
-                                stdin=subprocess.DEVNULL, stdout=subprocess.PIPE, stderr=subprocess.PIPE, text=True)
+                                stdin=subprocess.DEVNULL, stdout=subprocess.PIPE, stderr=subprocess.PIPE, text=True,
+                                preexec_fn=lambda: signal.signal(signal.SIGINT, signal.SIG_DFL))
 
     def ran(self, *words, has_rt=True):
         """The status of a script, and what it printed."""

@@ -1,0 +1,57 @@
+"""Programs that are built without their proofs, each once, and what runs on them."""
+import os
+import shutil
+import tempfile
+import threading
+
+import repository
+import unproved
+
+# Those that run longer than it takes to optimize them.
+OPTIMIZED = ("craq_value_tests",)
+# Those that make fewer calls, by what stands in which file in the place of what.
+FEWER = {"craq_thread_tests": ("src/changes.rt", "const CALLS: u64 = 2500;", "const CALLS: u64 = 100;")}
+
+
+def built(name, path):
+    """Builds a program, from a copy of the sources where it is to make fewer calls."""
+    with tempfile.TemporaryDirectory(prefix="quick-") as room:
+        crate = repository.path("crates", name)
+        if name in FEWER:
+            file, many, few = FEWER[name]
+            shutil.copytree(repository.path("crates"), f"{room}/crates", ignore=shutil.ignore_patterns("out"))
+            for it in "crates.txt", "HANDLES":
+                shutil.copy2(repository.path(it), room)
+            crate = f"{room}/crates/{name}"
+            text = repository.text_of(crate, file)
+            if text.count(many) != 1:
+                raise unproved.Unbuilt(f"{file} has {text.count(many)} times {many!r}")
+            with open(f"{crate}/{file}", "w", encoding="utf-8") as it:
+                it.write(text.replace(many, few))
+        unproved.built_alone(crate, path, name in OPTIMIZED)
+
+
+class Programs:
+    """The programs in a folder: one that is there is taken as it is, and any other is built there when it is first asked for."""
+
+    def __init__(self, folder):
+        os.makedirs(folder, exist_ok=True)
+        self.folder, self.lacking = folder, set()
+        self.locks = {name: threading.Lock() for name in repository.crates()}
+
+    def of(self, checks, name):
+        """The path of a program, or None where it cannot be built, which is a check that failed, once."""
+        path = os.path.join(self.folder, name)
+        with self.locks[name]:
+            if not os.path.exists(path) and name not in self.lacking:
+                try:
+                    built(name, path)
+                except unproved.Unbuilt as why:
+                    self.lacking.add(name)
+                    checks.that(False, f"{name} cannot be built: {why}")
+        return None if name in self.lacking else path
+
+    def all_of(self, checks, *names):
+        """The paths of some programs, or None where one of them cannot be built."""
+        found = [self.of(checks, name) for name in names]
+        return None if None in found else found

@@ -2,17 +2,20 @@
 ghost use Rattle.std.specs.Prelude.{◌≡◌, ◌<◌, ◌≤◌, ◌⊎◌, ◌↔◌, ℕ, List, [], length, nat_eq, refl, Err, Some, IfOk, IfErr};
 ghost use Rattle.std.specs.Ordering.{nat_cmp};
 ghost use Rattle.std.specs.Cmp.{partial_equiv_from_equiv};
+ghost use Rattle.craq_names.specs.Words.{first_word};
 ghost use Rattle.std.specs.Cmp.Lexicographic.{pointwise, slice_cmp, nat_list_eq_equiv, nat_list_cmp_total, texts_ties, texts_po};
 
 use crate::Refusal;
-use crate::order::{are_equal, order_of};
+use crate::order::{are_equal, first_word, order_by_word};
 use std::alloc::{AllocError, Global};
 use std::cmp::Ordering;
 use std::marker::Model;
 
-/// The key of an object: 1 to 128 bytes. Keys stand in the order of their bytes.
+/// The key of an object: 1 to 128 bytes. Keys stand in the order of their bytes. With the bytes a key has their first
+/// word, since mostly it tells two keys apart.
 #[derive(Debug, Drop)]
 pub struct Key {
+    first: u64,
     bytes: Vec<u8>,
 }
 
@@ -21,7 +24,7 @@ impl Model for Key {
 
     ghost view = { λ k. k.bytes.items };
 
-    ghost invariant = { λ k. (1 ≤ length k.bytes.items) × (length k.bytes.items ≤ 128) };
+    ghost invariant = { λ k. (1 ≤ length k.bytes.items) × (length k.bytes.items ≤ 128) × (k.first ≡ first_word k.bytes.items) };
 }
 
 impl Key {
@@ -38,6 +41,7 @@ impl Key {
             return Err(Refusal::BadKey);
         }
         Ok(Key {
+            first: first_word(bytes),
             bytes: Vec::from_slice(alloc, bytes)?,
         })
     }
@@ -56,6 +60,7 @@ impl Key {
         ensures { IfOk result (λ k. k ≡ key.now) }
     {
         Ok(Key {
+            first: key.first,
             bytes: Vec::from_slice(alloc, key.bytes.as_slice())?,
         })
     }
@@ -66,6 +71,7 @@ impl Clone for Key {
 
     fn clone(&self) -> Result<Self, AllocError> {
         Ok(Key {
+            first: self.first,
             bytes: self.bytes.clone()?,
         })
     }
@@ -105,7 +111,7 @@ impl Ord for Key {
     ghost matches_eq = { texts_ties };
 
     fn cmp(&self, other: &Self) -> Ordering {
-        order_of(&self.bytes, &other.bytes)
+        order_by_word(self.first, &self.bytes, other.first, &other.bytes)
     }
 }
 

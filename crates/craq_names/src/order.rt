@@ -1,7 +1,9 @@
-//! Comparing bytes, by words of 8 as long as there are so many, then one by one. `Key` alone calls it.
-ghost use Rattle.std.specs.Prelude.{◌≡◌, nat_eq};
+//! Comparing bytes: by their first word where it is known, by words of 8 as long as there are so many, then one by one.
+//! `Key` alone calls it.
+ghost use Rattle.std.specs.Prelude.{◌≡◌, get_or, nat_eq};
 ghost use Rattle.std.specs.Ordering.{nat_cmp};
 ghost use Rattle.std.specs.Cmp.Lexicographic.{pointwise, slice_cmp};
+ghost use Rattle.craq_names.specs.Words.{first_word};
 
 use std::cmp::Ordering;
 
@@ -28,7 +30,7 @@ fn order_by_byte(bytes: &[u8], others: &[u8]) -> Ordering
 
 /// The order of two lists of bytes: their first bytes that differ decide, or else the shorter one stands first. As long as
 /// both have 8 bytes left, these are compared as one number.
-pub(crate) fn order_of(bytes: &[u8], others: &[u8]) -> Ordering
+fn order_of(bytes: &[u8], others: &[u8]) -> Ordering
     ensures { result ≡ slice_cmp nat_cmp bytes.now others.now }
 {
     let mut left = bytes;
@@ -46,6 +48,44 @@ pub(crate) fn order_of(bytes: &[u8], others: &[u8]) -> Ordering
         right = others;
     }
     order_by_byte(left, right)
+}
+
+/// The byte at a place, 0 where there is none.
+fn byte_at(bytes: &[u8], place: usize) -> u8
+    ensures { result ≡ get_or bytes.now place 0 }
+{
+    match bytes.get(place) {
+        Some(byte) => *byte,
+        None => 0,
+    }
+}
+
+/// The first 8 bytes as one number, the greatest first; where there are fewer, zeros follow them.
+pub(crate) fn first_word(bytes: &[u8]) -> u64
+    ensures { result ≡ first_word bytes.now }
+{
+    u64::from_be_bytes([
+        byte_at(bytes, 0),
+        byte_at(bytes, 1),
+        byte_at(bytes, 2),
+        byte_at(bytes, 3),
+        byte_at(bytes, 4),
+        byte_at(bytes, 5),
+        byte_at(bytes, 6),
+        byte_at(bytes, 7),
+    ])
+}
+
+/// The order of two lists of bytes whose first words are known: these decide where they differ.
+pub(crate) fn order_by_word(first: u64, bytes: &[u8], other: u64, others: &[u8]) -> Ordering
+    requires left { first ≡ first_word bytes.now }
+    requires right { other ≡ first_word others.now }
+    ensures { result ≡ slice_cmp nat_cmp bytes.now others.now }
+{
+    if first != other {
+        return first.cmp(&other);
+    }
+    order_of(bytes, others)
 }
 
 /// Whether two lists of bytes are as long, with the same byte at each place.

@@ -18,6 +18,9 @@ use std::alloc::{AllocError, Global};
 /// The version of the wire.
 const WIRE_VERSION: u8 = 2;
 
+/// How many bytes stand before what a message says.
+const HEADER_SIZE: usize = 32;
+
 /// The state at the front, and the bytes after it.
 #[tactic(auto, unfolding(crate::specs::Reading::state_at, craq_codec::specs::PartReading::pair_at))]
 fn read_state(alloc: Global, bytes: &[u8]) -> Result<(State, &[u8]), Unread>
@@ -204,6 +207,7 @@ fn write_body(out: &mut BytesMut, body: &Body) -> Result<(), AllocError>
 }
 
 /// Writes what stands before what a message says, with this sender, stamp and index.
+#[tactic(auto, unfolding(craq_codec::specs::NumberSpelling::number))]
 fn write_header(
     out: &mut BytesMut,
     m: &LinkMessage,
@@ -214,14 +218,16 @@ fn write_header(
     ensures fits { OnOk result (HeaderFits (renamed m.now sender stamp index)) }
     ensures spelled { OnOk result (out.new.items ≡ out.old.items ++ header (renamed m.now sender stamp index)) }
 {
-    write_u8(out, WIRE_VERSION)?;
-    write_u8(out, kind(&m.body))?;
-    write_u16(out, m.chain.get())?;
-    write_u32(out, sender.get())?;
-    write_u32(out, m.receiver.get())?;
-    write_u64(out, stamp.get())?;
-    write_u32(out, index)?;
-    write_u64(out, m.epoch.get())
+    out.reserve(HEADER_SIZE)?;
+    out.extend_reserved(&WIRE_VERSION.to_be_bytes());
+    out.extend_reserved(&kind(&m.body).to_be_bytes());
+    out.extend_reserved(&m.chain.get().to_be_bytes());
+    out.extend_reserved(&sender.get().to_be_bytes());
+    out.extend_reserved(&m.receiver.get().to_be_bytes());
+    out.extend_reserved(&stamp.get().to_be_bytes());
+    out.extend_reserved(&index.to_be_bytes());
+    out.extend_reserved(&m.epoch.get().to_be_bytes());
+    Ok(())
 }
 
 /// Writes a message at the end, with this sender, stamp and index in place of its own.

@@ -254,10 +254,9 @@ def plant(checks, clone):
 
 
 def refuse(checks, clone):
-    """./refuse tries the edits of wrong/, over libraries that are built below, and counts those that are refused."""
-    clone.rt_does("lib", "")
+    """./refuse has `rt ci` try the edits of wrong/ in a copy, and counts those that are refused."""
     for said, wanted in (("refused, as it must be", (0, "1 refused, 0 not")), ("NOT REFUSED", (1, "0 refused, 1 not"))):
-        clone.rt_does("must-fail", f"echo 'rt: must-fail craq_names/never.edit: {said}'\n")
+        clone.rt_does("ci", f"test -e crates/craq_names/must-fail/never.edit || exit 3\necho 'rt: must-fail craq_names/never.edit: {said}'\n")
         status, out, _ = clone.ran("refuse")
         checks.same(f"an edit that is {said}", (status, out.splitlines()[-1]), wanted)
         checks.that(out.startswith(f"craq_names/never: {said}\n"), f"its line: {out}")

@@ -148,7 +148,7 @@ impl Connection {
     }
 
     /// Reads once, where nothing is asked and nothing is due.
-    fn read(&mut self, chunk: &mut [u8], now: u64) {
+    pub(crate) fn read(&mut self, chunk: &mut [u8], now: u64) {
         if self.over
             || self.last
             || self.more
@@ -279,8 +279,9 @@ impl Connection {
         }
     }
 
-    /// Takes the steps of the conversation, as far as its bytes and replies are there.
-    fn advance<H: Host>(&mut self, alloc: Global, host: &H, token: usize, few: bool) {
+    /// Takes the steps of the conversation, as far as its bytes and replies are there. What comes of them is then due. `few`
+    /// tells that few connections have something to do just now.
+    pub(crate) fn advance<H: Host>(&mut self, alloc: Global, host: &H, token: usize, few: bool) {
         for _ in 0..MOST_STEPS {
             if self.last || self.over {
                 break;
@@ -296,18 +297,8 @@ impl Connection {
         }
     }
 
-    /// Does what can be done without waiting. `few` tells that few connections have something to do just now.
-    pub(crate) fn step<H: Host>(
-        &mut self,
-        alloc: Global,
-        host: &H,
-        token: usize,
-        few: bool,
-        now: u64,
-        chunk: &mut [u8],
-    ) {
-        self.read(chunk, now);
-        self.advance(alloc, host, token, few);
+    /// Writes what is due. It is over where that was the last.
+    pub(crate) fn give(&mut self, now: u64) {
         self.write(now);
         if self.last && self.talk.due().is_empty() {
             self.over = true;

@@ -140,19 +140,31 @@ impl Members {
         }
     }
 
-    /// A connection takes its steps. It is let go once it is done.
-    fn step<H: Host>(&mut self, registry: &Registry, host: &H, token: usize, few: bool) {
+    /// What has come on the busy connections is read.
+    fn read_all(&mut self) {
+        for token in self.busy.iter() {
+            if let Some(connection) = self.connections.get_mut(*token) {
+                connection.read(self.chunk.as_mut_slice(), self.now);
+            }
+        }
+    }
+
+    /// The busy connections take the steps of their conversations.
+    fn advance_all<H: Host>(&mut self, host: &H) {
+        let few = self.busy.len() <= FEW;
+        for token in self.busy.iter() {
+            if let Some(connection) = self.connections.get_mut(*token) {
+                connection.advance(self.alloc, host, *token, few);
+            }
+        }
+    }
+
+    /// What is due to a connection is written. It is let go once it is done.
+    fn give<H: Host>(&mut self, registry: &Registry, host: &H, token: usize) {
         let Some(connection) = self.connections.get_mut(token) else {
             return;
         };
-        connection.step(
-            self.alloc,
-            host,
-            token,
-            few,
-            self.now,
-            self.chunk.as_mut_slice(),
-        );
+        connection.give(self.now);
         if connection.is_done() {
             self.let_go(registry, host, token);
         } else if connection.stays_busy() {
@@ -167,16 +179,23 @@ impl Members {
         }
     }
 
-    /// Each connection that has something to do takes its steps once.
-    fn step_all<H: Host>(&mut self, registry: &Registry, host: &H) {
-        let few = self.busy.len() <= FEW;
+    /// What is due to the busy connections is written.
+    fn give_all<H: Host>(&mut self, registry: &Registry, host: &H) {
         for _ in 0..self.busy.len() {
             let Some(token) = self.busy.pop() else {
                 break;
             };
-            self.step(registry, host, token, few);
+            self.give(registry, host, token);
         }
         mem::swap(&mut self.busy, &mut self.later);
+    }
+
+    /// Each connection that has something to do is served once. All are read before the first takes its steps, and all have taken
+    /// them before the first is written to: so a processor does one kind of work for a while.
+    fn step_all<H: Host>(&mut self, registry: &Registry, host: &H) {
+        self.read_all();
+        self.advance_all(host);
+        self.give_all(registry, host);
     }
 
     /// Once a second the connections that were left idle are over.

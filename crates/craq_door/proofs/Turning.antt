@@ -1,5 +1,5 @@
 -- What a door tells of a turn is a turn.
-use Rattle.std.proofs.Common.{◌≡◌, ℕ, List, Ok, Err, inl, inr, refl, sym, subst}
+use Rattle.std.proofs.Common.{◌≡◌, ◌∙◌, ℕ, List, Ok, Err, Result, IfErr, IfOk, OnErr, inl, inr, refl, sym, subst}
 use Rattle.craq_names.specs.declared.refusal.Refusal.{Refusal}
 use Rattle.craq_names.specs.declared.refusal.Refusal.TheVariants.{BadFrame, Memory}
 use Rattle.craq_frames.specs.declared.ask.ClientMessage.{ClientMessage}
@@ -36,3 +36,8 @@ can_be_bad messages.Status e h never = absurd (never (subst (λ (x : Refusal). I
 pub told_refusal : (tells : List ℕ → Type 0) (old : List Called) (m : ClientMessage) (e : Refusal) (told : ClientReply) (new : List Called) → CanRefuse m e → new ≡ old → IsTold (Err e) told → IsAnswered tells old m told new
 told_refusal tells old m e told new can same (inl is) = subst (λ (x : ClientReply). IsAnswered tells old m x new) (sym is.1) (inl (can, same))
 told_refusal tells old m e told new can same (inr other) = subst (λ (x : ClientReply). IsAnswered tells old m x new) (sym other.1) (inl (can_be_bad m e can other.0, same))
+
+-- what a message came to is told, after the receipts that are not kept were let go
+pub came_turn : (tells : List ℕ → Type 0) (old begun : List Called) (m : ClientMessage) (outcome : Result ClientReply Refusal) (told : ClientReply) (new : List Called) → begun ≡ old → IfOk outcome (λ r. IsReplied tells begun m r new) → IfErr outcome (λ e. CanRefuse m e) → OnErr outcome (new ≡ begun) → IsTold outcome told → IsAnswered tells old m told new
+came_turn tells old begun m (Ok r) told new at came can same is = told_turn tells old m r told new (subst (λ (x : List Called). IsReplied tells x m r new) at came) is
+came_turn tells old begun m (Err e) told new at came can same is = told_refusal tells old m e told new can (same ∙ at) is

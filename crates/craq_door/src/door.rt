@@ -90,7 +90,6 @@ impl<C: Callee> Door for CallDoor<C> {
         IsTurn (C.tells old.callee) old.calls.keeps old.calls.receipts.items message reply new.calls.receipts.items
         × (new.calls.keeps ≡ old.calls.keeps) × (new.callee ≡ old.callee) };
 
-    #[tactic(auto, using(crate::proofs::Turning::told_turn, crate::proofs::Turning::told_refusal))]
     fn ask(&mut self, message: ClientMessage) -> ClientReply {
         self.calls.begin();
         told(self.reply(message))

@@ -2,14 +2,28 @@
 ghost use Rattle.std.specs.Prelude.{◌≡◌, [], unwrap_or, IfOk, OnOk};
 ghost use Rattle.craq_names.specs.Maps.{at_number, put_number};
 ghost use Rattle.craq_commands.specs.Kept.{keep};
+ghost use Rattle.craq_commands.specs.Objects.{set_object};
 ghost use Rattle.craq_commands.specs.SingleCopy.{after_entries, with_writes};
 
 use craq_commands::{Entry, Reply, State, Window, Write};
 use craq_names::{ClientId, Copied, Items, Key, RequestNo, Value, Version, copies_of, put_at};
 use std::alloc::{AllocError, Global};
 
-/// Puts copies of what is written into the objects, in order.
+/// Puts a copy of a write into the objects.
 #[tactic(auto, unfolding(craq_commands::specs::Objects::set_object))]
+fn put_write(
+    alloc: Global,
+    objects: &mut Vec<(Key, (Version, Value))>,
+    write: &Write,
+) -> Result<(), AllocError>
+    ensures { OnOk result (objects.new.items ≡ set_object objects.old.items write.now.key write.now.version write.now.value) }
+{
+    let value = write.value.copied(alloc)?;
+    let key = write.key.copied(alloc)?;
+    put_at(objects, key, (write.version, value))
+}
+
+/// Puts copies of what is written into the objects, in order.
 fn put_writes(
     alloc: Global,
     objects: &mut Vec<(Key, (Version, Value))>,
@@ -18,8 +32,7 @@ fn put_writes(
     ensures { OnOk result (objects.new.items ≡ with_writes objects.old.items writes.now) }
 {
     for write in writes {
-        let value = write.value.copied(alloc)?;
-        put_at(objects, write.key.copied(alloc)?, (write.version, value))?;
+        put_write(alloc, objects, write)?;
     }
     Ok(())
 }

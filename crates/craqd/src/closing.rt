@@ -52,7 +52,7 @@ fn end_with_input<R: Clock + Wait>(rt: &R, input: StdinLock<'static>, connection
 
 /// Begins a thread that ends a server once standard input has ended. Nobody waits for it: it reads for as long as the program
 /// runs.
-pub fn watch_input<'a, R>(rt: R, connections: &Arc<Connections>) -> Result<(), Fault<'a>>
+pub fn watch_input<R>(rt: R, connections: &Arc<Connections>) -> Result<(), Fault>
 where
     R: Input<Reader = StdinLock<'static>> + Clock + Threads + Wait + Copy + Drop + Send + 'static,
 {

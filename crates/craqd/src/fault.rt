@@ -1,6 +1,5 @@
 //! Why `craqd` ends or serves nothing, with the text and the status of each reason.
-use clap::Error;
-use craq_line::{BAD_INPUT, report_memory, report_words};
+use craq_line::{BAD_INPUT, report_memory};
 use craq_names::Refusal;
 use std::alloc::{AllocError, AllocFailed};
 use std::io;
@@ -15,12 +14,10 @@ const CANNOT_LISTEN: u8 = 4;
 const AUDIT_REFUSED: u8 = 5;
 
 /// Why nothing is served, or no more.
-#[derive(Debug, Drop)]
-pub enum Fault<'a> {
-    /// The words of the command line are wrong, or ask for help.
-    Words(Error),
+#[derive(Clone, Copy)]
+pub enum Fault {
     /// The plan file is not read.
-    CannotRead(&'a str),
+    CannotRead,
     /// The text stands for no plan.
     BadPlan,
     /// A growth was refused, or no thread can be made.
@@ -33,31 +30,30 @@ pub enum Fault<'a> {
     CannotPrint(io::Error),
 }
 
-impl From<Error> for Fault<'_> {
-    fn from(error: Error) -> Self {
-        Fault::Words(error)
-    }
-}
-
-impl From<AllocError> for Fault<'_> {
+impl From<AllocError> for Fault {
     fn from(_error: AllocError) -> Self {
         Fault::Memory
     }
 }
 
-impl<T: Drop> From<AllocFailed<T>> for Fault<'_> {
+impl From<io::Error> for Fault {
+    fn from(error: io::Error) -> Self {
+        Fault::CannotPrint(error)
+    }
+}
+
+impl<T: Drop> From<AllocFailed<T>> for Fault {
     fn from(_error: AllocFailed<T>) -> Self {
         Fault::Memory
     }
 }
 
-impl Fault<'_> {
-    /// Tells what was wrong, and gives the status.
-    pub fn report<R: Print + Eprint>(self, rt: &R) -> io::Result<u8> {
+impl Fault {
+    /// Tells what was wrong of a server whose plan file has this name, and gives the status.
+    pub fn report<R: Eprint>(self, rt: &R, plan: &str) -> io::Result<u8> {
         match self {
-            Fault::Words(error) => report_words(rt, &error, NO_MEMORY),
-            Fault::CannotRead(name) => {
-                eprintln!(rt; "cannot read {name}")?;
+            Fault::CannotRead => {
+                eprintln!(rt; "cannot read {plan}")?;
                 Ok(BAD_INPUT)
             }
             Fault::BadPlan => {

@@ -9,8 +9,9 @@ mod serving;
 mod telling;
 mod ways;
 
-use craq_line::{Line, report_failure, report_no_text, words_of};
-use fault::{Fault, NO_MEMORY};
+use craq_line::{Line, report_failure, report_no_text, report_words, words_of};
+use fault::NO_MEMORY;
+use serving::serve_line;
 use std::env::Env;
 use std::io;
 use std::io::{ErrorKind, Input, StdinLock};
@@ -21,64 +22,34 @@ use std::sync::Wait;
 use std::thread::Threads;
 use std::time::Clock;
 
-/// Serves as the words of a command line ask for.
-fn run_words<'a, R>(rt: R, words: &'a [&'a str]) -> Result<(), Fault<'a>>
+/// Serves as the words of a command line ask for, and tells what was wrong. Gives the status.
+fn run_words<R>(rt: R, words: &[&str]) -> io::Result<u8>
 where
     R: AllocGlobal + Files + Input<Reader = StdinLock<'static>> + Print + Eprint + Clock,
     R: Threads + Wait + Copy,
     R: Drop + Send + Sync + 'static + Net<Listener = TcpListener, Stream = TcpStream>,
 {
-    let line = Line::read(rt.alloc(), words)?;
-    serving::serve_line(rt, &line)
+    match Line::read(rt.alloc(), words) {
+        Ok(line) => match serve_line(rt, &line) {
+            Ok(()) => Ok(0),
+            Err(fault) => fault.report(&rt, line.plan),
+        },
+        Err(error) => report_words(&rt, &error, NO_MEMORY),
+    }
 }
 
 /// Does what these words of a command line ask for. Gives the status.
 fn run_texts<R>(rt: R, words: &[String]) -> io::Result<u8>
 where
-    R: AllocGlobal
-        + Files
-        + Input<Reader = StdinLock<'static>>
-        + Print
-        + Eprint
-        + Clock
-        + Threads
-        + Wait
-        + Copy
-        + Drop
-        + Send
-        + Sync
-        + 'static,
-    R: Net<Listener = TcpListener, Stream = TcpStream>,
+    R: AllocGlobal + Files + Input<Reader = StdinLock<'static>> + Print + Eprint + Clock,
+    R: Threads + Wait + Copy,
+    R: Drop + Send + Sync + 'static + Net<Listener = TcpListener, Stream = TcpStream>,
 {
     let mut texts = Vec::new(rt.alloc());
     for word in words {
         texts.push(word.as_str())?;
     }
-    report(rt, texts.as_slice())
-}
-
-/// Does what these words ask for, and tells what was wrong. Gives the status.
-fn report<'a, R>(rt: R, words: &'a [&'a str]) -> io::Result<u8>
-where
-    R: AllocGlobal
-        + Files
-        + Input<Reader = StdinLock<'static>>
-        + Print
-        + Eprint
-        + Clock
-        + Threads
-        + Wait
-        + Copy
-        + Drop
-        + Send
-        + Sync
-        + 'static,
-    R: Net<Listener = TcpListener, Stream = TcpStream>,
-{
-    match run_words(rt, words) {
-        Ok(()) => Ok(0),
-        Err(fault) => fault.report(&rt),
-    }
+    run_words(rt, texts.as_slice())
 }
 
 /// Does what the command line asks for, where its words are text. Gives the status.

@@ -11,16 +11,16 @@ use std::rt::Files;
 use std::str::from_utf8;
 
 /// The bytes of a file.
-fn bytes_of<'a, R: AllocGlobal + Files>(rt: &R, path: &'a str) -> Result<Vec<u8>, Fault<'a>> {
+fn bytes_of<R: AllocGlobal + Files>(rt: &R, path: &str) -> Result<Vec<u8>, Fault> {
     match fs::read(rt, path) {
         Ok(bytes) => Ok(bytes),
         Err(error) if error.kind() == ErrorKind::OutOfMemory => Err(Fault::Memory),
-        Err(_) => Err(Fault::CannotRead(path)),
+        Err(_) => Err(Fault::CannotRead),
     }
 }
 
 /// The plan of a file.
-pub fn plan_of<'a, R: AllocGlobal + Files>(rt: &R, path: &'a str) -> Result<Plan, Fault<'a>>
+pub fn plan_of<R: AllocGlobal + Files>(rt: &R, path: &str) -> Result<Plan, Fault>
     ensures { IfOk result IsPlan }
 {
     let bytes = bytes_of(rt, path)?;

@@ -26,7 +26,7 @@ pub type Served = Store<ListCore, OpenGate>;
 const TICK_MILLISECONDS: u64 = 50;
 
 /// Listens at an address.
-fn listen<'a, R>(rt: &R, address: &str) -> Result<TcpListener, Fault<'a>>
+fn listen<R>(rt: &R, address: &str) -> Result<TcpListener, Fault>
 where
     R: Net<Listener = TcpListener, Stream = TcpStream>,
 {
@@ -38,12 +38,10 @@ where
 }
 
 /// Prints at which port clients can connect.
-fn print_port<'a, R: Print>(rt: &R, address: SocketAddr) -> Result<(), Fault<'a>> {
+fn print_port<R: Print>(rt: &R, address: SocketAddr) -> Result<(), Fault> {
     let port = address.port();
-    match println!(rt; "listening {port}") {
-        Ok(()) => Ok(()),
-        Err(error) => Err(Fault::CannotPrint(error)),
-    }
+    println!(rt; "listening {port}")?;
+    Ok(())
 }
 
 /// A store that is served, and where and how.
@@ -59,6 +57,20 @@ struct Service<'s, R: Wait> {
     crowds: Mutex<Option<Crowds>>,
     /// Whether the server is over.
     over: AtomicBool,
+}
+
+/// What came of following a server and of accepting its connections.
+fn came_of(
+    followed: Result<(), Fault>,
+    accepted: Result<Accepted, AllocError>,
+) -> Result<Accepted, Fault> {
+    match followed {
+        Ok(()) => Ok(accepted?),
+        Err(fault) => {
+            drop(accepted);
+            Err(fault)
+        }
+    }
 }
 
 impl<R> Service<'_, R>
@@ -92,7 +104,7 @@ where
 
     /// Prints at which port clients can connect, once all that the server needs has been made, and waits until it is to end.
     /// Where nothing can be printed it ends at once.
-    fn follow<'a>(&self) -> Result<(), Fault<'a>>
+    fn follow(&self) -> Result<(), Fault>
     where
         R: Print + Net<Listener = TcpListener, Stream = TcpStream>,
     {
@@ -112,7 +124,7 @@ where
     }
 
     /// Serves the connections on a thread of their own, while the store is ticked on another, until all are over.
-    fn run<'a, 'e, E>(&'e self, scope: &Scope<'e, E>) -> Result<Accepted, Fault<'a>>
+    fn run<'e, E>(&'e self, scope: &Scope<'e, E>) -> Result<Accepted, Fault>
     where
         R: Print + Net<Listener = TcpListener, Stream = TcpStream>,
     {
@@ -126,8 +138,7 @@ where
         let followed = self.follow();
         let accepted = accepting.join(&self.rt);
         self.over.store(true, Ordering::SeqCst);
-        followed?;
-        Ok(accepted?)
+        came_of(followed, accepted)
     }
 }
 
@@ -138,19 +149,21 @@ where
     R: Net<Listener = TcpListener, Stream = TcpStream>,
 {
     /// Serves the connections while the store is ticked, until all of them and both threads are over.
-    fn serve<'a>(&self) -> Result<Accepted, Fault<'a>> {
+    fn serve(&self) -> Result<Accepted, Fault> {
         thread::scope(thread::scope_env(), &self.rt, |scope| self.run(scope))
     }
 }
 
 /// Prints what the audits of a store with journals find. `Memory` where some connection was ended at once for want of it.
-fn finish<'a, R>(rt: &R, store: &Served, accepted: Accepted) -> Result<(), Fault<'a>>
+fn finish<R>(rt: &R, store: &Served, accepted: Accepted) -> Result<(), Fault>
 where
     R: AllocGlobal + Print + Wait,
 {
     let Accepted { receipts, lacked } = accepted;
     if store.has_journals() {
         print_audits(rt, store, receipts)?;
+    } else {
+        drop(receipts);
     }
     if lacked {
         return Err(Fault::Memory);
@@ -163,54 +176,62 @@ const fn log_of(line: &Line<'_>) -> Log {
     if line.log { Log::Lines } else { Log::Silent }
 }
 
-/// Listens as a command line asks for, and serves the connections to a store.
-fn serve_store<'a, R>(rt: R, store: &Served, line: &Line<'a>) -> Result<(), Fault<'a>>
+/// Serves the connections of a listener to a store, as a command line asks for.
+fn serve_listener<'s, R>(
+    rt: R,
+    store: &'s Served,
+    line: &Line<'_>,
+    listener: &'s TcpListener,
+    connections: &'s Arc<Connections>,
+) -> Result<(), Fault>
 where
-    R: AllocGlobal
-        + Input<Reader = StdinLock<'static>>
-        + Print
-        + Eprint
-        + Clock
-        + Threads
-        + Wait
-        + Copy
-        + Drop
-        + Send
-        + Sync
-        + 'static,
+    R: AllocGlobal + Input<Reader = StdinLock<'static>> + Print + Eprint + Clock,
+    R: Threads + Wait + Copy + Drop + Send + Sync + 'static,
     R: Net<Listener = TcpListener, Stream = TcpStream>,
 {
-    let connections = Arc::new(rt.alloc(), Connections::new(rt.alloc(), line.most)?)?;
-    let listener = listen(&rt, line.address)?;
     let Ok(address) = listener.local_addr() else {
         return Err(Fault::CannotListen);
     };
     if line.until_input_ends {
-        watch_input(rt, &connections)?;
+        watch_input(rt, connections)?;
     }
-    tell_serving(&rt, store, line, &listener)?;
+    tell_serving(&rt, store, line, address.port())?;
     let serving = Serving {
         keeps: line.journal,
         connections: line.connections,
         idle: line.idle,
         log: log_of(line),
     };
+    let crowds = crowds_of(&rt, serving, line.threads)?;
     let service = Service {
         rt,
         store,
-        listener: &listener,
+        listener,
         address,
         serving,
-        connections: &connections,
-        crowds: Mutex::new(crowds_of(&rt, serving, line.threads)?),
+        connections,
+        crowds: Mutex::new(crowds),
         over: AtomicBool::new(false),
     };
-    let accepted = service.serve()?;
-    finish(&rt, store, accepted)
+    let accepted = service.serve();
+    drop(service);
+    finish(&rt, store, accepted?)
+}
+
+/// Listens as a command line asks for, and serves the connections to a store.
+fn serve_store<R>(rt: R, store: &Served, line: &Line<'_>) -> Result<(), Fault>
+where
+    R: AllocGlobal + Input<Reader = StdinLock<'static>> + Print + Eprint + Clock,
+    R: Threads + Wait + Copy + Drop + Send + Sync + 'static,
+    R: Net<Listener = TcpListener, Stream = TcpStream>,
+{
+    let connections = Arc::new(rt.alloc(), Connections::new(rt.alloc(), line.most)?)?;
+    let listener = listen(&rt, line.address)?;
+    serve_listener(rt, store, line, &listener, &connections)
 }
 
 /// A store of the chains of a plan file.
-fn store_of<'a, R>(rt: R, line: &Line<'a>) -> Result<Served, Fault<'a>>
+fn store_of<R>(rt: R, line: &Line<'_>) -> Result<Served, Fault>
 where
     R: AllocGlobal + Files + Threads + Wait + Copy + Send + 'static,
 {
@@ -226,7 +247,7 @@ where
 }
 
 /// Serves as a command line asks for.
-pub fn serve_line<'a, R>(rt: R, line: &Line<'a>) -> Result<(), Fault<'a>>
+pub fn serve_line<R>(rt: R, line: &Line<'_>) -> Result<(), Fault>
 where
     R: AllocGlobal + Files + Input<Reader = StdinLock<'static>> + Print + Eprint + Clock,
     R: Threads + Wait + Copy,

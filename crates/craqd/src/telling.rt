@@ -1,11 +1,9 @@
 //! What `craqd` serves and where, told on standard error once it listens; called by `serving`.
-use crate::fault::Fault;
 use crate::serving::Served;
 use craq_line::{Line, VERSION};
 use craq_names::NodeId;
 use craq_workers::ChainStatus;
 use std::alloc::{AllocError, Global};
-use std::net::TcpListener;
 use std::sync::Wait;
 
 /// Adds the ids of nodes, the head first.
@@ -69,19 +67,16 @@ fn served_text(
 }
 
 /// Tells on standard error, in one line, what is served and where. Where standard error takes no text nothing is told.
-///
-/// `CannotListen` where the listener has no port, `Memory` where a growth was refused.
-pub fn tell_serving<'a, R: AllocGlobal + Eprint + Wait>(
+pub fn tell_serving<R: AllocGlobal + Eprint + Wait>(
     rt: &R,
     store: &Served,
-    line: &Line<'a>,
-    listener: &TcpListener,
-) -> Result<(), Fault<'a>> {
-    let Ok(address) = listener.local_addr() else {
-        return Err(Fault::CannotListen);
-    };
+    line: &Line<'_>,
+    port: u16,
+) -> Result<(), AllocError> {
     let chains = store.status(rt)?;
-    let text = served_text(rt.alloc(), line, chains.as_slice(), address.port())?;
+    let text = served_text(rt.alloc(), line, chains.as_slice(), port);
+    drop(chains);
+    let text = text?;
     let text = text.as_str();
     let _ = eprintln!(rt; "{text}");
     Ok(())

@@ -1,12 +1,11 @@
 //! A client of a store that is tried, on a thread of its own: it puts, reads what it put, and asks again.
 use crate::course::Course;
-use crate::gate::{StressGate, rest};
-use craq_commands::{Command, ReadMode, Reply, Update};
+use crate::gate::StressGate;
+use craq_commands::ReadMode;
 use craq_list::ListCore;
-use craq_model::{Answer, Ask};
-use craq_names::{
-    ChainId, ClientId, Key, NodeId, NodeName, ObjectId, Pass, Refusal, RequestNo, Value,
-};
+use craq_model::Ask;
+use craq_names::{Pass, Refusal};
+use craq_trials::{name_of, put_of, read_of, rest, version_of};
 use craq_workers::{Client, Store};
 use std::alloc::Global;
 use std::sync::Wait;
@@ -34,15 +33,6 @@ fn version_after(number: u64) -> u64 {
     (number.saturating_sub(1) / OBJECTS).saturating_add(1)
 }
 
-/// The version that an answer tells, or 0.
-fn version_of(answer: &Answer) -> u64 {
-    match answer {
-        Answer::Update(Reply::Written(version)) => version.get(),
-        Answer::Read { version, .. } => version.get(),
-        _ => 0,
-    }
-}
-
 impl Asker {
     /// A client of this id that has seen nothing.
     pub fn new(alloc: Global, store: &Tried, id: u8) -> Result<Asker, Refusal> {
@@ -51,32 +41,18 @@ impl Asker {
     }
 
     /// The object that its put of this number writes.
-    fn object(&self, number: u64) -> Result<ObjectId, Refusal> {
-        let key = [self.id, (number % OBJECTS) as u8];
-        Ok(ObjectId {
-            chain: ChainId::new(0),
-            key: Key::new(self.alloc, &key)?,
-        })
+    fn key(&self, number: u64) -> [u8; 2] {
+        [self.id, (number % OBJECTS) as u8]
     }
 
     /// The put of this number.
     fn put(&self, number: u64) -> Result<Ask, Refusal> {
-        let object = self.object(number)?;
-        let value = Value::new(self.alloc, b"a")?;
-        let number = RequestNo::new(number)?;
-        Ok(Ask::Update(Update {
-            client: ClientId::new(u64::from(self.id)),
-            number,
-            command: Command::Put { object, value },
-        }))
+        put_of(self.alloc, u64::from(self.id), number, &self.key(number))
     }
 
     /// A read of what the put of this number wrote.
     fn read(&self, number: u64, mode: ReadMode) -> Result<Ask, Refusal> {
-        Ok(Ask::Read {
-            mode,
-            object: self.object(number)?,
-        })
+        read_of(self.alloc, mode, &self.key(number))
     }
 
     /// Asks a node: the version that it tells. The receipt of the call goes to the others.
@@ -89,11 +65,7 @@ impl Asker {
         version: u64,
     ) -> Result<(), Refusal> {
         let asked = course.ticks.load(Ordering::SeqCst);
-        let name = NodeName {
-            chain: ChainId::new(0),
-            node: NodeId::new(node),
-        };
-        let (answer, receipt) = self.client.call(rt, name, ask)?;
+        let (answer, receipt) = self.client.call(rt, name_of(node), ask)?;
         let is_right = version_of(&answer) == version;
         drop(answer);
         course.note(rt, receipt, asked, is_right);

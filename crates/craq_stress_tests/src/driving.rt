@@ -1,10 +1,10 @@
 //! What each trial does with its store.
 use crate::asking::{Asker, Tried};
 use crate::course::Course;
-use crate::gate::{LIMIT, rest};
-use crate::trials::{Fact, Fault, Trial, expect};
+use crate::trials::Trial;
 use craq_audit::Audit;
-use craq_names::{ChainId, NodeId, Refusal};
+use craq_names::{NodeId, Refusal};
+use craq_trials::{Fact, Fault, LIMIT, chain, expect, rest};
 use std::sync::atomic::{AtomicU64, Ordering};
 use std::sync::{Arc, Wait};
 use std::thread;
@@ -24,11 +24,6 @@ const MOST_JOINS: u32 = 10_000;
 
 /// No more numbers than these.
 const MANY: u64 = 1_000_000;
-
-/// The chain of each store.
-fn chain() -> ChainId {
-    ChainId::new(0)
-}
 
 /// A store that runs, and its course.
 pub struct Ground {
@@ -101,16 +96,22 @@ impl Ground {
         self.end(&rt)
     }
 
+    /// A put is under way, and node 2 is held.
+    fn put_and_hold<R>(&self, rt: R, askers: &mut Askers) -> Result<(), Fault>
+    where
+        R: Threads + Wait + Copy + Send + 'static,
+    {
+        self.start_asker(rt, 1, 1, askers)?;
+        let held = self.tick_until(&rt, &self.course.held, 1, LIMIT);
+        expect(held, Fact::IsHeld)
+    }
+
     /// A put is under way while node 2 is held, stops and is removed. Then it is asked again.
     fn stop<R>(&self, rt: R, askers: &mut Askers) -> Result<(), Fault>
     where
         R: Threads + Wait + Copy + Send + 'static,
     {
-        self.start_asker(rt, 1, 1, askers)?;
-        expect(
-            self.tick_until(&rt, &self.course.held, 1, LIMIT),
-            Fact::IsHeld,
-        )?;
+        self.put_and_hold(rt, askers)?;
         self.store.stop(&rt, chain(), NodeId::new(2))?;
         self.store.remove(&rt, chain(), NodeId::new(2))?;
         self.course.open.store(true, Ordering::SeqCst);
@@ -123,11 +124,7 @@ impl Ground {
     where
         R: Threads + Wait + Copy + Send + 'static,
     {
-        self.start_asker(rt, 1, 1, askers)?;
-        expect(
-            self.tick_until(&rt, &self.course.held, 1, LIMIT),
-            Fact::IsHeld,
-        )?;
+        self.put_and_hold(rt, askers)?;
         if within {
             self.look(&rt)?;
         } else {
@@ -143,8 +140,11 @@ impl Ground {
         let told = self.store.status(rt)?;
         drop(told);
         let mut asker = Asker::new(self.host.alloc(), &self.store, CLIENTS.wrapping_add(1))?;
-        asker.glance(rt, &self.course, 1)?;
-        asker.glance(rt, &self.course, 3)?;
+        let first = asker.glance(rt, &self.course, 1);
+        let third = asker.glance(rt, &self.course, 3);
+        drop(asker);
+        first?;
+        third?;
         Ok(())
     }
 

@@ -1,18 +1,13 @@
 //! The gate of a trial, which holds node 2 up, loses messages and slows them.
 use crate::course::Course;
-use crate::trials::{Form, Place, Trial};
+use crate::trials::{Place, Trial};
 use craq_names::NodeName;
+use craq_trials::{Form, LIMIT, wait_for};
 use craq_workers::{Gate, Work};
 use std::sync::Arc;
-use std::sync::atomic::{AtomicBool, Ordering};
+use std::sync::atomic::Ordering;
 use std::thread;
 use std::time::Duration;
-
-/// The most turns of a wait.
-pub const LIMIT: u64 = 1000;
-
-/// How long a turn takes, in milliseconds: a tick is a turn after the one before.
-const TURN: u64 = 10;
 
 /// How long each message from node 3 to node 4 takes in a slow join, in milliseconds.
 const SLOW: u64 = 50;
@@ -21,22 +16,6 @@ const SLOW: u64 = 50;
 const THIRD: u64 = 3;
 
 const HUNDREDTH: u64 = 100;
-
-/// Rests for a turn.
-pub fn rest(clock: HostRuntime) {
-    thread::sleep(&clock, Duration::from_millis(TURN));
-}
-
-/// Waits until a flag is set, for at most so many turns, and tells whether it is.
-pub fn wait_for(clock: HostRuntime, flag: &AtomicBool, turns: u64) -> bool {
-    for _ in 0..turns {
-        if flag.load(Ordering::SeqCst) {
-            return true;
-        }
-        rest(clock);
-    }
-    flag.load(Ordering::SeqCst)
-}
 
 /// The number of a message, spread as if by chance.
 fn spread(number: u64) -> u64 {
@@ -55,7 +34,7 @@ pub struct StressGate {
 impl StressGate {
     /// Holds node 2 here, if this is where the trial does, until it may go on.
     fn pass(&self, node: NodeName, work: Work, count: u64, place: Place) {
-        let carried = matches!(self.form, Form::Carried);
+        let carried = self.form.is_carried();
         if node.node.get() != 2
             || matches!(work, Work::Asks) != carried
             || !self.trial.holds(place, count)
@@ -100,10 +79,10 @@ impl Gate for StressGate {
     }
 
     fn in_place(&self) -> bool {
-        matches!(self.form, Form::InPlace)
+        self.form.is_in_place()
     }
 
     fn carried(&self) -> bool {
-        matches!(self.form, Form::Carried)
+        self.form.is_carried()
     }
 }

@@ -1,36 +1,31 @@
 //! One trial on a thread of its own, with a limit of time.
-ghost use Rattle.std.specs.Prelude.{IfOk};
-ghost use Rattle.craq_place.specs.Plan.{IsPlan};
-
 use crate::asking::Tried;
 use crate::course::Course;
 use crate::driving::{Askers, Ground};
-use crate::gate::{LIMIT, StressGate, rest, wait_for};
-use crate::trials::{Fact, Fault, Form, Trial, expect};
+use crate::gate::StressGate;
+use crate::trials::Trial;
 use craq_names::Refusal;
-use craq_place::Plan;
+use craq_trials::{ALONE, Fact, Fault, Form, comes_to, end_of, expect, plan};
 use craq_workers::Store;
-use std::alloc::Global;
 use std::sync::atomic::{AtomicBool, Ordering};
 use std::sync::{Arc, Wait};
+use std::thread;
 use std::thread::Threads;
-use std::{fs, thread};
-
-/// The chain of each store.
-const PLAN: &str = "[[chain]]\nname = \"a\"\nnodes = [1, 2, 3]\n";
-
-/// What the system tells of this process with two threads: its own and that of a trial.
-const ALONE: &str = "\nThreads:\t2\n";
 
 /// The most turns that a trial takes: so many, and so many more for each of its number.
 const MOST_TURNS: u64 = 6000;
 
 const MORE_TURNS: u64 = 10;
 
-fn plan(alloc: Global) -> Result<Plan, Refusal>
-    ensures { IfOk result IsPlan }
+/// A store with this gate.
+fn store<R>(rt: R, host: HostRuntime, gate: StressGate) -> Result<Tried, Refusal>
+where
+    R: Threads + Wait + Copy + Send + 'static,
 {
-    Plan::read(alloc, PLAN)
+    let plan = plan(host.alloc())?;
+    let started = Store::start(rt, host.alloc(), &plan, gate, true);
+    drop(plan);
+    started
 }
 
 /// A store for a trial.
@@ -38,7 +33,6 @@ fn start<R>(rt: R, host: HostRuntime, trial: Trial, form: Form) -> Result<Ground
 where
     R: Threads + Wait + Copy + Send + 'static,
 {
-    let plan = plan(host.alloc())?;
     let course = Arc::new(host.alloc(), Course::new(host.alloc()))?;
     let gate = StressGate {
         clock: host,
@@ -46,25 +40,12 @@ where
         trial,
         course: Arc::try_clone(&course)?,
     };
-    let store: Tried = Store::start(rt, host.alloc(), &plan, gate, true)?;
+    let store = store(rt, host, gate)?;
     Ok(Ground {
         host,
         store,
         course,
     })
-}
-
-/// This process is to come to have two threads.
-fn expect_alone(host: HostRuntime) -> Result<(), Fault> {
-    for _ in 0..LIMIT {
-        if let Ok(status) = fs::read_to_string(&host, "/proc/self/status") {
-            if status.as_str().contains(ALONE) {
-                return Ok(());
-            }
-        }
-        rest(host);
-    }
-    Err(Fault::Unmet(Fact::LeavesNone))
 }
 
 /// Tries a trial once, on a store that is closed in the end.
@@ -90,7 +71,7 @@ where
     drop(course);
     tried?;
     expect(wrong == 0, Fact::HasItsVersion)?;
-    expect_alone(host)
+    expect(comes_to(host, ALONE), Fact::LeavesNone)
 }
 
 /// Tries a trial as often as it is to be.
@@ -118,13 +99,7 @@ where
     });
     let turns = MOST_TURNS.saturating_add(trial.number().saturating_mul(MORE_TURNS));
     match spawned {
-        Ok(trial) => {
-            if wait_for(host, &over, turns) {
-                trial.join(&rt)
-            } else {
-                Err(Fault::Unmet(Fact::Ends))
-            }
-        }
+        Ok(test) => end_of(&rt, host, test, &over, turns),
         Err(_) => Err(Fault::Refused(Refusal::Memory)),
     }
 }

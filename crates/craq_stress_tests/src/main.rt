@@ -11,14 +11,18 @@ mod gate;
 mod judge;
 mod trials;
 
+use craq_trials::{FORMS, Fault, Form, tell};
 use judge::judge;
 use std::sync::Wait;
 use std::thread::Threads;
 use std::{env, io};
-use trials::{FORMS, Fact, Fault, Form, Trial};
+use trials::Trial;
 
 /// Before which pieces of its work node 2 stops, counted from 0.
 const LAST_PIECE: u64 = 8;
+
+/// Such a trial in words, which its number follows as it does those of the others.
+const STOP: &str = "node 2 stops before a piece of its work, a put is asked again, piece";
 
 /// For how many turns messages are lost, how often a store is closed, and how many calls are answered while members change.
 const SIZES: [u64; 3] = [100, 20, 2000];
@@ -38,53 +42,60 @@ fn sizes(rt: HostRuntime) -> io::Result<[u64; 3]> {
     Ok(sizes)
 }
 
-/// Tells how a trial ended.
-fn tell(host: HostRuntime, trial: Trial, ended: &Result<(), Fault>) -> io::Result<()> {
-    let text = trial.text();
-    let number = trial.number();
-    match ended {
-        Ok(()) => println!(host; "{text} {number}: holds"),
-        Err(Fault::Refused(refusal)) => println!(host;
-            "{text} {number}: fails, refused: {refusal}"
-        ),
-        Err(Fault::Unmet(fact)) => {
-            let fact = fact.text();
-            println!(host; "{text} {number}: fails, not so: {fact}")
-        }
-    }
-}
-
-/// Tries a trial. Whether the others can be tried.
-fn try_one<R>(rt: R, host: HostRuntime, trial: Trial, form: Form) -> io::Result<bool>
+/// Tries a trial, and tells by its words and its number how it ended. Whether the others can be tried.
+fn try_one<R>(rt: R, host: HostRuntime, trial: Trial, text: &str, form: Form) -> io::Result<bool>
 where
     R: Threads + Wait + Copy + Send + 'static,
 {
     let ended = judge(rt, host, trial, form);
-    tell(host, trial, &ended)?;
-    Ok(!matches!(ended, Err(Fault::Unmet(Fact::Ends))))
+    let number = trial.number();
+    print!(host; "{text} {number}: ")?;
+    tell(host, &ended)?;
+    Ok(!matches!(ended, Err(Fault::Late)))
+}
+
+/// The trials after those, each in words.
+fn others(turns: u64, closes: u64, calls: u64) -> [(Trial, &'static str); 7] {
+    [
+        (
+            Trial::Before,
+            "before a piece of work no lock is held, times",
+        ),
+        (
+            Trial::Within,
+            "within it the lock of its node alone is held, times",
+        ),
+        (Trial::After, "after it no lock is held, times"),
+        (
+            Trial::Losses(turns),
+            "a third of all messages is lost, then none, and all calls are answered, turns",
+        ),
+        (
+            Trial::SlowJoin(600),
+            "a node joins whose state takes longer to send than a tick, calls before",
+        ),
+        (
+            Trial::Changes(calls),
+            "nodes stop, go and join while clients ask, calls answered at least",
+        ),
+        (
+            Trial::Closes(closes),
+            "a store is closed while clients ask, times",
+        ),
+    ]
 }
 
 fn main(rt: HostRuntime) -> io::Result<()> {
     let [turns, closes, calls] = sizes(rt)?;
-    for form in FORMS {
-        let text = form.text();
-        println!(rt; "{text}")?;
+    for (form, words) in FORMS {
+        println!(rt; "{words}")?;
         for piece in 0..=LAST_PIECE {
-            if !try_one(rt, rt, Trial::Stop(piece), form)? {
+            if !try_one(rt, rt, Trial::Stop(piece), STOP, form)? {
                 return Ok(());
             }
         }
-        let others = [
-            Trial::Before,
-            Trial::Within,
-            Trial::After,
-            Trial::Losses(turns),
-            Trial::SlowJoin(600),
-            Trial::Changes(calls),
-            Trial::Closes(closes),
-        ];
-        for trial in others {
-            if !try_one(rt, rt, trial, form)? {
+        for (trial, text) in others(turns, closes, calls) {
+            if !try_one(rt, rt, trial, text, form)? {
                 return Ok(());
             }
         }

@@ -1,10 +1,10 @@
 //! Cases of calls: two that overlap, steps in place and by the ask worker, what is read back.
 use crate::asker::{Asker, Tested};
-use crate::case::{Fact, Fault, expect, expect_refusal};
-use crate::gate::{LIMIT, Signs, wait_for};
+use crate::gate::Signs;
 use craq_audit::Audit;
-use craq_names::{ChainId, NodeId, Refusal};
+use craq_names::{NodeId, Refusal};
 use craq_seat::CallReceipt;
+use craq_trials::{Fact, Fault, LIMIT, chain, expect, expect_refusal, wait_for};
 use std::sync::Wait;
 use std::sync::atomic::Ordering;
 use std::thread;
@@ -12,8 +12,10 @@ use std::thread::{JoinHandle, Threads};
 
 /// The audit of these receipts is to find a run.
 pub fn confirm<R: Wait>(rt: &R, store: &Tested, receipts: &[CallReceipt]) -> Result<(), Fault> {
-    let audit = store.audit(rt, ChainId::new(0), receipts)?;
-    expect(matches!(&audit, Audit::Merged(_)), Fact::IsMerged)
+    let audit = store.audit(rt, chain(), receipts)?;
+    let is_merged = matches!(&audit, Audit::Merged(_));
+    drop(audit);
+    expect(is_merged, Fact::IsMerged)
 }
 
 /// A put at node 1.
@@ -44,9 +46,16 @@ where
     let read = read_meanwhile(&rt, host, store);
     let late = signs.late.load(Ordering::SeqCst);
     signs.open.store(true, Ordering::SeqCst);
-    let put = caller.join(&rt);
-    expect(reached && !late, Fact::AnswersMeanwhile)?;
-    read_on(&rt, store, put?, read?)
+    find_both(&rt, store, reached && !late, caller.join(&rt), read)
+}
+
+/// The version that a put told.
+fn version_of_put<R: Threads>(
+    rt: &R,
+    caller: JoinHandle<Result<Asker, Refusal>>,
+) -> Result<u64, Refusal> {
+    let asker = caller.join(rt)?;
+    Ok(asker.version)
 }
 
 /// The chain is audited, which takes the locks of its master and of all its nodes, while a put at node 1 is held before or
@@ -60,10 +69,10 @@ where
     let audited = confirm(&rt, store, &[]);
     let late = signs.late.load(Ordering::SeqCst);
     signs.open.store(true, Ordering::SeqCst);
-    let asker = caller.join(&rt)?;
+    let version = version_of_put(&rt, caller)?;
     audited?;
     expect(reached && !late, Fact::IsFree)?;
-    expect(asker.version == 1, Fact::Writes)
+    expect(version == 1, Fact::Writes)
 }
 
 /// A read at node 3 by another client.
@@ -73,29 +82,45 @@ fn read_meanwhile<R: Wait>(rt: &R, host: HostRuntime, store: &Tested) -> Result<
     Ok(asker)
 }
 
-/// The put wrote version 1, and a read at node 2 with its pass finds it.
-fn find_put<R: Wait>(rt: &R, first: &mut Asker) -> Result<(), Fault> {
-    expect(first.version == 1, Fact::Writes)?;
-    first.read(rt, 2)?;
-    expect(first.version == 1, Fact::Finds)
-}
-
-/// An audit with the calls of both clients is to find a run.
-fn confirm_both<R: Wait>(
+/// The put wrote version 1, and a read at node 2 with its pass finds it. Nothing was found before it, while it was held, and an
+/// audit with the calls of both clients finds a run.
+fn find_put<R: Wait>(
     rt: &R,
     store: &Tested,
-    mut first: Asker,
-    second: Asker,
+    held: bool,
+    first: &mut Asker,
+    second: &mut Asker,
 ) -> Result<(), Fault> {
+    expect(held, Fact::AnswersMeanwhile)?;
+    expect(second.version == 0, Fact::FindsNothing)?;
+    expect(first.version == 1, Fact::Writes)?;
+    first.read(rt, 2)?;
+    expect(first.version == 1, Fact::Finds)?;
     first.take_receipts(second)?;
     confirm(rt, store, first.receipts.as_slice())
 }
 
-/// Nothing was found before the put, it is found at node 2, and the audit finds all three calls.
-fn read_on<R: Wait>(rt: &R, store: &Tested, mut first: Asker, second: Asker) -> Result<(), Fault> {
-    expect(second.version == 0, Fact::FindsNothing)?;
-    find_put(rt, &mut first)?;
-    confirm_both(rt, store, first, second)
+/// A put at node 1 and a read at node 3 meanwhile are to have been answered, as `find_put` says.
+fn find_both<R: Wait>(
+    rt: &R,
+    store: &Tested,
+    held: bool,
+    put: Result<Asker, Refusal>,
+    read: Result<Asker, Refusal>,
+) -> Result<(), Fault> {
+    match put {
+        Ok(mut first) => match read {
+            Ok(mut second) => find_put(rt, store, held, &mut first, &mut second),
+            Err(refusal) => {
+                drop(first);
+                Err(Fault::Refused(refusal))
+            }
+        },
+        Err(refusal) => {
+            drop(read);
+            Err(Fault::Refused(refusal))
+        }
+    }
 }
 
 /// A caller has its answer while the ask worker is held after its step; in place only once it was let go itself.
@@ -110,13 +135,19 @@ pub fn taking<R: Wait>(
     let read = asker.read(rt, 3);
     let passed = signs.passed.load(Ordering::SeqCst);
     signs.open.store(true, Ordering::SeqCst);
+    drop(asker);
     read?;
     expect(passed == in_place, Fact::TakesItsStep)
 }
 
-/// A put at node 1, and then a strong read at node 3 with its pass.
+/// A client puts, and finds what it put at another node.
 pub fn read_back<R: Wait>(rt: &R, host: HostRuntime, store: &Tested) -> Result<(), Fault> {
     let mut asker = Asker::new(host.alloc(), store, 1)?;
+    put_and_read(rt, &mut asker)
+}
+
+/// A put by this client at node 1, and then its strong read at node 3.
+fn put_and_read<R: Wait>(rt: &R, asker: &mut Asker) -> Result<(), Fault> {
     asker.put(rt, 1)?;
     expect(asker.version == 1, Fact::Writes)?;
     asker.read(rt, 3)?;
@@ -130,7 +161,7 @@ where
 {
     let caller = start_put(rt, Asker::new(host.alloc(), store, 1)?)?;
     let reached = wait_for(host, &signs.reached, LIMIT);
-    store.stop(&rt, ChainId::new(0), NodeId::new(1))?;
+    store.stop(&rt, chain(), NodeId::new(1))?;
     let refusal = caller.join(&rt).err();
     expect(reached, Fact::IsStopped)?;
     expect_refusal(refusal, Refusal::Stopped, Fact::IsStopped)

@@ -1,9 +1,11 @@
 //! The case in which nodes stop, go and join while clients ask and messages are lost.
 use crate::asker::{Asker, Tested};
 use crate::calls::confirm;
-use crate::case::{Fact, Fault, expect};
-use crate::gate::{Signs, rest};
-use craq_names::{ChainId, NodeId, Refusal};
+use crate::gate::Signs;
+use craq_names::{NodeId, Refusal};
+use craq_seat::CallReceipt;
+use craq_trials::{Fact, Fault, chain, expect, rest};
+use std::alloc::AllocError;
 use std::sync::atomic::{AtomicU32, AtomicU64, Ordering};
 use std::sync::{Arc, Wait};
 use std::thread;
@@ -123,7 +125,7 @@ fn change_tail<R>(rt: R, host: HostRuntime, store: &Tested, course: &Course) -> 
 where
     R: Threads + Wait + Copy + Send + 'static,
 {
-    let chain = ChainId::new(0);
+    let chain = chain();
     store.stop(&rt, chain, NodeId::new(3))?;
     course.tail.store(2, Ordering::SeqCst);
     tick_until_stuck(&rt, host, store, &course.made);
@@ -135,7 +137,7 @@ where
 
 /// The first node stops and is removed.
 fn change_head<R: Wait>(rt: &R, store: &Tested, course: &Course) -> Result<(), Refusal> {
-    let chain = ChainId::new(0);
+    let chain = chain();
     store.stop(rt, chain, NodeId::new(1))?;
     store.remove(rt, chain, NodeId::new(1))?;
     course.head.store(2, Ordering::SeqCst);
@@ -197,16 +199,19 @@ where
     Ok(callers)
 }
 
-/// A client with the receipts of all calls.
+/// Waits for the clients, and takes the receipts of all their calls.
 fn join_all<R: Threads>(
     rt: &R,
-    mut all: Asker,
     callers: Vec<JoinHandle<Asker>>,
-) -> Result<Asker, Refusal> {
+    receipts: &mut Vec<CallReceipt>,
+) -> Result<(), AllocError> {
     for caller in callers {
-        all.take_receipts(caller.join(rt))?;
+        let mut asker = caller.join(rt);
+        let taken = receipts.append(&mut asker.receipts);
+        drop(asker);
+        taken?;
     }
-    Ok(all)
+    Ok(())
 }
 
 /// Prints how many calls came back.
@@ -226,20 +231,49 @@ fn were_answered(course: &Course) -> bool {
     course.refused.load(Ordering::SeqCst) <= TOTAL / 10
 }
 
-/// A client with the receipts of all calls, which were made while members changed, and how many puts waited meanwhile.
+/// How many puts waited while members changed. The receipts are those of all calls that were made meanwhile.
 fn ask_all<R>(
     rt: R,
     host: HostRuntime,
     store: &Tested,
     course: &Arc<Course>,
-) -> Result<(Asker, u64), Refusal>
+    receipts: &mut Vec<CallReceipt>,
+) -> Result<u64, Refusal>
 where
     R: Threads + Wait + Copy + Send + 'static,
 {
     let callers = start_askers(rt, host, store, course)?;
-    let waiting = change_members(rt, host, store, course)?;
-    let all = join_all(&rt, Asker::new(host.alloc(), store, 0)?, callers)?;
-    Ok((all, waiting))
+    match change_members(rt, host, store, course) {
+        Ok(waiting) => {
+            join_all(&rt, callers, receipts)?;
+            Ok(waiting)
+        }
+        Err(refusal) => {
+            drop(callers);
+            Err(refusal)
+        }
+    }
+}
+
+/// Members change while clients ask: every call is to come back, few of them refused, and the audit is to find a run of them.
+fn go_on<R>(
+    rt: R,
+    host: HostRuntime,
+    store: &Tested,
+    signs: &Signs,
+    course: &Arc<Course>,
+    receipts: &mut Vec<CallReceipt>,
+) -> Result<(), Fault>
+where
+    R: Threads + Wait + Copy + Send + 'static,
+{
+    let waiting = ask_all(rt, host, store, course, receipts)?;
+    print_counts(host, course);
+    expect(came_back(course), Fact::ComesBack)?;
+    expect(were_answered(course), Fact::NineOfTen)?;
+    expect(waiting > 0, Fact::PutsWait)?;
+    expect(signs.are_counted(), Fact::IsCounted)?;
+    confirm(&rt, store, receipts.as_slice())
 }
 
 /// Nodes stop, are removed and join, and messages are lost, while clients go on asking.
@@ -248,11 +282,6 @@ where
     R: Threads + Wait + Copy + Send + 'static,
 {
     let course = Arc::new(host.alloc(), Course::new())?;
-    let (all, waiting) = ask_all(rt, host, store, &course)?;
-    print_counts(host, &course);
-    expect(came_back(&course), Fact::ComesBack)?;
-    expect(were_answered(&course), Fact::NineOfTen)?;
-    expect(waiting > 0, Fact::PutsWait)?;
-    expect(signs.are_counted(), Fact::IsCounted)?;
-    confirm(&rt, store, all.receipts.as_slice())
+    let mut receipts = Vec::new(host.alloc());
+    go_on(rt, host, store, signs, &course, &mut receipts)
 }

@@ -1,39 +1,16 @@
-//! The gate of a case, which holds workers up, cuts links and waits for signs.
-use crate::case::{Case, Form};
+//! The gate of a case, which holds workers up and cuts links, and the signs that it and the case give each other.
+use crate::case::Case;
 use craq_names::NodeName;
+use craq_trials::{Form, LIMIT, wait_for};
 use craq_workers::{Gate, Work};
 use std::sync::Arc;
 use std::sync::atomic::{AtomicBool, AtomicU64, Ordering};
-use std::thread;
-use std::time::Duration;
-
-/// The most turns of a wait, of 10 milliseconds each.
-pub const LIMIT: u32 = 1000;
 
 /// For how many turns a caller that takes its own step is held after it.
-const FEW: u32 = 5;
+const FEW: u64 = 5;
 
 /// Of how many messages one is lost while members change.
 const ONE_LOST: u64 = 500;
-
-/// How long a turn takes, in milliseconds.
-const TURN: u64 = 10;
-
-/// Rests for a turn.
-pub fn rest(clock: HostRuntime) {
-    thread::sleep(&clock, Duration::from_millis(TURN));
-}
-
-/// Waits until a flag is set, for at most so many turns, and tells whether it is.
-pub fn wait_for(clock: HostRuntime, flag: &AtomicBool, turns: u32) -> bool {
-    for _ in 0..turns {
-        if flag.load(Ordering::SeqCst) {
-            return true;
-        }
-        rest(clock);
-    }
-    flag.load(Ordering::SeqCst)
-}
 
 /// What a gate and its test tell each other.
 #[derive(Drop)]
@@ -93,7 +70,7 @@ pub struct CaseGate {
 
 impl CaseGate {
     /// Holds whoever comes here until the test opens, for at most so many turns.
-    fn hold(&self, turns: u32) {
+    fn hold(&self, turns: u64) {
         self.signs.reached.store(true, Ordering::SeqCst);
         if !wait_for(self.clock, &self.signs.open, turns) {
             self.signs.late.store(true, Ordering::SeqCst);
@@ -144,10 +121,10 @@ impl Gate for CaseGate {
     }
 
     fn in_place(&self) -> bool {
-        matches!(self.form, Form::InPlace)
+        self.form.is_in_place()
     }
 
     fn carried(&self) -> bool {
-        matches!(self.form, Form::Carried)
+        self.form.is_carried()
     }
 }

@@ -1,33 +1,20 @@
 //! One case tried on a thread of its own, with a limit of time.
-ghost use Rattle.std.specs.Prelude.{IfOk};
-ghost use Rattle.craq_place.specs.Plan.{IsPlan};
-
 use crate::asker::{Asker, Tested};
 use crate::calls::{free, overlap, read_back, stop, taking};
-use crate::case::{Case, Fact, Fault, Form, expect_refusal};
+use crate::case::Case;
 use crate::changes::changes;
-use crate::gate::{CaseGate, Signs, wait_for};
-use crate::members::{ALONE, expect_threads, members};
+use crate::gate::{CaseGate, Signs};
+use crate::members::{expect_threads, members};
 use craq_names::Refusal;
-use craq_place::Plan;
+use craq_trials::{ALONE, Fact, Fault, Form, end_of, expect_refusal, plan};
 use craq_workers::Store;
-use std::alloc::Global;
 use std::sync::atomic::{AtomicBool, Ordering};
 use std::sync::{Arc, Wait};
 use std::thread;
 use std::thread::Threads;
 
-/// The chain of each store.
-const PLAN: &str = "[[chain]]\nname = \"a\"\nnodes = [1, 2, 3]\n";
-
 /// The most turns, of 10 milliseconds, that a case takes.
-const MOST_TURNS: u32 = 3000;
-
-fn plan(alloc: Global) -> Result<Plan, Refusal>
-    ensures { IfOk result IsPlan }
-{
-    Plan::read(alloc, PLAN)
-}
+const MOST_TURNS: u64 = 3000;
 
 /// A case on its store.
 fn try_on<R>(
@@ -52,10 +39,38 @@ where
     }
 }
 
-/// A call of a store that was closed is to answer that it is.
-fn is_closed<R: Wait>(rt: &R, asker: Result<Asker, Refusal>) -> Result<(), Fault> {
+/// A store for a case.
+fn start<R>(
+    rt: R,
+    host: HostRuntime,
+    case: Case,
+    form: Form,
+    signs: &Arc<Signs>,
+) -> Result<Tested, Fault>
+where
+    R: Threads + Wait + Copy + Send + 'static,
+{
+    let gate = CaseGate {
+        clock: host,
+        case,
+        form,
+        signs: Arc::try_clone(signs)?,
+    };
+    let plan = plan(host.alloc())?;
+    let started = Store::start(rt, host.alloc(), &plan, gate, case.has_journals());
+    drop(plan);
+    Ok(started?)
+}
+
+/// A call of a store that was closed is to answer that it is, and no thread of it is to be left.
+fn is_closed<R: Wait>(
+    rt: &R,
+    host: HostRuntime,
+    asker: Result<Asker, Refusal>,
+) -> Result<(), Fault> {
     let refusal = asker?.read(rt, 2).err();
-    expect_refusal(refusal, Refusal::Closed, Fact::IsClosed)
+    expect_refusal(refusal, Refusal::Closed, Fact::IsClosed)?;
+    expect_threads(host, ALONE)
 }
 
 /// Starts a store for a case, tries the case on it, and closes it.
@@ -64,20 +79,17 @@ where
     R: Threads + Wait + Copy + Send + 'static,
 {
     let signs = Arc::new(host.alloc(), Signs::new())?;
-    let gate = CaseGate {
-        clock: host,
-        case,
-        form,
-        signs: Arc::try_clone(&signs)?,
-    };
-    let plan = plan(host.alloc())?;
-    let store: Tested = Store::start(rt, host.alloc(), &plan, gate, case.has_journals())?;
+    let store = start(rt, host, case, form, &signs)?;
     let tried = try_on(rt, host, case, form, &store, &signs);
     let asker = Asker::new(host.alloc(), &store, 9);
     store.close(&rt);
-    tried?;
-    expect_threads(host, ALONE)?;
-    is_closed(&rt, asker)
+    match tried {
+        Ok(()) => is_closed(&rt, host, asker),
+        Err(fault) => {
+            drop(asker);
+            Err(fault)
+        }
+    }
 }
 
 /// Tries a case on a thread of its own, and waits for its end as long as it may take.
@@ -93,13 +105,7 @@ where
         tried
     });
     match spawned {
-        Ok(trial) => {
-            if wait_for(host, &over, MOST_TURNS) {
-                trial.join(&rt)
-            } else {
-                Err(Fault::Late)
-            }
-        }
+        Ok(test) => end_of(&rt, host, test, &over, MOST_TURNS),
         Err(_) => Err(Fault::Refused(Refusal::Memory)),
     }
 }

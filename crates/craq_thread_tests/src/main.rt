@@ -10,31 +10,18 @@ mod gate;
 mod judge;
 mod members;
 
-use case::{CASES, Case, FORMS, Fault};
+use case::CASES;
+use craq_trials::{FORMS, Fault, tell};
 use judge::judge;
 use std::io;
 
-/// Tells how a case ended.
-fn tell(host: HostRuntime, case: Case, ended: &Result<(), Fault>) -> io::Result<()> {
-    let text = case.text();
-    match ended {
-        Ok(()) => println!(host; "{text}: holds"),
-        Err(Fault::Refused(refusal)) => println!(host; "{text}: fails, refused: {refusal}"),
-        Err(Fault::Unmet(fact)) => {
-            let fact = fact.text();
-            println!(host; "{text}: fails, not so: {fact}")
-        }
-        Err(Fault::Late) => println!(host; "{text}: fails, does not end"),
-    }
-}
-
 fn main(rt: HostRuntime) -> io::Result<()> {
-    for form in FORMS {
-        let text = form.text();
-        println!(rt; "{text}")?;
-        for case in CASES {
+    for (form, words) in FORMS {
+        println!(rt; "{words}")?;
+        for (case, text) in CASES {
             let ended = judge(rt, rt, case, form);
-            tell(rt, case, &ended)?;
+            print!(rt; "{text}: ")?;
+            tell(rt, &ended)?;
             if matches!(&ended, Err(Fault::Late)) {
                 return Ok(());
             }

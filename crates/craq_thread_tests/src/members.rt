@@ -1,17 +1,13 @@
 //! Cases of memberships and of how many threads there are.
 use crate::asker::Tested;
-use crate::case::{Fact, Fault, Form, expect, expect_refusal};
-use crate::gate::{LIMIT, rest};
-use craq_names::{ChainId, NodeId, Refusal};
+use craq_names::{NodeId, Refusal};
+use craq_trials::{Fact, Fault, Form, chain, comes_to, expect, expect_refusal};
 use craq_workers::ChainStatus;
-use std::fs;
 use std::sync::Wait;
 use std::thread::Threads;
 
-/// What the system tells of this process with two threads: its own and that of a case.
-pub const ALONE: &str = "\nThreads:\t2\n";
-
-/// The same with a store of three nodes: two threads more for each node or one for the chain, and one for the master.
+/// What the system tells of this process with a store of three nodes: beside its own thread and that of a case, two threads for
+/// each node or one for the chain, and one for the master.
 fn with_store(form: Form) -> &'static str {
     match form {
         Form::Carried => "\nThreads:\t4\n",
@@ -27,23 +23,9 @@ fn with_two_nodes(form: Form) -> &'static str {
     }
 }
 
-/// Whether the system tells this of the process.
-fn is_told(host: HostRuntime, threads: &str) -> bool {
-    match fs::read_to_string(&host, "/proc/self/status") {
-        Ok(status) => status.as_str().contains(threads),
-        Err(_) => false,
-    }
-}
-
 /// This process is to come to have so many threads.
 pub fn expect_threads(host: HostRuntime, threads: &str) -> Result<(), Fault> {
-    for _ in 0..LIMIT {
-        if is_told(host, threads) {
-            return Ok(());
-        }
-        rest(host);
-    }
-    Err(Fault::Unmet(Fact::HasItsThreads))
+    expect(comes_to(host, threads), Fact::HasItsThreads)
 }
 
 /// Whether the one chain has this epoch and three members.
@@ -65,9 +47,9 @@ fn refuse<R>(rt: R, store: &Tested) -> Result<(), Fault>
 where
     R: Threads + Wait + Copy + Send + 'static,
 {
-    let removed = store.remove(&rt, ChainId::new(0), NodeId::new(1));
+    let removed = store.remove(&rt, chain(), NodeId::new(1));
     expect_refusal(removed.err(), Refusal::NotStopped, Fact::IsRefused)?;
-    let joined = store.join(rt, ChainId::new(0), NodeId::new(1));
+    let joined = store.join(rt, chain(), NodeId::new(1));
     expect_refusal(joined.err(), Refusal::UsedId, Fact::IsRefused)
 }
 
@@ -76,10 +58,10 @@ fn change<R>(rt: R, host: HostRuntime, store: &Tested, form: Form) -> Result<(),
 where
     R: Threads + Wait + Copy + Send + 'static,
 {
-    store.stop(&rt, ChainId::new(0), NodeId::new(1))?;
-    store.remove(&rt, ChainId::new(0), NodeId::new(1))?;
+    store.stop(&rt, chain(), NodeId::new(1))?;
+    store.remove(&rt, chain(), NodeId::new(1))?;
     expect_threads(host, with_two_nodes(form))?;
-    store.join(rt, ChainId::new(0), NodeId::new(4))?;
+    store.join(rt, chain(), NodeId::new(4))?;
     expect_threads(host, with_store(form))
 }
 

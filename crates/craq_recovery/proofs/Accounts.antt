@@ -41,10 +41,10 @@ use Rattle.craq_recovery.specs.Taken.{HaveNumbers, HaveNumbersFor}
 use Rattle.craq_recovery.proofs.Bounds.{AllWithin, by_bool, turn_within, within_at_first}
 use Rattle.craq_recovery.proofs.Costs.{Costs, Fits, Within, cost, cost_all, cost_both, length_cost, tick_cost, top}
 use Rattle.craq_recovery.proofs.Gains.{Goes, goes_move}
-use Rattle.craq_recovery.proofs.Hearing.{after_both}
+use Rattle.craq_recovery.proofs.Arriving.{after_both}
 use Rattle.craq_recovery.proofs.Ids.{NoneIsMaster, none_after, none_is_master, not_master}
-use Rattle.craq_recovery.proofs.Onward.{Onward, onward_move, onward_moves, onward_on, onward_self, turn_named}
-use Rattle.craq_recovery.proofs.Sound.{Sound, own_chain, sound_after, sound_move}
+use Rattle.craq_recovery.proofs.Onward.{Onward, onward_move, onward_moves, onward_on, onward_self}
+use Rattle.craq_recovery.proofs.Sound.{Sound, own_chain, sound_after, sound_move, turn_named}
 use Rattle.craq_recovery.proofs.Spending.{Turned, delivery_turned, load}
 use Rattle.craq_recovery.proofs.Taking.{bears, for_it, round_travels, runs_on, sent_before, stands_at}
 
@@ -194,7 +194,7 @@ module _ (e i r : ℕ) (small : top e i r ≤ greatest_count) where
   stands_after : (d : Chain) (m : Move) → Stands d → AllWithin e i r (after_move d m) → Stands (after_move d m)
   stands_after d m s w =
       let g : Goes d (after_move d m) = goes_move d m s.followed in
-      record { sound = sound_move d m s.sound; followed = g.followed; none = none_after d m (chain_step d m) refl s.none; within = w }
+      record { sound = sound_move d m s.sound; followed = g.followed; none = none_after d m s.none; within = w }
 
   set_within : (nodes : List Plain) (p q : Plain) → ((id : ℕ) (x : Plain) → node_at nodes id ≡ Some x → Within e i r x) → node_at nodes (id_of q) ≡ Some p → Within e i r q
       → (id : ℕ) (x : Plain) → node_at (set_node nodes q) id ≡ Some x → Within e i r x

@@ -6,8 +6,8 @@ use Rattle.craq_model.specs.declared.message.Body.TheVariants as bodies
 use Rattle.craq_model.specs.declared.message.LinkMessage.{LinkMessage}
 use Rattle.craq_model.specs.declared.step.Out.{Out}
 use Rattle.craq_model.specs.declared.step.Out.TheVariants as outs
-use Rattle.craq_model.specs.declared.step.Why.TheVariants.{OtherEpoch, NotNeighbour, AlreadyHave, NotReadyHere, TooFar}
-use Rattle.craq_model.specs.Deliveries.{ack_turn, acknowledgement_turn, body_turn, delivery_turn, turn_in_epoch}
+use Rattle.craq_model.specs.declared.step.Why.TheVariants.{NotNeighbour, AlreadyHave, NotReadyHere, TooFar}
+use Rattle.craq_model.specs.Deliveries.{ack_turn, acknowledgement_turn, body_turn, delivery_turn}
 use Rattle.craq_model.specs.Members.{is_id, is_member, predecessor_in, successor_in}
 use Rattle.craq_model.specs.Plain.{Plain, id_of, is_last, length_of, predecessor, successor}
 use Rattle.craq_model.specs.Sends.{catch_up, queries, ready_sends, send, send_all, tick_sends, to_neighbour, unready_sends}
@@ -24,7 +24,6 @@ use Rattle.craq_refinement.proofs.EachLine.{said_as}
 use Rattle.craq_refinement.proofs.EachStep.{every_run}
 use Rattle.craq_refinement.proofs.Members.{is_member-same, next_from_predecessor}
 use Rattle.craq_refinement.proofs.Nodes.{node_id}
-use Rattle.craq_refinement.proofs.Stages.{Arrived, arrived}
 use Rattle.craq_refinement.proofs.Worlds.{history_length}
 use Rattle.craq_runs.specs.Chain.{Chain, message_at, node_at, sent_in}
 use Rattle.craq_runs.specs.Runs.{IsRunOf, after_move}
@@ -33,12 +32,11 @@ use Rattle.craq_recovery.specs.Recovered.{AreNeighbours, Knows, KnowsCommitted, 
 use Rattle.craq_recovery.specs.Rounds.{after_moves_by, round}
 use Rattle.craq_recovery.specs.Taken.{HaveNumbers}
 use Rattle.craq_recovery.proofs.Gains.{prefix_length}
-use Rattle.craq_recovery.proofs.Hearing.{Informed, knows_at}
-use Rattle.craq_recovery.proofs.Running.{delivery_turn-runs}
+use Rattle.craq_recovery.proofs.Hearing.{Informed}
 use Rattle.craq_recovery.proofs.Ids.{none_is_master, not_master}
 use Rattle.craq_recovery.proofs.Sound.{Sound, sound_after}
 use Rattle.craq_recovery.proofs.Series.{Has}
-use Rattle.craq_recovery.proofs.Travels.{IsKept, Makes, NodeIs, arrived_here, crosses_one}
+use Rattle.craq_recovery.proofs.Travels.{IsKept, Makes, Met, NodeIs, crosses_one, ends, in_turn, met, stands_by}
 
 -- ---- nodes of the master's epoch
 
@@ -166,35 +164,15 @@ held_by c number m position id p f there is at runs ready =
     omega (arith, most, prefix_length holds, history_length n.history)
 
 ack_makes : (c : Chain) (from to least : ℕ) → successor_in c.members to ≡ Some from → Makes c to (IsAck c.epoch from to least) (Receiver c.epoch) (Knowing least)
-ack_makes c from to least after d number m x s f on g there k is =
-    let a : Arrived d m x = arrived d number m x there k in
-    let p : Plain = a.node in
-    let t : Turn = delivery_turn p m in
-    let q : Plain = g.node in
-    let own : id_of p ≡ to = sym a.own ∙ is.goes_to in
-    let N : ℕ → Type 0 = λ i. node_at d.nodes i ≡ Some p in
-    let at : node_at d.nodes to ≡ Some p = subst N own a.at in
-    let same : q ≡ p = let there : node_at d.nodes to ≡ Some q = g.at in cc in
-    let r : Receiver c.epoch p = let P : Plain → Type 0 = λ x. Receiver c.epoch x in subst P same g.holds in
-    let kn : Knows d p = knows_at c d to on f (record { node = p; at = at; runs = a.running; late = r.late }) in
-    let P : List ℕ → Type 0 = λ l. successor_in l to ≡ Some from in
-    let Q : ℕ → Type 0 = λ i. successor_in p.members i ≡ Some from in
-    let next : successor p ≡ Some from = subst Q (sym own) (subst P (sym (kn.members ∙ on.members)) after) in
-    let R : ℕ → Type 0 = λ i. successor p ≡ Some i in
-    let le : is.position ≤ length_of p = held_by d number m is.position to p f there is.says at a.running r.ready in
-    let got : is.position ≤ (ack_turn p m.sender is.position).0.past.acknowledged = acknowledges p m.sender is.position (subst R (sym is.comes_from) next) r.ready le in
-    let same_epoch : m.epoch ≡ p.epoch = is.made ∙ sym (kn.epoch ∙ on.epoch) in
-    let turned : is.position ≤ (turn_in_epoch p m (ack_turn p m.sender is.position)).0.past.acknowledged =
-    cond_both (m.epoch == p.epoch) (ack_turn p m.sender is.position) (turn_ignoring p OtherEpoch) (λ (t : Turn). is.position ≤ t.0.past.acknowledged)
-    (λ e. got)
-    (λ e. absurd (both_ways (m.epoch == p.epoch) e (eq-eqb m.epoch p.epoch same_epoch))) in
-    let by : t ≡ turn_in_epoch p m (ack_turn p m.sender is.position) = ap (body_turn p m) is.says in
-    record {
-      node = t.0;
-      at = arrived_here d number m x s there a to is.goes_to;
-      runs = delivery_turn-runs p m ∙ a.running;
-      holds = omega (arith, is.enough, turned, ap (λ (t : Turn). t.0.past.acknowledged) by);
-    }
+ack_makes c from to least after d number m x s f on g there e is =
+    let k : Met c d x m to (Receiver c.epoch) = met c d to number m x (Receiver c.epoch) (λ p r. r.late) s f on g there e is.goes_to is.made in
+    let p : Plain = k.node in
+    let r : Receiver c.epoch p = k.holds in
+    let next : successor p ≡ Some m.sender = stands_by k successor_in after is.comes_from in
+    let le : is.position ≤ length_of p = held_by d number m is.position to p f there is.says k.there k.running r.ready in
+    let does : delivery_turn p m ≡ ack_turn p m.sender is.position = ap (body_turn p m) is.says ∙ in_turn k (ack_turn p m.sender is.position) in
+    let got : is.position ≤ (ack_turn p m.sender is.position).0.past.acknowledged = acknowledges p m.sender is.position next r.ready le in
+    ends k (Knowing least) (omega (arith, is.enough, got, ap (λ (t : Turn). t.0.past.acknowledged) does))
 
 -- ---- in a round
 

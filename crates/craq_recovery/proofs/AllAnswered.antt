@@ -27,8 +27,8 @@ use Rattle.craq_recovery.specs.Taken.{HaveNumbersFor}
 use Rattle.craq_recovery.proofs.Answered.{onward_rounds}
 use Rattle.craq_recovery.proofs.Fates.{StillWaits, delivery_fate}
 use Rattle.craq_recovery.proofs.Heads.{Good, good_moves, good_run}
-use Rattle.craq_recovery.proofs.Onward.{IsTravel, Onward, turn_named}
-use Rattle.craq_recovery.proofs.Sound.{Sound, own_chain, sound_move}
+use Rattle.craq_recovery.proofs.Onward.{IsTravel, Onward}
+use Rattle.craq_recovery.proofs.Sound.{Sound, own_chain, sound_move, turn_named}
 use Rattle.craq_recovery.proofs.Taking.{bears, for_it, round_travels}
 use Rattle.craq_recovery.proofs.Ticking.{tick_keeps}
 use Rattle.craq_recovery.proofs.Travels.{arrived_here}

@@ -33,9 +33,9 @@ use Rattle.craq_recovery.specs.Rounds.{after_moves_by, after_rounds, round}
 use Rattle.craq_recovery.specs.Taken.{HaveNumbersFor}
 use Rattle.craq_recovery.proofs.Extending.{IsReachedBy, reached_here}
 use Rattle.craq_recovery.proofs.Gains.{prefix_length}
-use Rattle.craq_recovery.proofs.Heads.{Good, acks_reach_all, good_run}
+use Rattle.craq_recovery.proofs.Heads.{Good, acks_reach_all, good_run, ready_after}
 use Rattle.craq_recovery.proofs.Onward.{Onward, onward_moves, onward_on, onward_self}
-use Rattle.craq_recovery.proofs.Tails.{HoldAll, entries_reach_all, good_there, reached_round, ready_after, same_held}
+use Rattle.craq_recovery.proofs.Tails.{HoldAll, entries_reach_all, good_there, reached_round, same_held}
 use Rattle.craq_recovery.proofs.Taking.{round_travels}
 use Rattle.craq_recovery.proofs.Travels.{NodeIs, lasts_on}
 use Rattle.craq_recovery.proofs.Waits.{Waiting, waits_last}

@@ -1,16 +1,15 @@
 -- Entries get one member further in a round.
-use Rattle.std.proofs.Common.{◌≡◌, ◌≢◌, inr, ℕ, suc, ◌+◌, ◌-◌, ◌<◌, ◌≤◌, ◌==◌, nat_le, nat_lt, true, not, ◌&&◌, cond, List, [], ◌∷◌, ◌++◌, map, length, drop, Option, Some, None, Result, refl, ap, sym, subst, ◌∙◌, arith}
-use Rattle.std.proofs.lemmas.Bool.{cond_both, both_ways, eq-eqb, eqb-true, leb-true, ltb-true, ltb-false, not-true}
+use Rattle.std.proofs.Common.{◌≡◌, ◌≢◌, inr, ℕ, suc, ◌+◌, ◌-◌, ◌<◌, ◌≤◌, ◌==◌, nat_le, nat_lt, true, not, ◌&&◌, cond, List, [], ◌∷◌, ◌++◌, map, length, drop, Option, Some, None, refl, ap, sym, subst, ◌∙◌, arith}
+use Rattle.std.proofs.lemmas.Bool.{cond_both, both_ways, eqb-true, leb-true, ltb-true, ltb-false, not-true}
 use Rattle.std.proofs.lemmas.List.{length-append, length-drop, map-append}
 use Rattle.std.specs.List.{AllByRecursion, flat_map}
-use Rattle.craq_names.specs.declared.refusal.Refusal.{Refusal}
 use Rattle.craq_commands.specs.declared.entry.Entry.{Entry}
 use Rattle.craq_laws.proofs.Parts.{runs_joined}
 use Rattle.craq_model.specs.declared.message.Body.{Body}
 use Rattle.craq_model.specs.declared.message.Body.TheVariants as bodies
 use Rattle.craq_model.specs.declared.message.LinkMessage.{LinkMessage}
 use Rattle.craq_model.specs.declared.step.Out.{Out}
-use Rattle.craq_model.specs.declared.step.Why.TheVariants.{OtherEpoch, NotNeighbour, OutOfOrder, AlreadyHave, TooFar}
+use Rattle.craq_model.specs.declared.step.Why.TheVariants.{NotNeighbour, OutOfOrder, AlreadyHave, TooFar}
 use Rattle.craq_model.specs.Deliveries.{are_applicable, body_turn, delivery_turn, entries_above, entries_turn, final_position, first_position, forwarding_turn, turn_in_epoch}
 use Rattle.craq_model.specs.Members.{is_id, is_member, predecessor_in, successor_in}
 use Rattle.craq_model.specs.Plain.{Plain, acknowledging, entries_after, id_of, is_last, is_tail, length_of, newest, predecessor, successor, with_entries}
@@ -30,12 +29,10 @@ use Rattle.craq_refinement.proofs.EachLine.{said_as}
 use Rattle.craq_refinement.proofs.Lists.{all_like, placed_back}
 use Rattle.craq_refinement.proofs.Members.{is_member-same, next_from_predecessor}
 use Rattle.craq_refinement.proofs.Rows.{all_of_above, placed_above, placed_drop}
-use Rattle.craq_refinement.proofs.Stages.{Arrived, arrived}
 use Rattle.craq_refinement.proofs.Worlds.{history_length}
-use Rattle.craq_runs.specs.declared.run.Move.TheVariants.{Deliver}
 use Rattle.craq_runs.specs.declared.run.Run.{Run}
-use Rattle.craq_runs.specs.Chain.{Chain, Progress, message_at, node_at, sent_in}
-use Rattle.craq_runs.specs.Runs.{IsRunOf, after_move, progressed}
+use Rattle.craq_runs.specs.Chain.{Chain, message_at, node_at, sent_in}
+use Rattle.craq_runs.specs.Runs.{IsRunOf, after_move}
 use Rattle.craq_runs.specs.Typed.{IsTypedRunOf}
 use Rattle.craq_recovery.specs.Recovered.{AreNeighbours, HoldsEntries, Knows, after_round, chain_after}
 use Rattle.craq_recovery.specs.Rounds.{after_moves_by, round}
@@ -43,14 +40,12 @@ use Rattle.craq_recovery.specs.Taken.{HaveNumbers}
 use Rattle.craq_recovery.proofs.Acks.{in_epoch, is_id_here}
 use Rattle.craq_recovery.proofs.Applicable.{Explained, StandIn, explained, fits}
 use Rattle.craq_recovery.proofs.Extending.{IsReachedBy, reached_here, reached_move}
-use Rattle.craq_recovery.proofs.Gains.{Gains, Goes, goes_move, prefix_length}
-use Rattle.craq_recovery.proofs.Hearing.{knows_at}
+use Rattle.craq_recovery.proofs.Gains.{Gains, prefix_length}
 use Rattle.craq_recovery.proofs.Ids.{none_is_master, not_master}
-use Rattle.craq_recovery.proofs.Running.{delivery_turn-runs}
 use Rattle.craq_recovery.proofs.Series.{Series, sent_left}
 use Rattle.craq_recovery.proofs.Sound.{Sound, sound_after}
-use Rattle.craq_recovery.proofs.Speaking.{by_test}
-use Rattle.craq_recovery.proofs.Travels.{IsKept, Leads, NodeIs, arrived_here, crosses, kept_lasts}
+use Rattle.craq_recovery.proofs.Lines.{by_test}
+use Rattle.craq_recovery.proofs.Travels.{IsKept, Leads, Met, NodeIs, crosses, ends, in_turn, kept_lasts, met, stands_by}
 use Rattle.craq_refinement.proofs.EachStep.{every_run}
 
 -- ---- the messages
@@ -272,38 +267,15 @@ takes_them chain d number m es a p r there is placed le at pred =
     entries_taken p m.sender a es pred placed le fit
 
 entries_lead : (chain : ℕ) (c : Chain) (from to : ℕ) → predecessor_in c.members to ≡ Some from → Leads (IsReachedBy chain) c to (Brings c.epoch from to) (HoldsSo c.epoch)
-entries_lead chain c from to before a k d number m x r s f on g there e is =
-    let ar : Arrived d m x = arrived d number m x there e in
-    let p : Plain = ar.node in
-    let t : Turn = delivery_turn p m in
-    let q : Plain = g.node in
-    let own : id_of p ≡ to = sym ar.own ∙ is.goes_to in
-    let N : ℕ → Type 0 = λ i. node_at d.nodes i ≡ Some p in
-    let at : node_at d.nodes to ≡ Some p = subst N own ar.at in
-    let same : q ≡ p = let there : node_at d.nodes to ≡ Some q = g.at in cc in
-    let h : HoldsSo c.epoch a p = let P : Plain → Type 0 = λ x. HoldsSo c.epoch a x in subst P same g.holds in
-    let kn : Knows d p = knows_at c d to on f (record { node = p; at = at; runs = ar.running; late = h.late }) in
-    let P : List ℕ → Type 0 = λ l. predecessor_in l to ≡ Some from in
-    let Q : ℕ → Type 0 = λ i. predecessor_in p.members i ≡ Some from in
-    let R : ℕ → Type 0 = λ i. predecessor p ≡ Some i in
-    let pred : predecessor p ≡ Some m.sender = subst R (sym is.comes_from) (subst Q (sym own) (subst P (sym (kn.members ∙ on.members)) before)) in
-    let got : a + length is.entries ≤ length_of (entries_turn p m.sender is.entries).0 = takes_them chain d number m is.entries a p r there is.says is.placed h.holds ar.at pred in
-    let same_epoch : m.epoch ≡ p.epoch = is.made ∙ sym (kn.epoch ∙ on.epoch) in
-    let turned : a + length is.entries ≤ length_of (turn_in_epoch p m (entries_turn p m.sender is.entries)).0 =
-    cond_both (m.epoch == p.epoch) (entries_turn p m.sender is.entries) (turn_ignoring p OtherEpoch) (λ (t : Turn). a + length is.entries ≤ length_of t.0)
-    (λ e. got)
-    (λ e. absurd (both_ways (m.epoch == p.epoch) e (eq-eqb m.epoch p.epoch same_epoch))) in
-    let by : t ≡ turn_in_epoch p m (entries_turn p m.sender is.entries) = ap (body_turn p m) is.says ∙ run_turn p m is.entries in
-    let after : node_at x.0.nodes to ≡ Some t.0 = arrived_here d number m x s there ar to is.goes_to in
-    let G : Result Progress Refusal → Type 0 = λ r. Goes d (progressed d r) in
-    let goes : Goes d x.0 = subst G e (goes_move d (Deliver number) f) in
-    let gains : Gains p t.0 = goes.gains to p t.0 at after in
-    record {
-      node = t.0;
-      at = after;
-      runs = delivery_turn-runs p m ∙ ar.running;
-      holds = record { ready = gains.ready h.ready; late = omega (arith, gains.epoch, h.late); holds = omega (arith, turned, is.ends, ap (λ (t : Turn). length_of t.0) by) };
-    }
+entries_lead chain c from to before a b d number m x r s f on g there e is =
+    let k : Met c d x m to (HoldsSo c.epoch a) = met c d to number m x (HoldsSo c.epoch a) (λ p h. h.late) s f on g there e is.goes_to is.made in
+    let p : Plain = k.node in
+    let h : HoldsSo c.epoch a p = k.holds in
+    let pred : predecessor p ≡ Some m.sender = stands_by k predecessor_in before is.comes_from in
+    let got : a + length is.entries ≤ length_of (entries_turn p m.sender is.entries).0 = takes_them chain d number m is.entries a p r there is.says is.placed h.holds k.at pred in
+    let does : delivery_turn p m ≡ entries_turn p m.sender is.entries = ap (body_turn p m) is.says ∙ (run_turn p m is.entries ∙ in_turn k (entries_turn p m.sender is.entries)) in
+    let gains : Gains p (delivery_turn p m).0 = k.gains in
+    ends k (HoldsSo c.epoch b) (record { ready = gains.ready h.ready; late = omega (arith, gains.epoch, h.late); holds = omega (arith, got, is.ends, ap (λ (t : Turn). length_of t.0) does) })
 
 -- ---- in a round
 

@@ -1,31 +1,18 @@
 -- An ask that waits at a node waits on by a message, or is answered by it.
-use Rattle.std.proofs.Common.{◌≡◌, ℕ, ◌+◌, ◌==◌, nat_le, nat_lt, Bool, true, false, not, cond, ◌||◌, ◌&&◌, List, [], ◌∷◌, ◌++◌, is_some, map, Option, Some, None, refl, ap, sym, subst, ◌∙◌}
-use Rattle.std.proofs.lemmas.Bool.{cond_both, both_ways, eq-eqb}
-use Rattle.craq_names.specs.Maps.{at_number}
-use Rattle.craq_commands.specs.declared.entry.Entry.{Entry}
-use Rattle.craq_commands.specs.declared.state.State.{State}
-use Rattle.craq_model.specs.declared.gathering.Gathering.{Gathering}
-use Rattle.craq_model.specs.declared.message.Body.{Body}
+use Rattle.std.proofs.Common.{◌≡◌, ℕ, ◌+◌, ◌==◌, nat_le, nat_lt, Bool, true, false, not, cond, ◌||◌, List, [], ◌∷◌, ◌++◌, map, None, refl, ap, sym, subst, ◌∙◌, ◌⊎◌, ⊎_elim, inl, inr, ◌<◌}
+use Rattle.std.proofs.lemmas.Bool.{cond_both, both_ways, eq-eqb, eqb-true, leb-false, lt-ltb}
 use Rattle.craq_model.specs.declared.message.Body.TheVariants as bodies
 use Rattle.craq_model.specs.declared.message.LinkMessage.{LinkMessage}
-use Rattle.craq_model.specs.declared.message.StatePart.{StatePart}
 use Rattle.craq_model.specs.declared.step.Out.{Out}
 use Rattle.craq_model.specs.declared.step.Out.TheVariants as outs
-use Rattle.craq_model.specs.declared.step.Why.{Why}
-use Rattle.craq_model.specs.declared.step.Why.TheVariants.{OtherEpoch, NotNeighbour, OutOfOrder, AlreadyHave, NotReadyHere, TooFar}
 use Rattle.craq_model.specs.declared.waiting.WaitingRead.{WaitingRead}
-use Rattle.craq_model.specs.Deliveries.{ack_turn, acknowledgement_turn, answering_version, appending_turn, are_applicable, blank_turn, body_turn, config_turn, copy_turn, delivery_turn, entries_above, entries_turn, fill_bodies, final_position, first_position, floor_turn, forwarding_turn, gathered_turn, gathering_turn, is_outdated, part_turn, query_turn, read_with, reads_without, taken_entries_turn, told_version_turn, turn_in_epoch, version_turn, with_copy}
-use Rattle.craq_model.specs.Members.{is_id, is_member, last_of}
-use Rattle.craq_model.specs.Parts.{gathered_position, gathering_for, is_in_order, is_whole, joined_state, with_part}
-use Rattle.craq_model.specs.Plain.{Plain, acknowledging, id_of, is_tail, length_of, newest, newest_object, object_within, predecessor, successor, with_entries}
-use Rattle.craq_model.specs.Sends.{entry_bodies, send, send_all, tick_sends, to_neighbour}
-use Rattle.craq_model.specs.Settle.{Turn, all_committed, all_given, answer_outs, is_reached, read_answer, readiness_turn, settling_turn, turn_ignoring, turn_with, without_reached}
-use Rattle.craq_recovery.proofs.Speaking.{by_test}
-use Rattle.std.proofs.Common.{◌⊎◌, ⊎_elim, inl, inr}
-use Rattle.std.proofs.lemmas.Bool.{eqb-true, leb-false, lt-ltb}
-use Rattle.std.proofs.Common.{◌<◌}
-use Rattle.craq_model.specs.Deliveries.{due_updates, later_updates}
-use Rattle.craq_model.specs.Settle.{Given, by_ticket, insert_given, read_given, update_given}
+use Rattle.craq_model.specs.Deliveries.{acknowledgement_turn, delivery_turn, reads_without, due_updates, later_updates}
+use Rattle.craq_model.specs.Members.{is_member}
+use Rattle.craq_model.specs.Plain.{Plain, is_tail, predecessor}
+use Rattle.craq_model.specs.Sends.{send, tick_sends, to_neighbour}
+use Rattle.craq_model.specs.Settle.{Turn, all_committed, all_given, answer_outs, settling_turn, turn_with, Given, by_ticket, insert_given, read_given, update_given}
+use Rattle.craq_recovery.proofs.Lines.{ByMessage, by_message, by_test}
+use Rattle.craq_model.specs.declared.ask.Answer.{Answer}
 use Rattle.craq_model.specs.declared.waiting.WaitingUpdate.{WaitingUpdate}
 use Rattle.craq_recovery.specs.Answers.{answered_tickets, waiting_tickets}
 
@@ -170,53 +157,11 @@ module _ (k : ℕ) where
   abbrev pub Fate : Turn → Type 0
   Fate t = StillWaits t.0 ⊎ (is_member (answered_tickets t.1.outs) k ≡ true)
 
-  stays : (p : Plain) (os : List Out) → StillWaits p → Fate (turn_with p os)
-  stays p os h = inl h
-
   settling_fate : (p : Plain) → StillWaits p → Fate (settling_turn p)
   unfolding settling_turn
   settling_fate p h =
       by_test (is_tail p) Fate (turn_with (all_committed p) (answer_outs (all_given p) ++ tick_sends (all_committed p))) (turn_with p (tick_sends p))
       (inr (answered_first (all_given p) (tick_sends (all_committed p)) k (all_are_given p k h))) (inl h)
-
-  readiness_fate : (p : Plain) → StillWaits p → Fate (readiness_turn p)
-  unfolding readiness_turn without_reached
-  readiness_fate p h =
-      by_test (not p.ready && is_reached p.floor (length_of p)) Fate (settling_turn (record p { ready = true; gathering = None })) (turn_with (without_reached p) [])
-      (settling_fate (record p { ready = true; gathering = None }) h)
-      (inl (by_test (nat_le (gathered_position p.gathering) (length_of p)) StillWaits (record p { gathering = None }) p h h))
-
-  unless : (p : Plain) → StillWaits p → (b : Bool) (why : Why) (t : Turn) → Fate t → Fate (cond b (turn_ignoring p why) t)
-  unless p h b why t f = by_test b Fate (turn_ignoring p why) t (inl h) f
-
-  config_fate : (p : Plain) (e : ℕ) (ms : List ℕ) → StillWaits p → Fate (config_turn p e ms)
-  unfolding config_turn
-  config_fate p e ms h =
-      let last : Turn = settling_turn (record p { epoch = e; members = ms; floor = None; gathering = None }) in
-      unless p h (nat_le e p.epoch) OtherEpoch (cond (not (is_member ms (id_of p))) (turn_ignoring p NotNeighbour) last)
-      (unless p h (not (is_member ms (id_of p))) NotNeighbour last (settling_fate (record p { epoch = e; members = ms; floor = None; gathering = None }) h))
-
-  forwarding_fate : (p : Plain) (es : List Entry) → StillWaits p → Fate (forwarding_turn p es)
-  unfolding forwarding_turn
-  forwarding_fate p es h =
-      by_test (is_tail p) Fate
-      (turn_with (acknowledging p (length_of p)) (to_neighbour (predecessor p) (λ to. send p to (bodies.Ack (length_of p)) ∷ [])))
-      (turn_with p (to_neighbour (successor p) (λ to. send_all p to (entry_bodies es)))) (inl h) (inl h)
-
-  entries_fate : (p : Plain) (sender : ℕ) (es : List Entry) → StillWaits p → Fate (entries_turn p sender es)
-  unfolding entries_turn
-  entries_fate p sender es h =
-      let new : List Entry = entries_above (length_of p) es in
-      let q : Plain = with_entries p new in
-      let t3 : Turn = appending_turn p new in
-      let t2 : Turn = cond (nat_lt (length_of p + 1) (first_position es)) (turn_ignoring p OutOfOrder) t3 in
-      let t1 : Turn = cond (nat_le (final_position es) (length_of p)) (turn_ignoring p AlreadyHave) t2 in
-      unless p h (not (is_id (predecessor p) sender)) NotNeighbour t1
-      (unless p h (nat_le (final_position es) (length_of p)) AlreadyHave t2
-      (unless p h (nat_lt (length_of p + 1) (first_position es)) OutOfOrder t3
-      (by_test (are_applicable (newest p) new) Fate (taken_entries_turn q new) (turn_ignoring p TooFar)
-      (by_test q.ready Fate (forwarding_turn q new) (readiness_turn q) (forwarding_fate q new h) (readiness_fate q h))
-      (inl h))))
 
   acknowledgement_fate : (p : Plain) (position : ℕ) → StillWaits p → Fate (acknowledgement_turn p position)
   unfolding acknowledgement_turn
@@ -234,107 +179,32 @@ module _ (k : ℕ) where
       (λ (i : is_member reads k ≡ true). inl (in_back later reads k i))
       (in_either (map (λ (u : WaitingUpdate). u.ticket) us) reads k h)
 
-  ack_fate : (p : Plain) (sender position : ℕ) → StillWaits p → Fate (ack_turn p sender position)
-  unfolding ack_turn
-  ack_fate p sender position h =
-      let t4 : Turn = acknowledgement_turn p position in
-      let t3 : Turn = cond (nat_lt (length_of p) position) (turn_ignoring p TooFar) t4 in
-      let t2 : Turn = cond (nat_le position p.past.acknowledged) (turn_ignoring p AlreadyHave) t3 in
-      let t1 : Turn = cond (not p.ready) (turn_ignoring p NotReadyHere) t2 in
-      unless p h (not (is_id (successor p) sender)) NotNeighbour t1
-      (unless p h (not p.ready) NotReadyHere t2
-      (unless p h (nat_le position p.past.acknowledged) AlreadyHave t3
-      (unless p h (nat_lt (length_of p) position) TooFar t4 (acknowledgement_fate p position h))))
-
-  query_fate : (p : Plain) (sender ticket : ℕ) (key : List ℕ) → StillWaits p → Fate (query_turn p sender ticket key)
-  unfolding query_turn
-  query_fate p sender ticket key h =
-      let t2 : Turn = turn_with p (send p sender (bodies.VersionIs ticket (newest_object p key).0) ∷ []) in
-      let t1 : Turn = cond (not (is_tail p)) (turn_ignoring p NotReadyHere) t2 in
-      unless p h ((sender == id_of p) || not (is_member p.members sender)) NotNeighbour t1 (unless p h (not (is_tail p)) NotReadyHere t2 (inl h))
-
-  told_fate : (p : Plain) (version : ℕ) (o : Option WaitingRead) → StillWaits p → Fate (told_version_turn p version o)
-  unfolding told_version_turn
-  told_fate p version None h = inl h
-  told_fate p version (Some r) h =
-      let answer : List Out = outs.Answer r.ticket (read_answer (object_within p r.key (answering_version p r.key version))) ∷ [] in
+  answer_fate : (p : Plain) (r : WaitingRead) (answer : Answer) → StillWaits p → Fate (turn_with (record p { waiting_reads = reads_without r.ticket p.waiting_reads }) (outs.Answer r.ticket answer ∷ []))
+  answer_fate p r answer h =
       let updates : List ℕ = map (λ (u : WaitingUpdate). u.ticket) p.waiting_updates in
       let left : List ℕ = map (λ (r : WaitingRead). r.ticket) (reads_without r.ticket p.waiting_reads) in
-      let t : Turn = turn_with (record p { waiting_reads = reads_without r.ticket p.waiting_reads }) answer in
-      unless p h (nat_lt (newest_object p r.key).0 version) TooFar t
-      (⊎_elim
+      ⊎_elim
       (λ (i : is_member updates k ≡ true). inl (in_front updates left k i))
       (λ (i : is_member (map (λ (r : WaitingRead). r.ticket) p.waiting_reads) k ≡ true).
       ⊎_elim
       (λ (j : r.ticket ≡ k). inr (alone r.ticket k j))
       (λ (j : is_member left k ≡ true). inl (in_back updates left k j))
       (told_or_left r.ticket p.waiting_reads k i))
-      (in_either updates (map (λ (r : WaitingRead). r.ticket) p.waiting_reads) k h))
+      (in_either updates (map (λ (r : WaitingRead). r.ticket) p.waiting_reads) k h)
 
-  version_fate : (p : Plain) (sender ticket version : ℕ) → StillWaits p → Fate (version_turn p sender ticket version)
-  unfolding version_turn
-  version_fate p sender ticket version h =
-      let t1 : Turn = told_version_turn p version (read_with ticket p.waiting_reads) in
-      unless p h (not (sender == last_of p.members)) NotNeighbour t1 (told_fate p version (read_with ticket p.waiting_reads) h)
-
-  blank_fate : (p : Plain) (sender count : ℕ) → StillWaits p → Fate (blank_turn p sender count)
-  unfolding blank_turn
-  blank_fate p sender count h =
-      let t2 : Turn = turn_with p (send_all p sender (fill_bodies p count)) in
-      let t1 : Turn = cond (not p.ready) (turn_ignoring p NotReadyHere) t2 in
-      unless p h (not (is_id (successor p) sender)) NotNeighbour t1 (unless p h (not p.ready) NotReadyHere t2 (inl h))
-
-  copy_fate : (p : Plain) (sender position : ℕ) (state : State) → StillWaits p → Fate (copy_turn p sender position state)
-  unfolding copy_turn
-  copy_fate p sender position state h =
-      let t2 : Turn = readiness_turn (with_copy p position state) in
-      let t1 : Turn = cond (p.ready || nat_le position (length_of p)) (turn_ignoring p AlreadyHave) t2 in
-      unless p h (not (is_id (predecessor p) sender)) NotNeighbour t1
-      (unless p h (p.ready || nat_le position (length_of p)) AlreadyHave t2 (readiness_fate (with_copy p position state) h))
-
-  gathering_fate : (p : Plain) (g : Gathering) (part : StatePart) → StillWaits p → Fate (gathering_turn p g part)
-  gathering_fate p g part h =
-      let n : Gathering = with_part g part in
-      let t3 : Turn = gathered_turn p n in
-      let t2 : Turn = cond (not (is_in_order g part)) (turn_ignoring p TooFar) t3 in
-      let t1 : Turn = cond (is_some (at_number g.parts part.number)) (turn_ignoring p AlreadyHave) t2 in
-      unless p h (not (part.count == g.count)) TooFar t1
-      (unless p h (is_some (at_number g.parts part.number)) AlreadyHave t2
-      (unless p h (not (is_in_order g part)) TooFar t3
-      (by_test (is_whole n) Fate (readiness_turn (with_copy p n.position (joined_state n.parts))) (turn_with (record p { gathering = Some n }) [])
-      (readiness_fate (with_copy p n.position (joined_state n.parts)) h) (inl h))))
-
-  part_fate : (p : Plain) (sender : ℕ) (part : StatePart) → StillWaits p → Fate (part_turn p sender part)
-  unfolding part_turn
-  part_fate p sender part h =
-      let t2 : Turn = gathering_turn p (gathering_for part p.gathering) part in
-      let t1 : Turn = cond (p.ready || is_outdated p part) (turn_ignoring p AlreadyHave) t2 in
-      unless p h (not (is_id (predecessor p) sender)) NotNeighbour t1
-      (unless p h (p.ready || is_outdated p part) AlreadyHave t2 (gathering_fate p (gathering_for part p.gathering) part h))
-
-  floor_fate : (p : Plain) (sender count : ℕ) → StillWaits p → Fate (floor_turn p sender count)
-  unfolding floor_turn
-  floor_fate p sender count h =
-      let t2 : Turn = readiness_turn (record p { floor = Some count }) in
-      let t1 : Turn = cond p.ready (turn_ignoring p AlreadyHave) t2 in
-      unless p h (not (is_id (predecessor p) sender)) NotNeighbour t1
-      (unless p h p.ready AlreadyHave t2 (readiness_fate (record p { floor = Some count }) h))
-
-  epoch_fate : (p : Plain) (m : LinkMessage) (t : Turn) → StillWaits p → Fate t → Fate (turn_in_epoch p m t)
-  epoch_fate p m t h f = by_test (m.epoch == p.epoch) Fate t (turn_ignoring p OtherEpoch) f (inl h)
-
-  body_fate : (p : Plain) (m : LinkMessage) (b : Body) → StillWaits p → Fate (body_turn p m b)
-  body_fate p m (bodies.Config members) h = config_fate p m.epoch members h
-  body_fate p m (bodies.Entry e) h = epoch_fate p m (entries_turn p m.sender (e ∷ [])) h (entries_fate p m.sender (e ∷ []) h)
-  body_fate p m (bodies.Batch es) h = epoch_fate p m (entries_turn p m.sender es) h (entries_fate p m.sender es h)
-  body_fate p m (bodies.Part part) h = epoch_fate p m (part_turn p m.sender part) h (part_fate p m.sender part h)
-  body_fate p m (bodies.Ack position) h = epoch_fate p m (ack_turn p m.sender position) h (ack_fate p m.sender position h)
-  body_fate p m (bodies.Query ticket key) h = epoch_fate p m (query_turn p m.sender ticket key) h (query_fate p m.sender ticket key h)
-  body_fate p m (bodies.VersionIs ticket version) h = epoch_fate p m (version_turn p m.sender ticket version) h (version_fate p m.sender ticket version h)
-  body_fate p m (bodies.Blank count) h = epoch_fate p m (blank_turn p m.sender count) h (blank_fate p m.sender count h)
-  body_fate p m (bodies.Copy position state) h = epoch_fate p m (copy_turn p m.sender position state) h (copy_fate p m.sender position state h)
-  body_fate p m (bodies.Floor count) h = epoch_fate p m (floor_turn p m.sender count) h (floor_fate p m.sender count h)
+  message_fate : (m : LinkMessage) → ByMessage StillWaits Fate m
+  message_fate m = record {
+    silent = λ t none h. inl h;
+    sends = λ p past to bs h. inl h;
+    joins = λ p epoch members h. settling_fate (record p { epoch = epoch; members = members; floor = None; gathering = None }) h;
+    readies = λ p h. settling_fate (record p { ready = true; gathering = None }) h;
+    commits = λ p position h. acknowledgement_fate p position h;
+    answers = λ p r answer h. answer_fate p r answer h;
+    takes = λ p past floor h. h;
+    drops = λ p h. h;
+    gathers = λ p part g says from at count lacks h. h;
+  }
 
   -- by a message it waits on or is answered
   pub delivery_fate : (p : Plain) (m : LinkMessage) → StillWaits p → Fate (delivery_turn p m)
-  delivery_fate p m h = body_fate p m m.body h
+  delivery_fate p m h = by_message StillWaits Fate m (message_fate m) p h

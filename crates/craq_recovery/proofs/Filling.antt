@@ -16,9 +16,8 @@ use Rattle.craq_model.specs.Settle.{Turn, all_committed, all_given, answer_outs,
 use Rattle.craq_refinement.proofs.Gathered.{IsPartOf}
 use Rattle.craq_recovery.proofs.Acks.{is_id_here}
 use Rattle.craq_recovery.proofs.Entries.{readiness_length}
-use Rattle.craq_recovery.proofs.Gathers.{for_position}
 use Rattle.craq_recovery.proofs.Pieces.{Rises, in_order, put_here, put_keeps}
-use Rattle.craq_recovery.proofs.Speaking.{by_test}
+use Rattle.craq_recovery.proofs.Lines.{by_test, for_position}
 
 either_way : (a b : Bool) (X : Type 0) → (a || b) ≡ true → (a ≡ true → X) → (b ≡ true → X) → X
 either_way true b X o f g = f refl

@@ -7,7 +7,7 @@ use Rattle.craq_commands.specs.declared.entry.Entry.{Entry}
 use Rattle.craq_model.specs.Plain.{Plain, id_of, length_of}
 use Rattle.craq_protocol.specs.Machine as machine
 use Rattle.craq_protocol.specs.Machine.{World}
-use Rattle.craq_protocol.specs.Promises.{IsPrefix, IsReached}
+use Rattle.craq_protocol.specs.Promises.{IsPrefix}
 use Rattle.craq_protocol.specs.Promises as promises
 use Rattle.craq_protocol.proofs.Reached.{reached_later, reached_run}
 use Rattle.craq_refinement.specs.Follows.{Follows, NodeFollows, seen_of}

@@ -6,7 +6,7 @@ use Rattle.craq_commands.specs.declared.entry.Entry.{Entry}
 use Rattle.craq_model.specs.Members.{is_member, last_of, predecessor_in, successor_in}
 use Rattle.craq_model.specs.Plain.{Plain, id_of}
 use Rattle.craq_protocol.specs.Machine.{World}
-use Rattle.craq_protocol.specs.Members.{IsDistinct, membership_of}
+use Rattle.craq_protocol.specs.Members.{IsDistinct}
 use Rattle.craq_protocol.specs.Members as protocol
 use Rattle.craq_protocol.specs.Promises.{IsSafe}
 use Rattle.craq_protocol.proofs.Reached.{reached_safe}
@@ -14,12 +14,13 @@ use Rattle.craq_refinement.specs.Follows.{Follows}
 use Rattle.craq_refinement.specs.Lines.{IsFollowed}
 use Rattle.craq_refinement.proofs.EachStep.{every_run}
 use Rattle.craq_refinement.proofs.Members.{is_member-same}
+use Rattle.craq_refinement.proofs.Lists.{all_back, all_like}
 use Rattle.craq_refinement.proofs.Nodes.{node_id}
 use Rattle.craq_runs.specs.declared.run.Move.{Move}
 use Rattle.craq_runs.specs.declared.run.Run.{Run}
-use Rattle.craq_runs.specs.Chain.{Chain, chain_step, node_at}
+use Rattle.craq_runs.specs.Chain.{Chain, node_at}
 use Rattle.craq_runs.specs.Runs.{IsRunOf, after_move}
-use Rattle.craq_recovery.specs.Recovered.{AllReady, IsReadyAt, Knows, KnowsCommitted, chain_after}
+use Rattle.craq_recovery.specs.Recovered.{AllReady, AreNeighbours, IsReadyAt, Knows, KnowsCommitted, after_round, chain_after}
 use Rattle.craq_recovery.specs.Rounds.{after_moves_by, after_rounds, round}
 use Rattle.craq_recovery.specs.Taken.{HaveNumbers, HaveNumbersFor}
 use Rattle.craq_recovery.proofs.Acks.{ack_crosses}
@@ -74,7 +75,7 @@ pub record Good (c : Chain) : Type 0 where
 
 ids_moves : (ms : List Move) (c : Chain) → NoneIsMaster c.nodes → NoneIsMaster (after_moves_by after_move c ms).nodes
 ids_moves [] c h = h
-ids_moves (m ∷ ms) c h = ids_moves ms (after_move c m) (none_after c m (chain_step c m) refl h)
+ids_moves (m ∷ ms) c h = ids_moves ms (after_move c m) (none_after c m h)
 
 pub good_moves : (ms : List Move) (c : Chain) → Good c → Good (after_moves_by after_move c ms)
 good_moves ms c g = record { sound = sound_moves ms c g.sound; followed = followed_moves ms c g.followed; ids = ids_moves ms c g.ids }
@@ -82,40 +83,47 @@ good_moves ms c g = record { sound = sound_moves ms c g.sound; followed = follow
 pub good_run : (chain : ℕ) (run : Run) → IsRunOf chain run → Good (chain_after chain run)
 good_run chain run is = record { sound = sound_after chain run.members run.moves; followed = every_run chain run is; ids = none_is_master chain run is }
 
--- who is ready stays so, and knows the membership
-ready_later : (count : ℕ) (c : Chain) (id : ℕ) → Good c → IsReadyAt c id → IsReadyAt (after_moves_by after_move c (round after_move count c)) id
-ready_later count c id g r =
+-- who knows the membership knows it a round later, and has only gained
+pub knows_later : (count : ℕ) (c : Chain) (id : ℕ) (p : Plain) → Good c → node_at c.nodes id ≡ Some p → Knows c p → (l : Later (after_round count c) id p) × Knows (after_round count c) l.node
+knows_later count c id p g at k =
     let ms : List Move = round after_move count c in
     let d : Chain = after_moves_by after_move c ms in
-    let k : Knows c r.node = r.knows in
-    let l : Later d id r.node = later_moves ms c id r.node (round_travels count c) g.followed (later_here c id r.node r.at k.running) in
-    let gains : Gains r.node l.node = l.gains in
+    let l : Later d id p = later_moves ms c id p (round_travels count c) g.followed (later_here c id p at k.running) in
+    let gains : Gains p l.node = l.gains in
     let i : Informed d id c.epoch = record { node = l.node; at = l.at; runs = l.runs; late = omega (arith, gains.epoch, k.epoch) } in
-    record { node = l.node; at = l.at; knows = knows_at c d id (onward_moves ms c (round_travels count c)) (followed_moves ms c g.followed) i; ready = gains.ready r.ready }
+    (l, knows_at c d id (onward_moves ms c (round_travels count c)) (followed_moves ms c g.followed) i)
 
-committed_later : (count : ℕ) (c : Chain) (id least : ℕ) → Good c → IsReadyAt c id → KnowsCommitted c id least → KnowsCommitted (after_moves_by after_move c (round after_move count c)) id least
+-- who is ready stays so, and knows the membership
+pub ready_later : (count : ℕ) (c : Chain) → Good c → (id : ℕ) → IsReadyAt c id → IsReadyAt (after_round count c) id
+ready_later count c g id r =
+    let k : (l : Later (after_round count c) id r.node) × Knows (after_round count c) l.node = knows_later count c id r.node g r.at r.knows in
+    let l : Later (after_round count c) id r.node = k.0 in
+    let gains : Gains r.node l.node = l.gains in
+    record { node = l.node; at = l.at; knows = k.1; ready = gains.ready r.ready }
+
+committed_later : (count : ℕ) (c : Chain) (id least : ℕ) → Good c → IsReadyAt c id → KnowsCommitted c id least → KnowsCommitted (after_round count c) id least
 committed_later count c id least g r k =
-    let ms : List Move = round after_move count c in
-    let d : Chain = after_moves_by after_move c ms in
     let same : r.node ≡ k.node = let a : node_at c.nodes id ≡ Some r.node = r.at in let b : node_at c.nodes id ≡ Some k.node = k.at in cc in
-    let kn : Knows c r.node = r.knows in
-    let P : Plain → Type 0 = λ p. p.running ≡ true in
-    let l : Later d id k.node = later_moves ms c id k.node (round_travels count c) g.followed (later_here c id k.node k.at (subst P same kn.running)) in
-    let gains : Gains k.node l.node = l.gains in
-    record { node = l.node; at = l.at; knows = omega (arith, gains.acknowledged, k.knows) }
+    let l : Later (after_round count c) id r.node = (knows_later count c id r.node g r.at r.knows).0 in
+    let gains : Gains r.node l.node = l.gains in
+    record { node = l.node; at = l.at; knows = omega (arith, gains.acknowledged, k.knows, ap (λ (x : Plain). x.past.acknowledged) same) }
 
 -- ---- one round, for each member of a membership
 
 abbrev KnowAll : Chain → ℕ → List ℕ → Type 0
 KnowAll c least ids = AllByRecursion (λ id. KnowsCommitted c id least) ids
 
-later_all : (count : ℕ) (c : Chain) (least : ℕ) (ids : List ℕ) → Good c → AllByRecursion (IsReadyAt c) ids → KnowAll c least ids → KnowAll (after_moves_by after_move c (round after_move count c)) least ids
+later_all : (count : ℕ) (c : Chain) (least : ℕ) (ids : List ℕ) → Good c → AllByRecursion (IsReadyAt c) ids → KnowAll c least ids → KnowAll (after_round count c) least ids
 later_all count c least [] g r k = tt
 later_all count c least (id ∷ ids) g r k = (committed_later count c id least g r.0 k.0, later_all count c least ids g r.1 k.1)
 
-pub ready_all : (count : ℕ) (c : Chain) (ids : List ℕ) → Good c → AllByRecursion (IsReadyAt c) ids → AllByRecursion (IsReadyAt (after_moves_by after_move c (round after_move count c))) ids
-ready_all count c [] g r = tt
-ready_all count c (id ∷ ids) g r = (ready_later count c id g r.0, ready_all count c ids g r.1)
+-- all are ready a round later
+pub ready_after : (count : ℕ) (c : Chain) → Good c → AllReady c → AllReady (after_round count c)
+ready_after count c g r =
+    let d : Chain = after_round count c in
+    let on : Onward c d = onward_moves (round after_move count c) c (round_travels count c) in
+    let Q : List ℕ → Type 0 = λ l. AllByRecursion (IsReadyAt d) l in
+    subst Q (sym on.members) (all_like (IsReadyAt c) (IsReadyAt d) c.members (ready_later count c g) r)
 
 pub distinct_members : (c : Chain) → IsFollowed c → IsDistinct c.members
 distinct_members c f =
@@ -125,45 +133,52 @@ distinct_members c f =
     let P : List ℕ → Type 0 = λ l. IsDistinct l in
     subst P g.members (s.distinct (length w.memberships))
 
--- the member before one that knows so much knows it a round later
-one_more : (count : ℕ) (c : Chain) (least : ℕ) (front : List ℕ) (a b : ℕ) (rest : List ℕ) → Good c → front ++ a ∷ b ∷ rest ≡ c.members → IsReadyAt c a → IsReadyAt c b → KnowsCommitted c b least
-    → HaveNumbers c (round after_move (suc count) c) → KnowsCommitted (after_moves_by after_move c (round after_move (suc count) c)) a least
-one_more count c least front a b rest g is ra rb k numbers =
-    let p : Plain = ra.node in
-    let q : Plain = rb.node in
-    let own_p : id_of p ≡ a = node_id c.nodes a p ra.at in
-    let own_q : id_of q ≡ b = node_id c.nodes b q rb.at in
+pub in_members : (c : Chain) (front : List ℕ) (a : ℕ) (rest : List ℕ) → front ++ a ∷ rest ≡ c.members → is_member c.members a ≡ true
+in_members c front a rest is = let M : List ℕ → Type 0 = λ l. is_member l a ≡ true in subst M is (is_member-same (front ++ a ∷ rest) a ∙ stands front a rest)
+
+-- two members next to each other that know the membership are neighbours
+pub facing : (c : Chain) (front : List ℕ) (a b : ℕ) (rest : List ℕ) → Good c → front ++ a ∷ b ∷ rest ≡ c.members → (p q : Plain) → node_at c.nodes a ≡ Some p → node_at c.nodes b ≡ Some q → Knows c p → Knows c q → AreNeighbours c p q
+facing c front a b rest g is p q at_p at_q kp kq =
+    let own_p : id_of p ≡ a = node_id c.nodes a p at_p in
+    let own_q : id_of q ≡ b = node_id c.nodes b q at_q in
     let D : List ℕ → Type 0 = λ l. IsDistinct l in
     let d : IsDistinct (front ++ a ∷ b ∷ rest) = subst D (sym is) (distinct_members c g.followed) in
     let S : List ℕ → Type 0 = λ l. successor_in l a ≡ Some b in
     let R : List ℕ → Type 0 = λ l. predecessor_in l b ≡ Some a in
-    let M : List ℕ → Type 0 = λ l. is_member l b ≡ true in
     let next : successor_in c.members a ≡ Some b = subst S is (successor_there front a b rest d) in
     let before : predecessor_in c.members b ≡ Some a = subst R is (predecessor_there front a b rest d) in
-    let I : List ℕ → Type 0 = λ l. protocol.is_member l b ≡ true in
-    let inside : protocol.is_member (front ++ a ∷ b ∷ rest) b ≡ true = subst I (append_assoc front (a ∷ []) (b ∷ rest)) (stands (front ++ a ∷ []) b rest) in
-    let member : is_member c.members b ≡ true = subst M is (is_member-same (front ++ a ∷ b ∷ rest) b ∙ inside) in
-    let some : 1 ≤ b = not_master c.nodes b q rb.at g.ids in
     let NP : ℕ → Type 0 = λ i. node_at c.nodes i ≡ Some p in
     let NQ : ℕ → Type 0 = λ i. node_at c.nodes i ≡ Some q in
     let S1 : ℕ → Type 0 = λ i. successor_in c.members i ≡ Some (id_of q) in
     let S2 : ℕ → Type 0 = λ i. successor_in c.members a ≡ Some i in
     let P1 : ℕ → Type 0 = λ i. predecessor_in c.members i ≡ Some (id_of p) in
     let P2 : ℕ → Type 0 = λ i. predecessor_in c.members b ≡ Some i in
-    let MB : ℕ → Type 0 = λ i. is_member c.members i ≡ true in
-    let i : NodeIs (after_moves_by after_move c (round after_move (suc count) c)) (id_of p) (λ r. q.past.acknowledged ≤ r.past.acknowledged) =
-    ack_crosses count c p q g.sound g.followed (λ z. absurd (omega (arith, some, own_q, z))) (subst NP (sym own_p) ra.at) (subst NQ (sym own_q) rb.at) ra.knows rb.knows ra.ready rb.ready
-    (subst MB (sym own_q) member) (subst S1 (sym own_p) (subst S2 (sym own_q) next)) (subst P1 (sym own_q) (subst P2 (sym own_p) before)) numbers in
+    record {
+      earlier = subst NP (sym own_p) at_p;
+      later = subst NQ (sym own_q) at_q;
+      earlier_knows = kp;
+      later_knows = kq;
+      after = subst S1 (sym own_p) (subst S2 (sym own_q) next);
+      before = subst P1 (sym own_q) (subst P2 (sym own_p) before);
+    }
+
+-- the member before one that knows so much knows it a round later
+one_more : (count : ℕ) (c : Chain) (least : ℕ) (front : List ℕ) (a b : ℕ) (rest : List ℕ) → Good c → front ++ a ∷ b ∷ rest ≡ c.members → IsReadyAt c a → IsReadyAt c b → KnowsCommitted c b least
+    → HaveNumbers c (round after_move (suc count) c) → KnowsCommitted (after_round (suc count) c) a least
+one_more count c least front a b rest g is ra rb k numbers =
+    let p : Plain = ra.node in
+    let q : Plain = rb.node in
+    let n : AreNeighbours c p q = facing c front a b rest g is p q ra.at rb.at ra.knows rb.knows in
+    let member : is_member c.members b ≡ true = in_members c (front ++ a ∷ []) b rest (append_assoc front (a ∷ []) (b ∷ rest) ∙ is) in
+    let some : 1 ≤ id_of q = not_master c.nodes (id_of q) q n.later g.ids in
+    let M : ℕ → Type 0 = λ i. is_member c.members i ≡ true in
+    let i : NodeIs (after_round (suc count) c) (id_of p) (λ r. q.past.acknowledged ≤ r.past.acknowledged) =
+    ack_crosses count c p q g.sound g.followed (λ z. absurd (omega (arith, some, z))) n.earlier n.later n.earlier_knows n.later_knows ra.ready rb.ready (subst M (sym (node_id c.nodes b q rb.at)) member) n.after n.before numbers in
     let same : q ≡ k.node = let x : node_at c.nodes b ≡ Some q = rb.at in let y : node_at c.nodes b ≡ Some k.node = k.at in cc in
-    let E : ℕ → Type 0 = λ j. node_at (after_moves_by after_move c (round after_move (suc count) c)).nodes j ≡ Some i.node in
-    record { node = i.node; at = subst E own_p i.at; knows = omega (arith, i.holds, k.knows, ap (λ (x : Plain). x.past.acknowledged) same) }
+    let E : ℕ → Type 0 = λ j. node_at (after_round (suc count) c).nodes j ≡ Some i.node in
+    record { node = i.node; at = subst E (node_id c.nodes a p ra.at) i.at; knows = omega (arith, i.holds, k.knows, ap (λ (x : Plain). x.past.acknowledged) same) }
 
 -- ---- round after round
-
--- the last of a part of a list
-pub all_back : (P : ℕ → Type 0) (front l : List ℕ) → AllByRecursion P (front ++ l) → AllByRecursion P l
-all_back P [] l a = a
-all_back P (m ∷ front) l a = all_back P front l a.1
 
 -- ids before a list, the last of them first
 abbrev onto : List ℕ → List ℕ → List ℕ
@@ -191,21 +206,17 @@ spreads count least (suc rounds) [] a rest c g le is r k numbers =
     let d : Chain = after_moves_by after_move c ms in
     let on : Onward c d = onward_moves ms c (round_travels (suc count) c) in
     let R : List ℕ → Type 0 = λ l. AllByRecursion (IsReadyAt c) l in
-    let Q : List ℕ → Type 0 = λ l. AllByRecursion (IsReadyAt d) l in
-    let ready : AllReady d = subst Q (sym on.members) (ready_all (suc count) c c.members g r) in
-    spreads count least rounds [] a rest d (good_moves ms c g) (omega arith) (is ∙ sym on.members) ready (later_all (suc count) c least (a ∷ rest) g (subst R (sym is) r) k) numbers.1
+    spreads count least rounds [] a rest d (good_moves ms c g) (omega arith) (is ∙ sym on.members) (ready_after (suc count) c g r) (later_all (suc count) c least (a ∷ rest) g (subst R (sym is) r) k) numbers.1
 spreads count least (suc rounds) (m ∷ rev) a rest c g le is r k numbers =
     let ms : List Move = round after_move (suc count) c in
     let d : Chain = after_moves_by after_move c ms in
     let on : Onward c d = onward_moves ms c (round_travels (suc count) c) in
     let R : List ℕ → Type 0 = λ l. AllByRecursion (IsReadyAt c) l in
-    let Q : List ℕ → Type 0 = λ l. AllByRecursion (IsReadyAt d) l in
-    let ready : AllReady d = subst Q (sym on.members) (ready_all (suc count) c c.members g r) in
     let front : List ℕ = onto rev [] in
     let whole : front ++ m ∷ a ∷ rest ≡ c.members = sym (onto_front rev (m ∷ a ∷ rest)) ∙ is in
     let here : AllByRecursion (IsReadyAt c) (m ∷ a ∷ rest) = all_back (IsReadyAt c) front (m ∷ a ∷ rest) (subst R (sym whole) r) in
     let more : KnowsCommitted d m least = one_more count c least front m a rest g whole here.0 here.1.0 k.0 numbers.0 in
-    spreads count least rounds rev m (a ∷ rest) d (good_moves ms c g) (omega (arith, le)) (is ∙ sym on.members) ready
+    spreads count least rounds rev m (a ∷ rest) d (good_moves ms c g) (omega (arith, le)) (is ∙ sym on.members) (ready_after (suc count) c g r)
     (more, later_all (suc count) c least (a ∷ rest) g here.1 k) numbers.1
 
 by_members : (count least rounds : ℕ) (c : Chain) (l : List ℕ) → Good c → l ≡ c.members → length l ≤ rounds → AllReady c → KnowsCommitted c (last_of l) least → HaveNumbersFor (suc count) rounds c

@@ -1,7 +1,6 @@
 -- The membership reaches each member that runs.
-use Rattle.std.proofs.Common.{◌≡◌, ◌≢◌, ◌⊎◌, inl, inr, ⊎_elim, ℕ, suc, ◌+◌, ◌≤◌, ◌==◌, nat_le, Bool, true, false, not, cond, ◌||◌, List, [], ◌∷◌, ◌++◌, map, length, take, drop, append_assoc, Some, None, Result, Ok, Err, refl, ap, sym, subst, ◌∙◌, arith}
+use Rattle.std.proofs.Common.{◌≡◌, inl, inr, ℕ, suc, ◌+◌, ◌≤◌, ◌==◌, nat_le, Bool, true, false, not, cond, ◌||◌, List, [], ◌∷◌, ◌++◌, map, length, drop, append_assoc, Some, None, Result, Ok, Err, refl, ap, sym, subst, ◌∙◌, arith}
 use Rattle.std.proofs.lemmas.Bool.{cond_both, both_ways, eq-eqb, eqb-true, leb-true, not-true}
-use Rattle.std.proofs.lemmas.List.{length-append, take-append-drop}
 use Rattle.std.proofs.Math.Seq.{drop-append_seam}
 use Rattle.std.specs.List.{AllByRecursion}
 use Rattle.craq_names.specs.declared.name.NodeName.{NodeName}
@@ -29,29 +28,18 @@ use Rattle.craq_runs.specs.declared.run.Move.TheVariants.{Deliver, Tick}
 use Rattle.craq_runs.specs.declared.run.Run.{Run}
 use Rattle.craq_runs.specs.Chain.{Chain, Progress, chain_step, config_progress, config_to, is_running, message_at, node_at, numbers_left, opening_chain, sent_in, set_node}
 use Rattle.craq_runs.specs.Runs.{IsRunOf, after_move, after_moves, progressed}
-use Rattle.craq_recovery.specs.Rounds.{after_moves_by, arrivals, arrivals_of, hops, round, ticks, ticks_of}
-use Rattle.craq_recovery.specs.Recovered.{AllRun, HaveHeard, HearsAt, Knows}
-use Rattle.craq_recovery.specs.Taken.{HaveNumbers, IsTaken}
-use Rattle.craq_recovery.proofs.Gains.{Gains, Goes, Later, followed_moves, goes_move, later_here, later_moves}
-use Rattle.craq_recovery.proofs.Onward.{IsTravel, Onward, onward_move, onward_moves, onward_on, onward_self, sound_moves}
+use Rattle.craq_recovery.specs.Rounds.{after_moves_by, round, ticks, ticks_of}
+use Rattle.craq_recovery.specs.Recovered.{AllRun, HaveHeard, HearsAt, Knows, after_round}
+use Rattle.craq_recovery.specs.Taken.{HaveNumbers}
+use Rattle.craq_recovery.proofs.Gains.{Gains, Later, followed_moves, later_here, later_moves}
+use Rattle.std.specs.Prelude.{⊤}
+use Rattle.craq_recovery.proofs.Series.{Has}
+use Rattle.craq_recovery.proofs.Arriving.{BringAll, Endures, bring_lasts, bring_more, bring_past, news, round_brings, taken_ok, ticked, ticks_onward}
+use Rattle.craq_recovery.proofs.Onward.{Onward, onward_move, onward_moves}
 use Rattle.craq_recovery.proofs.Running.{delivery_turn-runs}
-use Rattle.craq_recovery.proofs.Sound.{Sound, sound_after, sound_move}
-use Rattle.craq_recovery.proofs.Speaking.{by_test}
-use Rattle.craq_recovery.proofs.Taking.{arrivals_travel, bears, deliver_taken, hops_travel, master_taken, round_travels, runs_on, sent_before, stands_at, ticks_travel}
-
--- ---- moves one after the other
-
-pub after_both : (ms ns : List Move) (c : Chain) → after_moves_by after_move c (ms ++ ns) ≡ after_moves_by after_move (after_moves_by after_move c ms) ns
-after_both [] ns c = refl
-after_both (m ∷ ms) ns c = after_both ms ns (after_move c m)
-
-pub numbers_both : (ms ns : List Move) (c : Chain) → HaveNumbers c (ms ++ ns) → HaveNumbers c ms × HaveNumbers (after_moves_by after_move c ms) ns
-numbers_both [] ns c h = (tt, h)
-numbers_both (m ∷ ms) ns c h = let r : _ = numbers_both ms ns (after_move c m) h.1 in ((h.0, r.0), r.1)
-
-pub taken_ok : (r : Result Progress Refusal) → IsTaken r → r ≢ Err refusals.Exhausted → (x : Progress) × (r ≡ Ok x)
-taken_ok (Ok x) h n = (x, refl)
-taken_ok (Err e) h n = absurd (n (ap Err h))
+use Rattle.craq_recovery.proofs.Sound.{Sound, sound_after}
+use Rattle.craq_recovery.proofs.Lines.{by_test}
+use Rattle.craq_recovery.proofs.Taking.{master_taken, round_travels, runs_on, ticks_travel}
 
 ok_same : {A B : Type 0} (x y : A) (r : Result A B) → r ≡ Ok x → r ≡ Ok y → x ≡ y
 ok_same x y r d e = cc
@@ -118,58 +106,39 @@ config_informs d number m x epoch members id at k is member =
     })
 
 -- who is informed stays so
-informed_on : (ms : List Move) (c : Chain) (id epoch : ℕ) → AllByRecursion IsTravel ms → IsFollowed c → Informed c id epoch → Informed (after_moves_by after_move c ms) id epoch
-informed_on ms c id epoch t f i =
-    let l : Later (after_moves_by after_move c ms) id i.node = later_moves ms c id i.node t f (later_here c id i.node i.at i.runs) in
+informed_lasts : (id epoch : ℕ) → Endures (λ d. Informed d id epoch)
+informed_lasts id epoch m d t f i =
+    let l : Later (after_move d m) id i.node = later_moves (m ∷ []) d id i.node (t, tt) f (later_here d id i.node i.at i.runs) in
     let g : Gains i.node l.node = l.gains in
     record { node = l.node; at = l.at; runs = l.runs; late = omega (arith, i.late, g.epoch) }
 
 -- ---- messages arrive, one of which tells the membership
 
-abbrev pub HasConfig : ℕ → List ℕ → ℕ → List LinkMessage → Type 0
-HasConfig epoch members id [] = ⊥
-HasConfig epoch members id (m ∷ ms) = IsConfigTo epoch members id m ⊎ HasConfig epoch members id ms
+abbrev IsUp : ℕ → Chain → Type 0
+IsUp id d = is_running (node_at d.nodes id) ≡ true
 
-hears : (c : Chain) (epoch : ℕ) (members : List ℕ) (id : ℕ) → is_running (node_at c.nodes id) ≡ true → is_member members id ≡ true
-    → (ms before : List LinkMessage) (number : ℕ) (d : Chain) → Sound d → IsFollowed d → Onward c d → before ++ ms ≡ c.messages → number ≡ suc (length before)
-    → HasConfig epoch members id ms → HaveNumbers d (arrivals_of c.nodes number ms) → Informed (after_moves_by after_move d (arrivals_of c.nodes number ms)) id epoch
-hears c epoch members id runs member [] before number d s f on is at has = absurd has
-hears c epoch members id runs member (m ∷ ms) before number d s f on is at has =
-    let next : Chain = after_move d (Deliver number) in
-    let more : (before ++ m ∷ []) ++ ms ≡ c.messages = append_assoc before (m ∷ []) ms ∙ is in
-    let up : number + 1 ≡ suc (length (before ++ m ∷ [])) = omega (arith, at, length-append before (m ∷ [])) in
-    let rest : List Move = arrivals_of c.nodes (number + 1) ms in
-    let there : message_at d.messages number ≡ Some m = stands_at c d before m ms number on is at in
-    let Heard : List Move → Type 0 = λ l. HaveNumbers d l → Informed (after_moves_by after_move d l) id epoch in
-    let on2 : Onward c next = onward_on on (onward_move d (Deliver number) tt) in
-    let g : Goes d next = goes_move d (Deliver number) f in
-    ⊎_elim
-    (λ (now : IsConfigTo epoch members id m).
-    let P : ℕ → Type 0 = λ i. is_running (node_at c.nodes i) ≡ true in
-    let up_there : is_running (node_at c.nodes m.receiver) ≡ true = subst P (sym now.goes_to) runs in
-    cond_both (is_running (node_at c.nodes m.receiver)) (Deliver number ∷ rest) rest Heard
-    (λ r h.
-    let ok : (x : Progress) × (chain_step d (Deliver number) ≡ Ok x) = taken_ok (chain_step d (Deliver number)) (deliver_taken d number m s there (bears d number m s there) (runs_on on m.receiver up_there)) h.0 in
-    let I : Result Progress Refusal → Type 0 = λ r. Informed (progressed d r) id epoch in
-    informed_on rest next id epoch (arrivals_travel c.nodes ms (number + 1)) g.followed
-    (subst I (sym ok.1) (config_informs d number m ok.0 epoch members id there ok.1 now member)))
-    (λ r h. absurd (both_ways (is_running (node_at c.nodes m.receiver)) r up_there)))
-    (λ (later : HasConfig epoch members id ms).
-    cond_both (is_running (node_at c.nodes m.receiver)) (Deliver number ∷ rest) rest Heard
-    (λ r h. hears c epoch members id runs member ms (before ++ m ∷ []) (number + 1) next (sound_move d (Deliver number) s) g.followed on2 more up later h.1)
-    (λ r h. hears c epoch members id runs member ms (before ++ m ∷ []) (number + 1) d s f on more up later h))
-    has
+up_lasts : (id : ℕ) → Endures (IsUp id)
+up_lasts id m d t f up = runs_on (onward_move d m t) id up
+
+hears : (c : Chain) (epoch : ℕ) (members : List ℕ) (id : ℕ) → is_member members id ≡ true → (ms : List LinkMessage) → Has (IsConfigTo epoch members id) ms → BringAll (λ d. ⊤) c (IsUp id) (λ d. Informed d id epoch) ms
+hears c epoch members id member [] has = absurd has
+hears c epoch members id member (m ∷ ms) (inl now) =
+    bring_more (λ d. ⊤) (λ d m t u. tt) c m ms (IsUp id) (λ d. Informed d id epoch) (λ d. Informed d id epoch)
+    (λ d number x s0 s f on up there is. config_informs d number m x epoch members id there is now member)
+    (λ d up stopped. let P : ℕ → Type 0 = λ i. is_running (node_at d.nodes i) ≡ true in absurd (both_ways (is_running (node_at d.nodes m.receiver)) stopped (subst P (sym now.goes_to) up)))
+    (bring_lasts (λ d. ⊤) (λ d m t u. tt) c (λ d. Informed d id epoch) ms (informed_lasts id epoch))
+hears c epoch members id member (m ∷ ms) (inr later) = bring_past (λ d. ⊤) (λ d m t u. tt) c m ms (IsUp id) (λ d. Informed d id epoch) (up_lasts id) (hears c epoch members id member ms later)
 
 -- ---- the master tells it
 
 has_one : (c : Chain) (to : ℕ) (tos : List ℕ) (rest : List LinkMessage) (id : ℕ) (b : Bool) → (to == id) ≡ b → (b || is_member tos id) ≡ true
-    → (is_member tos id ≡ true → HasConfig c.epoch c.members id (sent_in (map (config_to c) tos) ++ rest))
-    → HasConfig c.epoch c.members id (sent_in (map (config_to c) (to ∷ tos)) ++ rest)
+    → (is_member tos id ≡ true → Has (IsConfigTo c.epoch c.members id) (sent_in (map (config_to c) tos) ++ rest))
+    → Has (IsConfigTo c.epoch c.members id) (sent_in (map (config_to c) (to ∷ tos)) ++ rest)
 unfolding sent_in
 has_one c to tos rest id true e h go = inl (record { says = refl; made = refl; goes_to = eqb-true to id e })
 has_one c to tos rest id false e h go = inr (go h)
 
-has_config : (c : Chain) (tos : List ℕ) (rest : List LinkMessage) (id : ℕ) → is_member tos id ≡ true → HasConfig c.epoch c.members id (sent_in (map (config_to c) tos) ++ rest)
+has_config : (c : Chain) (tos : List ℕ) (rest : List LinkMessage) (id : ℕ) → is_member tos id ≡ true → Has (IsConfigTo c.epoch c.members id) (sent_in (map (config_to c) tos) ++ rest)
 unfolding is_member
 has_config c [] rest id h = absurd (cc)
 has_config c (to ∷ tos) rest id h = has_one c to tos rest id (to == id) refl h (λ i. has_config c tos rest id i)
@@ -186,35 +155,23 @@ told c x =
 -- ---- a round
 
 informed_by_round : (count : ℕ) (c : Chain) (id : ℕ) → Sound c → IsFollowed c → is_running (node_at c.nodes id) ≡ true → is_member c.members id ≡ true → HaveNumbers c (round after_move (suc count) c)
-    → Informed (after_moves_by after_move c (round after_move (suc count) c)) id c.epoch
-unfolding round arrivals
+    → Informed (after_round (suc count) c) id c.epoch
 informed_by_round count c id s f runs member numbers =
-    let first : List Move = ticks c in
-    let c1 : Chain = after_moves_by after_move c first in
-    let sent : ℕ = length c.messages in
-    let news : List Move = arrivals_of c1.nodes (sent + 1) (drop sent c1.messages) in
-    let c2 : Chain = after_moves_by after_move c1 news in
-    let rest : List Move = hops after_move count (length c1.messages) c2 in
-    let n1 : HaveNumbers c first × HaveNumbers c1 (news ++ rest) = numbers_both first (news ++ rest) c numbers in
-    let n2 : HaveNumbers c1 news × HaveNumbers c2 rest = numbers_both news rest c1 n1.1 in
-    let ok : (x : Progress) × (chain_step c (Tick 0) ≡ Ok x) = taken_ok (chain_step c (Tick 0)) (master_taken c) n1.0.0 in
-    let t : Chain = after_move c (Tick 0) in
-    let on0 : Onward t c1 = onward_moves (ticks_of c.nodes c.members) t (ticks_travel c.nodes c.members) in
-    let configs : List LinkMessage = sent_in (map (config_to c) c.members) in
-    let T : Result Progress Refusal → Type 0 = λ r. (progressed c r).messages ≡ c.messages ++ configs in
-    let told_here : t.messages ≡ c.messages ++ configs = subst T (sym ok.1) (told c ok.0 ok.1) in
-    let all : c.messages ++ (configs ++ on0.sent) ≡ c1.messages = sym (append_assoc c.messages configs on0.sent) ∙ (ap (λ l. l ++ on0.sent) (sym told_here) ∙ on0.messages) in
-    let new : drop sent c1.messages ≡ configs ++ on0.sent = sym (ap (drop sent) all) ∙ drop-append_seam c.messages (configs ++ on0.sent) in
-    let H : List LinkMessage → Type 0 = λ l. HasConfig c.epoch c.members id l in
-    let has : HasConfig c.epoch c.members id (drop sent c1.messages) = subst H (sym new) (has_config c c.members on0.sent id member) in
-    let on : Onward c c1 = onward_moves first c (tt, ticks_travel c.nodes c.members) in
-    let le : sent ≤ length c1.messages = omega (arith, ap length on.messages, length-append c.messages on.sent) in
-    let here : Informed c2 id c.epoch = hears c1 c.epoch c.members id (on.running id ∙ runs) member (drop sent c1.messages) (take sent c1.messages) (sent + 1) c1
-    (sound_moves first c s) (followed_moves first c f) (onward_self c1) (take-append-drop sent c1.messages) (sent_before c1.messages sent le) has n2.0 in
-    let f2 : IsFollowed c2 = followed_moves news c1 (followed_moves first c f) in
-    let I : Chain → Type 0 = λ d. Informed d id c.epoch in
-    subst I (sym (after_both first (news ++ rest) c ∙ after_both news rest c1))
-    (informed_on rest c2 id c.epoch (hops_travel count (length c1.messages) c2) f2 here)
+    round_brings (λ d. ⊤) (λ d m t u. tt) (λ d. Informed d id c.epoch) (informed_lasts id c.epoch) count c (IsUp id) tt s f numbers (runs_on (ticks_onward c) id runs)
+    (λ n. hears (ticked c) c.epoch c.members id member (news c (ticked c)) (config_sent n))
+  where
+    config_sent : HaveNumbers c (ticks c) → Has (IsConfigTo c.epoch c.members id) (news c (ticked c))
+    config_sent n =
+        let ok : (x : Progress) × (chain_step c (Tick 0) ≡ Ok x) = taken_ok (chain_step c (Tick 0)) (master_taken c) n.0 in
+        let t : Chain = after_move c (Tick 0) in
+        let on : Onward t (ticked c) = onward_moves (ticks_of c.nodes c.members) t (ticks_travel c.nodes c.members) in
+        let configs : List LinkMessage = sent_in (map (config_to c) c.members) in
+        let T : Result Progress Refusal → Type 0 = λ r. (progressed c r).messages ≡ c.messages ++ configs in
+        let told_here : t.messages ≡ c.messages ++ configs = subst T (sym ok.1) (told c ok.0 ok.1) in
+        let all : c.messages ++ (configs ++ on.sent) ≡ (ticked c).messages = sym (append_assoc c.messages configs on.sent) ∙ (ap (λ l. l ++ on.sent) (sym told_here) ∙ on.messages) in
+        let new : news c (ticked c) ≡ configs ++ on.sent = sym (ap (drop (length c.messages)) all) ∙ drop-append_seam c.messages (configs ++ on.sent) in
+        let H : List LinkMessage → Type 0 = λ l. Has (IsConfigTo c.epoch c.members id) l in
+        subst H (sym new) (has_config c c.members on.sent id member)
 
 -- who is as late as the master knows its membership
 pub knows_at : (c d : Chain) (id : ℕ) → Onward c d → IsFollowed d → (i : Informed d id c.epoch) → Knows d i.node

@@ -1,50 +1,36 @@
 -- No node has the master's id, 0.
-use Rattle.std.proofs.Common.{◌≡◌, ⊎_elim, ℕ, ◌≤◌, List, [], ◌∷◌, ◌++◌, map, Some, Result, Ok, Err, refl, sym, subst, arith}
+use Rattle.std.proofs.Common.{◌≡◌, ℕ, ◌≤◌, List, [], ◌∷◌, map, Some, arith, ap}
 use Rattle.std.specs.List.{AllByRecursion}
 use Rattle.craq_names.specs.Limits.{greatest_count}
-use Rattle.craq_names.specs.declared.refusal.Refusal.{Refusal}
-use Rattle.craq_model.specs.Plain.{Plain, id_of, opening_joined, opening_member}
-use Rattle.craq_refinement.proofs.Nodes.{ids_stay}
+use Rattle.craq_model.specs.Plain.{Plain, id_of, opening_member}
 use Rattle.craq_runs.specs.declared.run.Move.{Move}
 use Rattle.craq_runs.specs.declared.run.Run.{Run}
 use Rattle.craq_runs.specs.declared.run.Taken.{Taken}
-use Rattle.craq_runs.specs.Chain.{Chain, Progress, chain_step, node_at, opening_chain}
-use Rattle.craq_runs.specs.Runs.{IsRunOf, after_move, after_moves, progressed}
-use Rattle.craq_updates.proofs.Places.{AtMaster, AtNode, OneMore, happens_at}
+use Rattle.craq_runs.specs.Chain.{Chain, node_at, opening_chain}
+use Rattle.craq_runs.specs.Runs.{IsRunOf, after_move, after_moves}
+use Rattle.craq_names.specs.declared.name.NodeName.{NodeName}
+use Rattle.craq_refinement.proofs.Nodes.{node_id}
+use Rattle.craq_recovery.proofs.Each.{Each, each_at, each_moved}
+use Rattle.craq_recovery.proofs.Sound.{turn_named}
+
+abbrev IsNoMaster : Plain → Type 0
+IsNoMaster p = 1 ≤ id_of p
 
 abbrev pub NoneIsMaster : List Plain → Type 0
-NoneIsMaster ps = AllByRecursion (λ id. 1 ≤ id) (map id_of ps)
+NoneIsMaster ps = Each IsNoMaster ps
 
 pub not_master : (ps : List Plain) (id : ℕ) (p : Plain) → node_at ps id ≡ Some p → NoneIsMaster ps → 1 ≤ id
-unfolding node_at
-not_master [] id p h a = absurd (cc)
-not_master (q ∷ qs) id p h a = let t : 1 ≤ id_of q = a.0 in grind (arith, t, h, not_master qs id p)
+not_master ps id p at a = let some : 1 ≤ id_of p = each_at IsNoMaster ps id p a at in omega (arith, some, node_id ps id p at)
 
-pushed : (ps : List Plain) (q : Plain) → NoneIsMaster ps → 1 ≤ id_of q → NoneIsMaster (ps ++ q ∷ [])
-pushed [] q a b = (b, tt)
-pushed (p ∷ ps) q a b = (a.0, pushed ps q a.1 b)
-
-none_by : (c : Chain) (m : Move) (x : Progress) → chain_step c m ≡ Ok x → NoneIsMaster c.nodes → NoneIsMaster x.0.nodes
-none_by c m x k h =
-    let P : Progress → Type 0 = λ y. NoneIsMaster y.0.nodes in
-    let Q : List ℕ → Type 0 = λ l. AllByRecursion (λ id. 1 ≤ id) l in
-    let R : List Plain → Type 0 = λ l. NoneIsMaster l in
-    ⊎_elim
-    (λ (a : AtNode c m x). subst P (sym a.is) (subst Q (sym (ids_stay c.nodes a.turn.0)) h))
-    (λ (a : AtMaster c m x).
-    ⊎_elim
-    (λ (same : x.0.nodes ≡ c.nodes). subst R (sym same) h)
-    (λ (o : OneMore c.nodes x.0.nodes). subst R (sym o.is) (pushed c.nodes (opening_joined (record { chain = o.chain; node = o.new })) h (omega (arith, o.some))))
-    a.nodes)
-    (happens_at c m x k)
-
-pub none_after : (c : Chain) (m : Move) (r : Result Progress Refusal) → chain_step c m ≡ r → NoneIsMaster c.nodes → NoneIsMaster (progressed c r).nodes
-none_after c m (Ok x) k h = none_by c m x k h
-none_after c m (Err e) k h = h
+pub none_after : (c : Chain) (m : Move) → NoneIsMaster c.nodes → NoneIsMaster (after_move c m).nodes
+none_after c m all =
+    each_moved IsNoMaster c m all
+    (λ x a h. let same : id_of a.turn.0 ≡ id_of a.was = ap (λ (n : NodeName). n.node) (turn_named a.was a.event a.turn a.does) in omega (arith, h, same))
+    (λ name some. omega (arith, some))
 
 none_moves : (ts : List Taken) (c : Chain) → NoneIsMaster c.nodes → NoneIsMaster (after_moves c ts).nodes
 none_moves [] c h = h
-none_moves (t ∷ ts) c h = none_moves ts (after_move c t.chosen) (none_after c t.chosen (chain_step c t.chosen) refl h)
+none_moves (t ∷ ts) c h = none_moves ts (after_move c t.chosen) (none_after c t.chosen h)
 
 opening_none : (chain : ℕ) (members ids : List ℕ) → AllByRecursion (λ id. (1 ≤ id) × (id ≤ greatest_count)) ids → NoneIsMaster (map (λ id. opening_member (record { chain = chain; node = id }) members) ids)
 opening_none chain members [] a = tt

@@ -24,7 +24,7 @@ use Rattle.craq_recovery.proofs.Entries.{HoldsSo, placed_front}
 use Rattle.craq_recovery.proofs.Extending.{IsReachedBy, reached_move}
 use Rattle.craq_recovery.proofs.Meeting.{Begins, Holds, IsFrom, Takes, all_taken, none_taken, turn_copy, turn_entries, turn_floor, turn_part}
 use Rattle.craq_recovery.proofs.Series.{sent_both}
-use Rattle.craq_recovery.proofs.Travels.{Stays}
+use Rattle.craq_recovery.proofs.Arriving.{Stays}
 
 pub reach_stays : (chain : ℕ) → Stays (IsReachedBy chain)
 reach_stays chain = λ d m t r. reached_move chain d m t r

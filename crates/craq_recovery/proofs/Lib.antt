@@ -1,9 +1,11 @@
+pub mod Lines
 pub mod Running
 pub mod Speaking
 pub mod Sound
 pub mod Onward
 pub mod Taking
 pub mod Gains
+pub mod Arriving
 pub mod Hearing
 pub mod Extending
 pub mod Ticking
@@ -16,10 +18,12 @@ pub mod Applicable
 pub mod Entries
 pub mod Tests
 pub mod Heads
+pub mod Spreading
 pub mod Tails
 pub mod Waits
 pub mod Answered
 pub mod Finding
+pub mod Each
 pub mod ReadsAnswered
 pub mod Calm
 pub mod Recovering

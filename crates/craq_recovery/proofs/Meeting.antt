@@ -1,6 +1,6 @@
 -- What each message of a ready predecessor does at an unready node, in a chain.
-use Rattle.std.proofs.Common.{◌≡◌, ◌≢◌, ⊎_elim, inl, inr, ℕ, suc, ◌+◌, ◌≤◌, ◌==◌, true, List, [], ◌∷◌, length, take, Option, Some, is_some, Result, Ok, refl, ap, sym, subst, ◌∙◌, arith}
-use Rattle.std.proofs.lemmas.Bool.{cases_eq, cond-true, both_ways, eq-eqb}
+use Rattle.std.proofs.Common.{◌≡◌, ◌≢◌, ⊎_elim, inl, inr, ℕ, suc, ◌+◌, ◌≤◌, true, List, [], ◌∷◌, length, take, Option, Some, is_some, Result, refl, ap, sym, subst, ◌∙◌, arith}
+use Rattle.std.proofs.lemmas.Bool.{cases_eq, both_ways, eq-eqb}
 use Rattle.std.specs.List.{AllByRecursion}
 use Rattle.craq_names.specs.declared.name.NodeName.{NodeName}
 use Rattle.craq_names.specs.declared.refusal.Refusal.{Refusal}
@@ -14,13 +14,12 @@ use Rattle.craq_model.specs.declared.message.Body.{Body}
 use Rattle.craq_model.specs.declared.message.Body.TheVariants as bodies
 use Rattle.craq_model.specs.declared.message.LinkMessage.{LinkMessage}
 use Rattle.craq_model.specs.declared.message.StatePart.{StatePart}
-use Rattle.craq_model.specs.declared.step.Why.TheVariants.{OtherEpoch}
-use Rattle.craq_model.specs.Deliveries.{body_turn, copy_turn, delivery_turn, entries_turn, floor_turn, part_turn, turn_in_epoch}
+use Rattle.craq_model.specs.Deliveries.{body_turn, copy_turn, delivery_turn, entries_turn, floor_turn, part_turn}
 use Rattle.craq_model.specs.Members.{predecessor_in}
 use Rattle.craq_model.specs.Parts.{gathering_for, is_whole, part_count}
 use Rattle.craq_model.specs.Plain.{Plain, id_of, length_of, predecessor}
 use Rattle.craq_model.specs.Sends.{run_body}
-use Rattle.craq_model.specs.Settle.{Turn, turn_ignoring}
+use Rattle.craq_model.specs.Settle.{Turn}
 use Rattle.craq_protocol.specs.Machine as machine
 use Rattle.craq_protocol.specs.Machine.{World}
 use Rattle.craq_protocol.specs.Promises.{IsPrefix, IsReached, IsSafe, Sent}
@@ -34,7 +33,7 @@ use Rattle.craq_refinement.proofs.Nodes.{node_elsewhere, node_id}
 use Rattle.craq_refinement.proofs.Stages.{Arrived, arrived}
 use Rattle.craq_refinement.proofs.Worlds.{history_length}
 use Rattle.craq_runs.specs.declared.run.Move.TheVariants.{Deliver}
-use Rattle.craq_runs.specs.Chain.{Chain, Progress, chain_step, message_at, node_at}
+use Rattle.craq_runs.specs.Chain.{Chain, Progress, node_at}
 use Rattle.craq_runs.specs.Runs.{progressed}
 use Rattle.craq_recovery.specs.Recovered.{Knows}
 use Rattle.craq_recovery.proofs.Blocks.{Turns}
@@ -42,15 +41,16 @@ use Rattle.craq_recovery.proofs.Entries.{HoldsSo, run_turn, takes_them}
 use Rattle.craq_recovery.proofs.Extending.{IsReachedBy}
 use Rattle.craq_recovery.proofs.Filling.{HasPart, HasParts, HasTaken, NoneLater, copy_reaches, floor_readies, none_later, part_taken}
 use Rattle.craq_recovery.proofs.Gains.{Gains, Goes, goes_move, prefix_length}
-use Rattle.craq_recovery.proofs.Gathers.{CameFrom, GathersSo, IsPartFor, body_so, came_there, for_position}
+use Rattle.craq_recovery.proofs.Gathers.{CameFrom, GathersSo, IsPartFor, came_there, delivery_so}
+use Rattle.craq_recovery.proofs.Lines.{for_position}
 use Rattle.craq_recovery.proofs.Hearing.{knows_at}
-use Rattle.craq_recovery.proofs.Onward.{Onward, turn_named}
+use Rattle.craq_recovery.proofs.Onward.{Onward}
 use Rattle.craq_recovery.proofs.Pieces.{IsBetween, counted, state_rises}
 use Rattle.craq_recovery.proofs.Running.{delivery_turn-runs}
 use Rattle.craq_recovery.proofs.Series.{Has}
-use Rattle.craq_recovery.proofs.Sound.{Sound, own_chain}
+use Rattle.craq_recovery.proofs.Sound.{own_chain, turn_named}
 use Rattle.craq_recovery.proofs.Taking.{bears, for_it}
-use Rattle.craq_recovery.proofs.Travels.{NodeIs, arrived_here}
+use Rattle.craq_recovery.proofs.Travels.{Met, NodeIs, arrived_here, ends, in_turn, met, stands_by}
 
 -- ---- what is true of the node meanwhile
 
@@ -79,50 +79,6 @@ pub record IsFrom (epoch from to : ℕ) (m : LinkMessage) : Type 0 where
   pub comes : m.sender ≡ from
   pub goes : m.receiver ≡ to
 
--- ---- a message of the predecessor meets the node
-
-pub record Meets (E : Plain → Type 0) (d : Chain) (x : Progress) (m : LinkMessage) (to : ℕ) : Type 0 where
-  pub node : Plain
-  pub at : node_at d.nodes (id_of node) ≡ Some node
-  pub there : node_at d.nodes to ≡ Some node
-  pub running : node.running ≡ true
-  pub knows : Knows d node
-  pub before : predecessor node ≡ Some m.sender
-  pub made : m.epoch ≡ node.epoch
-  pub holds : E node
-  pub after : node_at x.0.nodes to ≡ Some (delivery_turn node m).0
-  pub gains : Gains node (delivery_turn node m).0
-
-pub meets : (c : Chain) (from to : ℕ) (E : Plain → Type 0) → ((p : Plain) → E p → c.epoch ≤ p.epoch) → predecessor_in c.members to ≡ Some from
-    → (d : Chain) (number : ℕ) (m : LinkMessage) (x : Progress) → Sound d → IsFollowed d → Onward c d → NodeIs d to E → message_at d.messages number ≡ Some m
-    → chain_step d (Deliver number) ≡ Ok x → IsFrom c.epoch from to m → Meets E d x m to
-meets c from to E lates before d number m x s f on g there e is =
-    let ar : Arrived d m x = arrived d number m x there e in
-    let p : Plain = ar.node in
-    let t : Turn = delivery_turn p m in
-    let q : Plain = g.node in
-    let own : id_of p ≡ to = sym ar.own ∙ is.goes in
-    let N : ℕ → Type 0 = λ i. node_at d.nodes i ≡ Some p in
-    let at : node_at d.nodes to ≡ Some p = subst N own ar.at in
-    let same : q ≡ p = let there : node_at d.nodes to ≡ Some q = g.at in cc in
-    let h : E p = subst E same g.holds in
-    let kn : Knows d p = knows_at c d to on f (record { node = p; at = at; runs = ar.running; late = lates p h }) in
-    let P : List ℕ → Type 0 = λ l. predecessor_in l to ≡ Some from in
-    let Q : ℕ → Type 0 = λ i. predecessor_in p.members i ≡ Some from in
-    let R : ℕ → Type 0 = λ i. predecessor p ≡ Some i in
-    let pred : predecessor p ≡ Some m.sender = subst R (sym is.comes) (subst Q (sym own) (subst P (sym (kn.members ∙ on.members)) before)) in
-    let after : node_at x.0.nodes to ≡ Some t.0 = arrived_here d number m x s there ar to is.goes in
-    let G : Result Progress Refusal → Type 0 = λ r. Goes d (progressed d r) in
-    let goes : Goes d x.0 = subst G e (goes_move d (Deliver number) f) in
-    record { node = p; at = ar.at; there = at; running = ar.running; knows = kn; before = pred; made = is.made ∙ sym (kn.epoch ∙ on.epoch); holds = h; after = after; gains = goes.gains to p t.0 at after }
-
-in_turn : (p : Plain) (m : LinkMessage) (t : Turn) → m.epoch ≡ p.epoch → turn_in_epoch p m t ≡ t
-in_turn p m t e = cond-true (m.epoch == p.epoch) t (turn_ignoring p OtherEpoch) (eq-eqb m.epoch p.epoch e)
-
--- what it makes of the node
-ends : {E : Plain → Type 0} {d : Chain} {x : Progress} {m : LinkMessage} {to : ℕ} (F : Plain → Type 0) (k : Meets E d x m to) → F (delivery_turn k.node m).0 → NodeIs x.0 to F
-ends {E} {d} {x} {m} {to} F k h = record { node = (delivery_turn k.node m).0; at = k.after; runs = delivery_turn-runs k.node m ∙ k.running; holds = h }
-
 -- a ready node holds as much as any state that was sent
 ready_holds : (d : Chain) (p : Plain) (f : IsFollowed d) → node_at d.nodes (id_of p) ≡ Some p → p.running ≡ true → (epoch from to : ℕ) (entries : List Entry) → Sent f.0.messages (said epoch from to (machine.Copy entries))
     → p.ready ≡ true → length entries ≤ length_of p
@@ -140,44 +96,47 @@ ready_holds d p f at runs epoch from to entries sent ready =
 pub turn_copy : (chain : ℕ) (c : Chain) (from to least position : ℕ) (state : State) (m : LinkMessage) → predecessor_in c.members to ≡ Some from → IsFrom c.epoch from to m → m.body ≡ bodies.Copy position state
     → Turns (IsReachedBy chain) c to m (Begins c.epoch from least position) (Holds c.epoch position)
 turn_copy chain c from to least position state m before is says = λ d number x r s f on g there e.
-    let k : Meets (Begins c.epoch from least position) d x m to = meets c from to (Begins c.epoch from least position) (λ p b. b.late) before d number m x s f on g there e is in
+    let k : Met c d x m to (Begins c.epoch from least position) = met c d to number m x (Begins c.epoch from least position) (λ p b. b.late) s f on g there e is.goes is.made in
+    let pred : predecessor k.node ≡ Some m.sender = stands_by k predecessor_in before is.comes in
     let p : Plain = k.node in
-    let does : delivery_turn p m ≡ copy_turn p m.sender position state = ap (body_turn p m) says ∙ in_turn p m (copy_turn p m.sender position state) k.made in
+    let does : delivery_turn p m ≡ copy_turn p m.sender position state = ap (body_turn p m) says ∙ in_turn k (copy_turn p m.sender position state) in
     let follows : BodyFollows f.0.memberships f.0.messages m.epoch m.sender m.receiver (bodies.Copy position state) = said_as f.2 number m (bodies.Copy position state) there says in
     let reached : position ≤ length_of (copy_turn p m.sender position state).0 =
-    copy_reaches p m.sender position state k.before (λ ready. let le : length follows.0 ≤ length_of p = ready_holds d p f k.at k.running m.epoch m.sender m.receiver follows.0 follows.4 ready in omega (arith, le, follows.1)) in
+    copy_reaches p m.sender position state pred (λ ready. let le : length follows.0 ≤ length_of p = ready_holds d p f k.at k.running m.epoch m.sender m.receiver follows.0 follows.4 ready in omega (arith, le, follows.1)) in
     let L : Turn → Type 0 = λ t. position ≤ length_of t.0 in
     let gains : Gains p (delivery_turn p m).0 = k.gains in
     let b : Begins c.epoch from least position p = k.holds in
-    ends (Holds c.epoch position) k (record { late = omega (arith, gains.epoch, b.late); holds = subst L (sym does) reached })
+    ends k (Holds c.epoch position) (record { late = omega (arith, gains.epoch, b.late); holds = subst L (sym does) reached })
 
 -- ---- entries
 
 pub turn_entries : (chain : ℕ) (c : Chain) (from to a : ℕ) (es : List Entry) (m : LinkMessage) → predecessor_in c.members to ≡ Some from → IsFrom c.epoch from to m → m.body ≡ run_body es → IsPlaced a es
     → Turns (IsReachedBy chain) c to m (Holds c.epoch a) (Holds c.epoch (a + length es))
 turn_entries chain c from to a es m before is says placed = λ d number x r s f on g there e.
-    let k : Meets (Holds c.epoch a) d x m to = meets c from to (Holds c.epoch a) (λ p b. b.late) before d number m x s f on g there e is in
+    let k : Met c d x m to (Holds c.epoch a) = met c d to number m x (Holds c.epoch a) (λ p b. b.late) s f on g there e is.goes is.made in
+    let pred : predecessor k.node ≡ Some m.sender = stands_by k predecessor_in before is.comes in
     let p : Plain = k.node in
     let b : Holds c.epoch a p = k.holds in
-    let does : delivery_turn p m ≡ entries_turn p m.sender es = ap (body_turn p m) says ∙ (run_turn p m es ∙ in_turn p m (entries_turn p m.sender es) k.made) in
+    let does : delivery_turn p m ≡ entries_turn p m.sender es = ap (body_turn p m) says ∙ (run_turn p m es ∙ in_turn k (entries_turn p m.sender es)) in
     let L : Turn → Type 0 = λ t. a + length es ≤ length_of t.0 in
     let gains : Gains p (delivery_turn p m).0 = k.gains in
-    ends (Holds c.epoch (a + length es)) k
-    (record { late = omega (arith, gains.epoch, b.late); holds = subst L (sym does) (takes_them chain d number m es a p r there says placed b.holds k.at k.before) })
+    ends k (Holds c.epoch (a + length es))
+    (record { late = omega (arith, gains.epoch, b.late); holds = subst L (sym does) (takes_them chain d number m es a p r there says placed b.holds k.at pred) })
 
 -- ---- the floor
 
 pub turn_floor : (chain : ℕ) (c : Chain) (from to count : ℕ) (m : LinkMessage) → predecessor_in c.members to ≡ Some from → IsFrom c.epoch from to m → m.body ≡ bodies.Floor count
     → Turns (IsReachedBy chain) c to m (Holds c.epoch count) (HoldsSo c.epoch count)
 turn_floor chain c from to count m before is says = λ d number x r s f on g there e.
-    let k : Meets (Holds c.epoch count) d x m to = meets c from to (Holds c.epoch count) (λ p b. b.late) before d number m x s f on g there e is in
+    let k : Met c d x m to (Holds c.epoch count) = met c d to number m x (Holds c.epoch count) (λ p b. b.late) s f on g there e is.goes is.made in
+    let pred : predecessor k.node ≡ Some m.sender = stands_by k predecessor_in before is.comes in
     let p : Plain = k.node in
     let b : Holds c.epoch count p = k.holds in
-    let does : delivery_turn p m ≡ floor_turn p m.sender count = ap (body_turn p m) says ∙ in_turn p m (floor_turn p m.sender count) k.made in
+    let does : delivery_turn p m ≡ floor_turn p m.sender count = ap (body_turn p m) says ∙ in_turn k (floor_turn p m.sender count) in
     let R : Turn → Type 0 = λ t. t.0.ready ≡ true in
     let gains : Gains p (delivery_turn p m).0 = k.gains in
-    ends (HoldsSo c.epoch count) k
-    (record { ready = subst R (sym does) (floor_readies p m.sender count k.before b.holds); late = omega (arith, gains.epoch, b.late); holds = omega (arith, gains.held, b.holds) })
+    ends k (HoldsSo c.epoch count)
+    (record { ready = subst R (sym does) (floor_readies p m.sender count pred b.holds); late = omega (arith, gains.epoch, b.late); holds = omega (arith, gains.held, b.holds) })
 
 -- ---- parts
 
@@ -220,12 +179,13 @@ pub turn_part : (chain : ℕ) (c : Chain) (from to number : ℕ) (part : StatePa
 turn_part chain c from to number part m before is says next = λ d place x r s f on g there e.
     let E : Plain → Type 0 = Takes c.epoch part.position part.count number in
     let F : Plain → Type 0 = Takes c.epoch part.position part.count (suc number) in
-    let k : Meets E d x m to = meets c from to E (λ p b. b.late) before d place m x s f on g there e is in
+    let k : Met c d x m to E = met c d to place m x E (λ p b. b.late) s f on g there e is.goes is.made in
+    let pred : predecessor k.node ≡ Some m.sender = stands_by k predecessor_in before is.comes in
     let p : Plain = k.node in
     let b : E p = k.holds in
     let w : World Entry = f.0 in
     let n : NodeFollows w (seen_of p) = f.2.nodes (id_of p) p k.at in
-    let does : delivery_turn p m ≡ part_turn p m.sender part = ap (body_turn p m) says ∙ in_turn p m (part_turn p m.sender part) k.made in
+    let does : delivery_turn p m ≡ part_turn p m.sender part = ap (body_turn p m) says ∙ in_turn k (part_turn p m.sender part) in
     let H : Turn → Type 0 = λ t. HasTaken part.position part.count (suc number) t.0 in
     let gains : Gains p (delivery_turn p m).0 = k.gains in
     let follows : PartFollows w.messages m.epoch m.sender m.receiver part = said_as f.2 place m (bodies.Part part) there says in
@@ -237,7 +197,7 @@ turn_part chain c from to number part m before is says next = λ d place x r s f
     (λ (le : part.position ≤ length_of p). inl (omega (arith, le, gains.held)))
     (λ (h : NoneLater part.position p.gathering × HasParts part.position part.count number p.gathering).
     subst H (sym does)
-    (part_taken p m.sender number part s (1 + part_count s) k.before next
+    (part_taken p m.sender number part s (1 + part_count s) pred next
     (λ ready. let le : length follows.entries ≤ length_of p = ready_holds d p f k.at k.running m.epoch m.sender m.receiver follows.entries follows.sent ready in omega (arith, le, follows.count))
     (λ g is at. let C : ℕ → Type 0 = λ n. g.count ≡ part_count (after_entries opening_state (take n w.log)) in subst C at (gathered_count chain d p f r k.at g is) ∙ whole)
     (state_rises (take part.position w.log))
@@ -245,7 +205,7 @@ turn_part chain c from to number part m before is says next = λ d place x r s f
     (λ of. shares w f.1 p.gathering n.gathering part (h.0) (of ∙ sym whole))
     h.0 h.1))
     b.taken in
-    ends F k (record { late = omega (arith, gains.epoch, b.late); taken = taken })
+    ends k F (record { late = omega (arith, gains.epoch, b.late); taken = taken })
   where
     shares : (w : World Entry) → IsReached w → (o : Option Gathering) → AreGathered w.messages o → (part : StatePart) → NoneLater part.position o
         → (gathering_for part o).count ≡ part_count (after_entries opening_state (take part.position w.log))
@@ -330,8 +290,9 @@ turn_mild chain c from to least position m mild = λ d number x r s f on g there
     let goes : Goes d x.0 = subst G e (goes_move d (Deliver number) f) in
     let gains : Gains p t.0 = goes.gains to p t.0 at after in
     let below : GathersSo (Below from position) t.0 =
-    body_so (Below from position) p m m.body b.below
-    (λ part says k here count lacks. λ o. let sender : m.sender ≡ from = cc in let le : part.position ≤ position = mild part says sender in omega (arith, le, here)) in
+    delivery_so (Below from position) p m
+    (λ part k says here count lacks. λ o. let sender : m.sender ≡ from = cc in let le : part.position ≤ position = mild part says sender in omega (arith, le, here))
+    b.below in
     record { node = t.0; at = after; runs = delivery_turn-runs p m ∙ ar.running; holds = record { late = omega (arith, gains.epoch, b.late); holds = omega (arith, gains.held, b.holds); below = below } })
     (λ (other : m.receiver ≢ to).
     let of : p.name.chain ≡ d.chain = own_chain d.chain (id_of p) d.nodes p s.nodes ar.at in

@@ -1,6 +1,6 @@
 -- What ticks and arrivals leave as it is.
 use Rattle.std.proofs.Common.{◌≡◌, ⊎_elim, ℕ, ◌+◌, ◌==◌, List, [], ◌∷◌, ◌++◌, append_assoc, append-nil, Option, Some, None, Result, Ok, Err, refl, ap, sym, subst, ◌∙◌}
-use Rattle.std.proofs.lemmas.Bool.{cases_eq}
+use Rattle.std.proofs.lemmas.Bool.{cases_eq, cond_both, cond-true}
 use Rattle.std.specs.Prelude.{⊤}
 use Rattle.std.specs.List.{AllByRecursion}
 use Rattle.craq_names.specs.declared.refusal.Refusal.{Refusal}
@@ -10,10 +10,9 @@ use Rattle.craq_model.specs.declared.ask.Event.{Event}
 use Rattle.craq_model.specs.declared.ask.Event.TheVariants as events
 use Rattle.craq_model.specs.declared.message.LinkMessage.{LinkMessage}
 use Rattle.craq_model.specs.Deliveries.{delivery_turn}
-use Rattle.craq_model.specs.Node.{event_turn, is_for, node_step, outs_fit, within_counts}
+use Rattle.craq_model.specs.Node.{event_turn, is_for, node_step}
 use Rattle.craq_model.specs.Plain.{Plain, id_of}
 use Rattle.craq_model.specs.Settle.{Turn}
-use Rattle.craq_laws.proofs.Names.{Gives, event_turn-name}
 use Rattle.craq_refinement.proofs.Nodes.{node_here, node_elsewhere, node_id}
 use Rattle.craq_runs.specs.declared.run.Move.{Move}
 use Rattle.craq_runs.specs.declared.run.Move.TheVariants as moves
@@ -21,8 +20,8 @@ use Rattle.craq_runs.specs.Chain.{Chain, Progress, arrival_progress, chain_step,
 use Rattle.craq_runs.specs.Runs.{after_move, progressed}
 use Rattle.craq_recovery.specs.Rounds.{after_moves_by}
 use Rattle.craq_recovery.proofs.Running.{delivery_turn-runs}
-use Rattle.craq_recovery.proofs.Sound.{Sound, sound_move}
-use Rattle.craq_recovery.proofs.Speaking.{by_test}
+use Rattle.craq_recovery.proofs.Sound.{Sound, sound_move, turn_named}
+use Rattle.craq_recovery.proofs.Lines.{IfTaken, by_test, in_step}
 
 -- the same master, the messages that were sent stand, and the same nodes run
 pub record Onward (c d : Chain) : Type 0 where
@@ -64,43 +63,21 @@ IsQuiet (events.Deliver m) = ⊤
 IsQuiet events.Tick = ⊤
 IsQuiet events.Stop = ⊥
 
-abbrev StaysIfAny : Plain → Result Turn Refusal → Type 0
-StaysIfAny p (Ok t) = (t.0.name ≡ p.name) × (t.0.running ≡ p.running)
-StaysIfAny p (Err e) = ⊤
+-- a node keeps its name, and runs as before
+abbrev Stays : Plain → Turn → Type 0
+Stays p t = (t.0.name ≡ p.name) × (t.0.running ≡ p.running)
 
-pub turn_named : (p : Plain) (e : Event) (t : Turn) → event_turn p e ≡ Ok t → t.0.name ≡ p.name
-turn_named p e t is = subst (Gives p.name) is (event_turn-name p e)
-
--- the name is kept by each event of a node
-stays_if : (p : Plain) (e : Event) → ((t : Turn) → event_turn p e ≡ Ok t → t.0.running ≡ p.running) → (r : Result Turn Refusal) → event_turn p e ≡ r → StaysIfAny p r
-stays_if p e keeps (Ok t) is = (turn_named p e t is, keeps t is)
-stays_if p e keeps (Err err) is = tt
-
-ok_same : {A B : Type 0} (x y : A) (r : Result A B) → r ≡ Ok x → r ≡ Ok y → x ≡ y
-ok_same x y r d e = cc
-
-delivered_runs : (p : Plain) (m : LinkMessage) (t : Turn) → event_turn p (events.Deliver m) ≡ Ok t → t.0.running ≡ p.running
-delivered_runs p m t =
-    by_test (is_for p m) (λ (r : Result Turn Refusal). r ≡ Ok t → t.0.running ≡ p.running) (Ok (delivery_turn p m)) (Err refusals.WrongNode)
-    (λ e. subst (λ (u : Turn). u.0.running ≡ p.running) (ok_same (delivery_turn p m) t (Ok (delivery_turn p m)) refl e) (delivery_turn-runs p m))
-    (λ e. absurd (cc))
-
-ticked_runs : (p : Plain) (t : Turn) → event_turn p events.Tick ≡ Ok t → t.0.running ≡ p.running
-ticked_runs p t e = cc
-
-event_stays : (p : Plain) (e : Event) → IsQuiet e → StaysIfAny p (event_turn p e)
+event_stays : (p : Plain) (e : Event) → IsQuiet e → IfTaken (Stays p) (event_turn p e)
 event_stays p (events.Ask ask) q = absurd q
-event_stays p (events.Deliver m) q = stays_if p (events.Deliver m) (λ t is. delivered_runs p m t is) (event_turn p (events.Deliver m)) refl
+event_stays p (events.Deliver m) q =
+    cond_both (is_for p m) (Ok (delivery_turn p m)) (Err refusals.WrongNode) (IfTaken (Stays p))
+    (λ is. (turn_named p (events.Deliver m) (delivery_turn p m) (cond-true (is_for p m) (Ok (delivery_turn p m)) (Err refusals.WrongNode) is), delivery_turn-runs p m))
+    (λ e. tt)
 event_stays p events.Tick q = (refl, refl)
 event_stays p events.Stop q = absurd q
 
-within_stays : (p : Plain) (r : Result Turn Refusal) → StaysIfAny p r → StaysIfAny p (within_counts r)
-within_stays p (Ok t) h = by_test (outs_fit t.1.outs) (StaysIfAny p) (Ok t) (Err refusals.Exhausted) h tt
-within_stays p (Err e) h = tt
-
-step_stays : (p : Plain) (e : Event) → IsQuiet e → StaysIfAny p (node_step p e)
-unfolding node_step
-step_stays p e q = by_test p.running (StaysIfAny p) (within_counts (event_turn p e)) (Err refusals.Stopped) (within_stays p (event_turn p e) (event_stays p e q)) tt
+step_stays : (p : Plain) (e : Event) → IsQuiet e → IfTaken (Stays p) (node_step p e)
+step_stays p e q = in_step (Stays p) p e (event_stays p e q)
 
 -- a node in place of that of its name, which runs as that did
 runs_alike : (nodes : List Plain) (p q : Plain) → node_at nodes (id_of p) ≡ Some p → q.name ≡ p.name → q.running ≡ p.running
@@ -116,7 +93,7 @@ runs_alike nodes p q at named runs id =
     (λ ne. ap is_running (node_elsewhere nodes q id ne))
     (cases_eq id (id_of q))
 
-turn_leaves : (c : Chain) (p : Plain) (r : Result Turn Refusal) → node_at c.nodes (id_of p) ≡ Some p → StaysIfAny p r → LeavesIfAny c (turn_progress c r)
+turn_leaves : (c : Chain) (p : Plain) (r : Result Turn Refusal) → node_at c.nodes (id_of p) ≡ Some p → IfTaken (Stays p) r → LeavesIfAny c (turn_progress c r)
 turn_leaves c p (Ok t) at s = record { chain = refl; epoch = refl; members = refl; running = runs_alike c.nodes p t.0 at s.0 s.1 }
 turn_leaves c p (Err e) at s = tt
 

@@ -15,10 +15,10 @@ use Rattle.craq_model.specs.declared.message.Body.TheVariants as bodies
 use Rattle.craq_model.specs.declared.message.LinkMessage.{LinkMessage}
 use Rattle.craq_model.specs.declared.step.Out.{Out}
 use Rattle.craq_model.specs.declared.step.Out.TheVariants as outs
-use Rattle.craq_model.specs.declared.step.Why.TheVariants.{OtherEpoch, NotNeighbour, NotReadyHere, TooFar}
+use Rattle.craq_model.specs.declared.step.Why.TheVariants.{NotNeighbour, NotReadyHere, TooFar}
 use Rattle.craq_model.specs.declared.waiting.WaitingRead.{WaitingRead}
 use Rattle.craq_model.specs.declared.waiting.WaitingUpdate.{WaitingUpdate}
-use Rattle.craq_model.specs.Deliveries.{answering_version, body_turn, delivery_turn, query_turn, read_with, reads_without, told_version_turn, turn_in_epoch, version_turn}
+use Rattle.craq_model.specs.Deliveries.{answering_version, body_turn, delivery_turn, query_turn, read_with, reads_without, told_version_turn, version_turn}
 use Rattle.craq_model.specs.Members.{is_member, last_of}
 use Rattle.craq_model.specs.Plain.{Plain, id_of, is_last, is_tail, newest_object, object_within, predecessor, successor}
 use Rattle.craq_model.specs.Sends.{catch_up, queries, ready_sends, send, send_all, tick_sends, to_neighbour, unready_sends}
@@ -33,9 +33,8 @@ use Rattle.craq_refinement.specs.Lines.{IsFollowed}
 use Rattle.craq_refinement.proofs.Lists.{all_like}
 use Rattle.craq_refinement.proofs.Members.{is_member-same}
 use Rattle.craq_refinement.proofs.Nodes.{node_id}
-use Rattle.craq_refinement.proofs.Stages.{Arrived, arrived}
 use Rattle.craq_runs.specs.declared.run.Run.{Run}
-use Rattle.craq_runs.specs.Chain.{Chain, Progress, message_at, node_at, sent_in}
+use Rattle.craq_runs.specs.Chain.{Chain, message_at, node_at, sent_in}
 use Rattle.craq_runs.specs.Explain.{Account, opening_account}
 use Rattle.craq_runs.specs.Runs.{after_move}
 use Rattle.craq_runs.specs.Seen.{Asked, answers_from, ask_with}
@@ -62,12 +61,10 @@ use Rattle.craq_recovery.proofs.Applicable.{genuine_back}
 use Rattle.craq_recovery.proofs.Extending.{IsReachedBy, reached_here, reached_move}
 use Rattle.craq_recovery.proofs.Finding.{all_pass, found_is, found_of, none_found}
 use Rattle.craq_recovery.proofs.Heads.{Good, good_run}
-use Rattle.craq_recovery.proofs.Hearing.{knows_at}
 use Rattle.craq_recovery.proofs.Ids.{not_master}
-use Rattle.craq_recovery.proofs.Running.{delivery_turn-runs}
 use Rattle.craq_recovery.proofs.Series.{Has, One, has_back, sent_both}
 use Rattle.craq_recovery.proofs.Taking.{round_travels}
-use Rattle.craq_recovery.proofs.Travels.{Either, Leads, NodeIs, arrived_here, kept_lasts, lasts_on}
+use Rattle.craq_recovery.proofs.Travels.{Either, Leads, Met, NodeIs, ends, in_turn, kept_lasts, lasts_on, met}
 use Rattle.craq_recovery.proofs.TwoHops.{Replies, crosses_back}
 use Rattle.craq_recovery.proofs.Waits.{Waiting, waits_last}
 
@@ -229,34 +226,23 @@ tells q sender ticket key ne member tail =
 last_replies : (chain : ℕ) (c : Chain) (from to ticket : ℕ) → last_of c.members ≡ to → from ≢ to → is_member c.members from ≡ true
     → Replies (IsReachedBy chain) c to (IsQuery c.epoch from to ticket) (Receiver c.epoch) (IsVersion c.epoch to from ticket)
 last_replies chain c from to ticket last ne member d number m x r s f on g there e is =
-    let ar : Arrived d m x = arrived d number m x there e in
-    let q : Plain = ar.node in
-    let t : Turn = delivery_turn q m in
-    let own : id_of q ≡ to = sym ar.own ∙ is.goes_to in
-    let N : ℕ → Type 0 = λ i. node_at d.nodes i ≡ Some q in
-    let at : node_at d.nodes to ≡ Some q = subst N own ar.at in
-    let same : g.node ≡ q = let there : node_at d.nodes to ≡ Some g.node = g.at in cc in
-    let h : Receiver c.epoch q = let P : Plain → Type 0 = λ x. Receiver c.epoch x in subst P same g.holds in
-    let kn : Knows d q = knows_at c d to on f (record { node = q; at = at; runs = ar.running; late = h.late }) in
-    let members : q.members ≡ c.members = kn.members ∙ on.members in
+    let k : Met c d x m to (Receiver c.epoch) = met c d to number m x (Receiver c.epoch) (λ p h. h.late) s f on g there e is.goes_to is.made in
+    let q : Plain = k.node in
+    let h : Receiver c.epoch q = k.holds in
     let M : List ℕ → Type 0 = λ l. is_member l from ≡ true in
     let S : ℕ → Type 0 = λ i. is_member q.members i ≡ true in
-    let sender : is_member q.members m.sender ≡ true = subst S (sym is.comes_from) (subst M (sym members) member) in
-    let apart : m.sender ≢ id_of q = λ z. ne (sym is.comes_from ∙ (z ∙ own)) in
-    let is_end : is_last q ≡ true = eq-eqb (last_of q.members) (id_of q) (ap last_of members ∙ (last ∙ sym own)) in
+    let sender : is_member q.members m.sender ≡ true = subst S (sym is.comes_from) (subst M (sym k.members) member) in
+    let apart : m.sender ≢ id_of q = λ z. ne (sym is.comes_from ∙ (z ∙ k.own)) in
+    let is_end : is_last q ≡ true = eq-eqb (last_of q.members) (id_of q) (ap last_of k.members ∙ (last ∙ sym k.own)) in
     let tail : is_tail q ≡ true = ap (λ b. b && is_last q) h.ready ∙ is_end in
-    let got : Has (IsVersion q.epoch (id_of q) m.sender ticket) (sent_in (query_turn q m.sender ticket is.key).1.outs) = tells q m.sender ticket is.key apart sender tail in
-    let same_epoch : m.epoch ≡ q.epoch = is.made ∙ sym (kn.epoch ∙ on.epoch) in
+    let does : delivery_turn q m ≡ query_turn q m.sender ticket is.key = ap (body_turn q m) is.says ∙ in_turn k (query_turn q m.sender ticket is.key) in
     let W : Turn → Type 0 = λ t. Has (IsVersion q.epoch (id_of q) m.sender ticket) (sent_in t.1.outs) in
-    let turned : W (turn_in_epoch q m (query_turn q m.sender ticket is.key)) =
-    cond_both (m.epoch == q.epoch) (query_turn q m.sender ticket is.key) (turn_ignoring q OtherEpoch) W
-    (λ e. got)
-    (λ e. absurd (both_ways (m.epoch == q.epoch) e (eq-eqb m.epoch q.epoch same_epoch))) in
-    let by : t ≡ turn_in_epoch q m (query_turn q m.sender ticket is.key) = ap (body_turn q m) is.says in
-    let E : ℕ → Type 0 = λ n. Has (IsVersion n (id_of q) m.sender ticket) (sent_in t.1.outs) in
-    let I : ℕ → Type 0 = λ i. Has (IsVersion c.epoch i m.sender ticket) (sent_in t.1.outs) in
-    let F : ℕ → Type 0 = λ i. Has (IsVersion c.epoch to i ticket) (sent_in t.1.outs) in
-    (sent_in t.1.outs, ap (λ (y : Progress). y.0.messages) ar.is, subst F is.comes_from (subst I own (subst E (kn.epoch ∙ on.epoch) (subst W (sym by) turned))))
+    let got : W (delivery_turn q m) = subst W (sym does) (tells q m.sender ticket is.key apart sender tail) in
+    let news : List LinkMessage = sent_in (delivery_turn q m).1.outs in
+    let E : ℕ → Type 0 = λ n. Has (IsVersion n (id_of q) m.sender ticket) news in
+    let I : ℕ → Type 0 = λ i. Has (IsVersion c.epoch i m.sender ticket) news in
+    let F : ℕ → Type 0 = λ i. Has (IsVersion c.epoch to i ticket) news in
+    (news, k.sends, subst F is.comes_from (subst I k.own (subst E (sym k.made ∙ is.made) got)))
 
 -- ---- the read is answered
 
@@ -302,38 +288,20 @@ version_gone p sender ticket version last fits =
 
 version_leads : (chain : ℕ) (c : Chain) (from to ticket : ℕ) → last_of c.members ≡ to
     → Leads (IsReachedBy chain) c from (One (IsVersion c.epoch to from ticket)) (Either (Receiver c.epoch) (Gone ticket))
-version_leads chain c from to ticket last a k d number m x r s f on g0 there e step =
+version_leads chain c from to ticket last a b d number m x r s f on g0 there e step =
     let is : IsVersion c.epoch to from ticket m = step.2 in
     let P0 : ℕ → Type 0 = λ n. NodeIs d from (Either (Receiver c.epoch) (Gone ticket) n) in
     let P1 : ℕ → Type 0 = λ n. NodeIs x.0 from (Either (Receiver c.epoch) (Gone ticket) n) in
     let g : NodeIs d from (Receiver c.epoch) = subst P0 step.0 g0 in
-    let ar : Arrived d m x = arrived d number m x there e in
-    let p : Plain = ar.node in
-    let t : Turn = delivery_turn p m in
-    let own : id_of p ≡ from = sym ar.own ∙ is.goes_to in
-    let N : ℕ → Type 0 = λ i. node_at d.nodes i ≡ Some p in
-    let at : node_at d.nodes from ≡ Some p = subst N own ar.at in
-    let same : g.node ≡ p = let there : node_at d.nodes from ≡ Some g.node = g.at in cc in
-    let h : Receiver c.epoch p = let P : Plain → Type 0 = λ x. Receiver c.epoch x in subst P same g.holds in
-    let kn : Knows d p = knows_at c d from on f (record { node = p; at = at; runs = ar.running; late = h.late }) in
-    let members : p.members ≡ c.members = kn.members ∙ on.members in
-    let end : last_of p.members ≡ m.sender = ap last_of members ∙ (last ∙ sym is.comes_from) in
-    let got : AllByRecursion (λ (r : WaitingRead). r.ticket ≢ ticket) (version_turn p m.sender ticket is.version).0.waiting_reads =
-    version_gone p m.sender ticket is.version end (λ y found. told_there chain d number m p y ticket is.version r ar.at ar.running h.ready there is.says ar.own found) in
-    let same_epoch : m.epoch ≡ p.epoch = is.made ∙ sym (kn.epoch ∙ on.epoch) in
+    let k : Met c d x m from (Receiver c.epoch) = met c d from number m x (Receiver c.epoch) (λ p h. h.late) s f on g there e is.goes_to is.made in
+    let p : Plain = k.node in
+    let h : Receiver c.epoch p = k.holds in
+    let end : last_of p.members ≡ m.sender = ap last_of k.members ∙ (last ∙ sym is.comes_from) in
+    let does : delivery_turn p m ≡ version_turn p m.sender ticket is.version = ap (body_turn p m) is.says ∙ in_turn k (version_turn p m.sender ticket is.version) in
     let W : Turn → Type 0 = λ t. AllByRecursion (λ (r : WaitingRead). r.ticket ≢ ticket) t.0.waiting_reads in
-    let turned : W (turn_in_epoch p m (version_turn p m.sender ticket is.version)) =
-    cond_both (m.epoch == p.epoch) (version_turn p m.sender ticket is.version) (turn_ignoring p OtherEpoch) W
-    (λ e. got)
-    (λ e. absurd (both_ways (m.epoch == p.epoch) e (eq-eqb m.epoch p.epoch same_epoch))) in
-    let by : t ≡ turn_in_epoch p m (version_turn p m.sender ticket is.version) = ap (body_turn p m) is.says in
-    subst P1 (sym step.1)
-    (record {
-      node = t.0;
-      at = arrived_here d number m x s there ar from is.goes_to;
-      runs = delivery_turn-runs p m ∙ ar.running;
-      holds = (anyone t.0.waiting_updates, subst W (sym by) turned);
-    })
+    let got : W (version_turn p m.sender ticket is.version) =
+    version_gone p m.sender ticket is.version end (λ y found. told_there chain d number m p y ticket is.version r k.at k.running h.ready there is.says (is.goes_to ∙ sym k.own) found) in
+    subst P1 (sym step.1) (ends k (Gone ticket) (anyone (delivery_turn p m).0.waiting_updates, subst W (sym does) got))
 
 -- ---- in a round
 

@@ -18,11 +18,11 @@ use Rattle.craq_recovery.proofs.Answered.{all_of_last, no_update_waits, onward_r
 use Rattle.craq_recovery.proofs.Calm.{Calm, calm_after}
 use Rattle.craq_recovery.proofs.Extending.{IsReachedBy, reached_here}
 use Rattle.craq_recovery.proofs.Gains.{Gains, Later, later_here, later_moves}
-use Rattle.craq_recovery.proofs.Heads.{Good}
+use Rattle.craq_recovery.proofs.Heads.{Good, ready_after}
 use Rattle.craq_recovery.proofs.Hearing.{heard}
 use Rattle.craq_recovery.proofs.Onward.{Onward, onward_moves}
 use Rattle.craq_recovery.proofs.ReadsAnswered.{reads_answered}
-use Rattle.craq_recovery.proofs.Tails.{good_there, reached_round, ready_after}
+use Rattle.craq_recovery.proofs.Tails.{good_there, reached_round}
 use Rattle.craq_recovery.proofs.Taking.{round_travels}
 use Rattle.craq_recovery.proofs.Travels.{NodeIs, lasts_on}
 use Rattle.craq_recovery.proofs.Waits.{Waiting, waits_last}

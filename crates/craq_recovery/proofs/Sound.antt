@@ -1,7 +1,6 @@
 -- What bears a chain's id at all times.
-use Rattle.std.proofs.Common.{◌≡◌, ℕ, ◌+◌, ◌==◌, nat_le, Bool, not, cond, ◌||◌, List, [], ◌∷◌, ◌++◌, map, length, is_some, Option, Some, None, Result, Ok, Err, refl, ap, sym, subst, arith}
+use Rattle.std.proofs.Common.{◌≡◌, ℕ, ◌+◌, ◌==◌, nat_le, Bool, not, cond, ◌||◌, List, [], ◌∷◌, ◌++◌, map, length, is_some, Option, Some, None, Result, Ok, Err, refl, ap, sym, subst}
 use Rattle.std.specs.Prelude.{⊤}
-use Rattle.std.specs.List.{AllByRecursion}
 use Rattle.craq_names.specs.Limits.{greatest, member_limit}
 use Rattle.craq_names.specs.declared.name.NodeName.{NodeName}
 use Rattle.craq_names.specs.declared.refusal.Refusal.{Refusal}
@@ -10,21 +9,26 @@ use Rattle.craq_model.specs.declared.ask.Event.{Event}
 use Rattle.craq_model.specs.declared.ask.Event.TheVariants as events
 use Rattle.craq_model.specs.declared.message.LinkMessage.{LinkMessage}
 use Rattle.craq_model.specs.Members.{is_member, without}
-use Rattle.craq_model.specs.Node.{event_turn, node_step, outs_fit, within_counts}
-use Rattle.craq_model.specs.Plain.{Plain, id_of, opening_joined, opening_member}
+use Rattle.craq_model.specs.Node.{event_turn, node_step}
+use Rattle.craq_model.specs.Plain.{Plain, opening_joined}
 use Rattle.craq_model.specs.Settle.{Turn}
 use Rattle.craq_laws.proofs.Names.{Gives, event_turn-name}
 use Rattle.craq_refinement.proofs.Lists.{all_append}
 use Rattle.craq_runs.specs.declared.run.Move.{Move}
 use Rattle.craq_runs.specs.declared.run.Move.TheVariants as moves
 use Rattle.craq_runs.specs.declared.run.Taken.{Taken}
-use Rattle.craq_runs.specs.Chain.{Chain, Progress, chain_step, config_progress, config_to, counted_progress, is_running, join_progress, message_at, move_progress, next_epoch, node_at, node_progress, arrival_progress, numbers_left, opening_chain, removal_progress, sent_in, set_node, turn_progress, with_node}
+use Rattle.craq_runs.specs.Chain.{Chain, Progress, chain_step, config_progress, config_to, counted_progress, is_running, join_progress, message_at, move_progress, next_epoch, node_at, node_progress, arrival_progress, numbers_left, opening_chain, removal_progress, sent_in, turn_progress, with_node}
 use Rattle.craq_runs.specs.Runs.{after_move, after_moves, progressed}
-use Rattle.craq_recovery.proofs.Speaking.{AreOfChain, Speak, Speaks, SpeaksIfAny, by_test, event_speaks}
+use Rattle.craq_recovery.proofs.Speaking.{AreOfChain, Speak, Speaks, event_speaks}
+use Rattle.craq_recovery.proofs.Each.{Each, each_at, each_opening, each_pushed, each_set}
+use Rattle.craq_recovery.proofs.Lines.{IfTaken, by_test, in_step}
 
 -- each node bears this chain
+abbrev IsOf : ℕ → Plain → Type 0
+IsOf chain p = p.name.chain ≡ chain
+
 abbrev pub NodesAreOf : ℕ → List Plain → Type 0
-NodesAreOf chain ps = AllByRecursion (λ (p : Plain). p.name.chain ≡ chain) ps
+NodesAreOf chain ps = Each (IsOf chain) ps
 
 -- a chain whose nodes and messages bear its id
 pub record Sound (c : Chain) : Type 0 where
@@ -43,49 +47,33 @@ DoesIfAny c (Err e) = ⊤
 
 -- the node of an id bears the chain
 pub own_chain : (chain id : ℕ) (ps : List Plain) (q : Plain) → NodesAreOf chain ps → node_at ps id ≡ Some q → q.name.chain ≡ chain
-unfolding node_at
-own_chain chain id [] q h e = absurd (cc)
-own_chain chain id (p ∷ ps) q h e = let t : p.name.chain ≡ chain = h.0 in grind (arith, t, e, own_chain chain id ps q h.1)
+own_chain chain id ps q h e = each_at (IsOf chain) ps id q h e
 
-set_of : (chain : ℕ) (ps : List Plain) (q : Plain) → NodesAreOf chain ps → q.name.chain ≡ chain → NodesAreOf chain (set_node ps q)
-unfolding set_node
-set_of chain [] q h e = tt
-set_of chain (p ∷ ps) q h e = by_test (id_of p == id_of q) (NodesAreOf chain) (q ∷ ps) (p ∷ set_node ps q) (e, h.1) (h.0, set_of chain ps q h.1 e)
+-- a node bears the chain after a turn too, and so does what it sends
+abbrev Bears : ℕ → Turn → Type 0
+Bears chain t = IsOf chain t.0 × Speaks chain t
 
-push_of : (chain : ℕ) (ps : List Plain) (q : Plain) → NodesAreOf chain ps → q.name.chain ≡ chain → NodesAreOf chain (ps ++ q ∷ [])
-push_of chain [] q h e = (e, tt)
-push_of chain (p ∷ ps) q h e = (h.0, push_of chain ps q h.1 e)
-
-abbrev NamedIfAny : ℕ → Result Turn Refusal → Type 0
-NamedIfAny chain (Ok t) = (t.0.name.chain ≡ chain) × Speaks chain t
-NamedIfAny chain (Err e) = ⊤
-
-turn_named : (p : Plain) (e : Event) (t : Turn) → event_turn p e ≡ Ok t → t.0.name ≡ p.name
+pub turn_named : (p : Plain) (e : Event) (t : Turn) → event_turn p e ≡ Ok t → t.0.name ≡ p.name
 turn_named p e t is = subst (Gives p.name) is (event_turn-name p e)
 
-named : (p : Plain) (e : Event) (r : Result Turn Refusal) → event_turn p e ≡ r → NamedIfAny p.name.chain r
-named p e (Ok t) is =
-    let P : Result Turn Refusal → Type 0 = λ r. SpeaksIfAny p.name.chain r in
-    (ap (λ (n : NodeName). n.chain) (turn_named p e t is), subst P is (event_speaks p e))
-named p e (Err err) is = tt
+step_bears : (p : Plain) (e : Event) → IfTaken (Bears p.name.chain) (node_step p e)
+step_bears p e = in_step (Bears p.name.chain) p e (turn_bears (event_turn p e) refl)
+  where
+    turn_bears : (r : Result Turn Refusal) → event_turn p e ≡ r → IfTaken (Bears p.name.chain) r
+    turn_bears (Ok t) is =
+        let S : Result Turn Refusal → Type 0 = λ r. IfTaken (Speaks p.name.chain) r in
+        (ap (λ (n : NodeName). n.chain) (turn_named p e t is), subst S is (event_speaks p.name.chain p e refl))
+    turn_bears (Err err) is = tt
 
-within_named : (chain : ℕ) (r : Result Turn Refusal) → NamedIfAny chain r → NamedIfAny chain (within_counts r)
-within_named chain (Ok t) h = by_test (outs_fit t.1.outs) (NamedIfAny chain) (Ok t) (Err refusals.Exhausted) h tt
-within_named chain (Err e) h = tt
-
-step_named : (p : Plain) (e : Event) → NamedIfAny p.name.chain (node_step p e)
-unfolding node_step
-step_named p e = by_test p.running (NamedIfAny p.name.chain) (within_counts (event_turn p e)) (Err refusals.Stopped) (within_named p.name.chain (event_turn p e) (named p e (event_turn p e) refl)) tt
-
-turn_does : (c : Chain) (r : Result Turn Refusal) → NodesAreOf c.chain c.nodes → NamedIfAny c.chain r → DoesIfAny c (turn_progress c r)
-turn_does c (Ok t) h n = record { same = refl; nodes = set_of c.chain c.nodes t.0 h n.0; sends = n.1 }
+turn_does : (c : Chain) (r : Result Turn Refusal) → NodesAreOf c.chain c.nodes → IfTaken (Bears c.chain) r → DoesIfAny c (turn_progress c r)
+turn_does c (Ok t) h n = record { same = refl; nodes = each_set (IsOf c.chain) c.nodes t.0 h n.0; sends = n.1 }
 turn_does c (Err e) h n = tt
 
 node_does : (c : Chain) (id : ℕ) (o : Option Plain) (e : Event) → node_at c.nodes id ≡ o → Sound c → DoesIfAny c (node_progress c o e)
 node_does c id None e at s = tt
 node_does c id (Some p) e at s =
-    let P : ℕ → Type 0 = λ n. NamedIfAny n (node_step p e) in
-    turn_does c (node_step p e) s.nodes (subst P (own_chain c.chain id c.nodes p s.nodes at) (step_named p e))
+    let P : ℕ → Type 0 = λ n. IfTaken (Bears n) (node_step p e) in
+    turn_does c (node_step p e) s.nodes (subst P (own_chain c.chain id c.nodes p s.nodes at) (step_bears p e))
 
 arrival_does : (c : Chain) (o : Option LinkMessage) → Sound c → DoesIfAny c (arrival_progress c o)
 arrival_does c None s = tt
@@ -122,7 +110,7 @@ join_does c id s =
     unless c ((id == 0) || is_some (node_at c.nodes id)) refusals.UsedId r1
     (unless c (nat_le member_limit (length c.members)) refusals.ChainFull r2
     (unless c (c.epoch == greatest) refusals.Exhausted r3
-    (record { same = refl; nodes = push_of c.chain c.nodes (opening_joined (record { chain = c.chain; node = id })) s.nodes refl; sends = told d d.members })))
+    (record { same = refl; nodes = each_pushed (IsOf c.chain) c.nodes (opening_joined (record { chain = c.chain; node = id })) s.nodes refl; sends = told d d.members })))
 
 move_does : (c : Chain) (m : Move) → Sound c → DoesIfAny c (move_progress c m)
 move_does c (moves.Ask node ask) s = node_does c node (node_at c.nodes node) (events.Ask ask) refl s
@@ -155,9 +143,5 @@ sound_moves : (ts : List Taken) (c : Chain) → Sound c → Sound (after_moves c
 sound_moves [] c s = s
 sound_moves (t ∷ ts) c s = sound_moves ts (after_move c t.chosen) (sound_move c t.chosen s)
 
-opening_of : (chain : ℕ) (members ids : List ℕ) → NodesAreOf chain (map (λ id. opening_member (record { chain = chain; node = id }) members) ids)
-opening_of chain members [] = tt
-opening_of chain members (id ∷ ids) = (refl, opening_of chain members ids)
-
 pub sound_after : (chain : ℕ) (members : List ℕ) (ts : List Taken) → Sound (after_moves (opening_chain chain members) ts)
-sound_after chain members ts = sound_moves ts (opening_chain chain members) (record { nodes = opening_of chain members members; messages = tt })
+sound_after chain members ts = sound_moves ts (opening_chain chain members) (record { nodes = each_opening (IsOf chain) chain members (λ id. refl); messages = tt })

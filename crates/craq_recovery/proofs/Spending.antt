@@ -27,7 +27,7 @@ use Rattle.craq_model.specs.Settle.{Turn, all_committed, all_given, answer_outs,
 use Rattle.craq_refinement.proofs.Members.{is_id-some}
 use Rattle.craq_runs.specs.Chain.{sent_in}
 use Rattle.craq_recovery.proofs.Costs.{Costs, Fits, Within, cost, cost_all, costs_answers, costs_both, costs_neighbour, costs_none, costs_one, fill_cost, passed_cost, ready_tick_cost, runs_of_batch, tick_cost, top}
-use Rattle.craq_recovery.proofs.Speaking.{by_test}
+use Rattle.craq_recovery.proofs.Lines.{by_test}
 
 -- a node holds what another does, or has a predecessor that sent it more
 abbrev pub Grows : Plain → Plain → Type 0

@@ -9,7 +9,8 @@ use Rattle.craq_runs.specs.Chain.{Chain, node_at}
 use Rattle.craq_runs.specs.Runs.{IsRunOf, after_move}
 use Rattle.craq_recovery.specs.Recovered.{HasRecovered, IsReadyAt, IsServing, Knows, ServesAt, after_round, chain_after}
 use Rattle.craq_recovery.specs.Rounds.{round}
-use Rattle.craq_recovery.proofs.Heads.{Good, good_run, ready_all}
+use Rattle.craq_recovery.proofs.Heads.{Good, good_run, ready_later}
+use Rattle.craq_refinement.proofs.Lists.{all_like}
 use Rattle.craq_recovery.proofs.Onward.{Onward, onward_moves}
 use Rattle.craq_recovery.proofs.Taking.{round_travels}
 use Rattle.craq_recovery.proofs.Travels.{NodeIs, lasts_on}
@@ -54,16 +55,10 @@ stays_at count c id g s r =
       },
     )
 
-are_ready_at : (c : Chain) (ids : List ℕ) → AllByRecursion (ServesAt c) ids → AllByRecursion (IsReadyAt c) ids
-are_ready_at c [] a = tt
-are_ready_at c (id ∷ ids) a =
-    let s : ServesAt c id = a.0 in
+ready_at : (c : Chain) (id : ℕ) → ServesAt c id → IsReadyAt c id
+ready_at c id s =
     let v : IsServing c s.0 = s.2 in
-    (record { node = s.0; at = s.1; knows = record { running = v.running; epoch = v.epoch; members = v.members }; ready = v.ready }, are_ready_at c ids a.1)
-
-all_stay : (count : ℕ) (c : Chain) (ids : List ℕ) → Good c → AllByRecursion (ServesAt c) ids → AllByRecursion (IsReadyAt (after_round count c)) ids → AllByRecursion (ServesAt (after_round count c)) ids
-all_stay count c [] g a b = tt
-all_stay count c (id ∷ ids) g a b = (stays_at count c id g a.0 b.0, all_stay count c ids g a.1 b.1)
+    record { node = s.0; at = s.1; knows = record { running = v.running; epoch = v.epoch; members = v.members }; ready = v.ready }
 
 pub recovered_stays : (chain : ℕ) (run : Run) (count : ℕ) → IsRunOf chain run → HasRecovered (chain_after chain run) → HasRecovered (after_round count (chain_after chain run))
 recovered_stays chain run count is a =
@@ -72,4 +67,4 @@ recovered_stays chain run count is a =
     let g : Good c = good_run chain run is in
     let on : Onward c d = onward_moves (round after_move count c) c (round_travels count c) in
     let S : List ℕ → Type 0 = λ l. AllByRecursion (ServesAt d) l in
-    subst S (sym on.members) (all_stay count c c.members g a (ready_all count c c.members g (are_ready_at c c.members a)))
+    subst S (sym on.members) (all_like (ServesAt c) (ServesAt d) c.members (λ id s. stays_at count c id g s (ready_later count c g id (ready_at c id s))) a)

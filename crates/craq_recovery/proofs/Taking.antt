@@ -24,7 +24,7 @@ use Rattle.craq_recovery.specs.Rounds.{after_moves_by, arrivals, arrivals_of, ho
 use Rattle.craq_recovery.specs.Taken.{AreTakenInTurn, IsTaken}
 use Rattle.craq_recovery.proofs.Onward.{IsTravel, Onward, onward_move, onward_moves, onward_on, onward_self, sound_moves}
 use Rattle.craq_recovery.proofs.Sound.{Sound, own_chain, sound_after, sound_move}
-use Rattle.craq_recovery.proofs.Speaking.{by_test}
+use Rattle.craq_recovery.proofs.Lines.{by_test}
 
 -- ---- one move
 
@@ -151,9 +151,12 @@ hop_taken : (c : Chain) (sent : ℕ) → Sound c → sent ≤ length c.messages 
 unfolding arrivals
 hop_taken c sent s le = arrivals_taken c (drop sent c.messages) (take sent c.messages) (sent + 1) c s (onward_self c) (take-append-drop sent c.messages) (sent_before c.messages sent le)
 
-hop_onward : (c : Chain) (sent : ℕ) → Onward c (after_moves_by after_move c (arrivals c sent))
+pub hop_travels : (c : Chain) (sent : ℕ) → AllByRecursion IsTravel (arrivals c sent)
 unfolding arrivals
-hop_onward c sent = onward_moves (arrivals_of c.nodes (sent + 1) (drop sent c.messages)) c (arrivals_travel c.nodes (drop sent c.messages) (sent + 1))
+hop_travels c sent = arrivals_travel c.nodes (drop sent c.messages) (sent + 1)
+
+hop_onward : (c : Chain) (sent : ℕ) → Onward c (after_moves_by after_move c (arrivals c sent))
+hop_onward c sent = onward_moves (arrivals c sent) c (hop_travels c sent)
 
 pub no_fewer : {c d : Chain} → Onward c d → length c.messages ≤ length d.messages
 no_fewer {c} {d} f = let e : length (c.messages ++ f.sent) ≡ length d.messages = ap length f.messages in omega (arith, e, length-append c.messages f.sent)
@@ -165,22 +168,17 @@ hops_taken (suc count) sent c s le =
     taken_both ms (hops after_move count (length c.messages) (after_moves_by after_move c ms)) c (hop_taken c sent s le)
     (hops_taken count (length c.messages) (after_moves_by after_move c ms) (sound_moves ms c s) (no_fewer (hop_onward c sent)))
 
-append_travel : (ms ns : List Move) → AllByRecursion IsTravel ms → AllByRecursion IsTravel ns → AllByRecursion IsTravel (ms ++ ns)
-append_travel ms ns a b = all_append IsTravel ms ns a b
-
 pub hops_travel : (count sent : ℕ) (c : Chain) → AllByRecursion IsTravel (hops after_move count sent c)
-unfolding arrivals
 hops_travel zero sent c = tt
 hops_travel (suc count) sent c =
-    let ms : List Move = arrivals_of c.nodes (sent + 1) (drop sent c.messages) in
-    let d : Chain = after_moves_by after_move c ms in
-    append_travel ms (hops after_move count (length c.messages) d) (arrivals_travel c.nodes (drop sent c.messages) (sent + 1)) (hops_travel count (length c.messages) d)
+    let d : Chain = after_moves_by after_move c (arrivals c sent) in
+    all_append IsTravel (arrivals c sent) (hops after_move count (length c.messages) d) (hop_travels c sent) (hops_travel count (length c.messages) d)
 
 pub round_travels : (count : ℕ) (c : Chain) → AllByRecursion IsTravel (round after_move count c)
 unfolding round
 round_travels count c =
     let d : Chain = after_moves_by after_move c (ticks c) in
-    append_travel (ticks c) (hops after_move count (length c.messages) d) (tt, ticks_travel c.nodes c.members) (hops_travel count (length c.messages) d)
+    all_append IsTravel (ticks c) (hops after_move count (length c.messages) d) (tt, ticks_travel c.nodes c.members) (hops_travel count (length c.messages) d)
 
 pub round_taken : (count : ℕ) (c : Chain) → Sound c → AreTakenInTurn c (round after_move count c)
 unfolding round

@@ -13,7 +13,7 @@ use Rattle.craq_refinement.proofs.Nodes.{node_here, node_elsewhere, node_id}
 use Rattle.craq_runs.specs.declared.run.Move.TheVariants.{Tick}
 use Rattle.craq_runs.specs.Chain.{Chain, Progress, chain_step, config_progress, counted_progress, node_at, node_progress, numbers_left, set_node, tick_progress, turn_progress}
 use Rattle.craq_runs.specs.Runs.{after_move, progressed}
-use Rattle.craq_recovery.proofs.Speaking.{by_test}
+use Rattle.craq_recovery.proofs.Lines.{by_test}
 
 abbrev KeepsNodes : Chain → Result Progress Refusal → Type 0
 KeepsNodes c (Ok x) = (id : ℕ) → node_at x.0.nodes id ≡ node_at c.nodes id

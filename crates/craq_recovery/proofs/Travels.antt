@@ -1,34 +1,46 @@
 -- A message that a tick sends arrives in the same round.
-use Rattle.std.proofs.Common.{◌≡◌, ◌≢◌, ⊎_elim, ℕ, zero, suc, ◌+◌, ◌≤◌, ◌==◌, Bool, true, false, ◌||◌, List, [], ◌∷◌, ◌++◌, length, take, drop, append_assoc, Some, Result, Ok, ap, sym, subst, ◌∙◌, arith}
-use Rattle.std.proofs.lemmas.Bool.{cases_eq, cond_both, both_ways, eqb-true, false_from_ne_true}
-use Rattle.std.proofs.lemmas.List.{drop-append-le, length-append, take-append-drop}
+use Rattle.std.proofs.Common.{◌≡◌, ◌≢◌, ⊎_elim, ℕ, zero, suc, ◌+◌, ◌≤◌, ◌==◌, Bool, true, false, ◌||◌, List, [], ◌∷◌, ◌++◌, length, drop, append_assoc, Some, Result, Ok, ap, sym, subst, ◌∙◌, arith, inl, inr, Option, Err, refl}
+use Rattle.std.proofs.lemmas.Bool.{cases_eq, cond_both, both_ways, eqb-true, false_from_ne_true, cond-true, eq-eqb}
+use Rattle.std.proofs.lemmas.List.{drop-append-le}
 use Rattle.std.specs.Prelude.{⊤}
 use Rattle.std.specs.List.{AllByRecursion}
 use Rattle.craq_names.specs.declared.name.NodeName.{NodeName}
 use Rattle.craq_names.specs.declared.refusal.Refusal.{Refusal}
 use Rattle.craq_model.specs.declared.ask.Event.TheVariants as events
 use Rattle.craq_model.specs.declared.message.LinkMessage.{LinkMessage}
-use Rattle.craq_model.specs.Deliveries.{delivery_turn}
+use Rattle.craq_model.specs.Deliveries.{delivery_turn, turn_in_epoch}
 use Rattle.craq_model.specs.Members.{is_member}
-use Rattle.craq_model.specs.Plain.{Plain, id_of}
+use Rattle.craq_model.specs.Plain.{Plain, id_of, opening_joined}
 use Rattle.craq_model.specs.Sends.{tick_sends}
-use Rattle.craq_model.specs.Settle.{Turn, turn_with}
+use Rattle.craq_model.specs.Settle.{Turn, turn_with, turn_ignoring}
 use Rattle.craq_refinement.specs.Lines.{IsFollowed}
 use Rattle.craq_refinement.proofs.Nodes.{node_here}
-use Rattle.craq_refinement.proofs.Stages.{Arrived, Took, took}
+use Rattle.craq_refinement.proofs.Stages.{Arrived, Took, arrived, took}
 use Rattle.craq_runs.specs.declared.run.Move.{Move}
 use Rattle.craq_runs.specs.declared.run.Move.TheVariants.{Deliver, Tick}
 use Rattle.craq_runs.specs.Chain.{Chain, Progress, chain_step, config_progress, counted_progress, is_running, message_at, node_at, node_progress, sent_in, set_node}
 use Rattle.craq_runs.specs.Runs.{after_move, progressed}
-use Rattle.craq_recovery.specs.Rounds.{after_moves_by, arrivals, arrivals_of, hops, round, ticks, ticks_of}
+use Rattle.craq_recovery.specs.Rounds.{after_moves_by, round, ticks, ticks_of}
 use Rattle.craq_recovery.specs.Taken.{HaveNumbers}
-use Rattle.craq_recovery.proofs.Gains.{Gains, Goes, Later, followed_moves, goes_move, later_here, later_moves}
-use Rattle.craq_recovery.proofs.Hearing.{after_both, numbers_both, taken_ok}
-use Rattle.craq_recovery.proofs.Onward.{IsTravel, Onward, onward_move, onward_moves, onward_on, onward_self, sound_moves, turn_named}
+use Rattle.craq_model.specs.declared.step.Why.TheVariants.{OtherEpoch}
+use Rattle.craq_recovery.specs.Recovered.{Knows}
+use Rattle.craq_recovery.proofs.Hearing.{knows_at}
+use Rattle.craq_recovery.proofs.Running.{delivery_turn-runs}
+use Rattle.craq_names.specs.declared.refusal.Refusal.TheVariants as refusals
+use Rattle.craq_model.specs.declared.ask.Event.{Event}
+use Rattle.craq_model.specs.Node.{event_turn, is_for}
+use Rattle.craq_runs.specs.declared.run.Move.TheVariants as moves
+use Rattle.craq_updates.proofs.AtNodes.{now_at, others_stay}
+use Rattle.craq_updates.proofs.EachMove.{place_of}
+use Rattle.craq_updates.proofs.Places.{AtMaster, AtNode, EventOf, OneMore, happens_at}
+use Rattle.craq_recovery.proofs.Lines.{IfTaken, by_test}
+use Rattle.craq_recovery.proofs.Gains.{Goes, goes_move, Gains, Later, later_here, later_moves}
+use Rattle.craq_recovery.proofs.Arriving.{BringAll, Stays, bring_more, bring_past, endures_all, news, round_brings, taken_ok, ticked, ticks_onward}
+use Rattle.craq_recovery.proofs.Onward.{IsTravel, Onward, onward_move, onward_moves, onward_on}
 use Rattle.craq_recovery.proofs.Series.{Has, One, Series, one_series, series_left, series_right}
 use Rattle.craq_recovery.proofs.Ticking.{tick_keeps}
-use Rattle.craq_recovery.proofs.Sound.{Sound, own_chain, sound_move}
-use Rattle.craq_recovery.proofs.Taking.{bears, deliver_taken, for_it, hops_travel, no_fewer, sent_before, stands_at, tick_taken, ticks_travel}
+use Rattle.craq_recovery.proofs.Sound.{Sound, own_chain, turn_named}
+use Rattle.craq_recovery.proofs.Taking.{bears, for_it, no_fewer, tick_taken, ticks_travel}
 
 -- ---- what is true of a node that runs, and stays so
 
@@ -52,6 +64,12 @@ kept_move F kept m c id t f i = kept_on F kept (m ∷ []) c id (t, tt) f i
 pub runs_there : {c : Chain} {id : ℕ} {F : Plain → Type 0} → NodeIs c id F → is_running (node_at c.nodes id) ≡ true
 runs_there i = ap is_running i.at ∙ i.runs
 
+-- nor has it stopped where a message is for it
+pub not_stopped : (d : Chain) (id : ℕ) (m : LinkMessage) (F : Plain → Type 0) → m.receiver ≡ id → NodeIs d id F → is_running (node_at d.nodes m.receiver) ≡ false → ⊥
+not_stopped d id m F to i stopped =
+    let P : ℕ → Type 0 = λ k. is_running (node_at d.nodes k) ≡ true in
+    both_ways (is_running (node_at d.nodes m.receiver)) stopped (subst P (sym to) (runs_there i))
+
 -- the node after a message
 pub arrived_here : (d : Chain) (number : ℕ) (m : LinkMessage) (x : Progress) → Sound d → message_at d.messages number ≡ Some m → (a : Arrived d m x) → (id : ℕ) → m.receiver ≡ id
     → node_at x.0.nodes id ≡ Some (delivery_turn a.node m).0
@@ -66,6 +84,66 @@ arrived_here d number m x s at a id to =
     let Q : Progress → Type 0 = λ y. node_at y.0.nodes id ≡ Some t.0 in
     subst Q (sym a.is) (subst R (same ∙ (sym a.own ∙ to)) (node_here d.nodes t.0 p (subst N (sym same) a.at)))
 
+-- the node of the id, of which E is so, takes a message of the master's epoch
+pub record Met (c d : Chain) (x : Progress) (m : LinkMessage) (to : ℕ) (E : Plain → Type 0) : Type 0 where
+  pub node : Plain
+  pub own : id_of node ≡ to
+  pub at : node_at d.nodes (id_of node) ≡ Some node
+  pub there : node_at d.nodes to ≡ Some node
+  pub running : node.running ≡ true
+  pub holds : E node
+  pub knows : Knows d node
+  pub members : node.members ≡ c.members
+  pub made : m.epoch ≡ node.epoch
+  pub sends : x.0.messages ≡ d.messages ++ sent_in (delivery_turn node m).1.outs
+  pub after : node_at x.0.nodes to ≡ Some (delivery_turn node m).0
+  pub gains : Gains node (delivery_turn node m).0
+
+pub met : (c d : Chain) (to number : ℕ) (m : LinkMessage) (x : Progress) (E : Plain → Type 0) → ((p : Plain) → E p → c.epoch ≤ p.epoch) → Sound d → IsFollowed d → Onward c d → NodeIs d to E
+    → message_at d.messages number ≡ Some m → chain_step d (Deliver number) ≡ Ok x → m.receiver ≡ to → m.epoch ≡ c.epoch → Met c d x m to E
+met c d to number m x E lates s f on g is e goes made =
+    let ar : Arrived d m x = arrived d number m x is e in
+    let p : Plain = ar.node in
+    let own : id_of p ≡ to = sym ar.own ∙ goes in
+    let N : ℕ → Type 0 = λ i. node_at d.nodes i ≡ Some p in
+    let there : node_at d.nodes to ≡ Some p = subst N own ar.at in
+    let same : g.node ≡ p = let mine : node_at d.nodes to ≡ Some g.node = g.at in cc in
+    let h : E p = subst E same g.holds in
+    let kn : Knows d p = knows_at c d to on f (record { node = p; at = there; runs = ar.running; late = lates p h }) in
+    let after : node_at x.0.nodes to ≡ Some (delivery_turn p m).0 = arrived_here d number m x s is ar to goes in
+    let G : Result Progress Refusal → Type 0 = λ r. Goes d (progressed d r) in
+    let step : Goes d x.0 = subst G e (goes_move d (Deliver number) f) in
+    record {
+      node = p;
+      own = own;
+      at = ar.at;
+      there = there;
+      running = ar.running;
+      holds = h;
+      knows = kn;
+      members = kn.members ∙ on.members;
+      made = made ∙ sym (kn.epoch ∙ on.epoch);
+      sends = ap (λ (y : Progress). y.0.messages) ar.is;
+      after = after;
+      gains = step.gains to p (delivery_turn p m).0 there after;
+    }
+
+module _ {c d : Chain} {x : Progress} {m : LinkMessage} {to : ℕ} {E : Plain → Type 0} (k : Met c d x m to E) where
+  -- the sender is its neighbour, as the master has it
+  pub stands_by : {from : ℕ} (f : List ℕ → ℕ → Option ℕ) → f c.members to ≡ Some from → m.sender ≡ from → f k.node.members (id_of k.node) ≡ Some m.sender
+  stands_by {from} f beside comes =
+      let P : List ℕ → Type 0 = λ l. f l to ≡ Some from in
+      let Q : ℕ → Type 0 = λ i. f k.node.members i ≡ Some from in
+      subst Q (sym k.own) (subst P (sym k.members) beside) ∙ ap Some (sym comes)
+
+  -- the message is of its epoch
+  pub in_turn : (t : Turn) → turn_in_epoch k.node m t ≡ t
+  in_turn t = cond-true (m.epoch == k.node.epoch) t (turn_ignoring k.node OtherEpoch) (eq-eqb m.epoch k.node.epoch k.made)
+
+  -- what the message makes of it
+  pub ends : (F : Plain → Type 0) → F (delivery_turn k.node m).0 → NodeIs x.0 to F
+  ends F h = record { node = (delivery_turn k.node m).0; at = k.after; runs = delivery_turn-runs k.node m ∙ k.running; holds = h }
+
 -- a fact about a node that ticks and arrivals keep
 abbrev pub Lasts : (Plain → Type 0) → Type 0
 Lasts F = (m : Move) (c : Chain) (id : ℕ) → IsTravel m → IsFollowed c → NodeIs c id F → NodeIs (after_move c m) id F
@@ -73,15 +151,56 @@ Lasts F = (m : Move) (c : Chain) (id : ℕ) → IsTravel m → IsFollowed c → 
 pub kept_lasts : (F : Plain → Type 0) → IsKept F → Lasts F
 kept_lasts F kept = λ m c id t f i. kept_move F kept m c id t f i
 
+-- an arrival or a tick leaves the fact as it is, if no message changes it
+lasts_at : (F : Plain → Type 0) → ((p : Plain) (l : LinkMessage) → F p → F (delivery_turn p l).0) → (c : Chain) (m : Move) (e : Event) → IsTravel m → EventOf c m e → (p : Plain) → F p → IfTaken (λ t. F t.0) (event_turn p e)
+lasts_at F keeps c (moves.Ask node ask) e t by p h = absurd t
+lasts_at F keeps c (moves.Deliver number) e t by p h =
+    let l : LinkMessage = by.0 in
+    let K : Event → Type 0 = λ e. IfTaken (λ t. F t.0) (event_turn p e) in
+    subst K (sym by.2) (by_test (is_for p l) (IfTaken (λ t. F t.0)) (Ok (delivery_turn p l)) (Err refusals.WrongNode) (keeps p l h) tt)
+lasts_at F keeps c (moves.Tick node) e t by p h = let K : Event → Type 0 = λ e. IfTaken (λ t. F t.0) (event_turn p e) in subst K (sym by) h
+lasts_at F keeps c (moves.Stop node) e t by p h = absurd t
+lasts_at F keeps c (moves.Remove node) e t by p h = absurd t
+lasts_at F keeps c (moves.Join node) e t by p h = absurd t
+
+-- who is a node stays so when another one joins
+still_there : (nodes : List Plain) (q : Plain) (id : ℕ) (p : Plain) → node_at nodes id ≡ Some p → node_at (nodes ++ q ∷ []) id ≡ Some p
+unfolding node_at
+still_there [] q id p h = absurd (cc)
+still_there (n ∷ nodes) q id p h = grind (arith, h, still_there nodes q id p)
+
+-- a fact that no message changes lasts
+pub lasts_by : (F : Plain → Type 0) → ((p : Plain) (l : LinkMessage) → F p → F (delivery_turn p l).0) → Lasts F
+lasts_by F keeps m c id t f i =
+    let on : Onward c (after_move c m) = onward_move c m t in
+    let there : (n : Plain) × (node_at (after_move c m).nodes id ≡ Some n) × F n = by_move (chain_step c m) refl in
+    record { node = there.0; at = there.1; runs = sym (ap is_running there.1) ∙ (on.running id ∙ runs_there i); holds = there.2 }
+  where
+    by_move : (r : Result Progress Refusal) → chain_step c m ≡ r → (n : Plain) × (node_at (progressed c r).nodes id ≡ Some n) × F n
+    by_move (Err e) is = (i.node, i.at, i.holds)
+    by_move (Ok x) is =
+        ⊎_elim
+        (λ (a : AtNode c m x).
+        ⊎_elim
+        (λ (here : id ≡ place_of c m).
+        let N : ℕ → Type 0 = λ j. node_at c.nodes j ≡ Some a.was in
+        let L : ℕ → Type 0 = λ j. node_at x.0.nodes j ≡ Some a.turn.0 in
+        let same : i.node ≡ a.was = let mine : node_at c.nodes id ≡ Some i.node = i.at in let was : node_at c.nodes id ≡ Some a.was = subst N (sym here) a.at in cc in
+        let T : Result Turn Refusal → Type 0 = λ r. IfTaken (λ t. F t.0) r in
+        (a.turn.0, subst L (sym here) (now_at a), subst T a.does (lasts_at F keeps c m a.event t a.by a.was (subst F same i.holds))))
+        (λ other. (i.node, others_stay a id other ∙ i.at, i.holds))
+        (cases_eq id (place_of c m)))
+        (λ (a : AtMaster c m x).
+        ⊎_elim
+        (λ (same : x.0.nodes ≡ c.nodes). (i.node, ap (λ l. node_at l id) same ∙ i.at, i.holds))
+        (λ (o : OneMore c.nodes x.0.nodes). (i.node, ap (λ l. node_at l id) o.is ∙ still_there c.nodes (opening_joined (record { chain = o.chain; node = o.new })) id i.node i.at, i.holds))
+        a.nodes)
+        (happens_at c m x is)
+
 pub lasts_on : (F : Plain → Type 0) → Lasts F → (ms : List Move) (c : Chain) (id : ℕ) → AllByRecursion IsTravel ms → IsFollowed c → NodeIs c id F → NodeIs (after_moves_by after_move c ms) id F
-lasts_on F lasts [] c id t f i = i
-lasts_on F lasts (m ∷ ms) c id t f i = let g : Goes c (after_move c m) = goes_move c m f in lasts_on F lasts ms (after_move c m) id t.1 g.followed (lasts m c id t.0 f i)
+lasts_on F lasts ms c id t f i = endures_all (λ d. NodeIs d id F) (λ m d t f i. lasts m d id t f i) ms c t f i
 
 -- ---- messages arrive, some of which matter
-
--- a fact about chains that ticks and arrivals keep
-abbrev pub Stays : (Chain → Type 0) → Type 0
-Stays C = (d : Chain) (m : Move) → IsTravel m → C d → C (after_move d m)
 
 -- what such a message does, at a node of which F a is true: F k is true of it then
 abbrev pub Leads : (Chain → Type 0) → Chain → ℕ → (ℕ → ℕ → LinkMessage → Type 0) → (ℕ → Plain → Type 0) → Type 0
@@ -91,38 +210,15 @@ Leads C c id Step F =
 
 pub arrives : (c : Chain) (id : ℕ) (C : Chain → Type 0) (Step : ℕ → ℕ → LinkMessage → Type 0) (F : ℕ → Plain → Type 0) → Stays C → ((n : ℕ) → Lasts (F n))
     → ((a k : ℕ) (m : LinkMessage) → Step a k m → m.receiver ≡ id) → Leads C c id Step F
-    → (ms before : List LinkMessage) (number a b : ℕ) (d : Chain) → C d → Sound d → IsFollowed d → Onward c d → NodeIs d id (F a) → before ++ ms ≡ c.messages → number ≡ suc (length before)
-    → Series Step ms a b → HaveNumbers d (arrivals_of c.nodes number ms) → NodeIs (after_moves_by after_move d (arrivals_of c.nodes number ms)) id (F b)
-arrives c id C Step F stays kept to leads [] before number a b d s0 s f on g is at series has =
-    let P : ℕ → Type 0 = λ n. NodeIs d id (F n) in subst P series g
-arrives c id C Step F stays kept to leads (m ∷ ms) before number a b d s0 s f on g is at series has =
-    let next : Chain = after_move d (Deliver number) in
-    let more : (before ++ m ∷ []) ++ ms ≡ c.messages = append_assoc before (m ∷ []) ms ∙ is in
-    let up : number + 1 ≡ suc (length (before ++ m ∷ [])) = omega (arith, at, length-append before (m ∷ [])) in
-    let rest : List Move = arrivals_of c.nodes (number + 1) ms in
-    let there : message_at d.messages number ≡ Some m = stands_at c d before m ms number on is at in
-    let Then : List Move → Type 0 = λ l. HaveNumbers d l → NodeIs (after_moves_by after_move d l) id (F b) in
-    let goes : Goes d next = goes_move d (Deliver number) f in
-    let go : (n : ℕ) → NodeIs next id (F n) → Series Step ms n b → HaveNumbers next rest → NodeIs (after_moves_by after_move next rest) id (F b) =
-    λ n g later h. arrives c id C Step F stays kept to leads ms (before ++ m ∷ []) (number + 1) n b next (stays d (Deliver number) tt s0) (sound_move d (Deliver number) s) goes.followed (onward_on on (onward_move d (Deliver number) tt)) g more up later h in
-    ⊎_elim
-    (λ (later : Series Step ms a b).
-    cond_both (is_running (node_at c.nodes m.receiver)) (Deliver number ∷ rest) rest Then
-    (λ r h. go a (kept a (Deliver number) d id tt f g) later h.1)
-    (λ r h. arrives c id C Step F stays kept to leads ms (before ++ m ∷ []) (number + 1) a b d s0 s f on g more up later h)
-    has)
-    (λ (now : (k : ℕ) × Step a k m × Series Step ms k b).
-    let P : ℕ → Type 0 = λ i. is_running (node_at d.nodes i) ≡ true in
-    let up_there : is_running (node_at d.nodes m.receiver) ≡ true = subst P (sym (to a now.0 m now.1)) (runs_there g) in
-    let up_first : is_running (node_at c.nodes m.receiver) ≡ true = sym (on.running m.receiver) ∙ up_there in
-    cond_both (is_running (node_at c.nodes m.receiver)) (Deliver number ∷ rest) rest Then
-    (λ r h.
-    let ok : (x : Progress) × (chain_step d (Deliver number) ≡ Ok x) = taken_ok (chain_step d (Deliver number)) (deliver_taken d number m s there (bears d number m s there) up_there) h.0 in
-    let I : Result Progress Refusal → Type 0 = λ r. NodeIs (progressed d r) id (F now.0) in
-    go now.0 (subst I (sym ok.1) (leads a now.0 d number m ok.0 s0 s f on g there ok.1 now.1)) now.2 h.1)
-    (λ r h. absurd (both_ways (is_running (node_at c.nodes m.receiver)) r up_first))
-    has)
-    series
+    → (ms : List LinkMessage) (a b : ℕ) → Series Step ms a b → BringAll C c (λ d. NodeIs d id (F a)) (λ d. NodeIs d id (F b)) ms
+arrives c id C Step F stays kept to leads [] a b same = λ before rest number d s0 s f on g is at has. let P : ℕ → Type 0 = λ n. NodeIs d id (F n) in subst P same g
+arrives c id C Step F stays kept to leads (m ∷ ms) a b (inl later) =
+    bring_past C stays c m ms (λ d. NodeIs d id (F a)) (λ d. NodeIs d id (F b)) (λ m d t f g. kept a m d id t f g) (arrives c id C Step F stays kept to leads ms a b later)
+arrives c id C Step F stays kept to leads (m ∷ ms) a b (inr now) =
+    bring_more C stays c m ms (λ d. NodeIs d id (F a)) (λ d. NodeIs d id (F now.0)) (λ d. NodeIs d id (F b))
+    (λ d number x s0 s f on g there e. leads a now.0 d number m x s0 s f on g there e now.1)
+    (λ d g stopped. absurd (not_stopped d id m (F a) (to a now.0 m now.1) g stopped))
+    (arrives c id C Step F stays kept to leads ms now.0 b now.2)
 
 -- ---- a node ticks
 
@@ -145,7 +241,7 @@ in_rest true b e h = absurd (cc)
 in_rest false b e h = h
 
 -- what a tick of the node sends stands among what the ticks sent
-pub ticks_send : (c : Chain) (id since : ℕ) (p : Plain) (Step : ℕ → ℕ → LinkMessage → Type 0) (a b : ℕ) → id ≢ 0 → p.running ≡ true → Series Step (sent_in (tick_sends p)) a b
+ticks_send : (c : Chain) (id since : ℕ) (p : Plain) (Step : ℕ → ℕ → LinkMessage → Type 0) (a b : ℕ) → id ≢ 0 → p.running ≡ true → Series Step (sent_in (tick_sends p)) a b
     → (ids : List ℕ) (d : Chain) → is_member ids id ≡ true → Onward c d → since ≤ length d.messages → node_at d.nodes id ≡ Some p → HaveNumbers d (ticks_of c.nodes ids)
     → Series Step (drop since (after_moves_by after_move d (ticks_of c.nodes ids)).messages) a b
 unfolding is_member
@@ -187,37 +283,22 @@ ticks_send c id since p Step a b some runs sends (k ∷ ids) d member on le at n
 
 -- ---- a round: what the tick of one member sends arrives at another
 
-pub stays_all : (C : Chain → Type 0) → Stays C → (ms : List Move) (d : Chain) → AllByRecursion IsTravel ms → C d → C (after_moves_by after_move d ms)
-stays_all C stays [] d t s = s
-stays_all C stays (m ∷ ms) d t s = stays_all C stays ms (after_move d m) t.1 (stays d m t.0 s)
+-- so it does among what was sent since the round began
+pub tick_sent : (c : Chain) (id : ℕ) (p : Plain) (Step : ℕ → ℕ → LinkMessage → Type 0) (a b : ℕ) → id ≢ 0 → p.running ≡ true → Series Step (sent_in (tick_sends p)) a b → is_member c.members id ≡ true → node_at c.nodes id ≡ Some p
+    → HaveNumbers c (ticks c) → Series Step (news c (ticked c)) a b
+tick_sent c id p Step a b some runs sends member at numbers =
+    let step : Onward c (after_move c (Tick 0)) = onward_move c (Tick 0) tt in
+    ticks_send c id (length c.messages) p Step a b some runs sends c.members (after_move c (Tick 0)) member step (no_fewer step) (tick_keeps c 0 id ∙ at) numbers.1
 
 pub crosses : (count : ℕ) (c : Chain) (from to : ℕ) (p : Plain) (C : Chain → Type 0) (Step : ℕ → ℕ → LinkMessage → Type 0) (F : ℕ → Plain → Type 0) (a b : ℕ)
     → Stays C → ((n : ℕ) → Lasts (F n)) → from ≢ 0 → is_member c.members from ≡ true → node_at c.nodes from ≡ Some p → p.running ≡ true
     → Series Step (sent_in (tick_sends p)) a b → ((a k : ℕ) (m : LinkMessage) → Step a k m → m.receiver ≡ to) → Leads C c to Step F
     → C c → Sound c → IsFollowed c → NodeIs c to (F a) → HaveNumbers c (round after_move (suc count) c)
     → NodeIs (after_moves_by after_move c (round after_move (suc count) c)) to (F b)
-unfolding round arrivals
 crosses count c from to p C Step F a b stays kept some member at runs sends goes_to leads s0 s f g numbers =
-    let first : List Move = ticks c in
-    let c1 : Chain = after_moves_by after_move c first in
-    let sent : ℕ = length c.messages in
-    let news : List Move = arrivals_of c1.nodes (sent + 1) (drop sent c1.messages) in
-    let c2 : Chain = after_moves_by after_move c1 news in
-    let rest : List Move = hops after_move count (length c1.messages) c2 in
-    let n1 : HaveNumbers c first × HaveNumbers c1 (news ++ rest) = numbers_both first (news ++ rest) c numbers in
-    let n2 : HaveNumbers c1 news × HaveNumbers c2 rest = numbers_both news rest c1 n1.1 in
-    let t : Chain = after_move c (Tick 0) in
-    let step : Onward c t = onward_move c (Tick 0) tt in
-    let travel : AllByRecursion IsTravel first = (tt, ticks_travel c.nodes c.members) in
-    let on : Onward c c1 = onward_moves first c travel in
-    let f1 : IsFollowed c1 = followed_moves first c f in
-    let told : Series Step (drop sent c1.messages) a b = ticks_send c from sent p Step a b some runs sends c.members t member step (no_fewer step) (tick_keeps c 0 from ∙ at) n1.0.1 in
-    let led : Leads C c1 to Step F = λ a k d number m x sc sd fd od gd at e is. leads a k d number m x sc sd fd (onward_on on od) gd at e is in
-    let here : NodeIs c2 to (F b) = arrives c1 to C Step F stays kept goes_to led (drop sent c1.messages) (take sent c1.messages) (sent + 1) a b c1
-    (stays_all C stays first c travel s0) (sound_moves first c s) f1 (onward_self c1) (lasts_on (F a) (kept a) first c to travel f g) (take-append-drop sent c1.messages) (sent_before c1.messages sent (no_fewer on)) told n2.0 in
-    let I : Chain → Type 0 = λ d. NodeIs d to (F b) in
-    subst I (sym (after_both first (news ++ rest) c ∙ after_both news rest c1))
-    (lasts_on (F b) (kept b) rest c2 to (hops_travel count (length c1.messages) c2) (followed_moves news c1 f1) here)
+    let c1 : Chain = ticked c in
+    round_brings C stays (λ d. NodeIs d to (F b)) (λ m d t f i. kept b m d to t f i) count c (λ d. NodeIs d to (F a)) s0 s f numbers (lasts_on (F a) (kept a) (ticks c) c to (tt, ticks_travel c.nodes c.members) f g)
+    (λ n. arrives c1 to C Step F stays kept goes_to (λ a k d number m x sc sd fd od gd at e is. leads a k d number m x sc sd fd (onward_on (ticks_onward c) od) gd at e is) (news c c1) a b (tick_sent c from p Step a b some runs sends member at n))
 
 -- ---- likewise one message
 

@@ -22,12 +22,12 @@ use Rattle.craq_recovery.proofs.Answered.{Any, Below, acks_there, all_of_last, a
 use Rattle.craq_recovery.proofs.Extending.{IsReachedBy, reached_here}
 use Rattle.craq_recovery.proofs.Entries.{HoldsSo}
 use Rattle.craq_recovery.proofs.Gains.{Gains, Later, followed_moves, later_here, later_moves}
-use Rattle.craq_recovery.proofs.Heads.{Good}
+use Rattle.craq_recovery.proofs.Heads.{Good, ready_after}
 use Rattle.craq_recovery.proofs.Hearing.{heard, knows_at}
 use Rattle.craq_recovery.proofs.Onward.{Onward, onward_moves}
 use Rattle.craq_recovery.proofs.Readying.{Stands, all_stand, are_ready, hold_all, next_ready}
 use Rattle.craq_recovery.proofs.Recovering.{serve_all}
-use Rattle.craq_recovery.proofs.Tails.{good_there, reached_round, ready_after}
+use Rattle.craq_recovery.proofs.Tails.{good_there, reached_round}
 use Rattle.craq_recovery.proofs.Taking.{round_travels}
 use Rattle.craq_recovery.proofs.Travels.{NodeIs}
 use Rattle.craq_recovery.proofs.Waits.{Waiting}
@@ -64,7 +64,7 @@ members_serve chain count c (m ∷ ms) reach is hear first numbers =
     let now1 : m ∷ ms ≡ c1.members = is ∙ sym on1.members in
     let now2 : m ∷ ms ≡ c2.members = now1 ∙ sym on2.members in
     let some : length (m ∷ ms) ≤ rounds = let e : length (m ∷ ms) ≡ length c.members = ap length is in omega (arith, e) in
-    let stand : AllByRecursion (Stands c1 most) (m ∷ ms) =
+    let stand : AllByRecursion (Stands most c1) (m ∷ ms) =
     all_stand chain count most rounds c m ms reach is some hear (record { node = head; at = first.at; knows = kh; ready = first.ready; holds = omega arith }) numbers.first in
     let mine1 : AllByRecursion (IsReadyAt c1) (m ∷ ms) = are_ready c1 most (m ∷ ms) stand in
     let held1 : AllByRecursion (λ id. HoldsEntries c1 id most) (m ∷ ms) = hold_all c1 most (m ∷ ms) stand in

@@ -2,7 +2,7 @@
 ghost use Rattle.std.specs.Prelude.{◌≡◌, ℕ, List, IfErr, IfOk, OnErr};
 ghost use Rattle.craq_front.specs.Door.{IsAllowed};
 ghost use Rattle.craq_door.specs.Turns.{IsAnswered, IsCalled};
-ghost use Rattle.craq_door.specs.Halves.{Asks, BeginsTurn, asked_by};
+ghost use Rattle.craq_door.specs.Halves.{Asks, BeginsTurn, EndsTurn, RefusesCall, asked_by};
 
 use crate::{Callee, DoorCalls, told};
 use craq_calls::answer_of_call;
@@ -100,6 +100,7 @@ fn reply_of_call(
     outcome: Result<CallReceipt, Refusal>,
 ) -> Result<ClientReply, Refusal>
     ensures called { IfOk result (λ reply. IsCalled calls.old.receipts.items (asked_by question.now) reply calls.new.receipts.items) }
+    ensures refused { IfErr result (λ e. RefusesCall question.now outcome e) }
     ensures same { OnErr result (calls.new.receipts.items ≡ calls.old.receipts.items) }
     ensures keeps { calls.new.keeps ≡ calls.old.keeps }
 {
@@ -110,8 +111,9 @@ fn reply_of_call(
     Ok(calls.reply_to(answer, receipt))
 }
 
-/// Ends the turn of the message that asked for this call: its reply, where the call came back so. A receipt of another call
-/// is `Refused(Closed)`.
+/// Ends the turn of the message that asked for this call: the call's reply, or its refusal as it came back. Where it was
+/// answered, it is `Refused(Closed)` exactly if the receipt is another call's, and `Refused(Memory)` where a growth was refused.
+/// What no door may tell is `Refused 15`.
 pub fn end_turn(
     alloc: Global,
     calls: &mut DoorCalls,
@@ -120,6 +122,7 @@ pub fn end_turn(
 ) -> ClientReply
     // No status is told here.
     ensures turn { IsAnswered (λ text. ⊥) calls.old.receipts.items (asked_by question.now) result calls.new.receipts.items }
+    ensures ends { EndsTurn question.now outcome calls.old.receipts.items result calls.new.receipts.items }
     ensures allowed { IsAllowed result }
     ensures keeps { calls.new.keeps ≡ calls.old.keeps }
 {

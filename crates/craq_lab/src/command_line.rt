@@ -158,7 +158,7 @@ the list. Right of the columns stands how many updates are committed after the m
 Status: as of play.
 
 Example:
-  printf 'put 1 1 1 k a\ndeliver 1\ndeliver 2\n' > script; craq_lab picture --nodes 2 script > run.svg";
+  printf 'put 1 1 1 k a\\ndeliver 1\\ndeliver 2\\n' > script; craq_lab picture --nodes 2 script > run.svg";
 
 const CHECK_ABOUT: &str = "Play a script, and check an explanation of what it does";
 

@@ -47,7 +47,8 @@ const ABOUT: &str = "Asks a server of a replicated object store, and prints its 
 const LONG_ABOUT: &str = "Asks a server of a replicated object store (craqd), and prints its answer.
 
 One command is sent, and one answer printed; after it a line `pass P` with the pass to show
-from now on. A strong read that shows the pass of an earlier answer is not older than it.
+from now on. A strong read that shows the pass of an earlier strong answer (the reply to an
+update, or a strong read) is not older than it.
 Without a command there is a prompt, which shows the largest pass by itself.";
 
 const HELP: &str = "COMMAND and its words:
@@ -85,9 +86,10 @@ Printed:
                      told, 14 the server lacks memory, 15 no request, 16 a request that is too
                      long, 23 no such node, 27 the server closes
 
-Status: 0 after an answer; 1 with `cannot print` where the output takes no text; 2 after a bad
-command line, with the word that was expected; 3 with `refused N`, or with `no memory`; 4 with
-`connection` where there is none, or it broke.
+Status: 0 after an answer; 1 with `cannot print` where the output takes no text, or `cannot
+read` where the prompt's input gives none; 2 after a bad command line, with the word that was
+expected; 3 with `refused N`, or with `no memory`; 4 with `connection` where there is none, or
+it broke.
 
 Examples:
   craq --connect 127.0.0.1:7117 --node 1 put 1 1 colour blue

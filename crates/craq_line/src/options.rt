@@ -96,7 +96,7 @@ impl NumberOption {
             }
             NumberOption::Most => "Serve at most N connections at once, from 1",
             NumberOption::Idle => {
-                "End a connection that sends nothing for so many seconds; 0 ends none"
+                "End a connection that sends or takes nothing for so many seconds; 0 ends none"
             }
         }
     }

@@ -39,7 +39,8 @@ Objects lie on chains of nodes. An update enters at the first node of its chain,
 answered once the last one has it; every node answers reads. All nodes run in this process,
 in threads, and everything is kept in memory: it is gone when the server ends.";
 
-const JOURNAL: &str = "Keep a journal of each node, and audit them in the end";
+const JOURNAL: &str =
+    "Keep a journal of each node, and audit them in the end; it takes --connections or --until-input-ends";
 
 const LOG: &str = "Print connections and refusals on standard error";
 
@@ -55,7 +56,7 @@ Once clients can connect, `listening PORT` is printed. With --journal the server
 the end, for each chain, what its audit found:
 
   audit merged R          one run of the chain, with all R calls that were answered
-  audit nosender N I      delivery I (from 0) in the journal of node N was never sent
+  audit nosender N I      step I (from 0) of node N is a message that was never sent
   audit noreceipt I       call I (from 0) is in no journal
 
 Status: 0 once the server has ended in order; 1 with `cannot print` where the output takes no

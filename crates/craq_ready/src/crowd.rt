@@ -21,8 +21,11 @@ const MOST_AT_ONCE: usize = 65_536;
 /// The most connections whose readiness is told at once.
 const MOST_EVENTS: usize = 256;
 
-/// So many connections that have something to do at once are few.
+/// So many connections are few.
 const FEW: usize = 2;
+
+/// So often a thread of few connections looks again for something to do, before it sleeps: some 60 microseconds.
+const MOST_LOOKS: u32 = 200;
 
 /// The connections of a thread.
 #[derive(Drop)]
@@ -43,6 +46,8 @@ struct Members {
     idle: u64,
     /// The host's seconds as the turn began, where they matter.
     now: u64,
+    /// How many turns began since a connection last had something to do.
+    looks: u32,
 }
 
 impl Members {
@@ -60,11 +65,13 @@ impl Members {
             keeps,
             idle: u64::from(idle),
             now: 0,
+            looks: 0,
         })
     }
 
     /// A connection has something to do.
     fn wake(&mut self, token: usize) {
+        self.looks = 0;
         if let Some(connection) = self.connections.get_mut(token) {
             // There is room for the token of each connection.
             if connection.is_newly_busy() {
@@ -226,6 +233,7 @@ impl Members {
     /// A round, and another one, for the replies that came to what was asked in the first: they are written before the next
     /// look at readiness.
     fn turn<H: Host>(&mut self, registry: &Registry, host: &H) {
+        self.looks = self.looks.saturating_add(1);
         if self.idle > 0 {
             self.look_for_idle(host.seconds());
         }
@@ -233,10 +241,16 @@ impl Members {
         self.round(registry, host);
     }
 
-    /// How long to wait for readiness: not at all where something is left to do or something came meanwhile, and
+    /// Whether it looks again soon: a client alone asks again as soon as it was answered, and a thread that sleeps takes longer to
+    /// wake than that.
+    fn looks_again(&self) -> bool {
+        self.connections.len() <= FEW && self.looks < MOST_LOOKS
+    }
+
+    /// How long to wait for readiness: not at all where something is left to do, may come soon or came meanwhile, and
     /// at most a second where idle connections are looked for.
     fn pause<H: Host>(&self, host: &H) -> Option<Duration> {
-        if !self.busy.is_empty() || !host.may_sleep() {
+        if !self.busy.is_empty() || self.looks_again() || !host.may_sleep() {
             Some(Duration::from_millis(0))
         } else if self.idle > 0 {
             Some(Duration::from_millis(1_000))

@@ -69,20 +69,43 @@ fn turn<R: Wait, C: Core, G: Gate>(
     replies.tell(rt);
 }
 
-/// A turn of a node, if anything waits there. Whether there was.
+/// What a visitor does at a node whose lock another thread has.
+#[derive(Clone, Copy)]
+enum Manner {
+    /// It waits for the lock.
+    Waits,
+    /// It passes by: that thread may take what waits there, or leave it.
+    PassesBy,
+}
+
+/// The lock of a node; none where another thread has it and the visitor passes by.
+fn seat_of<'a, R: Wait, C: Core>(
+    rt: &R,
+    node: &'a Node<C>,
+    manner: Manner,
+) -> Option<MutexGuard<'a, Served<C>>> {
+    match manner {
+        Manner::Waits => Some(node.seat.lock(rt)),
+        Manner::PassesBy => node.seat.try_lock(),
+    }
+}
+
+/// A turn of a node, if anything waits there. Whether anything did; where it was passed by, it may still wait.
 fn visit<R: Wait, C: Core, G: Gate>(
     rt: &R,
     alloc: Global,
     shared: &Shared<C, G>,
     node: &Node<C>,
+    manner: Manner,
 ) -> bool {
     if !node.has_work() {
         return false;
     }
     let count = node.next_piece();
     shared.gate.before(node.name, Work::Asks, count);
-    let seated = node.seat.lock(rt);
-    turn(rt, alloc, shared, node, seated, count, true);
+    if let Some(seated) = seat_of(rt, node, manner) {
+        turn(rt, alloc, shared, node, seated, count, true);
+    }
     shared.gate.after(node.name, Work::Asks, count);
     true
 }
@@ -93,15 +116,11 @@ fn visit_all<R: Wait, C: Core, G: Gate>(
     alloc: Global,
     shared: &Shared<C, G>,
     nodes: &[Arc<Node<C>>],
+    manner: Manner,
 ) -> bool {
     let mut found = false;
-    for node in nodes {
-        if visit(rt, alloc, shared, node) {
-            found = true;
-        }
-    }
-    for node in nodes.iter().rev() {
-        if visit(rt, alloc, shared, node) {
+    for node in nodes.iter().chain(nodes.iter().rev()) {
+        if visit(rt, alloc, shared, node, manner) {
             found = true;
         }
     }
@@ -141,7 +160,7 @@ fn carry_nodes<R: Wait, C: Core, G: Gate>(
         if chain.bell.changes() != changes {
             break;
         }
-        if visit_all(rt, alloc, shared, nodes) {
+        if visit_all(rt, alloc, shared, nodes, Manner::Waits) {
             continue;
         }
         chain.bell.doze();
@@ -151,46 +170,6 @@ fn carry_nodes<R: Wait, C: Core, G: Gate>(
             chain.bell.sleep(rt);
         }
     }
-}
-
-/// A turn of a node that no other thread has, if anything waits there. Whether anything may still wait.
-fn try_visit<R: Wait, C: Core, G: Gate>(
-    rt: &R,
-    alloc: Global,
-    shared: &Shared<C, G>,
-    node: &Node<C>,
-) -> bool {
-    if !node.has_work() {
-        return false;
-    }
-    let count = node.next_piece();
-    shared.gate.before(node.name, Work::Asks, count);
-    if let Some(seated) = node.seat.try_lock() {
-        turn(rt, alloc, shared, node, seated, count, true);
-    }
-    shared.gate.after(node.name, Work::Asks, count);
-    true
-}
-
-/// A round of turns from the head to the tail, and back. Whether anything may still wait.
-fn try_round<R: Wait, C: Core, G: Gate>(
-    rt: &R,
-    alloc: Global,
-    shared: &Shared<C, G>,
-    nodes: &[Arc<Node<C>>],
-) -> bool {
-    let mut found = false;
-    for node in nodes {
-        if try_visit(rt, alloc, shared, node) {
-            found = true;
-        }
-    }
-    for node in nodes.iter().rev() {
-        if try_visit(rt, alloc, shared, node) {
-            found = true;
-        }
-    }
-    found
 }
 
 /// A caller carries what its step sent on to the other nodes, for a few rounds. What still waits then is left to the thread
@@ -203,7 +182,7 @@ pub(crate) fn carry_on<R: Wait, C: Core, G: Gate>(
 ) {
     if let Ok(nodes) = chain.nodes(rt, alloc) {
         for _ in 0..ROUNDS {
-            if !try_round(rt, alloc, shared, nodes.as_slice()) {
+            if !visit_all(rt, alloc, shared, nodes.as_slice(), Manner::PassesBy) {
                 return;
             }
         }

@@ -28,7 +28,7 @@ pub trait Gate: Drop {
     fn carries(&self, from: NodeName, to: NodeName) -> bool;
 
     /// Whether a caller takes the step of its ask itself, in the place of the node's ask worker. Where it does not, every
-    /// ask goes through that worker.
+    /// ask goes through that worker. Where one thread carries a chain it is not looked at.
     fn in_place(&self) -> bool {
         false
     }

@@ -1,5 +1,5 @@
-//! A store that runs: each chain's nodes and master in threads of their own, the links between them, and clients that
-//! call from any thread.
+//! A store that runs: the nodes of its chains in threads of their own or in one a chain, each chain's master in one, the
+//! links between them, and clients that call from any thread.
 //! Code that runs in the programs.
 #![tactic(auto)]
 

@@ -212,8 +212,8 @@ impl<C: Core + Send + 'static, G: Gate + Send + Sync + 'static> Store<C, G> {
         Ok(receipt)
     }
 
-    /// The master takes out a node that has stopped, and the node's two threads end. What names the step is answered. A
-    /// call at the node is refused as before.
+    /// The master takes out a node that has stopped, and its threads end, where it has any of its own. What names the step is
+    /// answered. A call at the node is refused as before.
     ///
     /// Refused, with nothing changed: `UnknownChain`; `NotMember` where the node is no member, `NotStopped` where it runs;
     /// as `BookCell::take` refuses a removal.
@@ -243,7 +243,8 @@ impl<C: Core + Send + 'static, G: Gate + Send + Sync + 'static> Store<C, G> {
         Ok(receipt)
     }
 
-    /// A new node joins after the last member, with two threads of its own. What names the step is answered.
+    /// A new node joins after the last member, with two threads of its own where chains are not carried. What names the step is
+    /// answered.
     ///
     /// Refused, with the membership as it was and no thread left of that node: `UnknownChain`; `UsedId` where the id is 0
     /// or ever was a member, `ChainFull` where there are 8 members, `Exhausted` where the master's stamps or epochs are;

@@ -6,3 +6,6 @@ returns-clause-turn c =
     let q = c.args.question.now in
     call_told (λ text. ⊥) c.args.calls.now.receipts.items q.node.node q.pass q.ask c.reply_of_call.result c.told.result c.reply_of_call.new.calls.receipts.items c.reply_of_call.ensures.called
     c.reply_of_call.ensures.same c.told.ensures.told
+
+pub returns-clause-ends : goal.returns-clause-ends
+returns-clause-ends c = (c.reply_of_call.result, (c.reply_of_call.ensures.called, c.reply_of_call.ensures.refused, c.told.ensures.told))

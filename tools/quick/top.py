@@ -102,12 +102,12 @@ class Clone:
         sum_of = subprocess.run(["tools/sources", "."], cwd=self.top, check=True, capture_output=True, text=True).stdout
         self.write(f"crates/{name}/out/{name}.of", sum_of)
 
-    def started(self, *words, has_rt=True):
-        """A script that runs, from another folder than its own. SIGINT is ignored in what a shell runs in the background, and bash cannot
-        trap what was ignored before it began."""
+    def started(self, *words, has_rt=True, alone=False):
+        """A script that runs, from another folder than its own; alone: in a group of processes of its own. SIGINT is ignored in what a
+        shell runs in the background, and bash cannot trap what was ignored before it began."""
         path = (self.bin + ":" if has_rt else "") + "/usr/bin:/bin"
         return subprocess.Popen([os.path.join(self.top, words[0]), *words[1:]], cwd=self.bin, env={**os.environ, "PATH": path},
-                                stdin=subprocess.DEVNULL, stdout=subprocess.PIPE, stderr=subprocess.PIPE, text=True,
+                                stdin=subprocess.DEVNULL, stdout=subprocess.PIPE, stderr=subprocess.PIPE, text=True, start_new_session=alone,
                                 preexec_fn=lambda: signal.signal(signal.SIGINT, signal.SIG_DFL))
 
     def ran(self, *words, has_rt=True):
@@ -185,6 +185,8 @@ def serve_proved(checks, clone):
     clone.built("craq", "exit 0\n")
     _, out, _ = clone.ran("serve", plan, "127.0.0.1:7123")
     checks.that("crates/craq/out/craq --connect 127.0.0.1:7123 --node 1 put 1 1 colour blue" in out, f"it tells of craq once that is built: {out}")
+    status, out, _ = clone.ran("serve", "--help")
+    checks.that(status == 0 and out.startswith("Serves a store") and "OPTION" in out, f"its help: {out}")
     checks.same("rt is not asked", clone.words(), [])
     source = clone.write("crates/craqd/src/main.rt", "//! A program that was changed.\n")
     checks.same("after a change of the sources", clone.ran("serve")[0], 4)
@@ -193,15 +195,16 @@ def serve_proved(checks, clone):
 
 
 def serve_ends(checks, clone):
-    """./serve ends the proved server in order: at SIGTERM or SIGINT its standard input ends, and what it then prints is passed on."""
-    for ending in signal.SIGTERM, signal.SIGINT:
+    """./serve ends the proved server in order: at SIGTERM or SIGINT its standard input ends, and what it then prints is passed on. A
+    terminal's Ctrl-C comes to the server too, which goes on."""
+    for ending, send in (signal.SIGTERM, os.kill), (signal.SIGINT, os.kill), (signal.SIGINT, os.killpg):
         clone.built("craqd", 'echo "listening 7123"; cat >/dev/null; echo "audit merged 0"; exit 3\n')
-        it = clone.started("serve", "--journal")
+        it = clone.started("serve", "--journal", alone=True)
         first = it.stdout.readline()
         time.sleep(0.3)
-        it.send_signal(ending)
+        send(it.pid, ending)
         out, _ = it.communicate(timeout=PATIENCE)
-        checks.same(f"./serve at {ending.name}", (first, out.splitlines()[-1], it.returncode), ("listening 7123\n", "audit merged 0", 3))
+        checks.same(f"./serve at {ending.name} by {send.__name__}", (first, out.splitlines()[-1], it.returncode), ("listening 7123\n", "audit merged 0", 3))
 
 
 def play(checks, clone):
@@ -222,6 +225,9 @@ def build(checks, clone):
     """./build proves and then marks each program with its sources; where a proof fails it says so and marks none."""
     for name in PROGRAMS:
         shutil.rmtree(os.path.join(clone.top, f"crates/{name}/out"), ignore_errors=True)
+    clone.words()
+    status, out, _ = clone.ran("build", "--help")
+    checks.that(status == 0 and out.startswith("Proves every crate") and clone.words() == [], f"its help: {status} {out}")
     clone.rt_does("all", "")
     clone.rt_does("run", 'mkdir -p out; cp /bin/true "out/$(basename "$PWD")"\n')
     clone.words()
@@ -287,7 +293,7 @@ def test(checks, clone):
         status, out, _ = clone.ran("test", *words)
         checks.same(f"./test {words}", (status, out.splitlines()[-1], clone.words()), (0, "5 passed, 0 failed", [" ".join(["clone: ci", *words])]))
         after = [it.split()[0] for it in out.splitlines() if it.partition(" ")[0] in ("rows/run", "end_to_end/run", "pages/try", "hostile/run")]
-        checks.same("what runs after the gate", after, ["rows/run", "end_to_end/run", "pages/try", "hostile/run"])
+        checks.same("what runs after the gate", after, ["rows/run", "end_to_end/run", "end_to_end/run", "pages/try", "hostile/run"])
     clone.write("tools/pages/try", "print('pages: 0 passed, 1 failed')\nraise SystemExit(1)\n")
     status, out, _ = clone.ran("test")
     checks.same("a script after the gate that fails", (status, out.splitlines()[-1]), (1, "pages: 0 passed, 1 failed"))

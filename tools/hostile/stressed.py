@@ -1,6 +1,6 @@
 """Stores on threads in trials that are larger than those of the gate.
 
-craq_stress_tests is given how long messages are lost (turns of 10 milliseconds), how often a store is closed while clients ask, and how
+craq_thread_tests is given how long messages are lost (turns of 10 milliseconds), how often a store is closed while clients ask, and how
 many calls are answered while members change, in each of its three forms. It prints whether each trial holds. On standard error it
 says how many calls each time of a trial answered and refused, and the most ticks that one waited.
 """
@@ -11,6 +11,8 @@ import subprocess
 LOST, CLOSES, CALLS = 1_000, 1_000, 100_000
 SIZES = (LOST, CLOSES, CALLS)
 LIMIT = 1_800
+# What comes after the trials begins with this line.
+LOOPBACK = "three connections over the loopback"
 
 
 def tried(checks, program):
@@ -20,9 +22,10 @@ def tried(checks, program):
     except subprocess.TimeoutExpired:
         checks.that(False, f"{os.path.basename(program)} ends within {LIMIT} s")
         return "did not end"
-    lines = [it for it in ran.stdout.splitlines() if ":" in it]
-    checks.same("how craq_stress_tests ends", ran.returncode, 0)
-    checks.that(lines, "craq_stress_tests prints its trials")
+    trials, after, _ = ran.stdout.partition(f"{LOOPBACK}\n")
+    lines = [it for it in trials.splitlines() if ":" in it]
+    checks.same("how craq_thread_tests ends", ran.returncode, 0)
+    checks.that(lines and after, "craq_thread_tests prints its trials, and then comes to the loopback")
     for line in lines:
         checks.that(line.endswith(": holds"), line)
     told = [tuple(map(int, it)) for it in re.findall(r"^(\d+) answered, (\d+) refused, (\d+) ticks at most$", ran.stderr, re.M)]

@@ -8,7 +8,7 @@ import repository
 import unproved
 
 # Those that run longer than it takes to optimize them.
-OPTIMIZED = ("craq_value_tests",)
+OPTIMIZED = ("craq_part_tests",)
 # Those that make fewer calls, by what stands in which file in the place of what.
 FEWER = {"craq_thread_tests": ("src/changes.rt", "const CALLS: u64 = 2500;", "const CALLS: u64 = 100;")}
 

@@ -55,11 +55,11 @@ class Clone:
             self.copy(name)
         for folder in "tools", "examples":
             shutil.copytree(os.path.join(TOP, folder), os.path.join(self.top, folder), ignore=shutil.ignore_patterns("__pycache__"))
-        self.write("crates.txt", "craq_names:\ncraq_lab: craq_names\ncraqd: craq_names\ncraq: craq_names\ncraq_value_tests: craq_names\n")
+        self.write("crates.txt", "craq_names:\ncraq_lab: craq_names\ncraqd: craq_names\ncraq: craq_names\ncraq_part_tests: craq_names\n")
         self.copy("HANDLES")
         self.write("crates/craq_names/src/lib.rt", "//! A library.\n")
         self.write("crates/craq_names/wrong/never.edit", "file: src/lib.rt\nold: A\nnew: B\n")
-        for name in (*PROGRAMS, "craq_value_tests"):
+        for name in (*PROGRAMS, "craq_part_tests"):
             self.write(f"crates/{name}/src/main.rt", "//! A program.\n")
         self.write("crates/craq_lab/stdin", "put 1 1 1 k a\n")
         self.executable(os.path.join(self.bin, "rt"), RT)

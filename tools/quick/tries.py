@@ -10,10 +10,13 @@ import repository
 # What a program may take, also where many others run.
 SECONDS = 900
 # The tests on threads are smaller here: the words that the program is given, and what then stands three times in the place of what in its
-# file stdout. Of the first the calls are fewer as it is built (programs.py).
+# file stdout. The calls of one case are fewer as it is built (programs.py).
 SMALLER = {
-    "craq_thread_tests": ([], {b"10000 calls come back, 5000 of them puts": b"400 calls come back, 200 of them puts"}),
-    "craq_stress_tests": (["20", "2", "200"], {b"turns 100:": b"turns 20:", b"ask, times 20:": b"ask, times 2:", b"at least 2000:": b"at least 200:"}),
+    "craq_thread_tests": (
+        ["20", "2", "200"],
+        {b"10000 calls come back, 5000 of them puts": b"400 calls come back, 200 of them puts",
+         b"turns 100:": b"turns 20:", b"ask, times 20:": b"ask, times 2:", b"at least 2000:": b"at least 200:"},
+    ),
 }
 
 

@@ -1,26 +1,23 @@
 //! A client of a store that is tested, with its own object and number.
-use crate::gate::CaseGate;
+use crate::asks::{name_of, put_of, read_of, version_of};
+use crate::gate::{TestGate, Tested};
 use craq_commands::ReadMode;
 use craq_list::ListCore;
 use craq_model::Ask;
 use craq_names::{Pass, Refusal};
 use craq_seat::CallReceipt;
-use craq_trials::{name_of, put_of, read_of, version_of};
-use craq_workers::{Client, Store};
+use craq_workers::Client;
 use std::alloc::{AllocError, Global};
 use std::sync::Wait;
 
 /// What its clients write.
 const KEY: &[u8] = b"k";
 
-/// The stores that are tested: their nodes forget settled entries, as those of a server do.
-pub type Tested = Store<ListCore, CaseGate>;
-
 /// A client of a store that is tested. It asks for one object of chain 0, and keeps the receipts of its calls.
 #[derive(Drop)]
 pub struct Asker {
     alloc: Global,
-    client: Client<ListCore, CaseGate>,
+    client: Client<ListCore, TestGate>,
     id: u64,
     /// The number of its next put.
     number: u64,

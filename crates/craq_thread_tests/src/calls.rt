@@ -1,10 +1,13 @@
 //! Cases of calls: two that overlap, steps in place and by the ask worker, what is read back.
-use crate::asker::{Asker, Tested};
-use crate::gate::Signs;
+use crate::asker::Asker;
+use crate::asks::chain;
+use crate::case_gate::Signs;
+use crate::fault::{Fact, Fault, expect, expect_refusal};
+use crate::gate::Tested;
+use crate::waits::{LIMIT, wait_for};
 use craq_audit::Audit;
 use craq_names::{NodeId, Refusal};
 use craq_seat::CallReceipt;
-use craq_trials::{Fact, Fault, LIMIT, chain, expect, expect_refusal, wait_for};
 use std::sync::Wait;
 use std::sync::atomic::Ordering;
 use std::thread;

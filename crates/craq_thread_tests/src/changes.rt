@@ -1,10 +1,13 @@
 //! The case in which nodes stop, go and join while clients ask and messages are lost.
-use crate::asker::{Asker, Tested};
+use crate::asker::Asker;
+use crate::asks::chain;
 use crate::calls::confirm;
-use crate::gate::Signs;
+use crate::case_gate::Signs;
+use crate::fault::{Fact, Fault, expect};
+use crate::gate::Tested;
+use crate::waits::rest;
 use craq_names::{NodeId, Refusal};
 use craq_seat::CallReceipt;
-use craq_trials::{Fact, Fault, chain, expect, rest};
 use std::alloc::AllocError;
 use std::sync::atomic::{AtomicU32, AtomicU64, Ordering};
 use std::sync::{Arc, Wait};

@@ -1,31 +1,123 @@
-//! Tests of stores that run, on threads: each case is printed with whether it holds. A case that does not end in its time
-//! ends the program.
+//! Tests of stores that run, on threads: each case and each trial is printed with whether it holds. One that does not end in
+//! its time ends the program. In the trials nodes stop, messages are lost and stores are closed. Up to three numbers make
+//! them larger: for how many turns of 10 milliseconds messages are lost, how often a store is closed, and how many calls are
+//! answered while members change. In the end three connections reach a store over the loopback, all in one process: what
+//! they are answered is printed, and what the audit of the store finds.
 #![tactic(auto)]
 
 mod asker;
+mod asks;
+mod caller;
 mod calls;
 mod case;
+mod case_gate;
+mod cases;
 mod changes;
+mod client;
+mod course;
+mod driving;
+mod fault;
+mod form;
 mod gate;
 mod judge;
 mod members;
+mod requests;
+mod server;
+mod trial;
+mod trial_gate;
+mod trials;
+mod waits;
 
 use case::CASES;
-use craq_trials::{FORMS, Fault, tell};
-use judge::judge;
-use std::io;
+use fault::{Fault, tell};
+use form::{FORMS, Form};
+use judge::{Test, judge};
+use std::sync::Wait;
+use std::thread::Threads;
+use std::{env, io};
+use trial::{Sizes, Trial};
 
-fn main(rt: HostRuntime) -> io::Result<()> {
-    for (form, words) in FORMS {
-        println!(rt; "{words}")?;
-        for (case, text) in CASES {
-            let ended = judge(rt, rt, case, form);
-            print!(rt; "{text}: ")?;
-            tell(rt, &ended)?;
-            if matches!(&ended, Err(Fault::Late)) {
-                return Ok(());
+/// Before which pieces of its work node 2 stops, counted from 0.
+const LAST_PIECE: u64 = 8;
+
+/// Such a trial in words, which its number follows as it does those of the others.
+const STOP: &str = "node 2 stops before a piece of its work, a put is asked again, piece";
+
+/// The sizes that the program is given, those of the usual trials where there are none.
+fn sizes(rt: HostRuntime) -> io::Result<Sizes> {
+    let mut sizes = Sizes::usual();
+    let mut place: u64 = 0;
+    for word in env::args(&rt)? {
+        if let Ok(size) = word.as_str().parse::<u64>() {
+            match place {
+                1 => sizes.turns = size,
+                2 => sizes.closes = size,
+                3 => sizes.calls = size,
+                _ => (),
             }
         }
+        place = place.saturating_add(1);
     }
-    Ok(())
+    Ok(sizes)
+}
+
+/// Tries all cases. Whether the trials can be tried.
+fn try_cases<R>(rt: R, host: HostRuntime, form: Form) -> io::Result<bool>
+where
+    R: Threads + Wait + Copy + Send + 'static,
+{
+    for (case, text) in CASES {
+        let ended = judge(rt, host, Test::Case(case), form);
+        print!(host; "{text}: ")?;
+        tell(host, &ended)?;
+        if matches!(&ended, Err(Fault::Late)) {
+            return Ok(false);
+        }
+    }
+    Ok(true)
+}
+
+/// Tries a trial, and tells by its words and its number how it ended. Whether the others can be tried.
+fn try_one<R>(rt: R, host: HostRuntime, trial: Trial, text: &str, form: Form) -> io::Result<bool>
+where
+    R: Threads + Wait + Copy + Send + 'static,
+{
+    let ended = judge(rt, host, Test::Trial(trial), form);
+    let number = trial.number();
+    print!(host; "{text} {number}: ")?;
+    tell(host, &ended)?;
+    Ok(!matches!(ended, Err(Fault::Late)))
+}
+
+/// Tries all trials. Whether a store in another form can be tried.
+fn try_trials<R>(rt: R, host: HostRuntime, form: Form, sizes: Sizes) -> io::Result<bool>
+where
+    R: Threads + Wait + Copy + Send + 'static,
+{
+    for piece in 0..=LAST_PIECE {
+        if !try_one(rt, host, Trial::Stop(piece), STOP, form)? {
+            return Ok(false);
+        }
+    }
+    for (trial, text) in sizes.others() {
+        if !try_one(rt, host, trial, text, form)? {
+            return Ok(false);
+        }
+    }
+    Ok(true)
+}
+
+fn main(rt: HostRuntime) -> io::Result<()> {
+    let sizes = sizes(rt)?;
+    for (form, words) in FORMS {
+        println!(rt; "{words}")?;
+        if !try_cases(rt, rt, form)? || !try_trials(rt, rt, form, sizes)? {
+            return Ok(());
+        }
+    }
+    println!(rt; "three connections over the loopback")?;
+    match server::serve_clients(rt) {
+        Ok(()) => Ok(()),
+        Err(refusal) => println!(rt; "refused: {refusal}"),
+    }
 }

@@ -1,7 +1,10 @@
 //! Cases of memberships and of how many threads there are.
-use crate::asker::Tested;
+use crate::asks::chain;
+use crate::fault::{Fact, Fault, expect, expect_refusal};
+use crate::form::Form;
+use crate::gate::Tested;
+use crate::waits::comes_to;
 use craq_names::{NodeId, Refusal};
-use craq_trials::{Fact, Fault, Form, chain, comes_to, expect, expect_refusal};
 use craq_workers::ChainStatus;
 use std::sync::Wait;
 use std::thread::Threads;

@@ -2,7 +2,7 @@
 ghost use Rattle.std.specs.Prelude.{◌≤◌};
 
 use crate::fakes::{Duplex, Pieces, Room};
-use crate::frames::{BAD_FRAME, PUT, TOO_LONG, WRITTEN};
+use crate::worked::{BAD_FRAME, PUT, TOO_LONG, WRITTEN};
 use craq_frames::{ClientMessage, ClientReply};
 use craq_front::{Counted, Stream, exchange};
 use craq_names::Refusal;

@@ -1,24 +1,21 @@
-//! One trial on a thread of its own, with a limit of time.
-use crate::asking::Tried;
+//! Each trial on stores of its own, which are closed in the end.
+use crate::asks::plan;
 use crate::course::Course;
-use crate::driving::{Askers, Ground};
-use crate::gate::StressGate;
-use crate::trials::Trial;
+use crate::driving::{Callers, Ground};
+use crate::fault::{Fact, Fault, expect};
+use crate::form::Form;
+use crate::gate::{TestGate, Tested};
+use crate::trial::Trial;
+use crate::trial_gate::TrialGate;
+use crate::waits::{ALONE, comes_to};
 use craq_names::Refusal;
-use craq_trials::{ALONE, Fact, Fault, Form, comes_to, end_of, expect, plan};
 use craq_workers::Store;
-use std::sync::atomic::{AtomicBool, Ordering};
+use std::sync::atomic::Ordering;
 use std::sync::{Arc, Wait};
-use std::thread;
 use std::thread::Threads;
 
-/// The most turns that a trial takes: so many, and so many more for each of its number.
-const MOST_TURNS: u64 = 6000;
-
-const MORE_TURNS: u64 = 10;
-
 /// A store with this gate.
-fn store<R>(rt: R, host: HostRuntime, gate: StressGate) -> Result<Tried, Refusal>
+fn store<R>(rt: R, host: HostRuntime, gate: TestGate) -> Result<Tested, Refusal>
 where
     R: Threads + Wait + Copy + Send + 'static,
 {
@@ -34,12 +31,12 @@ where
     R: Threads + Wait + Copy + Send + 'static,
 {
     let course = Arc::new(host.alloc(), Course::new(host.alloc()))?;
-    let gate = StressGate {
+    let gate = TestGate::Trial(TrialGate {
         clock: host,
         form,
         trial,
         course: Arc::try_clone(&course)?,
-    };
+    });
     let store = store(rt, host, gate)?;
     Ok(Ground {
         host,
@@ -54,8 +51,8 @@ where
     R: Threads + Wait + Copy + Send + 'static,
 {
     let ground = start(rt, host, trial, form)?;
-    let mut askers: Askers = Vec::new(host.alloc());
-    let tried = ground.drive(rt, trial, time, &mut askers);
+    let mut callers: Callers = Vec::new(host.alloc());
+    let tried = ground.drive(rt, trial, time, &mut callers);
     ground.course.open.store(true, Ordering::SeqCst);
     let Ground {
         host: _,
@@ -63,8 +60,8 @@ where
         course,
     } = ground;
     store.close(&rt);
-    for asker in askers {
-        asker.join(&rt);
+    for caller in callers {
+        caller.join(&rt);
     }
     let wrong = course.wrong.load(Ordering::SeqCst);
     course.tell(host);
@@ -75,7 +72,7 @@ where
 }
 
 /// Tries a trial as often as it is to be.
-fn try_all<R>(rt: R, host: HostRuntime, trial: Trial, form: Form) -> Result<(), Fault>
+pub fn try_all<R>(rt: R, host: HostRuntime, trial: Trial, form: Form) -> Result<(), Fault>
 where
     R: Threads + Wait + Copy + Send + 'static,
 {
@@ -83,23 +80,4 @@ where
         try_once(rt, host, trial, form, time)?;
     }
     Ok(())
-}
-
-/// Tries a trial on a thread of its own, and waits for its end as long as it may take.
-pub fn judge<R>(rt: R, host: HostRuntime, trial: Trial, form: Form) -> Result<(), Fault>
-where
-    R: Threads + Wait + Copy + Send + 'static,
-{
-    let over = Arc::new(host.alloc(), AtomicBool::new(false))?;
-    let theirs = Arc::try_clone(&over)?;
-    let spawned = thread::spawn(&rt, move || {
-        let tried = try_all(rt, host, trial, form);
-        theirs.store(true, Ordering::SeqCst);
-        tried
-    });
-    let turns = MOST_TURNS.saturating_add(trial.number().saturating_mul(MORE_TURNS));
-    match spawned {
-        Ok(test) => end_of(&rt, host, test, &over, turns),
-        Err(_) => Err(Fault::Refused(Refusal::Memory)),
-    }
 }

@@ -1,7 +1,7 @@
 //! Whole connections by their table; run by `main`.
 use crate::door::Answers;
 use crate::fakes::{Pieces, Room};
-use crate::frames::{
+use crate::worked::{
     FIRST_MANY, MANY, NINE_MESSAGES, NO_MESSAGE, PUT, SECOND_PUT, TOO_LONG, WRITTEN,
 };
 use craq_front::{Counted, Stream, serve};

@@ -1,9 +1,9 @@
 //! The store, its server and its ticks, each on a thread, beside the clients; in the end its audit.
+use crate::asks::{chain, plan};
 use crate::client::ask_all;
+use crate::gate::{TestGate, Tested};
 use craq_audit::Audit;
-use craq_list::ListCore;
-use craq_names::{ChainId, Refusal};
-use craq_place::Plan;
+use craq_names::Refusal;
 use craq_seat::CallReceipt;
 use craq_server::{Connections, Log, Served, Serving, accept};
 use craq_workers::{OpenGate, Store};
@@ -14,11 +14,6 @@ use std::sync::atomic::{AtomicBool, Ordering};
 use std::thread;
 use std::thread::{Scope, Threads};
 use std::time::{Clock, Duration};
-
-type Running = Store<ListCore, OpenGate>;
-
-/// A chain of three nodes.
-const PLAN: &str = "[[chain]]\nname = \"a\"\nnodes = [1, 2, 3]\n";
 
 /// How often the nodes are told to send again what others may lack.
 const TICK_MILLISECONDS: u64 = 50;
@@ -32,7 +27,7 @@ const SERVING: Serving = Serving {
 };
 
 /// Ticks a store until that is over.
-fn tick<R: Clock + Wait>(rt: &R, store: &Running, over: &AtomicBool) {
+fn tick<R: Clock + Wait>(rt: &R, store: &Tested, over: &AtomicBool) {
     for _ in rt.forever() {
         if over.load(Ordering::SeqCst) {
             break;
@@ -45,7 +40,7 @@ fn tick<R: Clock + Wait>(rt: &R, store: &Running, over: &AtomicBool) {
 /// The clients ask, while the store is ticked and served, each on a thread of its own. Gives what came of serving.
 fn ask_served<R>(
     rt: R,
-    store: &Running,
+    store: &Tested,
     listener: &TcpListener,
     connections: &Connections,
 ) -> Result<Served, Refusal>
@@ -91,14 +86,14 @@ fn joined(alloc: Global, parts: Vec<Vec<CallReceipt>>) -> Result<Vec<CallReceipt
 }
 
 /// Prints what the audit of the chain finds with the receipts of all connections.
-fn print_audit<R>(rt: &R, store: &Running, served: Served) -> Result<(), Refusal>
+fn print_audit<R>(rt: &R, store: &Tested, served: Served) -> Result<(), Refusal>
 where
     R: AllocGlobal + Print + Wait,
 {
     let Served { receipts, lacked } = served;
     let receipts = joined(rt.alloc(), receipts)?;
     let count = receipts.len();
-    let audit = store.audit(rt, ChainId::new(0), receipts.as_slice())?;
+    let audit = store.audit(rt, chain(), receipts.as_slice())?;
     let printed = match audit {
         Audit::Merged(_) => println!(rt; "audit: merged, {count} calls; lacked {lacked}"),
         Audit::NoSender(..) => println!(rt; "audit: no sender"),
@@ -111,7 +106,7 @@ where
 }
 
 /// Serves the clients at any free port of the loopback, and audits the store.
-fn serve_store<R>(rt: R, store: &Running) -> Result<(), Refusal>
+fn serve_store<R>(rt: R, store: &Tested) -> Result<(), Refusal>
 where
     R: AllocGlobal + Print + Eprint + Clock + Threads + Wait + Copy + Drop + Send + Sync + 'static,
     R: Net<Listener = TcpListener, Stream = TcpStream>,
@@ -130,11 +125,11 @@ where
     R: AllocGlobal + Print + Eprint + Clock + Threads + Wait + Copy + Drop + Send + Sync + 'static,
     R: Net<Listener = TcpListener, Stream = TcpStream>,
 {
-    let plan = Plan::read(rt.alloc(), PLAN)?;
-    let gate = OpenGate {
+    let plan = plan(rt.alloc())?;
+    let gate = TestGate::Open(OpenGate {
         in_place: true,
         carried: false,
-    };
+    });
     let store = Store::start(rt, rt.alloc(), &plan, gate, true)?;
     let served = serve_store(rt, &store);
     store.close(&rt);

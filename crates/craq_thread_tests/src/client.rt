@@ -1,5 +1,5 @@
 //! The clients: each asks over a connection of its own and prints what it is answered.
-use crate::asks::{put, read};
+use crate::requests::{put, read};
 use craq_commands::Reply;
 use craq_frames::{ClientMessage, ClientReply};
 use craq_front::{Stream, exchange};

@@ -1,5 +1,5 @@
 use Rattle.std.proofs.Common.{inl, inr}
-use Rattle.craq_value_tests.proofs.lists.can_settle_as.Goals as goal
+use Rattle.craq_part_tests.proofs.lists.can_settle_as.Goals as goal
 
 pub returns-then-holds : goal.returns-then-holds
 returns-then-holds c = λ _. inl (c.holds.ensures c.if-holds.true)

@@ -61,3 +61,56 @@ impl Trial {
         }
     }
 }
+
+/// How large the trials are that can be made larger.
+#[derive(Clone, Copy)]
+pub struct Sizes {
+    /// For how many turns messages are lost.
+    pub turns: u64,
+    /// How often a store is closed.
+    pub closes: u64,
+    /// How many calls are answered while members change.
+    pub calls: u64,
+}
+
+impl Sizes {
+    /// Those of the usual trials.
+    pub fn usual() -> Sizes {
+        Sizes {
+            turns: 100,
+            closes: 20,
+            calls: 2000,
+        }
+    }
+
+    /// The trials after those in which node 2 stops, each in words.
+    pub fn others(self) -> [(Trial, &'static str); 7] {
+        [
+            (
+                Trial::Before,
+                "before a piece of work no lock is held, times",
+            ),
+            (
+                Trial::Within,
+                "within it the lock of its node alone is held, times",
+            ),
+            (Trial::After, "after it no lock is held, times"),
+            (
+                Trial::Losses(self.turns),
+                "a third of all messages is lost, then none, and all calls are answered, turns",
+            ),
+            (
+                Trial::SlowJoin(600),
+                "a node joins whose state takes longer to send than a tick, calls before",
+            ),
+            (
+                Trial::Changes(self.calls),
+                "nodes stop, go and join while clients ask, calls answered at least",
+            ),
+            (
+                Trial::Closes(self.closes),
+                "a store is closed while clients ask, times",
+            ),
+        ]
+    }
+}

@@ -1,10 +1,13 @@
 //! What each trial does with its store.
-use crate::asking::{Asker, Tried};
+use crate::asks::chain;
+use crate::caller::Caller;
 use crate::course::Course;
-use crate::trials::Trial;
+use crate::fault::{Fact, Fault, expect};
+use crate::gate::Tested;
+use crate::trial::Trial;
+use crate::waits::{LIMIT, rest};
 use craq_audit::Audit;
 use craq_names::{NodeId, Refusal};
-use craq_trials::{Fact, Fault, LIMIT, chain, expect, rest};
 use std::sync::atomic::{AtomicU64, Ordering};
 use std::sync::{Arc, Wait};
 use std::thread;
@@ -28,27 +31,33 @@ const MANY: u64 = 1_000_000;
 /// A store that runs, and its course.
 pub struct Ground {
     pub host: HostRuntime,
-    pub store: Tried,
+    pub store: Tested,
     pub course: Arc<Course>,
 }
 
 /// The threads of clients.
-pub type Askers = Vec<JoinHandle<()>>;
+pub type Callers = Vec<JoinHandle<()>>;
 
 impl Ground {
     /// A client of this id begins to ask, so many numbers.
-    fn start_asker<R>(&self, rt: R, id: u8, numbers: u64, askers: &mut Askers) -> Result<(), Fault>
+    fn start_caller<R>(
+        &self,
+        rt: R,
+        id: u8,
+        numbers: u64,
+        callers: &mut Callers,
+    ) -> Result<(), Fault>
     where
         R: Threads + Wait + Copy + Send + 'static,
     {
-        askers.reserve(1)?;
+        callers.reserve(1)?;
         let host = self.host;
         let course = Arc::try_clone(&self.course)?;
-        let asker = Asker::new(host.alloc(), &self.store, id)?;
-        match thread::spawn(&rt, move || asker.ask_on(&rt, host, &course, numbers)) {
+        let caller = Caller::new(host.alloc(), &self.store, id)?;
+        match thread::spawn(&rt, move || caller.ask_on(&rt, host, &course, numbers)) {
             Ok(spawned) => {
                 self.course.begun.fetch_add(1, Ordering::SeqCst);
-                askers.push(spawned)?;
+                callers.push(spawned)?;
                 Ok(())
             }
             Err(_) => Err(Fault::Refused(Refusal::Memory)),
@@ -56,12 +65,12 @@ impl Ground {
     }
 
     /// All clients begin to ask.
-    fn start_all<R>(&self, rt: R, askers: &mut Askers) -> Result<(), Fault>
+    fn start_all<R>(&self, rt: R, callers: &mut Callers) -> Result<(), Fault>
     where
         R: Threads + Wait + Copy + Send + 'static,
     {
         for id in 1..=CLIENTS {
-            self.start_asker(rt, id, MANY, askers)?;
+            self.start_caller(rt, id, MANY, callers)?;
         }
         Ok(())
     }
@@ -80,51 +89,57 @@ impl Ground {
     }
 
     /// Does what a trial does, for the time of this number that it is tried.
-    pub fn drive<R>(&self, rt: R, trial: Trial, time: u64, askers: &mut Askers) -> Result<(), Fault>
+    pub fn drive<R>(
+        &self,
+        rt: R,
+        trial: Trial,
+        time: u64,
+        callers: &mut Callers,
+    ) -> Result<(), Fault>
     where
         R: Threads + Wait + Copy + Send + 'static,
     {
         match trial {
-            Trial::Stop(_) => self.stop(rt, askers)?,
-            Trial::Before | Trial::After => self.hold(rt, askers, false)?,
-            Trial::Within => self.hold(rt, askers, true)?,
-            Trial::Losses(turns) => self.lose(rt, turns, askers)?,
-            Trial::SlowJoin(calls) => self.join_slowly(rt, calls, askers)?,
-            Trial::Changes(calls) => self.change(rt, calls, askers)?,
-            Trial::Closes(_) => return self.ask_a_while(rt, time, askers),
+            Trial::Stop(_) => self.stop(rt, callers)?,
+            Trial::Before | Trial::After => self.hold(rt, callers, false)?,
+            Trial::Within => self.hold(rt, callers, true)?,
+            Trial::Losses(turns) => self.lose(rt, turns, callers)?,
+            Trial::SlowJoin(calls) => self.join_slowly(rt, calls, callers)?,
+            Trial::Changes(calls) => self.change(rt, calls, callers)?,
+            Trial::Closes(_) => return self.ask_a_while(rt, time, callers),
         }
         self.end(&rt)
     }
 
     /// A put is under way, and node 2 is held.
-    fn put_and_hold<R>(&self, rt: R, askers: &mut Askers) -> Result<(), Fault>
+    fn put_and_hold<R>(&self, rt: R, callers: &mut Callers) -> Result<(), Fault>
     where
         R: Threads + Wait + Copy + Send + 'static,
     {
-        self.start_asker(rt, 1, 1, askers)?;
+        self.start_caller(rt, 1, 1, callers)?;
         let held = self.tick_until(&rt, &self.course.held, 1, LIMIT);
         expect(held, Fact::IsHeld)
     }
 
     /// A put is under way while node 2 is held, stops and is removed. Then it is asked again.
-    fn stop<R>(&self, rt: R, askers: &mut Askers) -> Result<(), Fault>
+    fn stop<R>(&self, rt: R, callers: &mut Callers) -> Result<(), Fault>
     where
         R: Threads + Wait + Copy + Send + 'static,
     {
-        self.put_and_hold(rt, askers)?;
+        self.put_and_hold(rt, callers)?;
         self.store.stop(&rt, chain(), NodeId::new(2))?;
         self.store.remove(&rt, chain(), NodeId::new(2))?;
         self.course.open.store(true, Ordering::SeqCst);
-        self.start_asker(rt, 1, 1, askers)
+        self.start_caller(rt, 1, 1, callers)
     }
 
     /// A put is under way while node 2 is held, and meanwhile the locks are free, but that of node 2 where it is held within
     /// its work.
-    fn hold<R>(&self, rt: R, askers: &mut Askers, within: bool) -> Result<(), Fault>
+    fn hold<R>(&self, rt: R, callers: &mut Callers, within: bool) -> Result<(), Fault>
     where
         R: Threads + Wait + Copy + Send + 'static,
     {
-        self.put_and_hold(rt, askers)?;
+        self.put_and_hold(rt, callers)?;
         if within {
             self.look(&rt)?;
         } else {
@@ -139,21 +154,21 @@ impl Ground {
     fn look<R: Wait>(&self, rt: &R) -> Result<(), Fault> {
         let told = self.store.status(rt)?;
         drop(told);
-        let mut asker = Asker::new(self.host.alloc(), &self.store, CLIENTS.wrapping_add(1))?;
-        let first = asker.glance(rt, &self.course, 1);
-        let third = asker.glance(rt, &self.course, 3);
-        drop(asker);
+        let mut caller = Caller::new(self.host.alloc(), &self.store, CLIENTS.wrapping_add(1))?;
+        let first = caller.glance(rt, &self.course, 1);
+        let third = caller.glance(rt, &self.course, 3);
+        drop(caller);
         first?;
         third?;
         Ok(())
     }
 
     /// Clients ask while messages are lost, for so many turns, and while none is.
-    fn lose<R>(&self, rt: R, turns: u64, askers: &mut Askers) -> Result<(), Fault>
+    fn lose<R>(&self, rt: R, turns: u64, callers: &mut Callers) -> Result<(), Fault>
     where
         R: Threads + Wait + Copy + Send + 'static,
     {
-        self.start_all(rt, askers)?;
+        self.start_all(rt, callers)?;
         self.tick_until(&rt, &self.course.answered, u64::MAX, turns);
         self.course.calm.store(true, Ordering::SeqCst);
         self.tick_until(&rt, &self.course.answered, u64::MAX, CALM);
@@ -165,11 +180,11 @@ impl Ground {
     }
 
     /// Node 4 joins, to which messages go slowly, while clients ask.
-    fn join_slowly<R>(&self, rt: R, calls: u64, askers: &mut Askers) -> Result<(), Fault>
+    fn join_slowly<R>(&self, rt: R, calls: u64, callers: &mut Callers) -> Result<(), Fault>
     where
         R: Threads + Wait + Copy + Send + 'static,
     {
-        self.start_all(rt, askers)?;
+        self.start_all(rt, callers)?;
         expect(
             self.tick_until(&rt, &self.course.answered, calls, LIMIT),
             Fact::IsAnswered,
@@ -189,11 +204,11 @@ impl Ground {
     }
 
     /// Members stop, are removed and join while clients ask, until so many calls are answered.
-    fn change<R>(&self, rt: R, calls: u64, askers: &mut Askers) -> Result<(), Fault>
+    fn change<R>(&self, rt: R, calls: u64, callers: &mut Callers) -> Result<(), Fault>
     where
         R: Threads + Wait + Copy + Send + 'static,
     {
-        self.start_all(rt, askers)?;
+        self.start_all(rt, callers)?;
         let mut members = [1, 2, 3];
         for next in 4..MOST_JOINS {
             if self.course.answered.load(Ordering::SeqCst) >= calls {
@@ -223,11 +238,11 @@ impl Ground {
     }
 
     /// Clients ask for a while, from none to four turns.
-    fn ask_a_while<R>(&self, rt: R, time: u64, askers: &mut Askers) -> Result<(), Fault>
+    fn ask_a_while<R>(&self, rt: R, time: u64, callers: &mut Callers) -> Result<(), Fault>
     where
         R: Threads + Wait + Copy + Send + 'static,
     {
-        self.start_all(rt, askers)?;
+        self.start_all(rt, callers)?;
         self.tick_until(&rt, &self.course.answered, u64::MAX, time % 5);
         Ok(())
     }

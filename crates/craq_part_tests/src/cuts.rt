@@ -1,8 +1,8 @@
 //! Connections that are cut, changed or failing at each place; run by `main`.
 ghost use Rattle.std.specs.Prelude.{◌≤◌, length};
 
-use crate::frames::{BAD_FRAME, PUT, WRITTEN};
 use crate::rows::{Row, Served, serve_row};
+use crate::worked::{BAD_FRAME, PUT, WRITTEN};
 use craq_frames::Payload;
 use craq_names::Refusal;
 use std::alloc::Global;

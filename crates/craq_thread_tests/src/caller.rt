@@ -1,18 +1,16 @@
 //! A client of a store that is tried, on a thread of its own: it puts, reads what it put, and asks again.
+use crate::asks::{name_of, put_of, read_of, version_of};
 use crate::course::Course;
-use crate::gate::StressGate;
+use crate::gate::{TestGate, Tested};
+use crate::waits::rest;
 use craq_commands::ReadMode;
 use craq_list::ListCore;
 use craq_model::Ask;
 use craq_names::{Pass, Refusal};
-use craq_trials::{name_of, put_of, read_of, rest, version_of};
-use craq_workers::{Client, Store};
+use craq_workers::Client;
 use std::alloc::Global;
 use std::sync::Wait;
 use std::sync::atomic::Ordering;
-
-/// The stores that are tried: their nodes forget settled entries, as those of a server do.
-pub type Tried = Store<ListCore, StressGate>;
 
 /// How many objects each client writes, in turn.
 const OBJECTS: u64 = 70;
@@ -22,9 +20,9 @@ const TRIES: u32 = 3000;
 
 /// A client, of one chain. The objects that it writes nobody else does.
 #[derive(Drop)]
-pub struct Asker {
+pub struct Caller {
     alloc: Global,
-    client: Client<ListCore, StressGate>,
+    client: Client<ListCore, TestGate>,
     id: u8,
 }
 
@@ -33,11 +31,11 @@ fn version_after(number: u64) -> u64 {
     (number.saturating_sub(1) / OBJECTS).saturating_add(1)
 }
 
-impl Asker {
+impl Caller {
     /// A client of this id that has seen nothing.
-    pub fn new(alloc: Global, store: &Tried, id: u8) -> Result<Asker, Refusal> {
+    pub fn new(alloc: Global, store: &Tested, id: u8) -> Result<Caller, Refusal> {
         let client = store.client(Pass::start())?;
-        Ok(Asker { alloc, client, id })
+        Ok(Caller { alloc, client, id })
     }
 
     /// The object that its put of this number writes.

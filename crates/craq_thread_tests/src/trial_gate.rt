@@ -1,8 +1,9 @@
 //! The gate of a trial, which holds node 2 up, loses messages and slows them.
 use crate::course::Course;
-use crate::trials::{Place, Trial};
+use crate::form::Form;
+use crate::trial::{Place, Trial};
+use crate::waits::{LIMIT, wait_for};
 use craq_names::NodeName;
-use craq_trials::{Form, LIMIT, wait_for};
 use craq_workers::{Gate, Work};
 use std::sync::Arc;
 use std::sync::atomic::Ordering;
@@ -24,14 +25,14 @@ fn spread(number: u64) -> u64 {
 
 /// The gate.
 #[derive(Drop)]
-pub struct StressGate {
+pub struct TrialGate {
     pub clock: HostRuntime,
     pub form: Form,
     pub trial: Trial,
     pub course: Arc<Course>,
 }
 
-impl StressGate {
+impl TrialGate {
     /// Holds node 2 here, if this is where the trial does, until it may go on.
     fn pass(&self, node: NodeName, work: Work, count: u64, place: Place) {
         let carried = self.form.is_carried();
@@ -48,7 +49,7 @@ impl StressGate {
     }
 }
 
-impl Gate for StressGate {
+impl Gate for TrialGate {
     fn before(&self, node: NodeName, work: Work, count: u64) {
         self.pass(node, work, count, Place::Before);
     }

@@ -1,7 +1,7 @@
 use Rattle.std.proofs.lemmas.Result.{IfOk-weaker}
 use Rattle.craq_commands.specs.SingleCopy.{after_entries}
-use Rattle.craq_value_tests.proofs.Next.{one_write_is_next}
-use Rattle.craq_value_tests.proofs.held.next_entry.Goals as goal
+use Rattle.craq_part_tests.proofs.Next.{one_write_is_next}
+use Rattle.craq_part_tests.proofs.held.next_entry.Goals as goal
 
 pub returns-clause-next : goal.returns-clause-next
 returns-clause-next c =

@@ -1,0 +1,92 @@
+//! Each case on a store of its own, which is closed in the end.
+use crate::asker::Asker;
+use crate::asks::plan;
+use crate::calls::{free, overlap, read_back, stop, taking};
+use crate::case::Case;
+use crate::case_gate::{CaseGate, Signs};
+use crate::changes::changes;
+use crate::fault::{Fact, Fault, expect_refusal};
+use crate::form::Form;
+use crate::gate::{TestGate, Tested};
+use crate::members::{expect_threads, members};
+use crate::waits::ALONE;
+use craq_names::Refusal;
+use craq_workers::Store;
+use std::sync::{Arc, Wait};
+use std::thread::Threads;
+
+/// A case on its store.
+fn try_on<R>(
+    rt: R,
+    host: HostRuntime,
+    case: Case,
+    form: Form,
+    store: &Tested,
+    signs: &Signs,
+) -> Result<(), Fault>
+where
+    R: Threads + Wait + Copy + Send + 'static,
+{
+    match case {
+        Case::Overlap => overlap(rt, host, store, signs),
+        Case::Before | Case::After => free(rt, host, store, signs),
+        Case::Taking => taking(&rt, host, store, signs, form.is_own()),
+        Case::ReadBack => read_back(&rt, host, store),
+        Case::Stop => stop(rt, host, store, signs),
+        Case::Members => members(rt, host, store, form),
+        Case::Changes => changes(rt, host, store, signs),
+    }
+}
+
+/// A store for a case.
+fn start<R>(
+    rt: R,
+    host: HostRuntime,
+    case: Case,
+    form: Form,
+    signs: &Arc<Signs>,
+) -> Result<Tested, Fault>
+where
+    R: Threads + Wait + Copy + Send + 'static,
+{
+    let gate = TestGate::Case(CaseGate {
+        clock: host,
+        case,
+        form,
+        signs: Arc::try_clone(signs)?,
+    });
+    let plan = plan(host.alloc())?;
+    let started = Store::start(rt, host.alloc(), &plan, gate, case.has_journals());
+    drop(plan);
+    Ok(started?)
+}
+
+/// A call of a store that was closed is to answer that it is, and no thread of it is to be left.
+fn is_closed<R: Wait>(
+    rt: &R,
+    host: HostRuntime,
+    asker: Result<Asker, Refusal>,
+) -> Result<(), Fault> {
+    let refusal = asker?.read(rt, 2).err();
+    expect_refusal(refusal, Refusal::Closed, Fact::IsClosed)?;
+    expect_threads(host, ALONE)
+}
+
+/// Starts a store for a case, tries the case on it, and closes it.
+pub fn try_case<R>(rt: R, host: HostRuntime, case: Case, form: Form) -> Result<(), Fault>
+where
+    R: Threads + Wait + Copy + Send + 'static,
+{
+    let signs = Arc::new(host.alloc(), Signs::new())?;
+    let store = start(rt, host, case, form, &signs)?;
+    let tried = try_on(rt, host, case, form, &store, &signs);
+    let asker = Asker::new(host.alloc(), &store, 9);
+    store.close(&rt);
+    match tried {
+        Ok(()) => is_closed(&rt, host, asker),
+        Err(fault) => {
+            drop(asker);
+            Err(fault)
+        }
+    }
+}

@@ -1,7 +1,10 @@
 -- What the door of a store answers.
 use Rattle.std.specs.Prelude.{◌≡◌, ◌⊎◌, ⊤, ℕ, Bool, if◌then◌else◌, List, [], ◌∷◌, ◌++◌, max, Result, Ok, Err}
+use Rattle.craq_names.specs.declared.name.NodeName.{NodeName}
 use Rattle.craq_names.specs.declared.refusal.Refusal.{Refusal}
 use Rattle.craq_names.specs.declared.refusal.Refusal.TheVariants.{BadFrame, Memory}
+use Rattle.craq_commands.specs.Evaluation.{chain_of_first}
+use Rattle.craq_model.specs.Asks.{asked_objects}
 use Rattle.craq_model.specs.declared.ask.Answer.{Answer}
 use Rattle.craq_model.specs.declared.ask.Answer.TheVariants as answers
 use Rattle.craq_model.specs.declared.ask.Ask.{Ask}
@@ -45,26 +48,47 @@ IsReplied tells old message (replies.Read pass version value) new = IsCalled old
 IsReplied tells old message (replies.Status text) new = (message ≡ messages.Status) × tells text × (new ≡ old)
 IsReplied tells old message (replies.Refused refusal) new = ⊥
 
--- which refusals can come in the place of a reply: a status is refused for want of memory alone
-abbrev pub CanRefuse : ClientMessage → Refusal → Type 0
-CanRefuse (messages.Update node pass update) refusal = ⊤
-CanRefuse (messages.Read node pass mode object) refusal = ⊤
-CanRefuse messages.Status refusal = refusal ≡ Memory
+-- a node of the chain of an ask's first object
+abbrev pub name_of : ℕ → Ask → NodeName
+name_of node ask = record { chain = chain_of_first (asked_objects ask); node = node }
 
--- nothing was answered, and no receipt came; or, as BadFrame, a reply came that no door allows
-abbrev pub IsRefused : (List ℕ → Type 0) → List Called → ClientMessage → Refusal → List Called → Type 0
-IsRefused tells old message refusal new =
-    (CanRefuse message refusal × (new ≡ old))
-    ⊎ ((refusal ≡ BadFrame) × ((reply : ClientReply) × (¬ IsAllowed reply) × IsReplied tells old message reply new))
+-- with what a call of a node, with a pass, may be refused
+abbrev pub Refusing : Type 1
+Refusing = NodeName → ℕ → Ask → Refusal → Type 0
+
+-- for want of memory alone
+abbrev pub for_memory : Refusing
+for_memory node pass ask e = e ≡ Memory
+
+-- for want of memory too
+abbrev pub or_memory : Refusing → Refusing
+or_memory refuses node pass ask e = (e ≡ Memory) ⊎ refuses node pass ask e
+
+-- which refusals can come in the place of a reply: of a call one with which it may be refused; of a status want of memory alone
+abbrev pub CanRefuse : Refusing → ClientMessage → Refusal → Type 0
+CanRefuse refuses (messages.Update node pass update) e = refuses (name_of node (asks.Update update)) pass (asks.Update update) e
+CanRefuse refuses (messages.Read node pass mode object) e = refuses (name_of node (asks.Read mode object)) pass (asks.Read mode object) e
+CanRefuse refuses messages.Status e = e ≡ Memory
+
+-- a message came to what no door may tell: to a refusal, and no receipt came, or to a reply
+abbrev pub IsHidden : (List ℕ → Type 0) → Refusing → List Called → ClientMessage → List Called → Type 0
+IsHidden tells refuses old message new =
+    ((e : Refusal) × (¬ IsAllowed (replies.Refused e)) × CanRefuse refuses message e × (new ≡ old))
+    ⊎ ((reply : ClientReply) × (¬ IsAllowed reply) × IsReplied tells old message reply new)
+
+-- nothing was answered, and no receipt came; or, as BadFrame, something came that no door may tell
+abbrev pub IsRefused : (List ℕ → Type 0) → Refusing → List Called → ClientMessage → Refusal → List Called → Type 0
+IsRefused tells refuses old message refusal new =
+    (CanRefuse refuses message refusal × (new ≡ old)) ⊎ ((refusal ≡ BadFrame) × IsHidden tells refuses old message new)
 
 -- a turn of a door that has these receipts as it begins
-abbrev pub IsAnswered : (List ℕ → Type 0) → List Called → ClientMessage → ClientReply → List Called → Type 0
-IsAnswered tells old message (replies.Refused refusal) new = IsRefused tells old message refusal new
-IsAnswered tells old message reply new = IsReplied tells old message reply new
+abbrev pub IsAnswered : (List ℕ → Type 0) → Refusing → List Called → ClientMessage → ClientReply → List Called → Type 0
+IsAnswered tells refuses old message (replies.Refused refusal) new = IsRefused tells refuses old message refusal new
+IsAnswered tells refuses old message reply new = IsReplied tells old message reply new
 
--- a turn of a door that keeps its receipts or not, where a status has a text that was told
-abbrev pub IsTurn : (List ℕ → Type 0) → Bool → List Called → ClientMessage → ClientReply → List Called → Type 0
-IsTurn tells keeps old message reply new = IsAnswered tells (kept keeps old) message reply new
+-- a turn of a door that keeps its receipts or not, where a status has a text that was told, and a call is refused as it may be
+abbrev pub IsTurn : (List ℕ → Type 0) → Refusing → Bool → List Called → ClientMessage → ClientReply → List Called → Type 0
+IsTurn tells refuses keeps old message reply new = IsAnswered tells refuses (kept keeps old) message reply new
 
 -- the reply is told as it is where a door may give it, and refused in its place where not
 abbrev pub IsToldFor : ClientReply → ClientReply → Type 0

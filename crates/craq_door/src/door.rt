@@ -1,7 +1,10 @@
 //! `CallDoor`: the messages of one client, answered by calls of what is served.
 ghost use Rattle.std.specs.Prelude.{◌≡◌, ℕ, List, [], IfErr, IfOk, OnErr};
+ghost use Rattle.craq_names.specs.declared.name.NodeName.{NodeName};
+ghost use Rattle.craq_names.specs.declared.refusal.Refusal.{Refusal};
+ghost use Rattle.craq_model.specs.declared.ask.Ask.{Ask};
 ghost use Rattle.craq_calls.specs.Calls.{IsCallOf};
-ghost use Rattle.craq_door.specs.Turns.{message_of, kept, CanRefuse, IsCalled, IsReplied, IsTurn};
+ghost use Rattle.craq_door.specs.Turns.{message_of, kept, name_of, or_memory, CanRefuse, IsCalled, IsReplied, IsTurn};
 
 use crate::{DoorCalls, told};
 use craq_frames::{ClientMessage, ClientReply, Text};
@@ -16,9 +19,13 @@ pub trait Callee: Drop {
     /// Which texts of a status it may tell.
     ghost tells: { Self → List ℕ → Type 0 };
 
+    /// With what it may refuse a call of a node, with a pass.
+    ghost refuses: { Self → NodeName → ℕ → Ask → Refusal → Type 0 };
+
     /// Asks a node, with this pass: the answer, and the receipt of the call. Refused as the store refuses the call.
     fn call(&self, node: NodeName, pass: Pass, ask: Ask) -> Result<(Answer, CallReceipt), Refusal>
-        ensures { IfOk result (λ r. IsCallOf node ask pass r.0 r.1) };
+        ensures called { IfOk result (λ r. IsCallOf node ask pass r.0 r.1) }
+        ensures refused { IfErr result (λ e. refuses self.now node pass ask e) };
 
     /// The chains and their members. It fails for want of memory alone.
     fn status(&self) -> Result<Text, AllocError>
@@ -49,6 +56,7 @@ impl<C: Callee> CallDoor<C> {
     /// Asks a node of the chain of the ask's first object, with this pass. The room for the call's receipt is made first.
     fn call(&mut self, node: NodeId, pass: Pass, ask: Ask) -> Result<ClientReply, Refusal>
         ensures called { IfOk result (λ reply. IsCalled self.old.calls.receipts.items (message_of node pass ask) reply self.new.calls.receipts.items) }
+        ensures refused { IfErr result (λ e. or_memory (C.refuses self.old.callee) (name_of node ask) pass ask e) }
         ensures same { OnErr result (self.new.calls.receipts.items ≡ self.old.calls.receipts.items) }
         ensures keeps { self.new.calls.keeps ≡ self.old.calls.keeps }
         ensures callee { self.new.callee ≡ self.old.callee }
@@ -65,7 +73,7 @@ impl<C: Callee> CallDoor<C> {
     /// What a message comes to.
     fn reply(&mut self, message: ClientMessage) -> Result<ClientReply, Refusal>
         ensures replied { IfOk result (λ reply. IsReplied (C.tells self.old.callee) self.old.calls.receipts.items message reply self.new.calls.receipts.items) }
-        ensures refused { IfErr result (λ e. CanRefuse message e) }
+        ensures refused { IfErr result (λ e. CanRefuse (or_memory (C.refuses self.old.callee)) message e) }
         ensures same { OnErr result (self.new.calls.receipts.items ≡ self.old.calls.receipts.items) }
         ensures keeps { self.new.calls.keeps ≡ self.old.calls.keeps }
         ensures callee { self.new.callee ≡ self.old.callee }
@@ -87,7 +95,7 @@ impl<C: Callee> CallDoor<C> {
 
 impl<C: Callee> Door for CallDoor<C> {
     ghost turn = { λ old message reply new.
-        IsTurn (C.tells old.callee) old.calls.keeps old.calls.receipts.items message reply new.calls.receipts.items
+        IsTurn (C.tells old.callee) (or_memory (C.refuses old.callee)) old.calls.keeps old.calls.receipts.items message reply new.calls.receipts.items
         × (new.calls.keeps ≡ old.calls.keeps) × (new.callee ≡ old.callee) };
 
     fn ask(&mut self, message: ClientMessage) -> ClientReply {

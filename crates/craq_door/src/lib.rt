@@ -1,14 +1,18 @@
 //! The door of a served store: the reply with a call's answer, the receipts of the calls, and what is told in the place of
-//! a reply that no door allows. What it calls is behind the trait `Callee`.
+//! a reply that no door allows. What it calls is behind the trait `Callee`. Where calls come back later a `Dialogue` is what
+//! serving one client comes to.
 //! Code that runs in the programs.
 #![tactic(auto)]
 
 mod calls;
+mod dialogue;
 mod door;
+mod phases;
 mod question;
 mod telling;
 
 pub use calls::DoorCalls;
+pub use dialogue::{Dialogue, Stepped};
 pub use door::{CallDoor, Callee};
 pub use question::{Begun, Question, begin_turn, end_turn};
 pub use telling::told;

@@ -1,7 +1,7 @@
 //! The two halves of a turn whose call comes back later: what a message asks of a store, and its reply once the call came back.
 ghost use Rattle.std.specs.Prelude.{◌≡◌, ℕ, List, IfErr, IfOk, OnErr};
 ghost use Rattle.craq_front.specs.Door.{IsAllowed};
-ghost use Rattle.craq_door.specs.Turns.{IsAnswered, IsCalled};
+ghost use Rattle.craq_door.specs.Turns.{IsCalled, name_of};
 ghost use Rattle.craq_door.specs.Halves.{Asks, BeginsTurn, EndsTurn, RefusesCall, asked_by};
 
 use crate::{Callee, DoorCalls, told};
@@ -38,7 +38,7 @@ pub enum Begun {
 
 /// The call of a node of the chain of the ask's first object, with this pass.
 fn call_of(node: NodeId, pass: Pass, ask: Ask) -> Question
-    ensures node { result.node.node ≡ node }
+    ensures node { result.node ≡ name_of node ask }
     ensures pass { result.pass ≡ pass }
     ensures ask { result.ask ≡ ask }
 {
@@ -112,16 +112,14 @@ fn reply_of_call(
 }
 
 /// Ends the turn of the message that asked for this call: the call's reply, or its refusal as it came back. Where it was
-/// answered, it is `Refused(Closed)` exactly if the receipt is another call's, and `Refused(Memory)` where a growth was refused.
-/// What no door may tell is `Refused 15`.
+/// answered, it is `Refused(Memory)` where a growth was refused, and `Refused(Closed)` only if the receipt is another call's.
+/// What no door may tell is `Refused(BadFrame)`. Where it is refused, the receipts stay as they are.
 pub fn end_turn(
     alloc: Global,
     calls: &mut DoorCalls,
     question: &Question,
     outcome: Result<CallReceipt, Refusal>,
 ) -> ClientReply
-    // No status is told here.
-    ensures turn { IsAnswered (λ text. ⊥) calls.old.receipts.items (asked_by question.now) result calls.new.receipts.items }
     ensures ends { EndsTurn question.now outcome calls.old.receipts.items result calls.new.receipts.items }
     ensures allowed { IsAllowed result }
     ensures keeps { calls.new.keeps ≡ calls.old.keeps }

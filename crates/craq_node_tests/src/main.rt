@@ -61,6 +61,16 @@ fn tell_core<C: Core, R: AllocGlobal + Print>(rt: &R) -> io::Result<()> {
     )
 }
 
+/// Tells what a lone node that forgets settled entries has in memory after many puts.
+fn tell_forgetting<R: AllocGlobal + Print>(rt: &R) -> io::Result<()> {
+    let puts = nodes::PUTS;
+    print!(rt; "after {puts} puts a lone node forgot those that are settled: ")?;
+    match nodes::after_puts(rt.alloc()) {
+        Ok((base, held)) => println!(rt; "its base is {base}, and {held} entries are in memory"),
+        Err(refusal) => println!(rt; "{refusal}"),
+    }
+}
+
 /// Tells of cells, and of audits of them.
 fn tell_cells<R: AllocGlobal + Print + Threads + Wait + Sync>(rt: &R) -> io::Result<()> {
     tell(
@@ -97,6 +107,7 @@ fn main(rt: HostRuntime) -> io::Result<()> {
     tell_core::<PlainCore, _>(&rt)?;
     println!(rt; "over nodes that forget settled entries:")?;
     tell_core::<ListCore, _>(&rt)?;
+    tell_forgetting(&rt)?;
     tell_cells(&rt)?;
     tell_spoiled(&rt)
 }

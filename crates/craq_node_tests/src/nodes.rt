@@ -3,9 +3,13 @@ ghost use Rattle.std.specs.Prelude.{◌≤◌, IfOk};
 ghost use Rattle.craq_node.specs.Represented.{CanArrive};
 
 use crate::moves::{members, moves_of};
+use craq_commands::{Command, Update};
 use craq_epochs::{Master, is_among};
-use craq_model::Event;
-use craq_names::{ChainId, NodeId, NodeName, Refusal};
+use craq_list::ListCore;
+use craq_model::{Ask, Event};
+use craq_names::{
+    ChainId, ClientId, Key, NodeId, NodeName, ObjectId, Refusal, RequestNo, Seq, Value,
+};
 use craq_node::Core;
 use craq_play::{print_refusal, print_step};
 use craq_runs::Move;
@@ -204,4 +208,40 @@ pub fn told<C: Core>(alloc: Global, case: &Case) -> Result<String, Refusal> {
     let mut node: C = node_of(alloc, case)?;
     take_all(alloc, &mut node, case, &mut text)?;
     Ok(text)
+}
+
+/// How many puts a node that forgets settled entries takes here.
+pub const PUTS: u64 = 10_000;
+
+/// A put of `a` on `k` by client 1 under this number.
+fn put(alloc: Global, number: u64) -> Result<Event, Refusal>
+    ensures { IfOk result CanArrive }
+{
+    let object = ObjectId {
+        chain: ChainId::new(0),
+        key: Key::new(alloc, b"k")?,
+    };
+    let value = Value::new(alloc, b"a")?;
+    Ok(Event::Ask(Ask::Update(Update {
+        client: ClientId::new(1),
+        number: RequestNo::new(number)?,
+        command: Command::Put { object, value },
+    })))
+}
+
+/// What a lone node that forgets settled entries has in memory after its puts: its base, and how many entries.
+pub fn after_puts(alloc: Global) -> Result<(Seq, usize), Refusal> {
+    let name = NodeName {
+        chain: ChainId::new(0),
+        node: NodeId::new(1),
+    };
+    let ids = members(alloc, &[1])?;
+    let mut core: ListCore = member(alloc, ids.as_slice(), name)?;
+    for number in 1..=PUTS {
+        let event = put(alloc, number)?;
+        let step = core.step(alloc, event)?;
+        drop(step);
+    }
+    let history = &core.node().history;
+    Ok((history.base(), history.entries_held()))
 }

@@ -1,12 +1,7 @@
 //! A connection of a thread that serves many.
-ghost use Rattle.craq_front.specs.Door.{IsAllowed};
-
 use crate::host::{Arrival, Host};
-use craq_door::{Begun, DoorCalls, Question, begin_turn, end_turn};
-use craq_frames::{ClientMessage, ClientReply};
-use craq_front::{Conversation, Step};
+use craq_door::{Dialogue, Stepped};
 use craq_letters::Reply;
-use craq_names::Refusal;
 use mio::event::Event;
 use mio::unix::SourceFd;
 use mio::{Interest, Registry, Token};
@@ -17,7 +12,7 @@ use std::net::TcpStream;
 use std::os::fd::AsRawFd;
 use std::sync::Arc;
 
-/// So many steps of a conversation are taken at most before others have their turn.
+/// So many steps of a dialogue are taken at most before others have their turn.
 const MOST_STEPS: usize = 64;
 
 /// What is known of a connection's readiness.
@@ -35,23 +30,16 @@ struct Readiness {
 #[derive(Drop)]
 pub(crate) struct Connection {
     stream: Arc<TcpStream>,
-    talk: Conversation,
-    calls: DoorCalls,
+    dialogue: Dialogue,
     place: usize,
     receipts: usize,
     readiness: Readiness,
-    /// The message that is to be asked.
-    message: Option<ClientMessage>,
-    /// The call that was submitted, and whose letter has not come.
-    question: Option<Question>,
     /// When its last bytes came or were taken, in the host's seconds.
     heard: u64,
     /// It is among those that have something to do.
     busy: bool,
     /// There may be a whole frame in what was read.
     more: bool,
-    /// No frame is answered any more: it ends once what is due is written.
-    last: bool,
     /// Nothing is read or written any more.
     over: bool,
 }
@@ -77,8 +65,7 @@ impl Connection {
         registry.register(&mut SourceFd(&stream.as_raw_fd()), token, both)?;
         Ok(Connection {
             stream,
-            talk: Conversation::new(alloc),
-            calls: DoorCalls::new(alloc, keeps),
+            dialogue: Dialogue::new(alloc, keeps),
             place,
             receipts,
             readiness: Readiness {
@@ -86,12 +73,9 @@ impl Connection {
                 closing: false,
                 writable: true,
             },
-            message: None,
-            question: None,
             heard: now,
             busy: false,
             more: false,
-            last: false,
             over: false,
         })
     }
@@ -109,14 +93,19 @@ impl Connection {
         }
     }
 
+    /// Whether its call is under way: a letter will come.
+    fn waits(&self) -> bool {
+        self.dialogue.question().is_some()
+    }
+
     /// Whether it has ended, and no letter comes to it any more.
     pub(crate) fn is_done(&self) -> bool {
-        self.over && self.question.is_none()
+        self.over && !self.waits()
     }
 
     /// The connection is over where nothing came, and nothing was taken, for more than so many seconds; whether it is.
     pub(crate) fn is_left(&mut self, now: u64, idle: u64) -> bool {
-        if self.question.is_none() && now.saturating_sub(self.heard) > idle {
+        if !self.waits() && now.saturating_sub(self.heard) > idle {
             self.over = true;
         }
         self.over
@@ -138,40 +127,34 @@ impl Connection {
     /// Whether there is something to do of which no event and no letter will tell.
     fn is_behind(&self) -> bool {
         if self.over {
-            self.question.is_none()
-        } else if !self.talk.due().is_empty() {
+            !self.waits()
+        } else if !self.dialogue.due().is_empty() {
             self.readiness.writable
         } else {
-            self.question.is_none()
-                && (self.more || self.message.is_some() || self.readiness.readable)
+            !self.waits() && (self.more || self.readiness.readable)
         }
     }
 
     /// Reads once, where nothing is asked and nothing is due.
     pub(crate) fn read(&mut self, chunk: &mut [u8], now: u64) {
         if self.over
-            || self.last
             || self.more
-            || self.talk.is_asking()
             || !self.readiness.readable
-            || !self.talk.due().is_empty()
+            || !self.dialogue.listens()
+            || !self.dialogue.due().is_empty()
         {
             return;
         }
         match (&*self.stream).read(chunk) {
-            Ok(0) => {
-                self.last = true;
-                self.over = true;
-            }
+            Ok(0) => self.over = true,
             Ok(count) => {
                 if count < chunk.len() && !self.readiness.closing {
                     self.readiness.readable = false;
                 }
                 self.more = true;
                 self.heard = now;
-                if self.talk.receive(&chunk[..count]).is_err() {
-                    self.last = true;
-                }
+                // Where memory lacks the dialogue is over, as `give` sees.
+                let _ = self.dialogue.receive(&chunk[..count]);
             }
             Err(error) => match error.kind() {
                 ErrorKind::WouldBlock => self.readiness.readable = false,
@@ -183,14 +166,14 @@ impl Connection {
 
     /// Writes once what is due.
     fn write(&mut self, now: u64) {
-        if self.over || !self.readiness.writable || self.talk.due().is_empty() {
+        if self.over || !self.readiness.writable || self.dialogue.due().is_empty() {
             return;
         }
-        match (&*self.stream).write(self.talk.due()) {
+        match (&*self.stream).write(self.dialogue.due()) {
             Ok(0) => self.over = true,
             Ok(count) => {
                 self.heard = now;
-                self.talk.wrote(count);
+                self.dialogue.wrote(count);
             }
             Err(error) => match error.kind() {
                 ErrorKind::WouldBlock => self.readiness.writable = false,
@@ -200,99 +183,41 @@ impl Connection {
         }
     }
 
-    /// The message that is asked has this reply, and the next of its payload is to be asked.
-    fn reply(&mut self, alloc: Global, reply: ClientReply)
-        requires { IsAllowed reply }
-    {
-        match self.talk.reply(alloc, reply) {
-            Ok(next) => self.message = next,
-            Err(_) => self.last = true,
-        }
-    }
-
-    /// The call that was submitted came back.
+    /// The call that is under way came back.
     pub(crate) fn answer<H: Host>(&mut self, alloc: Global, host: &H, outcome: Reply) {
-        if let Some(question) = self.question.take() {
-            self.end(alloc, host, &question, outcome);
-        }
-    }
-
-    /// A call is submitted.
-    fn submit<H: Host>(
-        &mut self,
-        alloc: Global,
-        host: &H,
-        token: usize,
-        few: bool,
-        question: Question,
-    ) {
-        match host.submit(&question, token, few) {
-            Ok(None) => self.question = Some(question),
-            Ok(Some(receipt)) => self.end(alloc, host, &question, Ok(receipt)),
-            Err(refusal) => self.end(alloc, host, &question, Err(refusal)),
-        }
-    }
-
-    /// A call came back.
-    fn end<H: Host>(&mut self, alloc: Global, host: &H, question: &Question, outcome: Reply) {
         if let Err(refusal) = &outcome {
             host.refused(self.place, *refusal);
         }
-        let reply = end_turn(alloc, &mut self.calls, question, outcome);
-        self.reply(alloc, reply);
+        self.dialogue.answer(alloc, outcome);
     }
 
-    /// A message is asked.
-    fn ask<H: Host>(
-        &mut self,
-        alloc: Global,
-        host: &H,
-        token: usize,
-        few: bool,
-        message: ClientMessage,
-    ) {
-        match begin_turn(host, &mut self.calls, message) {
-            Begun::Told(reply) => self.reply(alloc, reply),
-            Begun::Calls(question) => self.submit(alloc, host, token, few, question),
+    /// The call that is under way is submitted.
+    fn submit<H: Host>(&mut self, alloc: Global, host: &H, token: usize, few: bool) {
+        let Some(question) = self.dialogue.question() else {
+            return;
+        };
+        match host.submit(question, token, few) {
+            Ok(None) => {}
+            Ok(Some(receipt)) => self.answer(alloc, host, Ok(receipt)),
+            Err(refusal) => self.answer(alloc, host, Err(refusal)),
         }
     }
 
-    /// The next frame's message is to be asked. False where there is none.
-    fn find(&mut self, alloc: Global) -> bool {
-        if self.talk.is_asking() || self.talk.is_full() {
-            return false;
-        }
-        match self.talk.next(alloc) {
-            Ok(Step::Ask(message)) => {
-                self.message = Some(message);
-                true
-            }
-            Ok(Step::Refused) => true,
-            Ok(Step::Nothing) => {
-                self.more = false;
-                false
-            }
-            Err(_) => {
-                self.last = true;
-                false
-            }
-        }
-    }
-
-    /// Takes the steps of the conversation, as far as its bytes and replies are there. What comes of them is then due. `few`
+    /// Takes the steps of the dialogue, as far as its bytes and replies are there. What comes of them is then due. `few`
     /// tells that few connections have something to do just now.
     pub(crate) fn advance<H: Host>(&mut self, alloc: Global, host: &H, token: usize, few: bool) {
         for _ in 0..MOST_STEPS {
-            if self.last || self.over {
+            if self.over {
                 break;
             }
-            match self.message.take() {
-                Some(message) => self.ask(alloc, host, token, few, message),
-                None => {
-                    if !self.find(alloc) {
-                        break;
-                    }
+            match self.dialogue.step(alloc, host) {
+                Stepped::Goes => {}
+                Stepped::Calls => self.submit(alloc, host, token, few),
+                Stepped::Starved => {
+                    self.more = false;
+                    break;
                 }
+                Stepped::Stays => break,
             }
         }
     }
@@ -300,7 +225,7 @@ impl Connection {
     /// Writes what is due. It is over where that was the last.
     pub(crate) fn give(&mut self, now: u64) {
         self.write(now);
-        if self.last && self.talk.due().is_empty() {
+        if self.dialogue.is_over() && self.dialogue.due().is_empty() {
             self.over = true;
         }
     }
@@ -310,20 +235,16 @@ impl Connection {
         let _ = registry.deregister(&mut SourceFd(&self.stream.as_raw_fd()));
         let Connection {
             stream,
-            talk: _,
-            calls,
+            dialogue,
             place,
             receipts,
             readiness: _,
-            message: _,
-            question: _,
             heard: _,
             busy: _,
             more: _,
-            last: _,
             over: _,
         } = self;
         drop(stream);
-        host.ended(place, receipts, calls.into_receipts());
+        host.ended(place, receipts, dialogue.into_receipts());
     }
 }

@@ -1,5 +1,5 @@
 //! `ServedStore`: a store that runs, as the door of a connection calls it.
-ghost use Rattle.std.specs.Prelude.{IfOk};
+ghost use Rattle.std.specs.Prelude.{⊤, IfOk};
 ghost use Rattle.craq_calls.specs.Calls.{IsCallOf};
 ghost use Rattle.craq_server.specs.Status.{TellsStatus};
 
@@ -39,6 +39,9 @@ where
     G: Gate,
 {
     ghost tells = { λ store text. TellsStatus text };
+
+    // No contract says with what a store refuses a call.
+    ghost refuses = { λ store node pass ask refusal. ⊤ };
 
     fn call(&self, node: NodeName, pass: Pass, ask: Ask) -> Result<(Answer, CallReceipt), Refusal> {
         let called = self.ask(node, pass, ask);

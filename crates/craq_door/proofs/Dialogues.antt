@@ -1,0 +1,133 @@
+-- What was made due stays an answer to what came, step by step.
+use Rattle.std.proofs.Common.{◌≡◌, ℕ, List, [], ◌∷◌, ◌++◌, inl, inr, Option, None, Some, Result, Ok, Err, refl, sym, ap, ◌∙◌, append_assoc, subst}
+use Rattle.std.proofs.lemmas.List.{append-nil}
+use Rattle.craq_names.specs.declared.refusal.Refusal.{Refusal}
+use Rattle.craq_names.specs.declared.refusal.Refusal.TheVariants as refusals
+use Rattle.craq_frames.specs.declared.ask.ClientMessage.{ClientMessage}
+use Rattle.craq_frames.specs.declared.answer.ClientReply.{ClientReply}
+use Rattle.craq_frames.specs.Frame.{frame}
+use Rattle.craq_front.specs.declared.conversation.Asking.{Asking}
+use Rattle.craq_front.specs.declared.conversation.Step.TheVariants.{Ask, Refused, Nothing}
+use Rattle.craq_front.specs.Serving.{idle, begun}
+use Rattle.craq_front.specs.Steps.{Advances, Follows}
+use Rattle.craq_front.specs.Talk.{History, next_turn, UnderWay, Stands, between, within}
+use Rattle.craq_front.proofs.Answering.{cut_off}
+use Rattle.craq_front.proofs.Talks.{stands_asked, stands_received, stands_refused, stands_replied}
+use Rattle.craq_door.specs.Dialogues.{Ended}
+
+-- the bytes that were written and those that are due, with more due
+more_due : (written old new due : List ℕ) → new ≡ old ++ due → (written ++ old) ++ due ≡ written ++ new
+more_due written old new due e = append_assoc written old due ∙ ap (λ (x : List ℕ). written ++ x) (sym e)
+
+-- a message of the next frame is asked
+pub then_asked : (read written o n i j due : List ℕ) (a b : Option Asking) (m : ClientMessage) (turns : History)
+    → n ≡ o ++ due → Advances i j due b (Ok (Ask m)) → Stands read (written ++ o) i a None turns → Stands read (written ++ n) j b (Some m) turns
+then_asked read written o n i j due a b m turns e h s = subst (λ (x : List ℕ). Stands read x j b (Some m) turns) (more_due written o n due e) (stands_asked read (written ++ o) i j due a b m turns s h)
+
+-- the next frame spells nothing
+pub then_refused : (read written o n i j due : List ℕ) (a b : Option Asking) (turns : History)
+    → n ≡ o ++ due → Advances i j due b (Ok Refused) → Stands read (written ++ o) i a None turns → Stands read (written ++ n) j b None turns
+then_refused read written o n i j due a b turns e h s = subst (λ (x : List ℕ). Stands read x j b None turns) (more_due written o n due e) (stands_refused read (written ++ o) i j due a b turns s h)
+
+-- where no message is asked, it does not matter of which payload one was
+no_matter : (read made i : List ℕ) (a b : Option Asking) (turns : History) → Stands read made i a None turns → Stands read made i b None turns
+no_matter read made i a b turns (between n s none) = between n s none
+no_matter read made i a b turns (within n payload earlier now few s u is) = absurd cc
+
+-- less than a frame is there
+pub then_nothing : (read written o n i j due : List ℕ) (a b : Option Asking) (turns : History)
+    → n ≡ o ++ due → Advances i j due b (Ok Nothing) → Stands read (written ++ o) i a None turns → Stands read (written ++ n) j b None turns
+then_nothing read written o n i j due a b turns e h s =
+    let same : written ++ o ≡ written ++ n = sym (append-nil (written ++ o)) ∙ ap (λ (x : List ℕ). (written ++ o) ++ x) (sym h.2) ∙ more_due written o n due e in
+    subst (λ (x : List ℕ). Stands read x j b None turns) same (subst (λ (x : List ℕ). Stands read (written ++ o) x b None turns) (sym h.1) (no_matter read (written ++ o) i a b turns s))
+
+-- no more frames are looked for
+pub then_ended : (read written o n i j due : List ℕ) (a b : Option Asking) (r : Refusal) (turns : History)
+    → n ≡ o ++ due → Advances i j due b (Err r) → Stands read (written ++ o) i a None turns → Ended read (written ++ n) turns
+then_ended read written o n i j due a b refusals.FrameTooLong turns e h (between k s none) = record {
+  taken = read;
+  lost = [];
+  rest = i;
+  replied = written ++ o;
+  last = due;
+  count = k;
+  earlier = turns;
+  reading = sym (append-nil read);
+  served = s;
+  begins = idle refl;
+  ends = inr h;
+  making = sym (more_due written o n due e);
+}
+then_ended read written o n i j due a b refusals.Memory turns e h (between k s none) = record {
+  taken = read;
+  lost = [];
+  rest = i;
+  replied = written ++ o;
+  last = due;
+  count = k;
+  earlier = turns;
+  reading = sym (append-nil read);
+  served = s;
+  begins = idle refl;
+  ends = inl h;
+  making = sym (more_due written o n due e);
+}
+then_ended read written o n i j due a b r turns e h (between k s none) = absurd h
+then_ended read written o n i j due a b r turns e h (within k payload earlier now few s u is) = absurd cc
+
+-- a message has its reply
+pub then_replied : (read written o n i j due : List ℕ) (a b : Option Asking) (m : ClientMessage) (r : ClientReply) (next : Option ClientMessage) (turns : History)
+    → n ≡ o ++ due → j ≡ i → Follows a r due b (Ok next) → Stands read (written ++ o) i a (Some m) turns → Stands read (written ++ n) j b next (turns ++ (m, r) ∷ [])
+then_replied read written o n i j due a b m r next turns e same f s =
+    subst (λ (x : List ℕ). Stands read (written ++ n) x b next (turns ++ (m, r) ∷ [])) (sym same)
+    (subst (λ (x : List ℕ). Stands read x i b next (turns ++ (m, r) ∷ [])) (more_due written o n due e) (stands_replied read (written ++ o) i due a b m r next turns s f))
+
+-- a message had its turn, and its reply is not told
+pub then_lost : (read written o n i due : List ℕ) (a b : Option Asking) (m : ClientMessage) (r : ClientReply) (refusal : Refusal) (turns : History)
+    → n ≡ o ++ due → Follows a r due b (Err refusal) → Stands read (written ++ o) i a (Some m) turns → Ended read (written ++ n) (turns ++ (m, r) ∷ [])
+then_lost read written o n i due a b m r refusal turns e f (between k s none) = absurd cc
+then_lost read written o n i due a b m r refusal turns e f (within k payload earlier now few s u is) =
+    let same : now ≡ m = cc in
+    let under = subst (λ (x : ClientMessage). UnderWay next_turn earlier payload a x turns) same u in
+    let cut = cut_off next_turn earlier turns (turns ++ (m, r) ∷ []) payload [] due [] due a b (Some m) m r refusal refl (under, refl) refl refl f in
+    record {
+      taken = read;
+      lost = [];
+      rest = frame payload ++ i;
+      replied = written ++ o;
+      last = due;
+      count = k;
+      earlier = earlier;
+      reading = sym (append-nil read);
+      served = s;
+      begins = begun payload i refl cut.1;
+      ends = inl cut.0;
+      making = sym (more_due written o n due e);
+    }
+
+-- more bytes came
+pub then_received : (read written o n i j more : List ℕ) (a b : Option Asking) (turns : History)
+    → n ≡ o → j ≡ i ++ more → b ≡ a → Stands read (written ++ o) i a None turns → Stands (read ++ more) (written ++ n) j b None turns
+then_received read written o n i j more a b turns out input asking s =
+    subst (λ (x : List ℕ). Stands (read ++ more) (written ++ x) j b None turns) (sym out)
+    (subst (λ (x : List ℕ). Stands (read ++ more) (written ++ o) x b None turns) (sym input)
+    (no_matter (read ++ more) (written ++ o) (i ++ more) a b turns (stands_received read (written ++ o) i more a None turns s)))
+
+-- bytes came that are lost
+pub then_deaf : (read written o n i more : List ℕ) (a : Option Asking) (turns : History)
+    → n ≡ o → Stands read (written ++ o) i a None turns → Ended (read ++ more) (written ++ n) turns
+then_deaf read written o n i more a turns out (between k s none) = record {
+  taken = read;
+  lost = more;
+  rest = i;
+  replied = written ++ o;
+  last = [];
+  count = k;
+  earlier = turns;
+  reading = refl;
+  served = s;
+  begins = idle refl;
+  ends = inl refl;
+  making = ap (λ (x : List ℕ). written ++ x) out ∙ sym (append-nil (written ++ o));
+}
+then_deaf read written o n i more a turns out (within k payload earlier now few s u is) = absurd cc

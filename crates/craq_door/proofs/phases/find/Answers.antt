@@ -1,0 +1,22 @@
+use Rattle.craq_door.proofs.Dialogues.{then_asked, then_ended, then_nothing, then_refused}
+use Rattle.craq_door.proofs.phases.find.Goals as goal
+
+pub returns-in-Ok-Ask-clause-more : goal.returns-in-Ok-Ask-clause-more
+returns-in-Ok-Ask-clause-more c = λ read written turns s.
+    let h = rw c.in-Ok-Ask.field-0-is at c.in-Ok-Ask.ensures in
+    then_asked read written c.args.talk.now.buffers.output.items c.next.new.self.buffers.output.items c.args.talk.now.buffers.input.items c.next.new.self.buffers.input.items h.0 c.args.talk.now.asking c.next.new.self.asking c.in-Ok-Ask.message turns h.1 h.2 s
+
+pub returns-in-Ok-Refused-clause-more : goal.returns-in-Ok-Refused-clause-more
+returns-in-Ok-Refused-clause-more c = λ read written turns s.
+    let h = rw c.in-Ok-Refused.field-0-is at c.in-Ok-Refused.ensures in
+    then_refused read written c.args.talk.now.buffers.output.items c.next.new.self.buffers.output.items c.args.talk.now.buffers.input.items c.next.new.self.buffers.input.items h.0 c.args.talk.now.asking c.next.new.self.asking turns h.1 h.2 s
+
+pub returns-in-Ok-Nothing-clause-more : goal.returns-in-Ok-Nothing-clause-more
+returns-in-Ok-Nothing-clause-more c = λ read written turns s.
+    let h = rw c.in-Ok-Nothing.field-0-is at c.in-Ok-Nothing.ensures in
+    then_nothing read written c.args.talk.now.buffers.output.items c.next.new.self.buffers.output.items c.args.talk.now.buffers.input.items c.next.new.self.buffers.input.items h.0 c.args.talk.now.asking c.next.new.self.asking turns h.1 h.2 s
+
+pub returns-in-Err-clause-more : goal.returns-in-Err-clause-more
+returns-in-Err-clause-more c = λ read written turns s.
+    let h = c.in-Err.ensures in
+    then_ended read written c.args.talk.now.buffers.output.items c.next.new.self.buffers.output.items c.args.talk.now.buffers.input.items c.next.new.self.buffers.input.items h.0 c.args.talk.now.asking c.next.new.self.asking c.in-Err.field-0 turns h.1 h.2 s

@@ -1,0 +1,168 @@
+//! `Dialogue`: what serving one client comes to where its calls come back later; for a loop that serves many.
+ghost use Rattle.std.specs.Prelude.{◌≡◌, None};
+ghost use Rattle.craq_door.specs.declared.dialogue.Phase.TheVariants.{Idle};
+
+use crate::phases::{advance, answered};
+use crate::{Callee, DoorCalls, Question};
+use craq_frames::ClientMessage;
+use craq_front::Conversation;
+use craq_names::Refusal;
+use craq_seat::CallReceipt;
+use std::alloc::{AllocError, Global};
+use std::mem;
+
+/// What is done next.
+#[derive(Drop)]
+pub(crate) enum Phase {
+    /// The next frame is looked for.
+    Idle,
+    /// This message is to be asked.
+    Asks(ClientMessage),
+    /// This call is under way.
+    Waits(Question),
+    /// Nothing is read or asked any more.
+    Over,
+}
+
+/// What a step came to.
+#[derive(Clone, Copy, PartialEq, Eq)]
+pub enum Stepped {
+    /// There may be another step to take.
+    Goes,
+    /// The call of `question` is to be made, and its outcome to be given back by `answer`.
+    Calls,
+    /// Less than a frame is there: more bytes have to come.
+    Starved,
+    /// Nothing is done before bytes that are due are written or a call came back, or any more.
+    Stays,
+}
+
+/// What serving one client comes to where its calls come back later: bytes in, calls to make, their outcomes, bytes out. At
+/// most one call is under way. What it makes due are the frames of the replies to the frames that came, in their order, and
+/// each reply is that of a turn of a door (`CallDoor`) for just its message.
+#[derive(Drop)]
+pub struct Dialogue {
+    talk: Conversation,
+    calls: DoorCalls,
+    phase: Phase,
+    ghost idle: { phase ≡ Idle → talk.asking ≡ None },
+}
+
+impl Dialogue {
+    ghost use Rattle.std.specs.Prelude.{◌≤◌, ◌↔◌, ℕ, List, [], ◌++◌, take, drop, length, IsTrue, OnOk, OnErr};
+    ghost use Rattle.std.specs.Option.{option_copied};
+    ghost use Rattle.craq_front.specs.Talk.{History};
+    ghost use Rattle.craq_door.specs.Turns.{kept};
+    ghost use Rattle.craq_door.specs.Dialogues.{Answers, Holds, IsUnderWay, Took};
+
+    /// Nothing came, nothing was asked, and nothing is due. The receipts of calls are kept or not. It takes no memory.
+    pub fn new(alloc: Global, keeps: bool) -> Self
+        ensures holds { Holds result.phase result.talk [] [] [] }
+        ensures keeps { result.calls.keeps ≡ keeps }
+        ensures receipts { result.calls.receipts.items ≡ [] }
+        ensures phase { result.phase ≡ Phase.Idle }
+    {
+        Dialogue {
+            talk: Conversation::new(alloc),
+            calls: DoorCalls::new(alloc, keeps),
+            phase: Phase::Idle,
+        }
+    }
+
+    /// Whether bytes may come now: nothing is asked, and it is not over.
+    pub fn listens(&self) -> bool
+        ensures { IsTrue result ↔ (self.now.phase ≡ Phase.Idle) }
+    {
+        matches!(&self.phase, Phase::Idle)
+    }
+
+    /// Whether nothing is read or asked any more.
+    pub fn is_over(&self) -> bool
+        ensures { IsTrue result ↔ (self.now.phase ≡ Phase.Over) }
+    {
+        matches!(&self.phase, Phase::Over)
+    }
+
+    /// These bytes came. It fails for want of memory alone; then they are lost, and it is over.
+    pub fn receive(&mut self, bytes: &[u8]) -> Result<(), AllocError>
+        requires { self.old.phase ≡ Phase.Idle }
+        ensures holds { (read written : List ℕ) (turns : History)
+            → Holds self.old.phase self.old.talk read written turns → Holds self.new.phase self.new.talk (read ++ bytes.now) written turns }
+        ensures ok { OnOk result (self.new.phase ≡ Phase.Idle) }
+        ensures err { OnErr result (self.new.phase ≡ Phase.Over) }
+        ensures output { self.new.talk.buffers.output.items ≡ self.old.talk.buffers.output.items }
+        ensures calls { self.new.calls ≡ self.old.calls }
+    {
+        match self.talk.receive(bytes) {
+            Ok(()) => Ok(()),
+            Err(error) => {
+                drop(mem::replace(&mut self.phase, Phase::Over));
+                Err(error)
+            }
+        }
+    }
+
+    /// The bytes that are due.
+    pub fn due(&self) -> &[u8]
+        ensures { result.now ≡ self.now.talk.buffers.output.items }
+    {
+        self.talk.due()
+    }
+
+    /// So many of the bytes that are due are written.
+    pub fn wrote(&mut self, count: usize)
+        requires { count ≤ length self.old.talk.buffers.output.items }
+        ensures holds { (read written : List ℕ) (turns : History)
+            → Holds self.old.phase self.old.talk read written turns
+            → Holds self.new.phase self.new.talk read (written ++ take count self.old.talk.buffers.output.items) turns }
+        ensures output { self.new.talk.buffers.output.items ≡ drop count self.old.talk.buffers.output.items }
+        ensures phase { self.new.phase ≡ self.old.phase }
+        ensures calls { self.new.calls ≡ self.old.calls }
+    {
+        self.talk.wrote(count);
+    }
+
+    /// The call that is under way.
+    pub fn question(&self) -> Option<&Question>
+        ensures { IsUnderWay self.now.phase (option_copied result) }
+    {
+        match &self.phase {
+            Phase::Waits(question) => Some(question),
+            _ => None,
+        }
+    }
+
+    /// Takes a step, if there is one to take: looks for the next frame, or begins the turn of its next message. Where memory
+    /// lacks, and behind a length above 1,048,576, whose refusal is due, it is over.
+    pub fn step<C: Callee>(&mut self, alloc: Global, callee: &C) -> Stepped
+        ensures took { Took (C.tells callee.now) self.old.phase result self.new.phase self.old.talk self.new.talk self.old.calls self.new.calls }
+        ensures keeps { self.new.calls.keeps ≡ self.old.calls.keeps }
+    {
+        let phase = mem::replace(&mut self.phase, Phase::Idle);
+        let (phase, stepped) = advance(alloc, callee, &mut self.talk, &mut self.calls, phase);
+        self.phase = phase;
+        stepped
+    }
+
+    /// The call that is under way came back: its turn ends with the call's reply, or with its refusal as it came back, and the
+    /// receipt stands behind the others (`end_turn`). Where no call is under way nothing happens.
+    pub fn answer(&mut self, alloc: Global, outcome: Result<CallReceipt, Refusal>)
+        ensures answers { Answers self.old.phase outcome self.new.phase self.old.talk self.new.talk self.old.calls self.new.calls }
+        ensures keeps { self.new.calls.keeps ≡ self.old.calls.keeps }
+    {
+        let phase = mem::replace(&mut self.phase, Phase::Idle);
+        self.phase = answered(alloc, &mut self.talk, &mut self.calls, phase, outcome);
+    }
+
+    /// The receipts of all calls, in order, where they are kept; else none. It takes no memory.
+    pub fn into_receipts(self) -> Vec<CallReceipt>
+        ensures { result.items ≡ kept self.calls.keeps self.calls.receipts.items }
+    {
+        let Dialogue {
+            talk: _,
+            calls,
+            phase: _,
+        } = self;
+        calls.into_receipts()
+    }
+}

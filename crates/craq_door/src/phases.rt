@@ -1,0 +1,107 @@
+//! What comes next in a dialogue, by its phase: a step, or the outcome of a call; for `dialogue`.
+ghost use Rattle.std.specs.Prelude.{◌≡◌, None};
+ghost use Rattle.craq_front.specs.Door.{IsAllowed};
+ghost use Rattle.craq_door.specs.Dialogues.{Answers, Found, HasNoMore, HasOneMore, IsPlain, Took};
+ghost use Rattle.craq_frames.specs.declared.ask.ClientMessage.{ClientMessage};
+
+use crate::dialogue::{Phase, Stepped};
+use crate::{Begun, Callee, DoorCalls, begin_turn, end_turn};
+use craq_frames::{ClientMessage, ClientReply};
+use craq_front::{Conversation, Step};
+use craq_names::Refusal;
+use craq_seat::CallReceipt;
+use std::alloc::Global;
+
+/// The phase after the message that is asked had this reply.
+fn next_phase(alloc: Global, talk: &mut Conversation, reply: ClientReply) -> Phase
+    requires { IsAllowed reply }
+    ensures more { (m : ClientMessage) → HasOneMore (Phase.Asks m) talk.old result talk.new m reply }
+    ensures idle { result ≡ Phase.Idle → talk.new.asking ≡ None }
+    ensures plain { IsPlain result }
+{
+    match talk.reply(alloc, reply) {
+        Ok(Some(message)) => Phase::Asks(message),
+        Ok(None) => Phase::Idle,
+        Err(_) => Phase::Over,
+    }
+}
+
+/// Looks for the next frame: the phase after that, and what it came to.
+fn find(alloc: Global, talk: &mut Conversation) -> (Phase, Stepped)
+    requires { talk.old.asking ≡ None }
+    ensures more { HasNoMore Phase.Idle talk.old result.0 talk.new }
+    ensures found { Found result.0 result.1 talk.old talk.new }
+    ensures idle { result.0 ≡ Phase.Idle → talk.new.asking ≡ None }
+{
+    if talk.is_full() {
+        return (Phase::Idle, Stepped::Stays);
+    }
+    match talk.next(alloc) {
+        Ok(Step::Ask(message)) => (Phase::Asks(message), Stepped::Goes),
+        Ok(Step::Refused) => (Phase::Idle, Stepped::Goes),
+        Ok(Step::Nothing) => (Phase::Idle, Stepped::Starved),
+        Err(_) => (Phase::Over, Stepped::Stays),
+    }
+}
+
+/// Begins the turn of a message.
+fn begin<C: Callee>(
+    alloc: Global,
+    callee: &C,
+    talk: &mut Conversation,
+    calls: &mut DoorCalls,
+    message: ClientMessage,
+) -> (Phase, Stepped)
+    ensures took { Took (C.tells callee.now) (Phase.Asks message) result.1 result.0 talk.old talk.new calls.old calls.new }
+    ensures keeps { calls.new.keeps ≡ calls.old.keeps }
+    ensures idle { result.0 ≡ Phase.Idle → talk.new.asking ≡ None }
+{
+    match begin_turn(callee, calls, message) {
+        Begun::Told(reply) => (next_phase(alloc, talk, reply), Stepped::Goes),
+        Begun::Calls(question) => (Phase::Waits(question), Stepped::Calls),
+    }
+}
+
+/// Takes a step: the phase after it, and what it came to.
+pub(crate) fn advance<C: Callee>(
+    alloc: Global,
+    callee: &C,
+    talk: &mut Conversation,
+    calls: &mut DoorCalls,
+    phase: Phase,
+) -> (Phase, Stepped)
+    requires { phase ≡ Phase.Idle → talk.old.asking ≡ None }
+    ensures took { Took (C.tells callee.now) phase result.1 result.0 talk.old talk.new calls.old calls.new }
+    ensures keeps { calls.new.keeps ≡ calls.old.keeps }
+    ensures idle { result.0 ≡ Phase.Idle → talk.new.asking ≡ None }
+{
+    match phase {
+        Phase::Idle => find(alloc, talk),
+        Phase::Asks(message) => begin(alloc, callee, talk, calls, message),
+        Phase::Waits(question) => (Phase::Waits(question), Stepped::Stays),
+        Phase::Over => (Phase::Over, Stepped::Stays),
+    }
+}
+
+/// The phase after the call that is under way came back.
+pub(crate) fn answered(
+    alloc: Global,
+    talk: &mut Conversation,
+    calls: &mut DoorCalls,
+    phase: Phase,
+    outcome: Result<CallReceipt, Refusal>,
+) -> Phase
+    requires { phase ≡ Phase.Idle → talk.old.asking ≡ None }
+    ensures answers { Answers phase outcome result talk.old talk.new calls.old calls.new }
+    ensures keeps { calls.new.keeps ≡ calls.old.keeps }
+    ensures idle { result ≡ Phase.Idle → talk.new.asking ≡ None }
+{
+    match phase {
+        Phase::Waits(question) => {
+            let reply = end_turn(alloc, calls, &question, outcome);
+            drop(question);
+            next_phase(alloc, talk, reply)
+        }
+        other => other,
+    }
+}

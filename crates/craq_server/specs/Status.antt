@@ -23,6 +23,6 @@ status_data chains = object (member (codes "chains") (array (items_of (map chain
 unfoldable pub status_text : List ChainStatus → List ℕ
 status_text chains = compact_text (status_data chains)
 
--- the text is that of the names and memberships of some chains
-abbrev pub TellsStatus : List ℕ → Type 0
-TellsStatus text = (chains : List ChainStatus) × (text ≡ status_text chains)
+-- the text is that of the chains of these names, in order, each with some membership
+abbrev pub TellsStatus : List (List ℕ) → List ℕ → Type 0
+TellsStatus names text = (chains : List ChainStatus) × (map (λ (c : ChainStatus). string_bytes c.name) chains ≡ names) × (text ≡ status_text chains)

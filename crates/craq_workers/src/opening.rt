@@ -1,5 +1,5 @@
 //! Chains and nodes before any step; called by `store` at a start and at a join.
-ghost use Rattle.std.specs.Prelude.{◌≡◌, IfErr, OnOk};
+ghost use Rattle.std.specs.Prelude.{◌≡◌, IfErr, IfOk, OnOk, map, string_bytes};
 ghost use Rattle.std.specs.Option.{option_copied};
 ghost use Rattle.craq_model.specs.Members.{IsMembership};
 ghost use Rattle.craq_node.specs.Represented.{CanOpen};
@@ -110,7 +110,8 @@ fn open_chain<C: Core>(
     workers: &mut Vec<Worker<C>>,
 ) -> Result<Chain<C>, Refusal>
     requires { IsMembership members.now }
-    ensures { IfErr result (λ e. e ≡ Refusal.Memory) }
+    ensures name { IfOk result (λ c. string_bytes c.name ≡ name.now) }
+    ensures err { IfErr result (λ e. e ≡ Refusal.Memory) }
 {
     let name = String::from_str(alloc, name)?;
     let book = BookCell::open(alloc, id, members, form.journal)?;
@@ -138,15 +139,18 @@ pub(crate) fn open_chains<C: Core>(
     workers: &mut Vec<Worker<C>>,
 ) -> Result<Vec<Chain<C>>, Refusal>
     requires { IsPlan plan.now }
-    ensures { IfErr result (λ e. e ≡ Refusal.Memory) }
+    ensures names { IfOk result (λ chains. map (λ c. string_bytes c.name) chains.items ≡ map (λ c. c.0) plan.now) }
+    ensures err { IfErr result (λ e. e ≡ Refusal.Memory) }
 {
     let mut chains = Vec::new(alloc);
     for id in 0..MOST_CHAINS {
         let id = ChainId::new(id);
-        let Ok((name, members)) = plan.chain(id) else {
-            break;
-        };
-        chains.push(open_chain(alloc, id, name, members, form, alive, workers)?)?;
+        match plan.chain(id) {
+            Ok((name, members)) => {
+                chains.push(open_chain(alloc, id, name, members, form, alive, workers)?)?;
+            }
+            Err(_) => break,
+        }
     }
     Ok(chains)
 }

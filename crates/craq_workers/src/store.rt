@@ -1,5 +1,5 @@
 //! `Store`, the primary object of the crate: it starts, stops, removes, joins and closes.
-ghost use Rattle.std.specs.Prelude.{◌≡◌, ◌≤◌, IfErr, IfOk, OnOk};
+ghost use Rattle.std.specs.Prelude.{◌≡◌, ◌≤◌, IfErr, IfOk, OnOk, map, string_bytes};
 ghost use Rattle.craq_place.specs.Plan.{IsPlan};
 
 use crate::chain::{Chain, refuse_queued};
@@ -22,6 +22,7 @@ use craq_seat::{BookCell, BookEvent, CallReceipt, Receipt};
 use craq_sending::Sent;
 use crossbeam_channel::{Receiver, Sender};
 use std::alloc::{AllocError, Global};
+use std::marker::Model;
 use std::sync::{Arc, Wait};
 use std::thread;
 use std::thread::{JoinHandle, Threads};
@@ -34,13 +35,51 @@ pub struct ChainStatus {
 }
 
 /// A store that runs: two threads for each node, one for its asks and one for what arrives there, or one for each chain
-/// where it is carried; and one for each chain's master. Whoever has it has to close it.
+/// where it is carried; and one for each chain's master. Whoever has it has to close it. A contract sees the names of its
+/// chains, by id: what stands behind locks and channels it does not see.
 pub struct Store<C: Core, G: Gate> {
     pub(crate) alloc: Global,
     form: Form,
     pub(crate) shared: Arc<Shared<C, G>>,
     /// Ends once no worker is left.
     ended: Receiver<()>,
+}
+
+impl<C: Core, G: Gate> Model for Store<C, G> {
+    ghost use Rattle.std.specs.Prelude.{ℕ, List, map, string_bytes};
+
+    ghost Value = { List (List ℕ) };
+
+    ghost view = { λ s. map (λ c. string_bytes c.name) s.shared.value.chains.items };
+}
+
+/// What a chain's status is now. It fails for want of memory alone.
+fn status_of<R: Wait, C: Core>(
+    rt: &R,
+    alloc: Global,
+    chain: &Chain<C>,
+) -> Result<ChainStatus, AllocError>
+    ensures { IfOk result (λ status. string_bytes status.name ≡ string_bytes chain.now.name) }
+{
+    Ok(ChainStatus {
+        name: chain.name.clone()?,
+        config: chain.book.lock(rt).config().copied(alloc)?,
+    })
+}
+
+/// What the status of each chain is now. It fails for want of memory alone.
+fn statuses_of<R: Wait, C: Core>(
+    rt: &R,
+    alloc: Global,
+    chains: &[Chain<C>],
+) -> Result<Vec<ChainStatus>, AllocError>
+    ensures { IfOk result (λ statuses. map (λ s. string_bytes s.name) statuses.items ≡ map (λ c. string_bytes c.name) chains.now) }
+{
+    let mut statuses = Vec::new(alloc);
+    for chain in chains {
+        statuses.push(status_of(rt, alloc, chain)?)?;
+    }
+    Ok(statuses)
 }
 
 /// A worker begins, in a thread of its own. It fails for want of memory alone, where no thread can be made too.
@@ -101,9 +140,10 @@ impl<C: Core, G: Gate> Store<C, G> {
     }
 
     /// Asks a node, shows a pass, and does not wait: the receipt of the call, where its answer is in hand, or none: then just
-    /// one letter with this token comes into the box, with the receipt, or with `Stopped`, `Closed` or `Memory`. Nothing is
-    /// known of a receipt but that a desk made it (`craq_calls::answer_of_call` tells whether it is the call's own). `few`
-    /// tells that the caller has few asks at hand, and may take their steps itself and carry them on.
+    /// one letter with this token comes into the box, with the receipt, or with `Stopped`, `Closed` or `Memory`, or, where
+    /// the ask went through a queue, with that with which the node refuses it. Nothing is known of a receipt but that a desk
+    /// made it (`craq_calls::answer_of_call` tells whether it is the call's own). `few` tells that the caller has few asks at
+    /// hand, and may take their steps itself and carry them on.
     ///
     /// Refused, and then no letter comes: as `Client::call` is.
     pub fn submit<R: Wait>(
@@ -129,15 +169,10 @@ impl<C: Core, G: Gate> Store<C, G> {
     }
 
     /// Each chain's name and membership, by id. It fails for want of memory alone.
-    pub fn status<R: Wait>(&self, rt: &R) -> Result<Vec<ChainStatus>, AllocError> {
-        let mut statuses = Vec::new(self.alloc);
-        for chain in self.shared.chains.as_slice() {
-            statuses.push(ChainStatus {
-                name: chain.name.clone()?,
-                config: chain.book.lock(rt).config().copied(self.alloc)?,
-            })?;
-        }
-        Ok(statuses)
+    pub fn status<R: Wait>(&self, rt: &R) -> Result<Vec<ChainStatus>, AllocError>
+        ensures { IfOk result (λ statuses. map (λ s. string_bytes s.name) statuses.items ≡ self.now) }
+    {
+        statuses_of(rt, self.alloc, self.shared.chains.as_slice())
     }
 }
 
@@ -152,7 +187,8 @@ impl<C: Core + Send + 'static, G: Gate + Send + Sync + 'static> Store<C, G> {
         journal: bool,
     ) -> Result<Self, Refusal>
         requires { IsPlan plan.now }
-        ensures { IfErr result (λ e. e ≡ Refusal.Memory) }
+        ensures names { IfOk result (λ store. store ≡ map (λ c. c.0) plan.now) }
+        ensures err { IfErr result (λ e. e ≡ Refusal.Memory) }
     {
         let form = Form {
             journal,

@@ -1,0 +1,44 @@
+-- The chains of a store have the names of its plan.
+use Rattle.std.proofs.Common.{◌≡◌, ◌≤◌, ◌<◌, ◌⊎◌, ℕ, ◌+◌, List, [], ◌∷◌, ◌++◌, map, drop, length, get_or, Option, None, Some, Result, Ok, Err, inl, inr, sym, ap, ◌∙◌, append_assoc}
+use Rattle.std.specs.Prelude.{slice_get}
+use Rattle.std.specs.Option.{ok_or}
+use Rattle.std.proofs.lemmas.List.{append-nil, drop_all, drop_more, map-append}
+use Rattle.std.proofs.lemmas.Option.{get_or_from_slice_get, slice_get_cases, slice_get_within}
+use Rattle.craq_names.specs.declared.refusal.Refusal.{Refusal}
+use Rattle.craq_names.specs.declared.refusal.Refusal.TheVariants.{UnknownChain}
+use Rattle.craq_place.specs.Place.{chain_at}
+use Rattle.craq_place.specs.Plan.{Chain}
+
+-- the names of chains of a plan
+abbrev pub names : List Chain → List (List ℕ)
+names p = map (λ (c : Chain). c.0) p
+
+found : (o : Option Chain) (x : Chain) → ok_or o UnknownChain ≡ Ok x → o ≡ Some x
+found None x e = absurd cc
+found (Some y) x e = cc
+
+-- one chain more
+pub next_named : {A : Type 0} (old new : List A) (c : A) (f : A → List ℕ) (p : List Chain) (id : ℕ) (x : Chain)
+    → map f old ++ names (drop id p) ≡ names p → chain_at p id ≡ Ok x → f c ≡ x.0 → new ≡ old ++ c ∷ [] → map f new ++ names (drop (id + 1) p) ≡ names p
+next_named old new c f p id x h e named same =
+    let at = found (slice_get p id) x e in
+    let rest = names (drop (id + 1) p) in
+    let is : drop id p ≡ x ∷ drop (id + 1) p = drop_more p id x (slice_get_within p id x at) ∙ ap (λ (y : Chain). y ∷ drop (id + 1) p) (get_or_from_slice_get p id x x at) in
+    ap (λ z. map f z ++ rest) same ∙ ap (λ (z : List (List ℕ)). z ++ rest) (map-append f old (c ∷ [])) ∙ append_assoc (map f old) (f c ∷ []) rest
+    ∙ ap (λ (z : List ℕ). map f old ++ (z ∷ rest)) named ∙ ap (λ (z : List Chain). map f old ++ names z) (sym is) ∙ h
+
+-- no chain more
+pub all_named : {A : Type 0} (cs : List A) (f : A → List ℕ) (p : List Chain) (id : ℕ) → map f cs ++ names (drop id p) ≡ names p → length p ≤ id → map f cs ≡ names p
+all_named cs f p id h le = sym (append-nil (map f cs)) ∙ ap (λ (z : List Chain). map f cs ++ names z) (sym (drop_all id p le)) ∙ h
+
+past : (o : Option Chain) (x : Chain) (e : Refusal) → o ≡ Some x → ok_or o UnknownChain ≡ Err e → ⊥
+past None x e is isnt = cc
+past (Some y) x e is isnt = cc
+
+ends : (p : List Chain) (id : ℕ) (e : Refusal) → chain_at p id ≡ Err e → ((x : Chain) × (id < length p) × (slice_get p id ≡ Some x) × (get_or p id x ≡ x)) ⊎ ((length p ≤ id) × (slice_get p id ≡ None)) → length p ≤ id
+ends p id e isnt (inl h) = absurd (past (slice_get p id) h.0 e h.2 isnt)
+ends p id e isnt (inr h) = h.0
+
+-- there is no chain of this id
+pub none_left : (p : List Chain) (id : ℕ) (e : Refusal) → chain_at p id ≡ Err e → length p ≤ id
+none_left p id e isnt = ends p id e isnt (slice_get_cases p id).1

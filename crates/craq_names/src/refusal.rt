@@ -43,10 +43,10 @@ pub enum Refusal {
     /// Anything at a stopped node.
     #[error("the node is stopped")]
     Stopped,
-    /// The ask would have to wait, and 1,024 asks wait at the node.
+    /// The ask would have to wait, and 1,024 asks wait at the node. Of a connection: as many are open as the server takes.
     #[error("too many asks wait at the node: 1024")]
     PendingFull,
-    /// A counter stands at its greatest number.
+    /// A counter stands at its greatest number. Of a server also: the pass is too far above the largest that it told.
     #[error("a counter has no next number")]
     Exhausted,
     /// A growth was refused.
@@ -88,7 +88,8 @@ pub enum Refusal {
     /// A plan or a list of members that cannot be.
     #[error("the plan or the list of members is not allowed")]
     BadConfig,
-    /// The input ended early, or a worker is gone.
+    /// The input ended early, or who would have answered is gone, as when a store closes: an update may have been done.
+    /// Of a receipt: it is of another call.
     #[error("the connection was closed")]
     Closed,
     /// The stream or the listener failed.

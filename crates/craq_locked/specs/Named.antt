@@ -1,5 +1,5 @@
 -- A chain of locked cells by the ids of its nodes, and the cell that a move concerns.
-use Rattle.std.specs.Prelude.{ℕ, ◌==◌, List, [], ◌∷◌, ◌++◌, find, map, Option, Some, None}
+use Rattle.std.specs.Prelude.{◌≡◌, ◌≤◌, ⊤, ℕ, ◌==◌, List, [], ◌∷◌, ◌++◌, find, map, Option, Some, None, MatchOption}
 use Rattle.std.specs.Option.{option_map}
 use Rattle.craq_model.specs.declared.message.LinkMessage.{LinkMessage}
 use Rattle.craq_runs.specs.declared.run.Move.{Move}
@@ -24,9 +24,9 @@ ids_of c = ids_in c.seats
 abbrev pub seated_at : {S : Type 0} → List (ℕ × S) → ℕ → Option (ℕ × S)
 seated_at {S} seats id = find (λ (p : ℕ × S). p.0 == id) seats
 
--- the seat of the node of this id
-abbrev pub seat_at : {S : Type 0} → List (ℕ × S) → ℕ → Option S
-seat_at {S} seats id = option_map (λ (p : ℕ × S). p.1) (seated_at seats id)
+-- the chain never had a node of this id
+abbrev pub HasNoNode : {S : Type 0} → List (ℕ × S) → ℕ → Type 0
+HasNoNode seats id = seated_at seats id ≡ None
 
 -- the id of the cell that a move concerns, 0 for the master's; none where no message has the number
 abbrev pub cell_of : List LinkMessage → Move → Option ℕ
@@ -41,3 +41,13 @@ cell_of sent (moves.Join node) = Some 0
 abbrev pub ids_after : List ℕ → Move → List ℕ
 ids_after ids (moves.Join node) = ids ++ node ∷ []
 ids_after ids chosen = ids
+
+-- no cell can take the move: its message was not sent, or the chain never had its node; of the removal of a node a proof does
+-- not see whether the node has stopped
+abbrev pub HasNoCell : {S : Type 0} → Locked S → Move → Type 0
+HasNoCell c (moves.Ask node ask) = HasNoNode c.seats node
+HasNoCell c (moves.Deliver number) = MatchOption (message_at c.sent number) ⊤ (λ m. HasNoNode c.seats m.receiver)
+HasNoCell c (moves.Tick node) = (1 ≤ node) × HasNoNode c.seats node
+HasNoCell c (moves.Stop node) = HasNoNode c.seats node
+HasNoCell c (moves.Remove node) = ⊤
+HasNoCell c (moves.Join node) = ⊥

@@ -1,10 +1,10 @@
 //! `LockedChain`: the cells of a chain, each under its lock; for `craq_play`.
-ghost use Rattle.std.specs.Prelude.{◌≡◌, ◌⊎◌, ◌↔◌, ◌++◌, ◌∷◌, [], Err, IfErr, IfOk, IfSome, OnErr, OnOk};
+ghost use Rattle.std.specs.Prelude.{◌≡◌, ◌⊎◌, ◌↔◌, ◌++◌, ◌∷◌, [], Err, IfErr, IfOk, IfSome, None, Ok, OnErr, OnOk};
 ghost use Rattle.std.specs.Option.{option_copied};
 ghost use Rattle.craq_model.specs.Members.{IsMembership};
 ghost use Rattle.craq_node.specs.Represented.{CanArrive, CanOpen};
-ghost use Rattle.craq_locked.specs.Named.{cell_of, ids_after, ids_in, ids_of, seat_at};
-ghost use Rattle.craq_locked.specs.Sending.{NamesNode};
+ghost use Rattle.craq_locked.specs.Named.{HasNoCell, HasNoNode, cell_of, ids_after, ids_in, ids_of, seated_at};
+ghost use Rattle.craq_locked.specs.Sending.{HasSent, NamesNode};
 
 use crate::posted::Posted;
 use crate::stepping::{step_book, step_node};
@@ -79,14 +79,11 @@ fn opening_seats<C: Core>(
     Ok(seats)
 }
 
-/// The seat of the node of this id, where there is one. It takes no memory.
-fn seat_among<C: Core>(seats: &[(NodeId, Seat<C>)], id: NodeId) -> Option<&Seat<C>>
-    ensures { option_copied result ≡ seat_at seats.now id }
+/// The node of this id with its seat, where there is one. It takes no memory.
+fn seat_among<C: Core>(seats: &[(NodeId, Seat<C>)], id: NodeId) -> Option<&(NodeId, Seat<C>)>
+    ensures { option_copied result ≡ seated_at seats.now id }
 {
-    match seats.iter().find(|place| place.0 == id) {
-        Some((_, seat)) => Some(seat),
-        None => None,
-    }
+    seats.iter().find(|place| place.0 == id)
 }
 
 impl<C: Core> LockedChain<C> {
@@ -123,9 +120,9 @@ impl<C: Core> LockedChain<C> {
         &self.book
     }
 
-    /// The seat of the node of this id, where the chain ever had one. It takes no memory.
-    pub fn seat(&self, id: NodeId) -> Option<&Seat<C>>
-        ensures { option_copied result ≡ seat_at self.now.seats id }
+    /// The node of this id with its seat, where the chain ever had one. It takes no memory.
+    pub fn seat(&self, id: NodeId) -> Option<&(NodeId, Seat<C>)>
+        ensures { option_copied result ≡ seated_at self.now.seats id }
     {
         seat_among(self.seats.as_slice(), id)
     }
@@ -140,7 +137,7 @@ impl<C: Core> LockedChain<C> {
     ///
     /// Refused as the cell refuses it, with nothing changed; as `WrongNode`, likewise, where another node's cell stands
     /// behind the lock; or as `Memory`, after which the step may have been taken: then the numbers of later messages are
-    /// not those of a chain that took it, and no further move is to be taken.
+    /// not those of a chain that took it, and no further move is to be taken. What was sent stays in any case.
     pub fn take<R: Wait>(
         &mut self,
         rt: &R,
@@ -150,6 +147,8 @@ impl<C: Core> LockedChain<C> {
         calls: &mut Vec<CallReceipt>,
     ) -> Result<Option<Receipt>, Refusal>
         ensures cell { IfOk result (λ r. IfSome r (λ receipt. cell_of self.old.sent chosen.now ≡ Some receipt.node)) }
+        ensures none { result ≡ Ok None → HasNoCell self.old chosen.now }
+        ensures sent { HasSent self.old.sent self.new.sent result }
         ensures ids { OnOk result (ids_of self.new ≡ ids_after (ids_of self.old) chosen.now) }
         ensures same { OnErr result (ids_of self.new ≡ ids_of self.old) }
         ensures chain { self.new.chain ≡ self.old.chain }
@@ -183,10 +182,12 @@ impl<C: Core> LockedChain<C> {
     ) -> Result<Option<Receipt>, Refusal>
         requires { CanArrive event }
         ensures cell { IfOk result (λ r. IfSome r (λ receipt. receipt.node ≡ id)) }
+        ensures none { result ≡ Ok None → HasNoNode self.old.seats id }
+        ensures sent { HasSent self.old.sent self.new.sent result }
         ensures seats { self.new.seats ≡ self.old.seats }
         ensures chain { self.new.chain ≡ self.old.chain }
     {
-        let Some(seat) = seat_among(self.seats.as_slice(), id) else {
+        let Some((_, seat)) = seat_among(self.seats.as_slice(), id) else {
             drop(event);
             return Ok(None);
         };
@@ -210,6 +211,8 @@ impl<C: Core> LockedChain<C> {
     ) -> Result<Receipt, Refusal>
         ensures joins { OnOk result (NamesNode event) }
         ensures cell { IfOk result (λ receipt. receipt.node ≡ 0) }
+        ensures ok { IfOk result (λ receipt. HasSent self.old.sent self.new.sent (Ok (Some receipt))) }
+        ensures err { OnErr result (self.new.sent ≡ self.old.sent) }
         ensures seats { self.new.seats ≡ self.old.seats }
         ensures chain { self.new.chain ≡ self.old.chain }
     {
@@ -230,6 +233,8 @@ impl<C: Core> LockedChain<C> {
         calls: &mut Vec<CallReceipt>,
     ) -> Result<Option<Receipt>, Refusal>
         ensures cell { IfOk result (λ r. IfSome r (λ receipt. cell_of self.old.sent (Move.Deliver number) ≡ Some receipt.node)) }
+        ensures none { result ≡ Ok None → HasNoCell self.old (Move.Deliver number) }
+        ensures sent { HasSent self.old.sent self.new.sent result }
         ensures seats { self.new.seats ≡ self.old.seats }
         ensures chain { self.new.chain ≡ self.old.chain }
     {
@@ -243,6 +248,7 @@ impl<C: Core> LockedChain<C> {
 
     /// Keeps the receipt of a stop.
     fn keep_stop(&mut self, stop: &Receipt) -> Result<(), AllocError>
+        ensures sent { self.new.sent ≡ self.old.sent }
         ensures seats { self.new.seats ≡ self.old.seats }
         ensures chain { self.new.chain ≡ self.old.chain }
     {
@@ -260,6 +266,8 @@ impl<C: Core> LockedChain<C> {
         calls: &mut Vec<CallReceipt>,
     ) -> Result<Option<Receipt>, Refusal>
         ensures cell { IfOk result (λ r. IfSome r (λ receipt. receipt.node ≡ id)) }
+        ensures none { result ≡ Ok None → HasNoNode self.old.seats id }
+        ensures sent { HasSent self.old.sent self.new.sent result }
         ensures seats { self.new.seats ≡ self.old.seats }
         ensures chain { self.new.chain ≡ self.old.chain }
     {
@@ -275,7 +283,8 @@ impl<C: Core> LockedChain<C> {
     /// The removal of a node that has stopped, with the receipt of its switch and that of its stop. None where the node
     /// runs, or the chain never had it.
     fn removal_of<R: Wait>(&self, rt: &R, id: NodeId) -> Option<BookEvent> {
-        let stopped = self.seat(id)?.lock(rt).desk.cell().switch().receipt()?;
+        let (_, seat) = self.seat(id)?;
+        let stopped = seat.lock(rt).desk.cell().switch().receipt()?;
         let stop = self.stops.iter().find(|stop| stop.node == id)?;
         Some(BookEvent::Remove {
             stopped,
@@ -292,6 +301,7 @@ impl<C: Core> LockedChain<C> {
         pass: Pass,
     ) -> Result<Option<Receipt>, Refusal>
         ensures cell { IfOk result (λ r. IfSome r (λ receipt. receipt.node ≡ 0)) }
+        ensures sent { HasSent self.old.sent self.new.sent result }
         ensures seats { self.new.seats ≡ self.old.seats }
         ensures chain { self.new.chain ≡ self.old.chain }
     {
@@ -313,6 +323,8 @@ impl<C: Core> LockedChain<C> {
         pass: Pass,
     ) -> Result<Option<Receipt>, Refusal>
         ensures cell { IfOk result (λ r. IfSome r (λ receipt. receipt.node ≡ 0)) }
+        ensures some { result ≡ Ok None → ⊥ }
+        ensures sent { HasSent self.old.sent self.new.sent result }
         ensures ids { OnOk result (ids_of self.new ≡ ids_of self.old ++ id ∷ []) }
         ensures same { OnErr result (ids_of self.new ≡ ids_of self.old) }
         ensures chain { self.new.chain ≡ self.old.chain }

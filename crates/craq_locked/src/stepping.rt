@@ -1,5 +1,5 @@
 //! One step of a cell whose lock is held, and its messages; called by `LockedChain::take`.
-ghost use Rattle.std.specs.Prelude.{◌≡◌, ◌++◌, ◌⊎◌, Err, IfOk, IfSome, OnOk};
+ghost use Rattle.std.specs.Prelude.{◌≡◌, ◌++◌, ◌⊎◌, Err, IfOk, IfSome, OnErr, OnOk};
 ghost use Rattle.std.specs.Option.{option_copied};
 ghost use Rattle.craq_model.specs.Plain.{Plain};
 ghost use Rattle.craq_node.specs.Represented.{CanArrive};
@@ -7,7 +7,7 @@ ghost use Rattle.craq_seat.specs.Cells.{receipt_of, with_inside};
 ghost use Rattle.craq_seat.specs.Kept.{IsKept};
 ghost use Rattle.craq_seat.specs.Numbered.{CanBeSent};
 ghost use Rattle.craq_seat.specs.Taken.{TakesEvent, TakesTurn};
-ghost use Rattle.craq_locked.specs.Sending.{NamesNode, last_sent, sent_of};
+ghost use Rattle.craq_locked.specs.Sending.{NamesNode, sent_of};
 
 use crate::posted::Posted;
 use craq_model::{Event, Step};
@@ -41,7 +41,8 @@ fn post(
     posted: &mut Posted,
 ) -> Result<(), AllocError>
     requires { IfSome (option_copied step) (λ s. CanBeSent receipt.now s.outs) }
-    ensures { OnOk result (posted.new ≡ posted.old ++ sent_of receipt.now (option_copied step.entry)) }
+    ensures ok { OnOk result (posted.new ≡ posted.old ++ sent_of receipt.now (option_copied step.entry)) }
+    ensures err { OnErr result (posted.new ≡ posted.old) }
 {
     match step {
         None => Ok(()),
@@ -64,7 +65,8 @@ pub fn step_node<C: Core>(
 ) -> Result<Receipt, Refusal>
     requires { CanArrive event }
     ensures step { (p : Plain) → C.represents desk.old.cell.inside p → (result ≡ Err Refusal.Memory) ⊎ TakesEvent C.represents desk.new.cell (with_inside desk.old.cell p) event pass result }
-    ensures sent { OnOk result (posted.new ≡ posted.old ++ last_sent desk.new.cell) }
+    ensures sent { IfOk result (λ receipt. posted.new ≡ posted.old ++ sent_of receipt desk.new.cell.last) }
+    ensures same { OnErr result (posted.new ≡ posted.old) }
     ensures named { IfOk result (λ receipt. receipt.node ≡ desk.old.cell.opening.name.node) }
 {
     keeps_type(desk);
@@ -89,7 +91,8 @@ pub fn step_book(
     posted: &mut Posted,
 ) -> Result<Receipt, Refusal>
     ensures step { (result ≡ Err Refusal.Memory) ⊎ TakesTurn book.old book.new event pass result }
-    ensures sent { OnOk result (posted.new ≡ posted.old ++ last_sent book.new) }
+    ensures sent { IfOk result (λ receipt. posted.new ≡ posted.old ++ sent_of receipt book.new.last) }
+    ensures same { OnErr result (posted.new ≡ posted.old) }
     ensures joins { OnOk result (NamesNode event) }
     ensures named { IfOk result (λ receipt. receipt.node ≡ book.old.opening.name.node) }
 {

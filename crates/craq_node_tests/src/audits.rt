@@ -455,7 +455,7 @@ fn audit_all<C: Core, R: AllocGlobal + Wait>(
     let mut held = Vec::new(alloc);
     for (place, id) in cells {
         if let Some(chain) = chains.get(*place) {
-            if let Some(seat) = chain.seat(NodeId::new(*id)) {
+            if let Some((_, seat)) = chain.seat(NodeId::new(*id)) {
                 held.push(seat.lock(rt))?;
             }
         }
@@ -479,7 +479,7 @@ fn tell<C: Core, R: AllocGlobal + Wait>(
     let Some(last) = chains.last() else {
         return Ok(());
     };
-    if let Some(seat) = last.seat(NodeId::new(2)) {
+    if let Some((_, seat)) = last.seat(NodeId::new(2)) {
         happen(rt, last, seat, case.besides)?;
     }
     audit_all(

@@ -118,7 +118,10 @@ fn tick_in_threads<R: AllocGlobal + Threads + Wait + Sync>(
     text: &mut String,
 ) -> Result<(), Refusal> {
     let alloc = rt.alloc();
-    if let (Some(first), Some(second)) = (cells.seat(NodeId::new(1)), cells.seat(NodeId::new(2))) {
+    if let (Some((_, first)), Some((_, second))) = (
+        cells.seat(NodeId::new(1)),
+        cells.seat(NodeId::new(2)),
+    ) {
         let (one, two) = thread::join(rt, || tick(rt, alloc, first), || tick(rt, alloc, second));
         let (one, two) = (one?, two?);
         writeln!(text, "{one} and {two}")?;

@@ -136,7 +136,7 @@ fn spoiled_of<C: Core, R: AllocGlobal + Wait>(
     }
     match cells.seat(NodeId::new(id)) {
         None => Ok(Vec::new(alloc)),
-        Some(seat) => {
+        Some((_, seat)) => {
             let seated = seat.lock(rt);
             spoiled(alloc, dice, seated.desk.cell().journal().unwrap_or(&[]))
         }
@@ -156,7 +156,7 @@ fn deliver<C: Core, R: AllocGlobal + Wait>(
         0 => NodeId::new(below(dice, MOST_NODES) + 1),
         _ => message.receiver,
     };
-    let Some(seat) = cells.seat(to) else {
+    let Some((_, seat)) = cells.seat(to) else {
         drop(message);
         return Ok(None);
     };
@@ -216,7 +216,7 @@ fn agree_at<P: Core, L: Core, R: Wait>(
 ) -> bool {
     match (plain.seat(id), list.seat(id)) {
         (None, None) => true,
-        (Some(one), Some(other)) => are_same(
+        (Some((_, one)), Some((_, other))) => are_same(
             one.lock(rt).desk.cell().journal().unwrap_or(&[]),
             other.lock(rt).desk.cell().journal().unwrap_or(&[]),
         ),
@@ -257,7 +257,7 @@ fn print_reasons<C: Core, R: AllocGlobal + Wait>(
 ) -> Result<(), AllocError> {
     let mut reasons = Vec::new(rt.alloc());
     for id in 1..MOST_NODES + 1 {
-        if let Some(seat) = cells.seat(NodeId::new(id)) {
+        if let Some((_, seat)) = cells.seat(NodeId::new(id)) {
             let seated = seat.lock(rt);
             add_reasons(seated.desk.cell().journal().unwrap_or(&[]), &mut reasons)?;
         }

@@ -63,7 +63,7 @@ fn print_cells_step<C: Core, R: Wait>(
     }
     match cells.seat(node) {
         None => Err(PlayFault::Differs),
-        Some(seat) => {
+        Some((_, seat)) => {
             let seated = seat.lock(rt);
             print_same(text, node, sent, seated.desk.cell().last(), wanted)
         }

@@ -29,7 +29,7 @@ pub fn play<C: Core, R: Wait>(rt: &R, teller: Teller, row: &Row) -> Result<(), R
     let (cells, calls): (LockedChain<C>, Vec<CallReceipt>) = row.cells(rt, teller.alloc)?;
     let mut seats = Vec::new(teller.alloc);
     for id in 1..=MOST_NODES {
-        if let Some(seat) = cells.seat(NodeId::new(id)) {
+        if let Some((_, seat)) = cells.seat(NodeId::new(id)) {
             let _ = seats.push(seat.lock(rt));
         }
     }

@@ -164,7 +164,7 @@ pub fn play<C: Core, R: Wait>(
     let (cells, calls): (LockedChain<C>, Vec<CallReceipt>) = row.cells(rt, teller.alloc)?;
     drop(calls);
     for id in 1..=MOST_NODES {
-        if let Some(seat) = cells.seat(NodeId::new(id)) {
+        if let Some((_, seat)) = cells.seat(NodeId::new(id)) {
             let seated = seat.lock(rt);
             let cell = seated.desk.cell();
             let told = if desks {

@@ -13,7 +13,7 @@ const RUN: u64 = 16;
 const RUNS: u64 = 64;
 const LINES: u64 = 16;
 const CLIENTS: u64 = 64;
-const WAITING: [u64; 3] = [0, 64, 1000];
+const WAITING: [u64; 3] = [0, 64, 990];
 
 #[repr(C)]
 struct Timespec {
@@ -60,13 +60,15 @@ impl Role {
 }
 
 /// What happens to a node: puts to objects of the first half, in the order that chance gives, reads of those of the
-/// second half, and acknowledgements one by one.
+/// second half and of those that were put last, and acknowledgements one by one.
 struct Plan {
     role: Role,
     versions: Vec<u64>,
     chance: u64,
     puts: u64,
     acknowledged: u64,
+    asks: u64,
+    recent: Vec<u64>,
 }
 
 fn object(number: u64) -> ObjectId {
@@ -93,6 +95,7 @@ impl Plan {
         let value = vec![7; 64];
         self.puts += 1;
         if self.role.is_head() {
+            self.asks += 1;
             return Event::Ask(Ask::Update { client, number, command: Command::Put(object, value) });
         }
         self.versions[object_number as usize] += 1;
@@ -114,13 +117,30 @@ impl Plan {
         self.message(self.role.id() + 1, Body::Ack(self.acknowledged))
     }
 
-    fn read(&mut self) -> Event {
-        let number = self.chosen() + self.objects() / 2;
+    fn read(&mut self, number: u64) -> Event {
+        self.asks += 1;
         Event::Ask(Ask::Read { mode: ReadMode::Strong, object: object(number) })
     }
 
+    /// Reads of objects that nothing waiting writes.
+    fn some_reads(&mut self, count: u64) -> Vec<Event> {
+        (0..count).map(|_| { let number = self.chosen() + self.objects() / 2; self.read(number) }).collect()
+    }
+
+    /// Reads of the objects that were put last.
+    fn reads_of_recent(&mut self) -> Vec<Event> {
+        let recent = std::mem::take(&mut self.recent);
+        recent.into_iter().map(|number| self.read(number)).collect()
+    }
+
+    /// What the tail says to so many reads that asked last.
+    fn answers(&self, count: u64) -> Vec<Event> {
+        (0..count).map(|at| self.message(3, Body::VersionIs { ticket: self.asks - at, version: 0 })).collect()
+    }
+
     fn some_puts(&mut self, count: u64) -> Vec<Event> {
-        (0..count).map(|_| { let number = self.chosen(); self.put(number) }).collect()
+        self.recent.clear();
+        (0..count).map(|_| { let number = self.chosen(); self.recent.push(number); self.put(number) }).collect()
     }
 }
 
@@ -156,7 +176,7 @@ fn measure(role: Role, objects: u64) {
     let members: &[NodeId] = if role == Role::Single { &[1] } else { &[1, 2, 3] };
     let node = Node::open(0, role.id(), Some(members));
     let mut seen = Seen { node, steps: 0, refused: 0, outs: 0 };
-    let mut plan = Plan { role, versions: vec![0; objects as usize], chance: 1, puts: 0, acknowledged: 0 };
+    let mut plan = Plan { role, versions: vec![0; objects as usize], chance: 1, puts: 0, acknowledged: 0, asks: 0, recent: Vec::new() };
     for number in 0..objects {
         let put = plan.put(number);
         seen.take(vec![put]);
@@ -172,17 +192,20 @@ fn measure(role: Role, objects: u64) {
         seen.take(plan.some_puts(waiting - held));
         held = waiting;
         for _ in 0..LINES {
-            let (mut puts, mut acknowledgements, mut reads) = (0, 0, 0);
+            let (mut puts, mut acknowledgements, mut reads, mut dirty) = (0, 0, 0, 0);
             for _ in 0..RUNS {
                 puts += seen.timed(plan.some_puts(RUN));
                 if role.is_acknowledged() {
+                    dirty += seen.timed(plan.reads_of_recent());
+                    seen.take(plan.answers(RUN));
                     acknowledgements += seen.timed((0..RUN).map(|_| plan.acknowledgement()).collect());
                 }
-                reads += seen.timed((0..RUN).map(|_| plan.read()).collect());
+                reads += seen.timed(plan.some_reads(RUN));
             }
             println!("{waiting} put {puts}");
             println!("{waiting} acknowledgement {acknowledgements}");
             println!("{waiting} read {reads}");
+            println!("{waiting} dirty-read {dirty}");
         }
     }
     println!("did {} {} {}", seen.steps, seen.refused, seen.outs);

@@ -3,6 +3,7 @@ ghost use Rattle.std.specs.Prelude.{◌≡◌, ◌≤◌, [], length, OnOk, OnEr
 ghost use Rattle.std.specs.Option.{option_copied};
 ghost use Rattle.craq_names.specs.Maps.{at_number};
 ghost use Rattle.craq_commands.specs.Kept.{is_stale, keep, said_of};
+ghost use Rattle.craq_commands.specs.Known.{known_by, known_of};
 ghost use Rattle.craq_commands.specs.Told.{told};
 
 use crate::Reply;
@@ -73,7 +74,8 @@ impl Window {
 
     /// What is known of a number. It takes no memory.
     pub fn look(&self, number: RequestNo) -> Said<'_>
-        ensures { told result ≡ said_of self.now number }
+        ensures told { told result ≡ said_of self.now number }
+        ensures known { known_by result ≡ known_of self.now number }
     {
         look_in(self.replies.as_slice(), number)
     }
@@ -127,7 +129,8 @@ fn reply_in(replies: &[Kept], number: RequestNo) -> Option<&Reply>
 /// What is known of a number, by the replies of a window. It takes no memory.
 #[tactic(auto, using(crate::proofs::Windows::largest_last), unfolding(crate::specs::Kept::said_of, crate::specs::Kept::is_stale))]
 pub fn look_in(replies: &[Kept], number: RequestNo) -> Said<'_>
-    ensures { told result ≡ said_of replies.now number }
+    ensures told { told result ≡ said_of replies.now number }
+    ensures known { known_by result ≡ known_of replies.now number }
 {
     if let Some((largest, _)) = replies.last() {
         if is_stale_in(replies, number) {

@@ -4,7 +4,6 @@
 
 mod held;
 mod items;
-mod looking;
 mod places;
 mod table;
 

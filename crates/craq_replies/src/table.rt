@@ -5,13 +5,12 @@ ghost use Rattle.std.specs.Ordering.{nat_cmp};
 ghost use Rattle.craq_names.specs.Maps.{put_number};
 ghost use Rattle.craq_commands.specs.Kept.{keep, said_of};
 ghost use Rattle.craq_commands.specs.Told.{told};
-ghost use Rattle.craq_replies.specs.Known.{known_by, known_of};
+ghost use Rattle.craq_commands.specs.Known.{known_by, known_of};
 ghost use Rattle.craq_replies.specs.Replies.{window_of, room_at, KeepsRoom, KeepsOthersRoom};
 
 use crate::KeptReplies;
-use crate::looking::known_in;
 use crate::places::{Places, copies, keep_in_place, put_place, reserve_in};
-use craq_commands::{Kept, Reply, Said, Window};
+use craq_commands::{Kept, Reply, Said, Window, look_in};
 use craq_names::{ClientId, Items, RequestNo};
 use std::alloc::{AllocError, Global};
 use std::collections::BTreeMap;
@@ -28,7 +27,7 @@ pub struct ReplyTable {
 impl Model for ReplyTable {
     ghost use Rattle.std.specs.Ordering.{nat_cmp};
     ghost use Rattle.std.specs.BTreeMap.{IsOrdered};
-    ghost use Rattle.craq_replies.specs.Known.{known_by, known_of};
+    ghost use Rattle.craq_commands.specs.Known.{known_by, known_of};
     ghost use Rattle.craq_replies.specs.Replies.{Replies, table_of};
 
     ghost Value = { Replies };
@@ -56,7 +55,7 @@ impl ReplyTable {
         ensures known { known_by result ≡ known_of (window_of self.now client) number }
     {
         match self.places.get(&client.get()) {
-            Some(held) => known_in(held.as_slice(), number),
+            Some(held) => look_in(held.as_slice(), number),
             None => Said::New,
         }
     }

@@ -1,4 +1,4 @@
--- What is known of a client's request number. It tells a number whose kept reply is itself `Stale` from one that is below a
+-- What is known of a client's request number: it tells a number whose kept reply is itself `Stale` from one that is below a
 -- full window.
 use Rattle.std.specs.Prelude.{ℕ, if◌then◌else◌, Option, Some, None}
 use Rattle.craq_names.specs.Maps.{at_number}

@@ -22,7 +22,7 @@ SOURCE = os.path.join(os.path.dirname(os.path.realpath(__file__)), "refusals.c")
 PLAYED = ("put-then-read-everywhere", "acknowledged-while-a-query-travels", "join-while-the-tail-is-removed", "mini-transactions", "copy-in-parts",
           "stops-at-the-head", "draw-one-schedule")
 # Calls whose asks for memory are counted by themselves, where the program has them by name.
-LAB_CALLS = {"Core::step": r"craq_node::over_history::\w+::step::", "ChainCore::take": r"craq_chain::chain::ChainCore::take::",
+LAB_CALLS = {"Core::step": r"craq_node::core_over_past::\w+::step::", "ChainCore::take": r"craq_chain::chain::ChainCore::take::",
              "explain_run": r"craq_explain::replay::explain_run_of$", "check": r"craq_check::verdict::check$"}
 PATIENCE, NO_MEMORY = 20, 3
 

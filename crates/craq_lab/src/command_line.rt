@@ -23,7 +23,7 @@ pub struct Nodes {
 
 /// What a command line asks for.
 #[derive(Clone, Copy)]
-pub enum Asked<'a> {
+pub enum Wanted<'a> {
     /// To play the script of this file, or of standard input, on a chain of these nodes.
     Play {
         nodes: Nodes,
@@ -318,40 +318,40 @@ fn nodes_of(given: &ArgMatches<'_>) -> Nodes {
 }
 
 /// What the words after a command's name ask for.
-fn asked_of<'a>(name: &str, given: &ArgMatches<'a>) -> Asked<'a> {
+fn wanted_of<'a>(name: &str, given: &ArgMatches<'a>) -> Wanted<'a> {
     let nodes = nodes_of(given);
     let file = given.get_str("FILE");
     match name {
-        "draw" => Asked::Draw {
+        "draw" => Wanted::Draw {
             nodes,
             file: file.unwrap_or(""),
             choices: given.get_str("CHOICES").unwrap_or(""),
         },
-        "stops" => Asked::Stops {
+        "stops" => Wanted::Stops {
             nodes,
             file: file.unwrap_or(""),
             node: given.get_str("NODE").unwrap_or(""),
         },
-        "picture" => Asked::Picture {
+        "picture" => Wanted::Picture {
             nodes,
             file: file.unwrap_or(""),
         },
-        "check" => Asked::Check {
+        "check" => Wanted::Check {
             nodes,
             file: file.unwrap_or(""),
             explanation: given.get_str("EXPLANATION").unwrap_or(""),
         },
-        _ => Asked::Play { nodes, file },
+        _ => Wanted::Play { nodes, file },
     }
 }
 
 /// What the words of a command line ask for, the program's own among them; else clap's error, which
 /// may be the help that was asked for.
-pub fn asked_by<'a>(alloc: Global, words: &'a [&'a str]) -> Result<Asked<'a>, Error> {
+pub fn wanted_by<'a>(alloc: Global, words: &'a [&'a str]) -> Result<Wanted<'a>, Error> {
     let command = whole_command(alloc)?;
     let matches = command.try_get_matches_from(words)?;
     match matches.subcommand() {
-        Some((name, given)) => Ok(asked_of(name, given)),
-        None => Ok(Asked::Nothing),
+        Some((name, given)) => Ok(wanted_of(name, given)),
+        None => Ok(Wanted::Nothing),
     }
 }

@@ -9,7 +9,7 @@ mod command_line;
 mod numbers;
 mod runs;
 
-use command_line::{Asked, CoreKind, Nodes, asked_by};
+use command_line::{CoreKind, Nodes, Wanted, wanted_by};
 use craq_claim::{Misread, explanation_of};
 use craq_epochs::MEMBER_LIMIT;
 use craq_line::{BAD_INPUT, report_failure, report_memory, report_no_text, report_words, words_of};
@@ -206,25 +206,25 @@ fn answer<'a, R>(rt: &R, words: &'a [&'a str]) -> io::Result<u8>
 where
     R: AllocGlobal + Files + Input + Print + Eprint + Wait,
 {
-    match asked_by(rt.alloc(), words) {
-        Ok(Asked::Play { nodes, file }) => play_file(rt, nodes, file, &Way::Play),
+    match wanted_by(rt.alloc(), words) {
+        Ok(Wanted::Play { nodes, file }) => play_file(rt, nodes, file, &Way::Play),
         Ok(
-            Asked::Draw {
+            Wanted::Draw {
                 nodes,
                 file,
                 choices,
             },
         ) => draw_file(rt, nodes, file, choices),
-        Ok(Asked::Stops { nodes, file, node }) => stops_file(rt, nodes, file, node),
-        Ok(Asked::Picture { nodes, file }) => play_file(rt, nodes, Some(file), &Way::Picture),
+        Ok(Wanted::Stops { nodes, file, node }) => stops_file(rt, nodes, file, node),
+        Ok(Wanted::Picture { nodes, file }) => play_file(rt, nodes, Some(file), &Way::Picture),
         Ok(
-            Asked::Check {
+            Wanted::Check {
                 nodes,
                 file,
                 explanation,
             },
         ) => check_file(rt, nodes, file, explanation),
-        Ok(Asked::Nothing) => Ok(BAD_INPUT),
+        Ok(Wanted::Nothing) => Ok(BAD_INPUT),
         Err(error) => report_words(rt, &error, NO_MEMORY),
     }
 }

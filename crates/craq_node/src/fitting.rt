@@ -1,4 +1,4 @@
-//! Whether the counts in what a step sends fit into messages; asked by `over_history` before a change is made.
+//! Whether the counts in what a step sends fit into messages; asked by `core_over_past` before a change is made.
 ghost use Rattle.std.specs.Prelude.{◌≡◌};
 ghost use Rattle.craq_model.specs.Node.{outs_fit, counts_fit};
 

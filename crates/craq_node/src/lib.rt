@@ -2,10 +2,10 @@
 //! Code that runs in the program.
 #![tactic(auto)]
 
+mod core_over_past;
 mod fitting;
 mod node_core;
-mod over_history;
 mod planning;
 
+pub use core_over_past::NodeCore;
 pub use node_core::Core;
-pub use over_history::NodeCore;

@@ -20,7 +20,7 @@ use std::thread::{Scope, Threads};
 use std::time::{Clock, Duration};
 
 /// The stores that are served.
-pub type Served = Store<ListCore, OpenGate>;
+pub type RunningStore = Store<ListCore, OpenGate>;
 
 /// How often the nodes and masters are told to send again what others may lack.
 const TICK_MILLISECONDS: u64 = 50;
@@ -48,7 +48,7 @@ fn print_port<R: Print>(rt: &R, address: SocketAddr) -> Result<(), Fault> {
 #[derive(Drop)]
 struct Service<'s, R: Wait> {
     rt: R,
-    store: &'s Served,
+    store: &'s RunningStore,
     listener: &'s TcpListener,
     address: SocketAddr,
     serving: Serving,
@@ -155,7 +155,7 @@ where
 }
 
 /// Prints what the audits of a store with journals find. `Memory` where some connection was ended at once for want of it.
-fn finish<R>(rt: &R, store: &Served, accepted: Accepted) -> Result<(), Fault>
+fn finish<R>(rt: &R, store: &RunningStore, accepted: Accepted) -> Result<(), Fault>
 where
     R: AllocGlobal + Print + Wait,
 {
@@ -179,7 +179,7 @@ const fn log_of(line: &Line<'_>) -> Log {
 /// Serves the connections of a listener to a store, as a command line asks for.
 fn serve_listener<'s, R>(
     rt: R,
-    store: &'s Served,
+    store: &'s RunningStore,
     line: &Line<'_>,
     listener: &'s TcpListener,
     connections: &'s Arc<Connections>,
@@ -219,7 +219,7 @@ where
 }
 
 /// Listens as a command line asks for, and serves the connections to a store.
-fn serve_store<R>(rt: R, store: &Served, line: &Line<'_>) -> Result<(), Fault>
+fn serve_store<R>(rt: R, store: &RunningStore, line: &Line<'_>) -> Result<(), Fault>
 where
     R: AllocGlobal + Input<Reader = StdinLock<'static>> + Print + Eprint + Clock,
     R: Threads + Wait + Copy + Drop + Send + Sync + 'static,
@@ -231,7 +231,7 @@ where
 }
 
 /// A store of the chains of a plan file.
-fn store_of<R>(rt: R, line: &Line<'_>) -> Result<Served, Fault>
+fn store_of<R>(rt: R, line: &Line<'_>) -> Result<RunningStore, Fault>
 where
     R: AllocGlobal + Files + Threads + Wait + Copy + Send + 'static,
 {

@@ -1,5 +1,5 @@
 //! What `craqd` serves and where, told on standard error once it listens; called by `serving`.
-use crate::serving::Served;
+use crate::serving::RunningStore;
 use craq_line::{Line, VERSION};
 use craq_names::NodeId;
 use craq_workers::ChainStatus;
@@ -69,7 +69,7 @@ fn served_text(
 /// Tells on standard error, in one line, what is served and where. Where standard error takes no text nothing is told.
 pub fn tell_serving<R: AllocGlobal + Eprint + Wait>(
     rt: &R,
-    store: &Served,
+    store: &RunningStore,
     line: &Line<'_>,
     port: u16,
 ) -> Result<(), AllocError> {

@@ -1,5 +1,5 @@
 //! The two ways to serve connections: a thread for each, or so many threads for all; called by `serving`.
-use crate::serving::Served;
+use crate::serving::RunningStore;
 use craq_server::{Connections, Crowds, Served as Accepted, Serving, accept, accept_by_threads};
 use std::alloc::AllocError;
 use std::net::{Net, TcpListener};
@@ -23,7 +23,7 @@ pub fn crowds_of<R: AllocGlobal + Net>(
 /// a thread cannot be made, or what it needs, and then no connection was taken.
 pub fn accept_as_asked<R>(
     rt: R,
-    store: &Served,
+    store: &RunningStore,
     listener: &TcpListener,
     serving: Serving,
     connections: &Connections,

@@ -1,6 +1,6 @@
 use Rattle.craq_node.specs.Represented.{plain_at}
 use Rattle.craq_node.proofs.Remembered.{seen_answers}
-use Rattle.craq_node.proofs.over_history.NodeCoreCore.step.Goals as goal
+use Rattle.craq_node.proofs.core_over_past.NodeCoreCore.step.Goals as goal
 
 pub returns-clause-step : goal.returns-clause-step
 returns-clause-step g c = λ p h.

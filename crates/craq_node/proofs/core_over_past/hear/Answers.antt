@@ -2,7 +2,7 @@ use Rattle.std.proofs.Common.{refl, ap}
 use Rattle.craq_model.specs.Past.{Past}
 use Rattle.craq_history.specs.Nodes.{plain_of}
 use Rattle.craq_node.proofs.Remembered.{ignored_gives}
-use Rattle.craq_node.proofs.over_history.hear.Goals as goal
+use Rattle.craq_node.proofs.core_over_past.hear.Goals as goal
 
 pub returns-then-not-is_heeded-clause-gives : goal.returns-then-not-is_heeded-clause-gives
 returns-then-not-is_heeded-clause-gives g c =

@@ -6,7 +6,7 @@ use Rattle.craq_model.specs.Past.{Past}
 use Rattle.craq_history.specs.Nodes.{plain_of}
 use Rattle.craq_node.specs.Represented.{plain_at}
 use Rattle.craq_node.proofs.Stops.{stops}
-use Rattle.craq_node.proofs.over_history.NodeCore.take_admitted.Goals as goal
+use Rattle.craq_node.proofs.core_over_past.NodeCore.take_admitted.Goals as goal
 
 pub returns-in-Stop-clause-gives : goal.returns-in-Stop-clause-gives
 returns-in-Stop-clause-gives g c =

@@ -2,7 +2,6 @@
 use crate::chain::Chain;
 use crate::gate::{Gate, Work};
 use crate::node::Node;
-use crate::outbox::Outbox;
 use crate::replies::Replies;
 use crate::shared::Shared;
 use crate::steps::Served;
@@ -26,19 +25,19 @@ fn take_waiting<R: Wait, C: Core, G: Gate>(
     node: &Node<C>,
     seated: &mut Served<C>,
     replies: &mut Replies,
-    outbox: &mut Outbox,
+    quiet: bool,
 ) {
     for _ in 0..BATCH {
-        let Ok(brought) = node.queues.links.try_recv(rt) else {
+        let Ok(waiting) = node.queues.links.try_recv(rt) else {
             break;
         };
-        take_brought(rt, alloc, shared, node, seated, brought, replies, outbox);
+        take_brought(rt, alloc, shared, node, seated, waiting, replies, quiet);
     }
     for _ in 0..BATCH {
         let Ok(asked) = node.queues.asks.try_recv(rt) else {
             break;
         };
-        shared.take_asked(rt, alloc, node, seated, asked, replies, outbox);
+        shared.take_asked(rt, alloc, node, seated, asked, replies, quiet);
     }
 }
 
@@ -53,18 +52,8 @@ fn turn<R: Wait, C: Core, G: Gate>(
     quiet: bool,
 ) {
     let mut replies = Replies::new(alloc);
-    let mut outbox = Outbox::new(quiet);
     shared.gate.within(node.name, Work::Asks, count);
-    take_waiting(
-        rt,
-        alloc,
-        shared,
-        node,
-        &mut seated,
-        &mut replies,
-        &mut outbox,
-    );
-    shared.close_outbox(rt, node.name.chain, outbox);
+    take_waiting(rt, alloc, shared, node, &mut seated, &mut replies, quiet);
     drop(seated);
     replies.tell(rt);
 }

@@ -1,6 +1,6 @@
 //! A chain that runs: the ways to its workers, through which all that asks, sends or ticks goes.
 use crate::bell::Bell;
-use crate::node::{Brought, Entrances, Node, Way};
+use crate::node::{Brought, Entrances, Node, Waiting, Way};
 use crate::replies::Replies;
 use crate::steps::{Asked, dismiss};
 use craq_names::{NodeId, Refusal};
@@ -61,16 +61,16 @@ impl<C: Core> Way<C> {
     /// Something goes to the node, unless it has no worker or what is brought need not wait there.
     fn bring<R: Wait>(&self, rt: &R, brought: Brought) {
         if let (Some(node), Some(entrances)) = (&self.node, &self.entrances) {
-            if node.admits(&brought) {
-                put_on_link(rt, node, entrances, brought);
+            if let Some(waiting) = node.admit(rt, brought) {
+                put_on_link(rt, node, entrances, waiting);
             }
         }
     }
 }
 
 /// Something goes into a queue, or is lost for want of memory.
-fn put_on_link<R: Wait, C: Core>(rt: &R, node: &Node<C>, entrances: &Entrances, brought: Brought) {
-    match entrances.links.send(rt, brought) {
+fn put_on_link<R: Wait, C: Core>(rt: &R, node: &Node<C>, entrances: &Entrances, waiting: Waiting) {
+    match entrances.links.send(rt, waiting) {
         Ok(()) => (),
         Err(SendError::OutOfMemory(lost)) => node.lose(lost),
         Err(SendError::Disconnected(lost)) => node.lose(lost),

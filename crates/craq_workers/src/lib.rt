@@ -11,7 +11,7 @@ mod client;
 mod gate;
 mod node;
 mod opening;
-mod outbox;
+mod pending;
 mod replies;
 mod shared;
 mod steps;

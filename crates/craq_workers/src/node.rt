@@ -1,4 +1,5 @@
 //! A node that runs, as its workers and its callers share it: the seat, what is known of its life, the ways to it.
+use crate::pending::Pending;
 use crate::steps::Asked;
 use bytes::Bytes;
 use craq_epochs::StopReceipt;
@@ -11,14 +12,29 @@ use std::alloc::Global;
 use std::sync::atomic::{AtomicBool, AtomicU64, Ordering};
 use std::sync::{Arc, Wait};
 
-/// What the worker of a node's deliveries is brought.
+/// What is brought to a node.
 #[derive(Drop)]
 pub(crate) enum Brought {
     /// An encoded message.
     Message(Bytes),
+    /// An encoded acknowledgement.
+    Ack(Bytes),
     /// An encoded message which says that its sender is not ready.
     Blank(Bytes),
     /// The node is to send again what its neighbours may lack.
+    Tick,
+}
+
+/// What waits for the worker of a node's deliveries.
+#[derive(Drop)]
+pub(crate) enum Waiting {
+    /// An encoded message.
+    Message(Bytes),
+    /// The last acknowledgement, which the node keeps.
+    Ack,
+    /// The last word of a node that is not ready, which the node keeps.
+    Blank,
+    /// A tick.
     Tick,
 }
 
@@ -26,7 +42,7 @@ pub(crate) enum Brought {
 #[derive(Drop)]
 pub(crate) struct Queues {
     pub asks: Receiver<Asked>,
-    pub links: Receiver<Brought>,
+    pub links: Receiver<Waiting>,
 }
 
 /// A node that runs: its seat, what waits there, and what is known of its life.
@@ -41,8 +57,8 @@ pub(crate) struct Node<C: Core> {
     closed: AtomicBool,
     /// A tick waits.
     ticks: AtomicBool,
-    /// The word of a node that is not ready waits.
-    blanks: AtomicBool,
+    pub ack: Pending,
+    pub blank: Pending,
 }
 
 impl<C: Core> Node<C> {
@@ -55,7 +71,8 @@ impl<C: Core> Node<C> {
             halted: AtomicBool::new(false),
             closed: AtomicBool::new(false),
             ticks: AtomicBool::new(false),
-            blanks: AtomicBool::new(false),
+            ack: Pending::new(),
+            blank: Pending::new(),
         }
     }
 
@@ -90,12 +107,14 @@ impl<C: Core> Node<C> {
         self.closed.load(Ordering::SeqCst)
     }
 
-    /// Whether what is brought is to wait here: of ticks, and of words of a node that is not ready, one waits at most.
-    pub(crate) fn admits(&self, brought: &Brought) -> bool {
+    /// What is to wait in the queue for what is brought: of ticks, acknowledgements, and words of a node that is not ready, one
+    /// at most.
+    pub(crate) fn admit<R: Wait>(&self, rt: &R, brought: Brought) -> Option<Waiting> {
         match brought {
-            Brought::Message(_) => true,
-            Brought::Blank(_) => !self.blanks.swap(true, Ordering::SeqCst),
-            Brought::Tick => !self.ticks.swap(true, Ordering::SeqCst),
+            Brought::Message(bytes) => Some(Waiting::Message(bytes)),
+            Brought::Ack(bytes) => self.ack.put(rt, bytes).then_some(Waiting::Ack),
+            Brought::Blank(bytes) => self.blank.put(rt, bytes).then_some(Waiting::Blank),
+            Brought::Tick => (!self.ticks.swap(true, Ordering::SeqCst)).then_some(Waiting::Tick),
         }
     }
 
@@ -104,19 +123,14 @@ impl<C: Core> Node<C> {
         self.ticks.store(false, Ordering::SeqCst);
     }
 
-    /// The word of a node that is not ready was heard: another may wait.
-    pub(crate) fn blank_taken(&self) {
-        self.blanks.store(false, Ordering::SeqCst);
-    }
-
     /// What was admitted is lost on its way to the queue: another of its kind may wait.
-    pub(crate) fn lose(&self, brought: Brought) {
-        match &brought {
-            Brought::Message(_) => (),
-            Brought::Blank(_) => self.blank_taken(),
-            Brought::Tick => self.tick_taken(),
+    pub(crate) fn lose(&self, waiting: Waiting) {
+        match waiting {
+            Waiting::Message(_) => (),
+            Waiting::Ack => self.ack.open(),
+            Waiting::Blank => self.blank.open(),
+            Waiting::Tick => self.tick_taken(),
         }
-        drop(brought);
     }
 
     /// Whether anything waits at the node.
@@ -129,7 +143,7 @@ impl<C: Core> Node<C> {
 #[derive(Drop)]
 pub(crate) struct Entrances {
     pub asks: Sender<Asked>,
-    pub links: Sender<Brought>,
+    pub links: Sender<Waiting>,
 }
 
 /// A node, and the ways to it, none once it was removed: its workers then end. Its cell stays where an audit merges its

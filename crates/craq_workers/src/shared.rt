@@ -3,7 +3,6 @@ use crate::carrying::carry_on;
 use crate::chain::Chain;
 use crate::gate::{Gate, Work};
 use crate::node::{Brought, Node};
-use crate::outbox::Outbox;
 use crate::replies::Replies;
 use crate::steps::{Asked, Served, refuse_asked, sent_by_node, take_own, take_queued};
 use craq_letters::{Addressee, Letterbox, Reply};
@@ -48,31 +47,19 @@ impl<C: Core, G: Gate> Shared<C, G> {
         }
     }
 
-    /// Sends messages, in order. One that the gate does not carry is lost.
-    pub(crate) fn post<R: Wait>(
-        &self,
-        rt: &R,
-        from: &NodeName,
-        sent: Vec<Sent>,
-        outbox: &mut Outbox,
-    ) {
+    /// Sends messages, in order. One that the gate does not carry is lost. Who carries the chain's nodes is told, unless the
+    /// sender carries them on itself (`quiet`).
+    pub(crate) fn post<R: Wait>(&self, rt: &R, from: &NodeName, sent: Vec<Sent>, quiet: bool) {
         let Ok(chain) = self.chain(from.chain) else {
             return;
         };
         for message in sent {
-            self.send(rt, chain, from, message, outbox);
+            self.send(rt, chain, from, message, quiet);
         }
     }
 
     /// Sends a message, or loses it.
-    fn send<R: Wait>(
-        &self,
-        rt: &R,
-        chain: &Chain<C>,
-        from: &NodeName,
-        message: Sent,
-        outbox: &mut Outbox,
-    ) {
+    fn send<R: Wait>(&self, rt: &R, chain: &Chain<C>, from: &NodeName, message: Sent, quiet: bool) {
         let Sent { to, kind, bytes } = message;
         let name = NodeName {
             chain: from.chain,
@@ -82,10 +69,14 @@ impl<C: Core, G: Gate> Shared<C, G> {
             drop(bytes);
             return;
         }
-        match kind {
-            Kind::Ack => outbox.keep(rt, chain, to, Brought::Message(bytes)),
-            Kind::Blank => outbox.send(rt, chain, to, Brought::Blank(bytes)),
-            Kind::Other => outbox.send(rt, chain, to, Brought::Message(bytes)),
+        let brought = match kind {
+            Kind::Ack => Brought::Ack(bytes),
+            Kind::Blank => Brought::Blank(bytes),
+            Kind::Other => Brought::Message(bytes),
+        };
+        chain.bring(rt, to, brought);
+        if !quiet {
+            chain.bell.ring();
         }
     }
 
@@ -96,18 +87,10 @@ impl<C: Core, G: Gate> Shared<C, G> {
         alloc: Global,
         node: &Node<C>,
         seated: &Served<C>,
-        outbox: &mut Outbox,
+        quiet: bool,
     ) {
         let sent = sent_by_node(alloc, seated.desk.cell());
-        self.post(rt, &node.name, sent, outbox);
-    }
-
-    /// The last acknowledgement of a piece of work goes out.
-    pub(crate) fn close_outbox<R: Wait>(&self, rt: &R, chain: ChainId, outbox: Outbox) {
-        match self.chain(chain) {
-            Ok(chain) => outbox.close(rt, chain),
-            Err(_) => drop(outbox),
-        }
+        self.post(rt, &node.name, sent, quiet);
     }
 
     /// The step of a queued ask, under its node's lock. A node that is closed takes none, since nobody would answer it.
@@ -119,12 +102,12 @@ impl<C: Core, G: Gate> Shared<C, G> {
         seated: &mut Served<C>,
         asked: Asked,
         replies: &mut Replies,
-        outbox: &mut Outbox,
+        quiet: bool,
     ) {
         if node.is_closed() {
             refuse_asked(rt, asked, replies);
         } else if take_queued(rt, alloc, seated, asked, replies) {
-            self.post_step(rt, alloc, node, seated, outbox);
+            self.post_step(rt, alloc, node, seated, quiet);
         }
     }
 
@@ -133,19 +116,9 @@ impl<C: Core, G: Gate> Shared<C, G> {
         let count = node.next_piece();
         self.gate.before(node.name, Work::Asks, count);
         let mut replies = Replies::new(alloc);
-        let mut outbox = Outbox::new(false);
         let mut seated = node.seat.lock(rt);
         self.gate.within(node.name, Work::Asks, count);
-        self.take_asked(
-            rt,
-            alloc,
-            node,
-            &mut seated,
-            asked,
-            &mut replies,
-            &mut outbox,
-        );
-        self.close_outbox(rt, node.name.chain, outbox);
+        self.take_asked(rt, alloc, node, &mut seated, asked, &mut replies, false);
         drop(seated);
         replies.tell(rt);
         self.gate.after(node.name, Work::Asks, count);
@@ -162,7 +135,7 @@ impl<C: Core, G: Gate> Shared<C, G> {
         pass: Pass,
         back: Return<'_>,
         replies: &mut Replies,
-        outbox: &mut Outbox,
+        quiet: bool,
     ) -> Option<Reply> {
         if node.is_closed() {
             drop(ask);
@@ -179,7 +152,7 @@ impl<C: Core, G: Gate> Shared<C, G> {
             replies,
         );
         if taken {
-            self.post_step(rt, alloc, node, seated, outbox);
+            self.post_step(rt, alloc, node, seated, quiet);
         }
         reply
     }
@@ -198,7 +171,6 @@ impl<C: Core, G: Gate> Shared<C, G> {
         let count = node.next_piece();
         self.gate.before(node.name, Work::Asks, count);
         let mut replies = Replies::new(alloc);
-        let mut outbox = Outbox::new(quiet);
         let mut seated = node.seat.lock(rt);
         self.gate.within(node.name, Work::Asks, count);
         let reply = self.take_here(
@@ -210,9 +182,8 @@ impl<C: Core, G: Gate> Shared<C, G> {
             pass,
             back,
             &mut replies,
-            &mut outbox,
+            quiet,
         );
-        self.close_outbox(rt, node.name.chain, outbox);
         drop(seated);
         replies.tell(rt);
         self.gate.after(node.name, Work::Asks, count);

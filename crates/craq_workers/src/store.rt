@@ -7,7 +7,6 @@ use crate::client::Client;
 use crate::gate::Gate;
 use crate::node::Way;
 use crate::opening::{Form, add_workers, open_chains, open_node};
-use crate::outbox::Outbox;
 use crate::replies::Replies;
 use crate::shared::{Return, Shared};
 use crate::steps::{dismiss, sent_by_book};
@@ -275,7 +274,7 @@ impl<C: Core + Send + 'static, G: Gate + Send + Sync + 'static> Store<C, G> {
         place.retire(rt, node, self.form.journal);
         place.bell.change();
         refuse_queued(rt, &member, &Refusal::Stopped);
-        self.announce(rt, place, chain, sent);
+        self.announce(rt, chain, sent);
         Ok(receipt)
     }
 
@@ -303,7 +302,7 @@ impl<C: Core + Send + 'static, G: Gate + Send + Sync + 'static> Store<C, G> {
                 let sent = sent_by_book(self.alloc, &book);
                 drop(book);
                 place.bell.change();
-                self.announce(&rt, place, chain, sent);
+                self.announce(&rt, chain, sent);
                 Ok(receipt)
             }
             Err(refusal) => {
@@ -354,10 +353,8 @@ impl<C: Core + Send + 'static, G: Gate + Send + Sync + 'static> Store<C, G> {
     }
 
     /// The master's messages go out.
-    fn announce<R: Wait>(&self, rt: &R, place: &Chain<C>, chain: ChainId, sent: Vec<Sent>) {
-        let mut outbox = Outbox::new(false);
-        self.shared.post(rt, &master_of(chain), sent, &mut outbox);
-        outbox.close(rt, place);
+    fn announce<R: Wait>(&self, rt: &R, chain: ChainId, sent: Vec<Sent>) {
+        self.shared.post(rt, &master_of(chain), sent, false);
     }
 
     /// Ends the workers. Callers that still wait are told `Closed`, and so is who calls afterwards.

@@ -4,8 +4,7 @@ ghost use Rattle.craq_node.specs.Represented.{CanArrive};
 use crate::carrying::carry;
 use crate::chain::Chain;
 use crate::gate::{Gate, Work};
-use crate::node::{Brought, Node};
-use crate::outbox::Outbox;
+use crate::node::{Node, Waiting};
 use crate::replies::Replies;
 use crate::shared::Shared;
 use crate::steps::{Served, sent_by_book, take_event};
@@ -73,11 +72,11 @@ fn take_links<R: Wait, C: Core, G: Gate>(
 ) {
     let mut count = 0u64;
     for _ in rt.forever() {
-        let Ok(brought) = node.queues.links.recv(rt) else {
+        let Ok(waiting) = node.queues.links.recv(rt) else {
             break;
         };
         shared.gate.before(node.name, Work::Deliveries, count);
-        deliver(rt, alloc, shared, node, brought, count);
+        deliver(rt, alloc, shared, node, waiting, count);
         shared.gate.after(node.name, Work::Deliveries, count);
         count = count.wrapping_add(1);
     }
@@ -89,11 +88,10 @@ fn deliver<R: Wait, C: Core, G: Gate>(
     alloc: Global,
     shared: &Shared<C, G>,
     node: &Node<C>,
-    brought: Brought,
+    waiting: Waiting,
     count: u64,
 ) {
     let mut replies = Replies::new(alloc);
-    let mut outbox = Outbox::new(false);
     let mut seated = node.seat.lock(rt);
     shared.gate.within(node.name, Work::Deliveries, count);
     take_brought(
@@ -102,11 +100,10 @@ fn deliver<R: Wait, C: Core, G: Gate>(
         shared,
         node,
         &mut seated,
-        brought,
+        waiting,
         &mut replies,
-        &mut outbox,
+        false,
     );
-    shared.close_outbox(rt, node.name.chain, outbox);
     drop(seated);
     replies.tell(rt);
 }
@@ -118,30 +115,31 @@ pub(crate) fn take_brought<R: Wait, C: Core, G: Gate>(
     shared: &Shared<C, G>,
     node: &Node<C>,
     seated: &mut Served<C>,
-    brought: Brought,
+    waiting: Waiting,
     replies: &mut Replies,
-    outbox: &mut Outbox,
+    quiet: bool,
 ) {
-    match brought {
-        Brought::Tick => {
+    match waiting {
+        Waiting::Tick => {
             node.tick_taken();
-            step(
-                rt,
-                alloc,
-                shared,
-                node,
-                seated,
-                Event::Tick,
-                replies,
-                outbox,
-            );
+            step(rt, alloc, shared, node, seated, Event::Tick, replies, quiet);
         }
-        Brought::Message(bytes) => {
-            hear(rt, alloc, shared, node, seated, bytes, replies, outbox);
+        Waiting::Message(bytes) => {
+            hear(rt, alloc, shared, node, seated, bytes, replies, quiet);
         }
-        Brought::Blank(bytes) => {
-            hear(rt, alloc, shared, node, seated, bytes, replies, outbox);
-            node.blank_taken();
+        Waiting::Ack => {
+            // One that comes from now on waits anew.
+            node.ack.open();
+            if let Some(bytes) = node.ack.take(rt) {
+                hear(rt, alloc, shared, node, seated, bytes, replies, quiet);
+            }
+        }
+        Waiting::Blank => {
+            if let Some(bytes) = node.blank.take(rt) {
+                hear(rt, alloc, shared, node, seated, bytes, replies, quiet);
+            }
+            // What its sender said while it was answered is answered by that.
+            node.blank.open();
         }
     }
 }
@@ -155,11 +153,11 @@ fn hear<R: Wait, C: Core, G: Gate>(
     seated: &mut Served<C>,
     bytes: Bytes,
     replies: &mut Replies,
-    outbox: &mut Outbox,
+    quiet: bool,
 ) {
     if let Ok(message) = decode(alloc, bytes.as_slice()) {
         let event = Event::Deliver(message);
-        step(rt, alloc, shared, node, seated, event, replies, outbox);
+        step(rt, alloc, shared, node, seated, event, replies, quiet);
     }
 }
 
@@ -172,12 +170,12 @@ fn step<R: Wait, C: Core, G: Gate>(
     seated: &mut Served<C>,
     event: Event,
     replies: &mut Replies,
-    outbox: &mut Outbox,
+    quiet: bool,
 )
     requires { CanArrive event }
 {
     if take_event(rt, alloc, seated, event, replies) {
-        shared.post_step(rt, alloc, node, seated, outbox);
+        shared.post_step(rt, alloc, node, seated, quiet);
     }
 }
 
@@ -212,9 +210,7 @@ fn announce<R: Wait, C: Core, G: Gate>(
     };
     shared.gate.before(*name, Work::Deliveries, count);
     let sent = tick(rt, alloc, shared, chain, name, count);
-    let mut outbox = Outbox::new(false);
-    shared.post(rt, name, sent, &mut outbox);
-    outbox.close(rt, chain);
+    shared.post(rt, name, sent, false);
     shared.gate.after(*name, Work::Deliveries, count);
 }
 

@@ -1,2 +1,3 @@
 mod Joins
 pub mod Openings
+pub mod Sent

@@ -220,7 +220,8 @@ impl<C: Core> LockedChain<C> {
         if book.opening().name.node.get() != 0 {
             return Err(Refusal::WrongNode);
         }
-        step_book(alloc, &mut book, event, pass, &mut self.posted)
+        let receipt = step_book(alloc, &mut book, event, pass, &mut self.posted)?;
+        Ok(receipt)
     }
 
     /// The message of this number arrives at its receiver. None where it was not sent.

@@ -8,12 +8,11 @@ use Rattle.craq_frames.specs.declared.answer.ClientReply.{ClientReply}
 use Rattle.craq_frames.specs.Frame.{frame}
 use Rattle.craq_front.specs.declared.conversation.Asking.{Asking}
 use Rattle.craq_front.specs.declared.conversation.Step.TheVariants.{Ask, Refused, Nothing}
-use Rattle.craq_front.specs.Serving.{idle, begun}
+use Rattle.craq_front.specs.Serving.{Served, Session, idle, begun, neither}
 use Rattle.craq_front.specs.Steps.{Advances, Follows}
 use Rattle.craq_front.specs.Talk.{History, next_turn, UnderWay, Stands, between, within}
 use Rattle.craq_front.proofs.Answering.{cut_off}
 use Rattle.craq_front.proofs.Talks.{stands_asked, stands_received, stands_refused, stands_replied}
-use Rattle.craq_door.specs.Dialogues.{Ended}
 
 -- the bytes that were written and those that are due, with more due
 more_due : (written old new due : List ℕ) → new ≡ old ++ due → (written ++ old) ++ due ≡ written ++ new
@@ -41,39 +40,23 @@ then_nothing read written o n i j due a b turns e h s =
     let same : written ++ o ≡ written ++ n = sym (append-nil (written ++ o)) ∙ ap (λ (x : List ℕ). (written ++ o) ++ x) (sym h.2) ∙ more_due written o n due e in
     subst (λ (x : List ℕ). Stands read x j b None turns) same (subst (λ (x : List ℕ). Stands read (written ++ o) x b None turns) (sym h.1) (no_matter read (written ++ o) i a b turns s))
 
--- no more frames are looked for
-pub then_ended : (read written o n i j due : List ℕ) (a b : Option Asking) (r : Refusal) (turns : History)
-    → n ≡ o ++ due → Advances i j due b (Err r) → Stands read (written ++ o) i a None turns → Ended read (written ++ n) turns
-then_ended read written o n i j due a b refusals.FrameTooLong turns e h (between k s none) = record {
-  taken = read;
-  lost = [];
-  rest = i;
-  replied = written ++ o;
-  last = due;
-  count = k;
-  earlier = turns;
-  reading = sym (append-nil read);
-  served = s;
-  begins = idle refl;
-  ends = inr h;
-  making = sym (more_due written o n due e);
-}
-then_ended read written o n i j due a b refusals.Memory turns e h (between k s none) = record {
-  taken = read;
-  lost = [];
-  rest = i;
-  replied = written ++ o;
-  last = due;
-  count = k;
-  earlier = turns;
-  reading = sym (append-nil read);
-  served = s;
-  begins = idle refl;
-  ends = inl h;
-  making = sym (more_due written o n due e);
-}
-then_ended read written o n i j due a b r turns e h (between k s none) = absurd h
-then_ended read written o n i j due a b r turns e h (within k payload earlier now few s u is) = absurd cc
+-- a length above the limit stands in front
+pub then_too_long : (read written o n i j due : List ℕ) (a b : Option Asking) (turns : History)
+    → n ≡ o ++ due → Advances i j due b (Err refusals.FrameTooLong) → Stands read (written ++ o) i a None turns → Session next_turn [] read (written ++ n) turns neither (Err refusals.FrameTooLong)
+then_too_long read written o n i j due a b turns e h (between k s none) = (i, k, written ++ o, due, s, h, sym (more_due written o n due e))
+then_too_long read written o n i j due a b turns e h (within k payload earlier now few s u is) = absurd cc
+
+-- the next frame was not looked for, for want of memory
+pub then_ended : (read written o n i : List ℕ) (a : Option Asking) (turns : History)
+    → n ≡ o → Stands read (written ++ o) i a None turns → Session next_turn [] read (written ++ n) turns neither (Err refusals.Memory)
+then_ended read written o n i a turns e (between k s none) = (i, k, turns, subst (λ (x : List ℕ). Served next_turn [] read i (written ++ x) k turns) (sym e) s, idle refl)
+then_ended read written o n i a turns e (within k payload earlier now few s u is) = absurd cc
+
+-- where it is not a length above the limit that ends a conversation, no more is due
+pub no_more_due : (o n i j due : List ℕ) (b : Option Asking) (r : Refusal) → n ≡ o ++ due → Advances i j due b (Err r) → (r ≡ refusals.FrameTooLong → ⊥) → n ≡ o
+no_more_due o n i j due b refusals.FrameTooLong e h other = absurd (other refl)
+no_more_due o n i j due b refusals.Memory e h other = e ∙ ap (λ (x : List ℕ). o ++ x) h ∙ append-nil o
+no_more_due o n i j due b r e h other = absurd h
 
 -- a message has its reply
 pub then_replied : (read written o n i j due : List ℕ) (a b : Option Asking) (m : ClientMessage) (r : ClientReply) (next : Option ClientMessage) (turns : History)
@@ -82,28 +65,27 @@ then_replied read written o n i j due a b m r next turns e same f s =
     subst (λ (x : List ℕ). Stands read (written ++ n) x b next (turns ++ (m, r) ∷ [])) (sym same)
     (subst (λ (x : List ℕ). Stands read x i b next (turns ++ (m, r) ∷ [])) (more_due written o n due e) (stands_replied read (written ++ o) i due a b m r next turns s f))
 
+-- no more is due where a reply is not told
+pub none_due : (o n due : List ℕ) (a b : Option Asking) (r : ClientReply) (refusal : Refusal) → n ≡ o ++ due → Follows a r due b (Err refusal) → n ≡ o
+none_due o n due None b r refusals.Memory e f = e ∙ ap (λ (x : List ℕ). o ++ x) f ∙ append-nil o
+none_due o n due (Some asking) b r refusals.Memory e f = e ∙ ap (λ (x : List ℕ). o ++ x) f ∙ append-nil o
+none_due o n due None b r refusal e f = absurd f
+none_due o n due (Some asking) b r refusal e f = absurd f
+
 -- a message had its turn, and its reply is not told
 pub then_lost : (read written o n i due : List ℕ) (a b : Option Asking) (m : ClientMessage) (r : ClientReply) (refusal : Refusal) (turns : History)
-    → n ≡ o ++ due → Follows a r due b (Err refusal) → Stands read (written ++ o) i a (Some m) turns → Ended read (written ++ n) (turns ++ (m, r) ∷ [])
+    → n ≡ o ++ due → Follows a r due b (Err refusal) → Stands read (written ++ o) i a (Some m) turns → Session next_turn [] read (written ++ n) (turns ++ (m, r) ∷ []) neither (Err refusals.Memory)
 then_lost read written o n i due a b m r refusal turns e f (between k s none) = absurd cc
 then_lost read written o n i due a b m r refusal turns e f (within k payload earlier now few s u is) =
     let same : now ≡ m = cc in
     let under = subst (λ (x : ClientMessage). UnderWay next_turn earlier payload a x turns) same u in
-    let cut = cut_off next_turn earlier turns (turns ++ (m, r) ∷ []) payload [] due [] due a b (Some m) m r refusal refl (under, refl) refl refl f in
-    record {
-      taken = read;
-      lost = [];
-      rest = frame payload ++ i;
-      replied = written ++ o;
-      last = due;
-      count = k;
-      earlier = earlier;
-      reading = sym (append-nil read);
-      served = s;
-      begins = begun payload i refl cut.1;
-      ends = inl cut.0;
-      making = sym (more_due written o n due e);
-    }
+    let cut = cut_off next_turn earlier turns (turns ++ (m, r) ∷ []) payload [] due [] due a b (Some m) m r refusal refl (under, refl) refl refl f in (
+      frame payload ++ i,
+      k,
+      earlier,
+      subst (λ (x : List ℕ). Served next_turn [] read (frame payload ++ i) (written ++ x) k earlier) (sym (none_due o n due a b r refusal e f)) s,
+      begun payload i refl cut.1,
+    )
 
 -- more bytes came
 pub then_received : (read written o n i j more : List ℕ) (a b : Option Asking) (turns : History)
@@ -115,19 +97,5 @@ then_received read written o n i j more a b turns out input asking s =
 
 -- bytes came that are lost
 pub then_deaf : (read written o n i more : List ℕ) (a : Option Asking) (turns : History)
-    → n ≡ o → Stands read (written ++ o) i a None turns → Ended (read ++ more) (written ++ n) turns
-then_deaf read written o n i more a turns out (between k s none) = record {
-  taken = read;
-  lost = more;
-  rest = i;
-  replied = written ++ o;
-  last = [];
-  count = k;
-  earlier = turns;
-  reading = refl;
-  served = s;
-  begins = idle refl;
-  ends = inl refl;
-  making = ap (λ (x : List ℕ). written ++ x) out ∙ sym (append-nil (written ++ o));
-}
-then_deaf read written o n i more a turns out (within k payload earlier now few s u is) = absurd cc
+    → n ≡ o → Stands read (written ++ o) i a None turns → Session next_turn [] (read ++ more) (written ++ n) turns neither (Err refusals.Memory)
+then_deaf read written o n i more a turns out s = then_ended (read ++ more) written o n (i ++ more) a turns out (stands_received read (written ++ o) i more a None turns s)

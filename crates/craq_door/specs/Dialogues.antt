@@ -1,15 +1,18 @@
 -- What serving one client comes to where its calls come back later.
-use Rattle.std.specs.Prelude.{◌≡◌, ◌⊎◌, ◌≤◌, ⊤, ℕ, List, [], ◌∷◌, ◌++◌, length, Option, None, Some, Result}
+use Rattle.std.specs.Prelude.{◌≡◌, ◌≤◌, ⊤, ℕ, List, [], ◌∷◌, ◌++◌, length, Option, None, Some, Result, Err}
 use Rattle.craq_names.specs.declared.refusal.Refusal.{Refusal}
+use Rattle.craq_names.specs.declared.refusal.Refusal.TheVariants.{FrameTooLong, Memory}
 use Rattle.craq_frames.specs.declared.ask.ClientMessage.{ClientMessage}
 use Rattle.craq_frames.specs.declared.answer.ClientReply.{ClientReply}
 use Rattle.craq_frames.specs.Frame.{frame, IsPartial}
 use Rattle.craq_front.specs.declared.conversation.Asking.{Asking}
 use Rattle.craq_front.specs.declared.conversation.Conversation.{Conversation}
-use Rattle.craq_front.specs.Serving.{Served, BeginsNext, RefusesLength}
+use Rattle.craq_front.specs.Serving.{Session, RefusesLength, neither}
 use Rattle.craq_front.specs.Talk.{History, next_turn, Stands}
 use Rattle.craq_seat.specs.Calls.{Called}
 use Rattle.craq_door.specs.declared.calls.DoorCalls.{DoorCalls}
+use Rattle.craq_door.specs.declared.dialogue.Ending.{Ending}
+use Rattle.craq_door.specs.declared.dialogue.Ending.TheVariants as endings
 use Rattle.craq_door.specs.declared.dialogue.Phase.{Phase}
 use Rattle.craq_door.specs.declared.dialogue.Phase.TheVariants as phases
 use Rattle.craq_door.specs.declared.dialogue.Stepped.{Stepped}
@@ -18,25 +21,14 @@ use Rattle.craq_door.specs.declared.question.Question.{Question}
 use Rattle.craq_door.specs.Turns.{kept, name_of, for_memory, IsTurn}
 use Rattle.craq_door.specs.Halves.{asked_by, EndsTurn}
 
--- some first bytes `taken` of those that were read are answered by what was made due, up to some frame: of the next one some
--- first messages at most had their turns, or its length above the limit was refused
-pub record Ended (read made : List ℕ) (turns : History) : Type 0 where
-  pub taken : List ℕ
-  pub lost : List ℕ
-  pub rest : List ℕ
-  pub replied : List ℕ
-  pub last : List ℕ
-  pub count : ℕ
-  pub earlier : History
-  pub reading : read ≡ taken ++ lost
-  pub served : Served next_turn [] taken rest replied count earlier
-  pub begins : BeginsNext next_turn earlier rest turns
-  pub ends : (last ≡ []) ⊎ RefusesLength rest last
-  pub making : made ≡ replied ++ last
+-- the refusal with which `serve` ends for the same reason
+abbrev pub refusal_for : Ending → Refusal
+refusal_for endings.TooLong = FrameTooLong
+refusal_for endings.Memory = Memory
 
--- what was read and made due, and the turns so far, in a phase
+-- what was read and made due, and the turns so far, in a phase; where it is over, it is as where `serve` ends so
 abbrev pub StandsIn : Phase → List ℕ → List ℕ → List ℕ → Option Asking → History → Type 0
-StandsIn phases.Over read made input asking turns = Ended read made turns
+StandsIn (phases.Over why) read made input asking turns = Session next_turn [] read made turns neither (Err (refusal_for why))
 StandsIn phases.Idle read made input asking turns = Stands read made input asking None turns
 StandsIn (phases.Asks m) read made input asking turns = Stands read made input asking (Some m) turns
 StandsIn (phases.Waits q) read made input asking turns = Stands read made input asking (Some (asked_by q)) turns
@@ -57,20 +49,35 @@ HasOneMore p t q u m r = (read written : List ℕ) (turns : History) → Holds p
 abbrev pub most_due : ℕ
 most_due = 65536
 
+-- it is over: a length above the limit stood in front, and its refusal is what more is due; or for want of memory, and no more
+-- is due
+abbrev pub Ends : Ending → Conversation → Conversation → Type 0
+Ends endings.TooLong old new =
+    (due : List ℕ) × (new.buffers.output.items ≡ old.buffers.output.items ++ due) × RefusesLength old.buffers.input.items due
+Ends endings.Memory old new = new.buffers.output.items ≡ old.buffers.output.items
+
 -- what came of a look for the next frame, by the phase after it: a frame was cut off, or there is less than a frame; many bytes
--- are due; or no more is asked
+-- are due; or it is over
 abbrev pub Found : Phase → Stepped → Conversation → Conversation → Type 0
 Found (phases.Asks m) steps.Goes old new = (payload : List ℕ) × (old.buffers.input.items ≡ frame payload ++ new.buffers.input.items)
 Found phases.Idle steps.Goes old new = (payload : List ℕ) × (old.buffers.input.items ≡ frame payload ++ new.buffers.input.items)
 Found phases.Idle steps.Starved old new = IsPartial new.buffers.input.items
 Found phases.Idle steps.Stays old new = most_due ≤ length old.buffers.output.items
-Found phases.Over steps.Stays old new = ⊤
+Found (phases.Over why) steps.Stays old new = Ends why old new
 Found phase stepped old new = ⊥
 
--- no call is under way
-abbrev pub IsPlain : Phase → Type 0
-IsPlain (phases.Waits q) = ⊥
-IsPlain phase = ⊤
+-- what comes after a turn: the next message is to be asked, or the next frame is looked for; or it is over for want of memory
+abbrev pub Continues : Phase → Conversation → Conversation → Type 0
+Continues phases.Idle old new = ⊤
+Continues (phases.Asks m) old new = ⊤
+Continues (phases.Waits q) old new = ⊥
+Continues (phases.Over endings.TooLong) old new = ⊥
+Continues (phases.Over endings.Memory) old new = Ends endings.Memory old new
+
+-- why it is over, if it is
+abbrev pub ending_of : Phase → Option Ending
+ending_of (phases.Over why) = Some why
+ending_of phase = None
 
 -- the call that is under way, if there is one
 abbrev pub IsUnderWay : Phase → Option Question → Type 0
@@ -81,16 +88,16 @@ IsUnderWay phase found = found ≡ None
 -- nothing is to be done
 abbrev pub Took : (List ℕ → Type 0) → Phase → Stepped → Phase → Conversation → Conversation → DoorCalls → DoorCalls → Type 0
 Took tells (phases.Asks m) steps.Goes q t u c d =
-    (reply : ClientReply) × HasOneMore (phases.Asks m) t q u m reply × IsTurn tells for_memory c.keeps c.receipts.items m reply d.receipts.items
+    (reply : ClientReply) × HasOneMore (phases.Asks m) t q u m reply × IsTurn tells for_memory c.keeps c.receipts.items m reply d.receipts.items × Continues q t u
 Took tells (phases.Asks m) steps.Calls (phases.Waits x) t u c d =
     (m ≡ asked_by x) × (x.node ≡ name_of x.node.node x.ask) × (d.receipts.items ≡ kept c.keeps c.receipts.items) × (u ≡ t)
 Took tells phases.Idle stepped q t u c d = Found q stepped t u × HasNoMore phases.Idle t q u × (d ≡ c)
 Took tells (phases.Waits x) steps.Stays q t u c d = (q ≡ phases.Waits x) × (u ≡ t) × (d ≡ c)
-Took tells phases.Over steps.Stays q t u c d = (q ≡ phases.Over) × (u ≡ t) × (d ≡ c)
+Took tells (phases.Over why) steps.Stays q t u c d = (q ≡ phases.Over why) × (u ≡ t) × (d ≡ c)
 Took tells phase stepped q t u c d = ⊥
 
 -- what came of an outcome: the call that was under way has it, and its turn ends; where no call was, nothing happened
 abbrev pub Answers : Phase → Result Called Refusal → Phase → Conversation → Conversation → DoorCalls → DoorCalls → Type 0
 Answers (phases.Waits x) outcome q t u c d =
-    (reply : ClientReply) × HasOneMore (phases.Waits x) t q u (asked_by x) reply × EndsTurn x outcome c.receipts.items reply d.receipts.items
+    (reply : ClientReply) × HasOneMore (phases.Waits x) t q u (asked_by x) reply × EndsTurn x outcome c.receipts.items reply d.receipts.items × Continues q t u
 Answers phase outcome q t u c d = (q ≡ phase) × (u ≡ t) × (d ≡ c)

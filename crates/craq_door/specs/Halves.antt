@@ -13,7 +13,7 @@ use Rattle.craq_door.specs.declared.question.Demand.{Demand}
 use Rattle.craq_door.specs.declared.question.Demand.TheVariants as demands
 use Rattle.craq_door.specs.declared.question.Begun.{Begun}
 use Rattle.craq_door.specs.declared.question.Begun.TheVariants as begun
-use Rattle.craq_door.specs.Turns.{message_of, kept, name_of, for_memory, IsAnswered, IsTurn}
+use Rattle.craq_door.specs.Turns.{message_of, kept, name_of, for_memory, Refusing, IsAnswered, IsTurn}
 
 -- the message that asks for this call
 abbrev pub asked_by : Question → ClientMessage
@@ -43,3 +43,8 @@ tells_none text = ⊥
 -- the second half of a turn: told is the reply of the call that came back, or why it is refused
 abbrev pub EndsTurn : Question → Result Called Refusal → List Called → ClientReply → List Called → Type 0
 EndsTurn q outcome old told new = IsAnswered tells_none (λ node pass ask e. RefusesCall q outcome e) old (asked_by q) told new
+
+-- how a call comes back: with the receipt of just this call, or refused as it may be
+abbrev pub ComesBack : Refusing → Question → Result Called Refusal → Type 0
+ComesBack refuses q (Ok c) = IsCallOf q.node q.ask q.pass c.answer c
+ComesBack refuses q (Err e) = refuses q.node q.pass q.ask e

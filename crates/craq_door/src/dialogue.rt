@@ -11,6 +11,15 @@ use craq_seat::CallReceipt;
 use std::alloc::{AllocError, Global};
 use std::mem;
 
+/// Why nothing is read or asked any more.
+#[derive(Debug, Clone, Copy, PartialEq, Eq)]
+pub enum Ending {
+    /// A length above 1,048,576 stands in front, and its refusal is the last that was made due.
+    TooLong,
+    /// Memory lacked: of the next frame no reply is due.
+    Memory,
+}
+
 /// What is done next.
 #[derive(Drop)]
 pub(crate) enum Phase {
@@ -21,7 +30,7 @@ pub(crate) enum Phase {
     /// This call is under way.
     Waits(Question),
     /// Nothing is read or asked any more.
-    Over,
+    Over(Ending),
 }
 
 /// What a step came to.
@@ -53,7 +62,7 @@ impl Dialogue {
     ghost use Rattle.std.specs.Option.{option_copied};
     ghost use Rattle.craq_front.specs.Talk.{History};
     ghost use Rattle.craq_door.specs.Turns.{kept};
-    ghost use Rattle.craq_door.specs.Dialogues.{Answers, Holds, IsUnderWay, Took};
+    ghost use Rattle.craq_door.specs.Dialogues.{Answers, Holds, IsUnderWay, Took, ending_of};
 
     /// Nothing came, nothing was asked, and nothing is due. The receipts of calls are kept or not. It takes no memory.
     pub fn new(alloc: Global, keeps: bool) -> Self
@@ -76,11 +85,14 @@ impl Dialogue {
         matches!(&self.phase, Phase::Idle)
     }
 
-    /// Whether nothing is read or asked any more.
-    pub fn is_over(&self) -> bool
-        ensures { IsTrue result ↔ (self.now.phase ≡ Phase.Over) }
+    /// Why nothing is read or asked any more, once it is over.
+    pub fn ending(&self) -> Option<Ending>
+        ensures { result ≡ ending_of self.now.phase }
     {
-        matches!(&self.phase, Phase::Over)
+        match &self.phase {
+            Phase::Over(ending) => Some(*ending),
+            _ => None,
+        }
     }
 
     /// These bytes came. It fails for want of memory alone; then they are lost, and it is over.
@@ -89,14 +101,14 @@ impl Dialogue {
         ensures holds { (read written : List ℕ) (turns : History)
             → Holds self.old.phase self.old.talk read written turns → Holds self.new.phase self.new.talk (read ++ bytes.now) written turns }
         ensures ok { OnOk result (self.new.phase ≡ Phase.Idle) }
-        ensures err { OnErr result (self.new.phase ≡ Phase.Over) }
+        ensures err { OnErr result (self.new.phase ≡ Phase.Over Ending.Memory) }
         ensures output { self.new.talk.buffers.output.items ≡ self.old.talk.buffers.output.items }
         ensures calls { self.new.calls ≡ self.old.calls }
     {
         match self.talk.receive(bytes) {
             Ok(()) => Ok(()),
             Err(error) => {
-                drop(mem::replace(&mut self.phase, Phase::Over));
+                drop(mem::replace(&mut self.phase, Phase::Over(Ending::Memory)));
                 Err(error)
             }
         }
@@ -132,8 +144,8 @@ impl Dialogue {
         }
     }
 
-    /// Takes a step, if there is one to take: looks for the next frame, or begins the turn of its next message. Where memory
-    /// lacks, and behind a length above 1,048,576, whose refusal is due, it is over.
+    /// Takes a step, if there is one to take: looks for the next frame, or begins the turn of its next message. It is over
+    /// (`ending`) behind a length above 1,048,576, whose refusal is due then, and where memory lacks, and no more is due then.
     pub fn step<C: Callee>(&mut self, alloc: Global, callee: &C) -> Stepped
         ensures took { Took (C.tells callee.now) self.old.phase result self.new.phase self.old.talk self.new.talk self.old.calls self.new.calls }
         ensures keeps { self.new.calls.keeps ≡ self.old.calls.keeps }
@@ -145,7 +157,8 @@ impl Dialogue {
     }
 
     /// The call that is under way came back: its turn ends with the call's reply, or with its refusal as it came back, and the
-    /// receipt stands behind the others (`end_turn`). Where no call is under way nothing happens.
+    /// receipt stands behind the others (`end_turn`). Where memory lacks for the bytes of the reply it is over, and no more is
+    /// due. Where no call is under way nothing happens.
     pub fn answer(&mut self, alloc: Global, outcome: Result<CallReceipt, Refusal>)
         ensures answers { Answers self.old.phase outcome self.new.phase self.old.talk self.new.talk self.old.calls self.new.calls }
         ensures keeps { self.new.calls.keeps ≡ self.old.calls.keeps }

@@ -7,12 +7,14 @@
 mod calls;
 mod dialogue;
 mod door;
+mod laws;
 mod phases;
 mod question;
 mod telling;
 
 pub use calls::DoorCalls;
-pub use dialogue::{Dialogue, Stepped};
+pub use dialogue::{Dialogue, Ending, Stepped};
 pub use door::{CallDoor, Callee};
+pub use laws::halves_are_a_turn;
 pub use question::{Begun, Question, begin_turn, end_turn};
 pub use telling::told;

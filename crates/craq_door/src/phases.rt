@@ -1,10 +1,10 @@
 //! What comes next in a dialogue, by its phase: a step, or the outcome of a call; for `dialogue`.
 ghost use Rattle.std.specs.Prelude.{◌≡◌, None};
 ghost use Rattle.craq_front.specs.Door.{IsAllowed};
-ghost use Rattle.craq_door.specs.Dialogues.{Answers, Found, HasNoMore, HasOneMore, IsPlain, Took};
+ghost use Rattle.craq_door.specs.Dialogues.{Answers, Continues, Found, HasNoMore, HasOneMore, Took};
 ghost use Rattle.craq_frames.specs.declared.ask.ClientMessage.{ClientMessage};
 
-use crate::dialogue::{Phase, Stepped};
+use crate::dialogue::{Ending, Phase, Stepped};
 use crate::{Begun, Callee, DoorCalls, begin_turn, end_turn};
 use craq_frames::{ClientMessage, ClientReply};
 use craq_front::{Conversation, Step};
@@ -17,12 +17,12 @@ fn next_phase(alloc: Global, talk: &mut Conversation, reply: ClientReply) -> Pha
     requires { IsAllowed reply }
     ensures more { (m : ClientMessage) → HasOneMore (Phase.Asks m) talk.old result talk.new m reply }
     ensures idle { result ≡ Phase.Idle → talk.new.asking ≡ None }
-    ensures plain { IsPlain result }
+    ensures continues { Continues result talk.old talk.new }
 {
     match talk.reply(alloc, reply) {
         Ok(Some(message)) => Phase::Asks(message),
         Ok(None) => Phase::Idle,
-        Err(_) => Phase::Over,
+        Err(_) => Phase::Over(Ending::Memory),
     }
 }
 
@@ -40,7 +40,10 @@ fn find(alloc: Global, talk: &mut Conversation) -> (Phase, Stepped)
         Ok(Step::Ask(message)) => (Phase::Asks(message), Stepped::Goes),
         Ok(Step::Refused) => (Phase::Idle, Stepped::Goes),
         Ok(Step::Nothing) => (Phase::Idle, Stepped::Starved),
-        Err(_) => (Phase::Over, Stepped::Stays),
+        Err(refusal) => match refusal {
+            Refusal::FrameTooLong => (Phase::Over(Ending::TooLong), Stepped::Stays),
+            _ => (Phase::Over(Ending::Memory), Stepped::Stays),
+        },
     }
 }
 
@@ -79,7 +82,7 @@ pub(crate) fn advance<C: Callee>(
         Phase::Idle => find(alloc, talk),
         Phase::Asks(message) => begin(alloc, callee, talk, calls, message),
         Phase::Waits(question) => (Phase::Waits(question), Stepped::Stays),
-        Phase::Over => (Phase::Over, Stepped::Stays),
+        Phase::Over(ending) => (Phase::Over(ending), Stepped::Stays),
     }
 }
 

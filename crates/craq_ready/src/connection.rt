@@ -225,7 +225,7 @@ impl Connection {
     /// Writes what is due. It is over where that was the last.
     pub(crate) fn give(&mut self, now: u64) {
         self.write(now);
-        if self.dialogue.is_over() && self.dialogue.due().is_empty() {
+        if self.dialogue.ending().is_some() && self.dialogue.due().is_empty() {
             self.over = true;
         }
     }

@@ -7,4 +7,4 @@ use Rattle.craq_door.proofs.phases.answered.Goals as goal
 pub returns-in-Waits-clause-answers : goal.returns-in-Waits-clause-answers
 returns-in-Waits-clause-answers c =
     subst (λ (p : Phase). Answers p c.args.outcome c.next_phase.result c.args.talk.now c.next_phase.new.talk c.args.calls.now c.end_turn-reply.new.calls) (sym c.in-Waits.is)
-    (c.end_turn-reply.result, c.next_phase.ensures.more (asked_by c.in-Waits.question), c.end_turn-reply.ensures.ends)
+    (c.end_turn-reply.result, c.next_phase.ensures.more (asked_by c.in-Waits.question), c.end_turn-reply.ensures.ends, c.next_phase.ensures.continues)

@@ -1,4 +1,4 @@
-use Rattle.craq_door.proofs.Dialogues.{then_asked, then_ended, then_nothing, then_refused}
+use Rattle.craq_door.proofs.Dialogues.{no_more_due, then_asked, then_ended, then_nothing, then_refused, then_too_long}
 use Rattle.craq_door.proofs.phases.find.Goals as goal
 
 pub returns-in-Ok-Ask-clause-more : goal.returns-in-Ok-Ask-clause-more
@@ -16,7 +16,23 @@ returns-in-Ok-Nothing-clause-more c = λ read written turns s.
     let h = rw c.in-Ok-Nothing.field-0-is at c.in-Ok-Nothing.ensures in
     then_nothing read written c.args.talk.now.buffers.output.items c.next.new.self.buffers.output.items c.args.talk.now.buffers.input.items c.next.new.self.buffers.input.items h.0 c.args.talk.now.asking c.next.new.self.asking turns h.1 h.2 s
 
-pub returns-in-Err-clause-more : goal.returns-in-Err-clause-more
-returns-in-Err-clause-more c = λ read written turns s.
+pub returns-in-FrameTooLong-clause-more : goal.returns-in-FrameTooLong-clause-more
+returns-in-FrameTooLong-clause-more c = λ read written turns s.
+    let h = rw c.in-FrameTooLong.is at c.in-Err.ensures in
+    then_too_long read written c.args.talk.now.buffers.output.items c.next.new.self.buffers.output.items c.args.talk.now.buffers.input.items c.next.new.self.buffers.input.items h.0 c.args.talk.now.asking c.next.new.self.asking turns h.1 h.2 s
+
+pub returns-in-FrameTooLong-clause-found : goal.returns-in-FrameTooLong-clause-found
+returns-in-FrameTooLong-clause-found c =
+    let h = rw c.in-FrameTooLong.is at c.in-Err.ensures in
+    (h.0, h.1, h.2)
+
+pub returns-in_default-clause-more : goal.returns-in_default-clause-more
+returns-in_default-clause-more c = λ read written turns s.
     let h = c.in-Err.ensures in
-    then_ended read written c.args.talk.now.buffers.output.items c.next.new.self.buffers.output.items c.args.talk.now.buffers.input.items c.next.new.self.buffers.input.items h.0 c.args.talk.now.asking c.next.new.self.asking c.in-Err.field-0 turns h.1 h.2 s
+    let same = no_more_due c.args.talk.now.buffers.output.items c.next.new.self.buffers.output.items c.args.talk.now.buffers.input.items c.next.new.self.buffers.input.items h.0 c.next.new.self.asking c.in-Err.refusal h.1 h.2 c.in_default.not-FrameTooLong in
+    then_ended read written c.args.talk.now.buffers.output.items c.next.new.self.buffers.output.items c.args.talk.now.buffers.input.items c.args.talk.now.asking turns same s
+
+pub returns-in_default-clause-found : goal.returns-in_default-clause-found
+returns-in_default-clause-found c =
+    let h = c.in-Err.ensures in
+    no_more_due c.args.talk.now.buffers.output.items c.next.new.self.buffers.output.items c.args.talk.now.buffers.input.items c.next.new.self.buffers.input.items h.0 c.next.new.self.asking c.in-Err.refusal h.1 h.2 c.in_default.not-FrameTooLong

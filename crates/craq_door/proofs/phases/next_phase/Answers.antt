@@ -1,5 +1,5 @@
 use Rattle.std.proofs.Common.{None, Some}
-use Rattle.craq_door.proofs.Dialogues.{then_lost, then_replied}
+use Rattle.craq_door.proofs.Dialogues.{none_due, then_lost, then_replied}
 use Rattle.craq_door.proofs.phases.next_phase.Goals as goal
 
 pub returns-in-Ok-Some-clause-more : goal.returns-in-Ok-Some-clause-more
@@ -16,3 +16,8 @@ pub returns-in-Err-clause-more : goal.returns-in-Err-clause-more
 returns-in-Err-clause-more c = λ m read written turns s.
     let h = c.in-Err.ensures.follows in
     then_lost read written c.args.talk.now.buffers.output.items c.reply.new.self.buffers.output.items c.args.talk.now.buffers.input.items h.0 c.args.talk.now.asking c.reply.new.self.asking m c.args.reply c.in-Err.field-0 turns h.1 h.2 s
+
+pub returns-in-Err-clause-continues : goal.returns-in-Err-clause-continues
+returns-in-Err-clause-continues c =
+    let h = c.in-Err.ensures.follows in
+    none_due c.args.talk.now.buffers.output.items c.reply.new.self.buffers.output.items h.0 c.args.talk.now.asking c.reply.new.self.asking c.args.reply c.in-Err.field-0 h.1 h.2

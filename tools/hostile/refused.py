@@ -91,8 +91,8 @@ def told_under(library, program, words, script, **what):
     return playing.Told(ran.returncode, ran.stdout, ran.stderr), *told_in(env)
 
 
-def played(checks, library, program, step):
-    """Each ask for memory, or each `step`th, refused while a script is played; gives how many were, and how many asks each named call has."""
+def played(checks, library, program):
+    """Each ask for memory refused while a script is played; gives how many were, and how many asks each named call has."""
     refused = 0
     within = {name: ranges(program, pattern) for name, pattern in LAB_CALLS.items()}
     asked = {name: 0 for name, found in within.items() if found}
@@ -102,7 +102,7 @@ def played(checks, library, program, step):
         checks.that(asks > 0, f"{what} asks for memory")
         for name in asked:
             asked[name] += told_under(library, program, words, script, within=within[name])[2][0]
-        numbers = [*range(1, asks + 1, step), asks + 1]
+        numbers = range(1, asks + 2)
         runs = playing.side_by_side(lambda at: told_under(library, program, words, script, memory=at), numbers)
         for at, (told, was_refused, _) in zip(numbers, runs):
             fits = told in (playing.Told(0, expected, b""), playing.Told(NO_MEMORY, b"", b"no memory\n"))
@@ -132,11 +132,11 @@ def quiet(checks, library, program):
     return seen, sorted(reasons)
 
 
-def tried(checks, craq_lab, whole):
-    """All of them, and what was tried, in words. Where not all is wanted, each 40th ask for memory."""
+def tried(checks, craq_lab):
+    """All of them, and what was tried, in words."""
     with tempfile.TemporaryDirectory(prefix="refused-") as folder:
         library = Library(folder)
-        scripts, asks = played(checks, library, craq_lab, 1 if whole else 40)
+        scripts, asks = played(checks, library, craq_lab)
         moves, reasons = quiet(checks, library, craq_lab)
     named = ", ".join(f"{count} in {name}" for name, count in asks.items())
     seen = f"{named}; {moves} moves ask for none: {', '.join(reasons)}" if named else "in which call is not seen in this program"

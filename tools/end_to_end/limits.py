@@ -68,7 +68,7 @@ def most(checks, craqd):
         checks.that(all(is_served(made) for made in some), "as many connections as there may be are served")
         for _ in range(3):
             with server.connect() as made:
-                checks.same("one connection more", rest(made), FULL)
+                checks.same("one connection more", rest_or_none(made), FULL)
         some[0].close()
         ends = time.time() + running.PATIENCE
         again = server.connect()

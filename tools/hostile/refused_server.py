@@ -154,7 +154,7 @@ def served(craqd, env):
         is_well = has_no_memory and not out
     if not is_well:
         faults.append(f"it ended with {told}, after {right} right answers")
-    return Run(faults, status, bool(server.port), refused.told_in(env)[0])
+    return Run(faults, status, bool(server.port), refused.told_in(env).refused)
 
 
 def attacked(checks, library, craqd, what, count, name):

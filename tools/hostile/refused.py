@@ -43,8 +43,8 @@ class Library:
 
 
 class Under(NamedTuple):
-    """What the library tells of a program: whether something was refused; how many asks for memory and threads counted, as far as it came to its
-    end; and how often it told that, which is once for each call of REFUSE_CALL and once at the end."""
+    """What the library tells of a program: whether something was refused; how many asks for memory and threads counted, as far as that was told;
+    and how often it told that, which is once for each call of REFUSE_CALL, and once where the program ends by `exit`."""
 
     refused: bool
     memory: int

@@ -130,8 +130,8 @@ class Tried:
         """A stop, and a message that is ignored, ask for none, and there are as many as in the script."""
         ample, under = told_under(self.library, self.program, words, script, call=QUIET)
         self.checks.same(f"{what}: how often stops and ignored messages ask for memory", (ample.status, under.memory), (0, 0))
-        self.checks.same(f"{what}: stops and ignored messages", under.tells - 1, quiet_steps(script, expected))
-        self.quiet_steps += under.tells - 1
+        self.checks.same(f"{what}: stops and ignored messages", under.tells, quiet_steps(script, expected))
+        self.quiet_steps += under.tells
 
     def script(self, name, nodes, script, expected, kind):
         """A script in each way, on nodes of this kind."""

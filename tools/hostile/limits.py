@@ -43,7 +43,9 @@ ETHERNET = 1_448
 # How a server is told to serve, the segments of those who never read (None: those of the loopback), and how many seconds 99 of 100
 # honest calls may take where that is more than 3 times as long as among idle connections.
 CROWDS = [([], ETHERNET, FLOOR), (["--threads", "2"], ETHERNET, 0), ([], None, 0.1), (["--threads", "2"], None, 0.1)]
-# How many connections send what part of a request of the most bytes, and how many MiB these may take (docs/use/SERVER.md).
+# How many MiB a connection may take at most; and how many connections send what part of a request of the most bytes, and how many these may take
+# (docs/use/SERVER.md).
+EACH = 1.1
 LENGTH = asked.LIMIT.to_bytes(4, "big")
 HALVES = {"the length of a request": (1_000, LENGTH, 40), "a request of 1 MiB but its last byte": (100, LENGTH + bytes(asked.LIMIT - 1), 110)}
 
@@ -205,21 +207,27 @@ def crowd(checks, craqd, way, segment, most):
         leaver.start()
         among = slowest_of_most(client, CALLS)
         with_all = server.memory()
-        checks.same(f"what the honest client was told among the crowd that is wrong ({name})", client.wrong[:3], [])
-        checks.that(among <= max(TIMES * alone, most),
-                    f"99 of 100 calls take {among * 1000:.2f} ms among the crowd, {alone * 1000:.2f} among idle connections ({name})")
         over.set()
         leaver.join()
-        for it in halves + mute:
-            it.close()
-        checks.that(is_answered_at_last(client), f"the client is answered once the crowd has gone ({name})")
-        checks.same(f"what the honest client wrote and nobody finds ({name})", client.finds()[:3], [])
+        checks.that(among <= max(TIMES * alone, most),
+                    f"99 of 100 calls take {among * 1000:.2f} ms among the crowd, {alone * 1000:.2f} among idle connections ({name})")
+        checks.that(with_all - bare <= EACH * (HALF + MUTE + LEAVERS), f"the crowd takes {with_all - bare:.0f} MiB ({name})")
+        has_gone(checks, name, client, halves + mute)
         return (f"{name}: 99 of 100 calls within {alone * 1000:.2f} ms among {HALF + MUTE + LEAVERS} idle connections and {among * 1000:.2f} ms "
                 f"among the crowd; {bare:.0f} MiB, {with_idle:.0f} with the idle, {with_halves:.0f} with {HALF} half requests, "
                 f"{with_all:.0f} with the crowd")
     finally:
         over.set()
         server.kill()
+
+
+def has_gone(checks, name, client, crowd):
+    """The crowd ends: the honest client was told nothing wrong, is answered, and finds what it wrote."""
+    for it in crowd:
+        it.close()
+    checks.that(is_answered_at_last(client), f"the client is answered once the crowd has gone ({name})")
+    checks.same(f"what the honest client was told that is wrong ({name})", client.wrong[:3], [])
+    checks.same(f"what the honest client wrote and nobody finds ({name})", client.finds()[:3], [])
 
 
 class Few:

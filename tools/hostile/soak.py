@@ -242,9 +242,9 @@ def looked_at(checks, seen):
 
 
 def older(told, showed):
-    """Of the reads that showed a pass, as pairs of that and a version: those older than an answer that came with no larger one."""
-    passes, newest = [it for it, _ in told], [*itertools.accumulate((it for _, it in told), max)]
-    return [(shown, version) for shown, version in showed if newest and version < ([0] + newest)[bisect.bisect_right(passes, shown)]]
+    """Of the reads that showed a pass, as pairs of that and a version: those older than an answer, as such a pair, that came with no larger one."""
+    passes, newest = [it for it, _ in told], [*itertools.accumulate((it for _, it in told), max, initial=0)]
+    return [(shown, version) for shown, version in showed if version < newest[bisect.bisect_right(passes, shown)]]
 
 
 def memory_of(server, until):

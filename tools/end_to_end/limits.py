@@ -15,8 +15,8 @@ class Limited:
     """A craqd with these options, which ends once its standard input does."""
 
     def __init__(self, craqd, *options, errors=subprocess.PIPE):
-        self.file, self.options = running.text_file(running.PLAN), options
-        words = [craqd, "--until-input-ends", *options, self.file.name, "127.0.0.1:0"]
+        self.file, self.options = running.text_file(running.PLAN), [*running.OPTIONS, *options]
+        words = [craqd, "--until-input-ends", *self.options, self.file.name, "127.0.0.1:0"]
         self.process = subprocess.Popen(words, stdin=subprocess.PIPE, stdout=subprocess.PIPE, stderr=errors)
         found = re.fullmatch(rb"listening ([1-9][0-9]*)\n", self.process.stdout.readline())
         self.port = int(found[1]) if found else 0
@@ -68,7 +68,7 @@ def most(checks, craqd):
         checks.that(all(is_served(made) for made in some), "as many connections as there may be are served")
         for _ in range(3):
             with server.connect() as made:
-                checks.same("one connection more", rest(made), FULL)
+                checks.same("one connection more", rest_or_none(made), FULL)
         some[0].close()
         ends = time.time() + running.PATIENCE
         again = server.connect()
@@ -138,9 +138,9 @@ def port_of(made):
     return made.getsockname()[1]
 
 
-def logged(checks, craqd, *options):
+def logged(checks, craqd):
     """What is told of connections and refusals, in order."""
-    with Limited(craqd, "--log", "--most", "1", *options) as server:
+    with Limited(craqd, "--log", "--most", "1") as server:
         first = server.connect()
         checks.that(is_served(first), "a connection that is told of is served")
         first.sendall(read_of(9, 0))
@@ -156,13 +156,12 @@ def logged(checks, craqd, *options):
                "connection 0 ended\n")
         first.shutdown(socket.SHUT_WR)
         checks.same("a connection at its end", rest(first), b"")
-        server.finish(checks, f"a server with --log {' '.join(options)}", "", log)
+        server.finish(checks, "a server with --log", "", log)
 
 
 def log(checks, craqd):
-    """The log, both where each connection has a thread and where a few threads serve all; one that nothing takes costs no reply."""
+    """The log; one that nothing takes costs no reply."""
     logged(checks, craqd)
-    logged(checks, craqd, "--threads", "2")
     with open("/dev/full", "wb") as full, Limited(craqd, "--log", errors=full) as server, server.connect() as made:
         made.sendall(read_of(9, 0))
         checks.same("a refusal that is told to nobody", reply(made)[1:3], bytes([3, 23]))

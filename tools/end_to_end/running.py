@@ -72,8 +72,23 @@ def unheard(words):
         ran = subprocess.run(words, stdin=subprocess.DEVNULL, stdout=full, stderr=subprocess.PIPE, timeout=PATIENCE)
     return ran.returncode, ran.stderr.decode()
 
-# The options of craqd beside those that a check needs, for each server.
+# The options of craqd beside those that a check needs, for each server; and those that name each way of serving.
 OPTIONS = []
+WAYS = [], ["--threads", "2"]
+
+
+def in_each_way(checks, run):
+    """What a call tells that is made once in each way of serving, in words. A check that fails tells the way."""
+    title, told = checks.title, []
+    for options in WAYS:
+        OPTIONS[:], serves = options, next(way(options))
+        checks.title = f"{title}, with {serves}"
+        try:
+            told.append(f"with {serves}: {run()}")
+        finally:
+            OPTIONS.clear()
+            checks.title = title
+    return "; ".join(told)
 
 
 class Server:

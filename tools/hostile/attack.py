@@ -1,5 +1,6 @@
-"""craqd among clients that send what is no request, or a part of one: after each of them it answers another client at once, and
-within a second it has as many threads and open files as before, and hardly more memory.
+"""craqd, in each way of serving, among clients that send what is no request, or a part of one: after each of them it answers another
+client at once, and within a second it has as many threads and open files as before, and hardly more memory. Where a client
+sends many frames on one connection, that is looked at after each 500 of them, as the connection ends.
 
 Of a thousand waits one may be longer than a second, since a machine may pause; none is longer than ten.
 What may be said to bytes is read from docs/use/BYTES.md by asked.py. A changed byte often makes another request, which is then
@@ -23,6 +24,8 @@ OFTEN = 1_000
 GROWTH = 24
 GARBAGE = (b"\xff" * 64, b"\0" * 64, random.Random(3).randbytes(64))
 QUIET = 0.1
+# After so many frames a connection ends, and another is made.
+FRAMES = 500
 
 
 class Other:
@@ -152,10 +155,10 @@ def is_silent(attacked, what, made):
 
 
 class Kept:
-    """A connection that sends one frame after another, and reads one reply to each."""
+    """A connection that sends one frame after another, and reads one reply to each; after many a new one."""
 
-    def __init__(self, attacked):
-        self.attacked, self.made = attacked, attacked.connect()
+    def __init__(self, attacked, name):
+        self.attacked, self.name, self.made, self.sent = attacked, name, attacked.connect(), 0
 
     def asks(self, what, payload):
         """The reply to this payload is one that it may get, and the other client is answered."""
@@ -168,10 +171,15 @@ class Kept:
             self.made = self.attacked.connect()
         self.attacked.checks.that(asked.is_reply(said, payload), f"{what}, {payload[:80].hex()}: found {said[:80].hex()}")
         self.attacked.goes_on(what)
+        self.sent += 1
+        if self.sent % FRAMES == 0:
+            self.close()
+            self.made = self.attacked.connect()
 
     def close(self):
         self.made.close()
-        self.attacked.comes_back("a connection of many frames")
+        self.attacked.comes_back(self.name)
+        self.attacked.is_small(self.name)
 
 
 def taken(made, size):
@@ -206,11 +214,10 @@ def changed(attacked, requests, values):
         frame, of = asked.framed(payload), f"of {payload[:2].hex()} .. {payload[-12:].hex()}"
         for what, other in changes(frame, range(4), values):
             attacked.hears(f"{what} {of}", other)
-        kept = Kept(attacked)
+        kept = Kept(attacked, f"changes {of}")
         for what, other in changes(frame, range(4, len(frame)), values):
             kept.asks(f"{what} {of}", other[4:])
         kept.close()
-        attacked.is_small(f"changes {of}")
         made += len(frame) * len(values)
     return made
 
@@ -233,24 +240,27 @@ def drawn(draw, requests):
 
 def random_frames(attacked, requests, count):
     """So many frames with payloads that are drawn; gives how many."""
-    draw, kept = random.Random(4), Kept(attacked)
+    draw, kept = random.Random(4), Kept(attacked, "random frames")
     for at in range(count):
         kept.asks(f"random frame {at}", drawn(draw, requests))
     kept.close()
-    attacked.is_small("random frames")
     return count
 
 
-def tried(checks, craqd, whole):
-    """All of them, and what was tried, in words. Where not all is wanted, some of each."""
+def tried(checks, craqd):
+    """All of them in each way of serving, and what was tried, in words."""
     requests = asked.requests()
     checks.that(len({it[:2] for it in requests}) == 7, "docs/use/BYTES.md has requests of each version and kind")
-    each = one_of_each(requests)
+    return running.in_each_way(checks, lambda: served(checks, craqd, requests))
+
+
+def served(checks, craqd, requests):
+    """All of them to one server, and what was tried, in words."""
     attacked = Attacked(checks, craqd)
     try:
-        cuts = cut(attacked, requests if whole else each[:1] + each[-2:])
-        bytes_set = changed(attacked, each, range(256) if whole else (0, 1, 2, 3, 4, 5, 8, 9, 16, 17, 127, 128, 129, 254, 255))
-        frames = random_frames(attacked, requests, 10_000 if whole else 1_000)
+        cuts = cut(attacked, requests)
+        bytes_set = changed(attacked, one_of_each(requests), range(256))
+        frames = random_frames(attacked, requests, 10_000)
         grown = attacked.server.memory() - attacked.memory
         attacked.ends()
     finally:

@@ -2,14 +2,17 @@
 answers is right, and once the others and the limits are gone it serves as before.
 
     crowd    1,000 connections that hold a request but its last byte, 200 that send and never read, 200 a second that connect and leave.
-             Of an honest client's calls meanwhile 99 of 100 take at most 3 times as long as among as many idle connections, or 2 ms, in
-             each way of serving. Those who never read have the segments of an Ethernet. With those of the loopback the system takes 2.8 MB
-             of replies for each before his connection waits: 200 clients are then served for seconds, and 99 of 100 calls of the
-             honest one take at most 100 ms
+             Of an honest client's calls meanwhile 99 of 100 take at most 3 times as long as among as many idle connections, in
+             each way of serving, or 2 ms where each connection has a thread. Those who never read have the segments of an Ethernet. With
+             those of the loopback the system takes 2.8 MB of replies for each before his connection waits: 200 clients are then served for
+             seconds, and 99 of 100 calls of the honest one take at most 100 ms
+    halves   1,000 connections that sent the length of a request and no more, and 100 that sent all of one of 1 MiB but its last byte:
+             they take as much memory as docs/use/SERVER.md says, in each way of serving
     limits   the system gives the running server no more memory (RLIMIT_AS), no more open files (RLIMIT_NOFILE), no more threads
-             (RLIMIT_NPROC; this needs the rights to start it under another user): it refuses, or closes connections. Nothing that it
-             answered is lost
-    most     one connection more than `--most` is told so and closed, where the program has that option
+             (RLIMIT_NPROC; this needs the rights to start it under another user), in each way of serving: it refuses, or closes connections,
+             and some calls are left open. Nothing that it answered is lost. With --threads it needs no thread for a connection, and
+             answers all
+    most     one connection more than `--most` is told so and closed
 """
 import multiprocessing
 import os
@@ -28,29 +31,31 @@ CALLS, TIMES, FLOOR = 3_000, 3, 0.002
 NOBODY, NEWCOMERS = 65534, 40
 # How long the system gives no more, and how long newcomers may then wait.
 LIMITED, BACK = 3.0, 10.0
-# How long a client waits for an answer that may never come.
-SHORTLY = 0.5
+# How long a client waits for an answer that may never come, and how long after what was sent the server has read all of it.
+SHORTLY, SETTLED = 0.5, 1.0
 # What is read by who never reads the replies, how often, and how many bytes of these the system keeps for each.
 BIG, READS, WINDOW = b"v" * 4_000, 1_000, 4_096
 PAGE = os.sysconf("SC_PAGE_SIZE")
+# What one connection too many is told.
+FULL = asked.framed(bytes.fromhex("01030c0000000000000000"))
 # The most bytes of a segment on an Ethernet.
 ETHERNET = 1_448
 # How a server is told to serve, the segments of those who never read (None: those of the loopback), and how many seconds 99 of 100
 # honest calls may take where that is more than 3 times as long as among idle connections.
-CROWDS = [([], ETHERNET, FLOOR), (["--threads", "2"], ETHERNET, FLOOR), ([], None, 0.1), (["--threads", "2"], None, 0.1)]
-
-
-def knows_most(craqd):
-    """Whether the program has the option."""
-    told = subprocess.run([craqd, "--help"], capture_output=True, text=True, timeout=running.PATIENCE)
-    return "--most" in told.stdout + told.stderr
+CROWDS = [([], ETHERNET, FLOOR), (["--threads", "2"], ETHERNET, 0), ([], None, 0.1), (["--threads", "2"], None, 0.1)]
+# How many MiB a connection may take at most; and how many connections send what part of a request of the most bytes, and how many these may take
+# (docs/use/SERVER.md).
+EACH = 1.1
+LENGTH = asked.LIMIT.to_bytes(4, "big")
+HALVES = {"the length of a request": (1_000, LENGTH, 40), "a request of 1 MiB but its last byte": (100, LENGTH + bytes(asked.LIMIT - 1), 110)}
 
 
 class Crowded(running.Server):
-    """A server for many connections, whose user may have so many threads where that is wanted."""
+    """A server for many connections, with the options of running.OPTIONS and these, whose user may have so many threads where that is
+    wanted."""
 
     def __init__(self, craqd, most=None, threads=None, way=()):
-        words = [*way, *(["--most", str(most)] if most else []), "--connections", str(2**32 - 1)]
+        words = [*running.OPTIONS, *way, *(["--most", str(most)] if most else []), "--connections", str(2**32 - 1)]
         self.file, self.left, self.answered = running.text_file(running.PLAN), 2**32 - 1, {}
         os.chmod(self.file.name, 0o644)
         # The system limits the threads of a user, and not those of root.
@@ -181,7 +186,7 @@ def leave(server, over):
 def crowd(checks, craqd, way, segment, most):
     """The crowd, and what was seen, in words."""
     name = f"{' '.join(way) or 'a thread for each connection'}, segments of {'an Ethernet' if segment else 'the loopback'}"
-    server = Crowded(craqd, HALF + MUTE + LEAVERS + 200 if knows_most(craqd) else None, way=way)
+    server = Crowded(craqd, HALF + MUTE + LEAVERS + 200, way=way)
     over = multiprocessing.Event()
     try:
         client = Honest(server, 1)
@@ -202,21 +207,27 @@ def crowd(checks, craqd, way, segment, most):
         leaver.start()
         among = slowest_of_most(client, CALLS)
         with_all = server.memory()
-        checks.same(f"what the honest client was told among the crowd that is wrong ({name})", client.wrong[:3], [])
-        checks.that(among <= max(TIMES * alone, most),
-                    f"99 of 100 calls take {among * 1000:.2f} ms among the crowd, {alone * 1000:.2f} among idle connections ({name})")
         over.set()
         leaver.join()
-        for it in halves + mute:
-            it.close()
-        checks.that(is_answered_at_last(client), f"the client is answered once the crowd has gone ({name})")
-        checks.same(f"what the honest client wrote and nobody finds ({name})", client.finds()[:3], [])
+        checks.that(among <= max(TIMES * alone, most),
+                    f"99 of 100 calls take {among * 1000:.2f} ms among the crowd, {alone * 1000:.2f} among idle connections ({name})")
+        checks.that(with_all - bare <= EACH * (HALF + MUTE + LEAVERS), f"the crowd takes {with_all - bare:.0f} MiB ({name})")
+        has_gone(checks, name, client, halves + mute)
         return (f"{name}: 99 of 100 calls within {alone * 1000:.2f} ms among {HALF + MUTE + LEAVERS} idle connections and {among * 1000:.2f} ms "
                 f"among the crowd; {bare:.0f} MiB, {with_idle:.0f} with the idle, {with_halves:.0f} with {HALF} half requests, "
                 f"{with_all:.0f} with the crowd")
     finally:
         over.set()
         server.kill()
+
+
+def has_gone(checks, name, client, crowd):
+    """The crowd ends: the honest client was told nothing wrong, is answered, and finds what it wrote."""
+    for it in crowd:
+        it.close()
+    checks.that(is_answered_at_last(client), f"the client is answered once the crowd has gone ({name})")
+    checks.same(f"what the honest client was told that is wrong ({name})", client.wrong[:3], [])
+    checks.same(f"what the honest client wrote and nobody finds ({name})", client.finds()[:3], [])
 
 
 class Few:
@@ -235,15 +246,39 @@ class Few:
                 done = it.tries(BIG)
                 self.answered, self.left_open = self.answered + done, self.left_open + (not done)
 
-    def ends(self, checks, name):
-        """All are answered now, and what was ever answered is there; gives what was seen, in words."""
+    def ends(self, checks, name, is_felt=True):
+        """Calls were left open where the limit is felt, and none else; all are answered now, and what was ever answered is there. Gives what was seen,
+        in words."""
         checks.that(self.server.runs(), f"the server goes on with {name} at their limit")
+        checks.that((self.left_open > 0) == is_felt and self.answered > 0, f"with {name} at their limit {self.answered} calls are answered, {self.left_open} left open")
         for it in self.all:
             checks.that(is_answered_at_last(it), f"client {it.id} is answered once {name} are no more at their limit")
             it.drop()
         checks.same(f"wrong answers with {name} at their limit", [it.wrong for it in self.all if it.wrong][:3], [])
         checks.same(f"what was answered with {name} at their limit and is lost", [lost for it in self.all for lost in it.finds()][:3], [])
         return f"{name} at their limit: {self.answered} answers, {self.left_open} left open"
+
+
+def holds_halves(checks, craqd):
+    """Connections that sent a part of a request take no more memory than they may; gives how much, in words."""
+    told = []
+    for what, (count, part, most) in HALVES.items():
+        server = Crowded(craqd, count + 10)
+        try:
+            client = Honest(server, 1)
+            checks.that(is_answered_at_last(client), "a client is answered before others send half requests")
+            before = server.memory()
+            some = held(server, count, part)
+            checks.that(is_answered_at_last(client), f"a client is answered beside {count} connections that sent {what}")
+            time.sleep(SETTLED)
+            grown = server.memory() - before
+            checks.that(grown <= most, f"{count} connections that sent {what} take {grown:.0f} MiB, {most} at most")
+            told.append(f"{count} connections that sent {what} took {grown:.0f} MiB")
+            for it in some:
+                it.close()
+        finally:
+            server.kill()
+    return ", ".join(told)
 
 
 def limited(checks, craqd, name, what):
@@ -262,11 +297,12 @@ def limited(checks, craqd, name, what):
 
 
 def limited_threads(checks, craqd):
-    """The system gives no thread for a connection while some are held."""
+    """The system gives no more threads while some connections are held, each of which has one unless a few threads serve all."""
     server = Crowded(craqd)
     own = server.threads()
     server.kill()
-    server = Crowded(craqd, threads=own + NEWCOMERS // 2)
+    needs = not running.OPTIONS
+    server = Crowded(craqd, threads=own + NEWCOMERS // 2 * needs)
     try:
         few = Few(server)
         some = held(server, NEWCOMERS // 2, b"")
@@ -275,9 +311,20 @@ def limited_threads(checks, craqd):
             it.close()
         for it in few.all:
             it.drop()
-        return few.ends(checks, "threads")
+        return few.ends(checks, "threads", needs)
     finally:
         server.kill()
+
+
+def told_at_once(made):
+    """What comes on a connection shortly, and whether it then ends."""
+    said = b""
+    try:
+        while more := made.recv(100):
+            said += more
+    except OSError:
+        return said, False
+    return said, True
 
 
 def one_too_many(checks, craqd):
@@ -288,12 +335,9 @@ def one_too_many(checks, craqd):
         for it in some:
             it.send(example.one(1, example.read_request(1, 0, example.STRONG, 0, "k")))
             checks.same("a connection of as many as may be", example.replies_of(it.receive())[0][1], example.Read(0, b""))
-        more = example.Connection(server.address)
-        told = example.replies_of(more.receive())[0][1]
-        checks.that(isinstance(told, example.Refused) and told.number == example.PENDING_FULL, f"one connection too many is told {told}")
-        checks.same("what comes after that", more.socket.recv(1), b"")
-        for it in (more, some.pop()):
-            it.close()
+        with socket.create_connection(("127.0.0.1", server.port), SHORTLY) as more:
+            checks.same("one connection too many is told", told_at_once(more), (FULL, True))
+        some.pop().close()
         checks.that(is_answered_at_last(Honest(server, 1)), "a connection is served once another has gone")
         for it in some:
             it.close()
@@ -303,16 +347,12 @@ def one_too_many(checks, craqd):
 
 
 def limits(checks, craqd):
-    """The three limits, and what was seen, in words."""
-    told = [limited(checks, craqd, "open files", resource.RLIMIT_NOFILE), limited(checks, craqd, "memory", resource.RLIMIT_AS)]
-    if os.getuid() == 0:
-        told.append(limited_threads(checks, craqd))
-    return "; ".join(told)
+    """Half requests, the three limits and one connection too many in one way of serving, and what was seen, in words."""
+    told = [holds_halves(checks, craqd), limited(checks, craqd, "open files", resource.RLIMIT_NOFILE), limited(checks, craqd, "memory", resource.RLIMIT_AS)]
+    told.append(limited_threads(checks, craqd) if os.getuid() == 0 else "the limit of threads is left out: only root can start craqd under another user")
+    return ", ".join([*told, one_too_many(checks, craqd)])
 
 
 def tried(checks, craqd):
     """All of them, and what was tried, in words."""
-    told = [*(crowd(checks, craqd, *it) for it in CROWDS), limits(checks, craqd)]
-    if knows_most(craqd):
-        told.append(one_too_many(checks, craqd))
-    return "; ".join(told)
+    return "; ".join([*(crowd(checks, craqd, *it) for it in CROWDS), running.in_each_way(checks, lambda: limits(checks, craqd))])

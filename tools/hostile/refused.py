@@ -13,6 +13,7 @@ import os
 import re
 import subprocess
 import tempfile
+from typing import NamedTuple
 
 import every_stop
 import playing
@@ -24,7 +25,7 @@ PLAYED = ("put-then-read-everywhere", "acknowledged-while-a-query-travels", "joi
 # Calls whose asks for memory are counted by themselves, where the program has them by name.
 LAB_CALLS = {"Core::step": r"craq_node::core_over_past::\w+::step::", "ChainCore::take": r"craq_chain::chain::ChainCore::take::",
              "explain_run": r"craq_explain::replay::explain_run_of$", "check": r"craq_check::verdict::check$"}
-PATIENCE, NO_MEMORY = 20, 3
+PATIENCE, NO_MEMORY = 60, 3
 
 
 class Library:
@@ -41,8 +42,18 @@ class Library:
         return {"LD_PRELOAD": self.file, "REFUSE_TOLD": told, **{f"REFUSE_{name.upper()}": str(it) for name, it in what.items()}}
 
 
+class Under(NamedTuple):
+    """What the library tells of a program: whether something was refused; how many asks for memory and threads counted, as far as that was told;
+    and how often it told that, which is once for each call of REFUSE_CALL, and once where the program ends by `exit`."""
+
+    refused: bool
+    memory: int
+    threads: int
+    tells: int
+
+
 def told_in(env):
-    """Whether something was refused, and how many asks for memory and threads there were, as far as the program came to its end."""
+    """What the library told."""
     try:
         with open(env["REFUSE_TOLD"], encoding="ascii") as it:
             text = it.read()
@@ -50,7 +61,8 @@ def told_in(env):
     except FileNotFoundError:
         text = ""
     counts = re.findall(r"memory (\d+) threads (\d+)\n", text)
-    return "refused\n" in text, tuple(map(int, counts[-1])) if counts else (0, 0)
+    memory, threads = map(int, counts[-1]) if counts else (0, 0)
+    return Under("refused\n" in text, memory, threads, len(counts))
 
 
 def keeps_frames(program, start):
@@ -88,27 +100,28 @@ def told_under(library, program, words, script, **what):
     """What the program tells under the library, and what that tells."""
     env = library.refusing(**what)
     ran = subprocess.run([program, *words], input=script, capture_output=True, timeout=PATIENCE, env=env)
-    return playing.Told(ran.returncode, ran.stdout, ran.stderr), *told_in(env)
+    return playing.Told(ran.returncode, ran.stdout, ran.stderr), told_in(env)
 
 
-def played(checks, library, program, step):
-    """Each ask for memory, or each `step`th, refused while a script is played; gives how many were, and how many asks each named call has."""
+def played(checks, library, program):
+    """Each ask for memory refused while a script is played; gives how many were, and how many asks each named call has."""
     refused = 0
     within = {name: ranges(program, pattern) for name, pattern in LAB_CALLS.items()}
     asked = {name: 0 for name, found in within.items() if found}
     for what, words, script, expected in plays():
-        told, _, (asks, _) = told_under(library, program, words, script)
+        told, under = told_under(library, program, words, script)
+        asks = under.memory
         checks.same(f"{what}, with ample memory", told, playing.Told(0, expected, b""))
         checks.that(asks > 0, f"{what} asks for memory")
         for name in asked:
-            asked[name] += told_under(library, program, words, script, within=within[name])[2][0]
-        numbers = [*range(1, asks + 1, step), asks + 1]
+            asked[name] += told_under(library, program, words, script, within=within[name])[1].memory
+        numbers = range(1, asks + 2)
         runs = playing.side_by_side(lambda at: told_under(library, program, words, script, memory=at), numbers)
-        for at, (told, was_refused, _) in zip(numbers, runs):
+        for at, (told, under) in zip(numbers, runs):
             fits = told in (playing.Told(0, expected, b""), playing.Told(NO_MEMORY, b"", b"no memory\n"))
             checks.that(fits, f"{what}, ask for memory {at} refused: {told}")
-            checks.same(f"{what}: whether ask for memory {at} of {asks} was refused", was_refused, at <= asks)
-            refused += was_refused
+            checks.same(f"{what}: whether ask for memory {at} of {asks} was refused", under.refused, at <= asks)
+            refused += under.refused
     return refused, asked
 
 
@@ -123,20 +136,21 @@ def quiet(checks, library, program):
         return [told_under(library, program, words, b"".join(lines[:size]), within=step) for size in range(len(lines) + 1)]
 
     for (name, _, lines, core), runs in zip(cases if step else [], playing.side_by_side(prefixes, cases if step else [])):
-        for line, (before, _, asks), (after, _, more) in zip(lines, runs, runs[1:]):
+        for line, (before, asks), (after, more) in zip(lines, runs, runs[1:]):
             said = after.output[len(before.output):].decode()
             if said.startswith("ignored ") or line.startswith(b"stop ") and said == "ok\n":
-                checks.same(f"asks for memory in the step of {line.decode().strip()} in {name} with {core}, which is told {said.strip()}", more, asks)
+                checks.same(f"asks for memory in the step of {line.decode().strip()} in {name} with {core}, which is told {said.strip()}", more.memory, asks.memory)
                 seen += 1
                 reasons.add(said.strip() if said != "ok\n" else "stop")
+    checks.that(not step or "stop" in reasons and len(reasons) > 1, f"the scripts have messages that are ignored, and stops: {reasons}")
     return seen, sorted(reasons)
 
 
-def tried(checks, craq_lab, whole):
-    """All of them, and what was tried, in words. Where not all is wanted, each 40th ask for memory."""
+def tried(checks, craq_lab):
+    """All of them, and what was tried, in words."""
     with tempfile.TemporaryDirectory(prefix="refused-") as folder:
         library = Library(folder)
-        scripts, asks = played(checks, library, craq_lab, 1 if whole else 40)
+        scripts, asks = played(checks, library, craq_lab)
         moves, reasons = quiet(checks, library, craq_lab)
     named = ", ".join(f"{count} in {name}" for name, count in asks.items())
     seen = f"{named}; {moves} moves ask for none: {', '.join(reasons)}" if named else "in which call is not seen in this program"

@@ -1,7 +1,8 @@
-"""Each ask for memory, and each thread, refused in turn in a server that is asked meanwhile (refused.py tells how).
+"""Each ask for memory, and each thread, refused in turn in a server that is asked meanwhile, in each way of serving (refused.py tells how).
 
-What craqd refuses for want of memory, or closes, is asked again with its number: every answer is right, no update is done twice, and
-the audit confirms what was answered; or the server ends with `no memory`.
+A server that has told its port answers: what it refuses for want of memory, or closes, is asked again with its number, every ask has its
+answer in the end, no update is done twice, and the audits confirm what was answered. In its end it may tell `no memory`, of a connection
+or of an audit. One that has not told its port ends with `no memory` and nothing else.
 """
 import re
 import subprocess
@@ -67,8 +68,9 @@ class Asker:
         self.connection = None
 
 
-# How many asks of the chain these are.
-ASKS = 11
+# How many rounds of a put and a read at each node come last, and how many asks of the chain there are in all.
+ROUNDS = 24
+ASKS = 11 + 4 * ROUNDS
 
 
 def answers(asker):
@@ -84,14 +86,19 @@ def answers(asker):
         yield f"a read at {node}", asker.reads(node, "k"), Read(2, b"a" + b"b" * 300)
         yield f"another read at {node}", asker.reads(node, "n"), Read(2, (5).to_bytes(8, "big"))
     yield "the status", asker.asks((example.STATUS, b"")), running.STATUS
+    for at in range(ROUNDS):
+        value = b"%d" % at
+        yield f"put {at}", asker.updates(example.put(0, f"round-{at}", value)), Written(1)
+        for node in 1, 2, 3:
+            yield f"a read at {node} after put {at}", asker.reads(node, f"round-{at}"), Read(1, value)
 
 
 class Run(NamedTuple):
-    """How a server ran with something refused: what was wrong, its status, whether all asks were answered, and whether something was refused."""
+    """How a server ran with something refused: what was wrong, its status, whether it told its port, and whether something was refused."""
 
     faults: list
     status: int
-    answered: bool
+    listened: bool
     refused: bool
 
 
@@ -109,22 +116,21 @@ def ended(server):
     return server.process.returncode, server.first + out.decode(), err.decode()
 
 
-def audited(out, answered, asked):
-    """Whether the end of a server's output confirms at least so many answered asks of chain 0, at most those that were asked."""
-    found = re.fullmatch(r"audit merged ([0-9]+)\naudit merged 0\n", out)
-    return bool(found) and answered <= int(found[1]) <= asked
+def audited(out, answered, asked, is_whole):
+    """Whether the end of a server's output confirms at least so many answered asks of chain 0, at most those that were asked; where that need
+    not be whole, an audit may be lacking."""
+    found = re.fullmatch(r"(?:audit merged ([0-9]+)\n(audit merged 0\n)?)?", out)
+    return bool(found) and (found[2] or not is_whole) and (not found[1] or answered <= int(found[1]) <= asked)
 
 
 def asked_all(asker):
-    """What was wrong with the answers that came, and how many of asks of the chain were right, until the server ended or all came."""
+    """What was wrong with the answers that came, and how many of asks of the chain were right, until all came or the server ended, which is wrong."""
     faults, right = [], 0
     try:
         for what, found, wanted in answers(asker):
             right += found == wanted and what != "the status"
             faults += [] if found == wanted else [f"{what}: found {found}, wanted {wanted}"]
-    except Ended:
-        pass
-    except (TimeoutError, example.BadReply) as failure:
+    except (Ended, TimeoutError, example.BadReply) as failure:
         faults.append(repr(failure))
     asker.close()
     return faults, right
@@ -140,30 +146,41 @@ def served(craqd, env):
     finally:
         server.kill()
     status, out, err = told
-    err = re.sub(server.served(), "", err, count=1)
-    has_no_memory = (status, err) == (refused.NO_MEMORY, "no memory\n")
-    served_on = (status, err) == (0, "") and right == ASKS and audited(out[len(server.first):], right, asker.asked)
-    if not has_no_memory and not served_on:
+    has_no_memory = (status, re.sub(server.served(), "", err, count=1)) == (refused.NO_MEMORY, "no memory\n")
+    is_well = has_no_memory or re.fullmatch(server.served(), err) and status == 0
+    if server.port:
+        is_well = is_well and right == ASKS and audited(out[len(server.first):], right, asker.asked, not has_no_memory)
+    else:
+        is_well = has_no_memory and not out
+    if not is_well:
         faults.append(f"it ended with {told}, after {right} right answers")
-    return Run(faults, status, right == ASKS, refused.told_in(env)[0])
+    return Run(faults, status, bool(server.port), refused.told_in(env).refused)
 
 
-def attacked(checks, library, craqd, what, numbers):
-    """One server for each of these numbers, in which that ask for memory or thread is refused;
-    gives how many were, after how many the client had all its answers, and after how many the server ended well."""
+def attacked(checks, library, craqd, what, count, name):
+    """One server for each number up to this, in which that ask for memory or thread is refused; gives in how many it was once they
+    listened, and what came of all, in words."""
+    numbers = range(1, count + 1)
     runs = playing.side_by_side(lambda at: served(craqd, library.refusing(**{what: at})), numbers)
     for at, run in zip(numbers, runs):
         checks.that(not run.faults, f"{what} {at} refused in craqd: {run.faults}")
-    return sum(it.refused for it in runs), sum(it.refused and it.answered for it in runs), sum(it.refused and it.status == 0 for it in runs)
+    met = [it for it in runs if it.refused]
+    early, in_the_end = sum(not it.listened for it in met), sum(it.listened and it.status == refused.NO_MEMORY for it in met)
+    checks.that(early > 0, f"some {name} are refused before craqd listens")
+    told = f"{len(met)} {name} refused, {early} of them before it listened"
+    return len(met) - early, f"{told}, and {in_the_end} that it told in the end"
 
 
-def tried(checks, craqd, whole):
-    """All of them, and what was tried, in words. Where not all is wanted, each 40th ask for memory and each 4th thread."""
+def all_of(checks, library, craqd):
+    """Each ask for memory and each thread refused in one way of serving, and what was tried, in words."""
+    checks.same("craqd with ample memory", served(craqd, library.refusing()), Run([], 0, True, False))
+    late, memory = attacked(checks, library, craqd, "memory", MEMORY, "asks for memory")
+    checks.that(late > MEMORY // 2, f"more than half of {MEMORY} asks for memory are refused after craqd listens: {late}")
+    return f"{memory}; {attacked(checks, library, craqd, 'thread', THREADS, 'threads')[1]}"
+
+
+def tried(checks, craqd):
+    """All of them in each way of serving, and what was tried, in words."""
     with tempfile.TemporaryDirectory(prefix="refused-") as folder:
         library = refused.Library(folder)
-        ample = served(craqd, library.refusing())
-        checks.same("craqd with ample memory", ample, Run([], 0, True, False))
-        memory = attacked(checks, library, craqd, "memory", range(1, MEMORY + 1, 1 if whole else 40))
-        threads = attacked(checks, library, craqd, "thread", range(1, THREADS + 1, 1 if whole else 4))
-    return " and ".join(f"{count} {what} refused, after {answered} of them all asks were answered, after {well} it ended well"
-                        for what, (count, answered, well) in (("asks for memory", memory), ("threads", threads)))
+        return running.in_each_way(checks, lambda: all_of(checks, library, craqd))

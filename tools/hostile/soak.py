@@ -7,21 +7,26 @@ others join. Their clients look at what the clients below look at, each chain is
 is back after the stores. The run of a chain in which something is wrong is kept as a file that `craq_lab play` reads. What building
 takes is told, and does not count as time of the soak.
 
-The rest of the time processes ask a server, lose replies and ask again. The server runs once with journals, which are audited in its
-end, and once without, where its memory may not grow, since the clients and their objects stay the same. Each process has some connections, one client each, and looks at all that a client can see:
+The rest of the time processes ask a server, in each way of serving, lose replies and ask again. The server runs once with journals, which are
+audited in its end, and once without, where its memory may not grow, since the clients and their objects stay the same. Each process has some connections, one client each, and looks at all that a client can see:
 
 - the versions of an object that one client alone writes follow one another, and a read of it gives what was put
 - the versions that all clients were given of an object that they count up together are 1, 2, 3 and so on, each given once
 - no strong read is older than any answer, of any process, that ended before it was asked
+- no strong read that shows a pass, whoever was told it, is older than any answer that came with that pass or a smaller one
 - an update that is asked again with its number has the reply that it had, whether that was lost or not
 
 A running server lets no client stop, remove or join a node. These come up in the stores and in the random scripts, with lost, late and
 repeated messages: both cores print the same, and the verdict on schedules that are drawn of them is true. A script for which that fails is
 kept as a file that `craq_lab play` reads.
+
+Five minutes on four processors have to make a million answered calls, a thousand stops and a thousand joins; other times as many as are due.
 """
+import bisect
 import collections
 import itertools
 import multiprocessing
+import os
 import random
 import re
 import shutil
@@ -49,8 +54,10 @@ GROWTH = 24
 # How many processes play scripts, how far apart their seeds begin, and how many schedules are drawn of a script.
 PLAYERS, FAR, DRAWS = 2, 1_000_000, 3
 # What is counted in all parts together, with its name in words.
-COUNTED = {"answered": "calls answered", "stops": "stops", "joins": "joins", "lost": "messages lost", "late": "late", "twice": "arrived twice",
-           "unheard": "replies lost", "repeated": "updates repeated", "merged": "audits merged"}
+COUNTED = {"answered": "calls answered", "stops": "stops", "joins": "joins", "lost": "messages lost", "late": "messages or work late", "twice": "messages that came twice",
+           "unheard": "replies lost", "repeated": "updates repeated", "passes": "reads with a pass", "merged": "audits merged"}
+# What five minutes on four processors have to make.
+DUE = {"answered": 1_000_000, "stops": 1_000, "joins": 1_000}
 
 
 def plan():
@@ -63,6 +70,8 @@ class Seen:
     def __init__(self):
         self.faults, self.counted = [], {chain: [] for chain in range(CHAINS)}
         self.asked, self.answered = [0] * CHAINS, [0] * CHAINS
+        # By chain, of the object that all count up: the pass and the version of each answer, and of each read with a pass what it showed.
+        self.told, self.showed = [[] for _ in range(CHAINS)], [[] for _ in range(CHAINS)]
         self.lost = self.repeated = 0
 
     def that(self, holds, what):
@@ -71,10 +80,11 @@ class Seen:
 
 
 class Writer:
-    """A client with a connection. It writes an object of its own in each chain."""
+    """A client with a connection. It writes an object of its own in each chain. What all know of a chain: the newest version of the object that
+    they count up, and the largest pass."""
 
-    def __init__(self, address, id, draw, seen, newest, budget):
-        self.address, self.id, self.draw, self.seen, self.newest, self.budget = address, id, draw, seen, newest, budget
+    def __init__(self, address, id, draw, seen, newest, passes, budget):
+        self.address, self.id, self.draw, self.seen, self.newest, self.passes, self.budget = address, id, draw, seen, newest, passes, budget
         self.connection, self.shown = None, 0
         self.numbers, self.own = [0] * CHAINS, [[] for _ in range(CHAINS)]
         self.replies = [{} for _ in range(CHAINS)]
@@ -105,10 +115,10 @@ class Writer:
             number = self.draw.choice(sorted(self.replies[chain])[-KEPT // 2:])
             self.seen.repeated += 1
             return "again", number, self.update(chain, number, example.put(chain, "never", b""))
-        node = self.draw.choice(NODES)
+        node, shown = self.draw.choice(NODES), self.draw.choice([0, self.passes[chain]])
         if pick < 0.75:
-            return "own", None, example.read_request(node, 0, example.STRONG, chain, self.key())
-        return "shared", self.newest[chain], example.read_request(node, 0, example.STRONG, chain, "shared")
+            return "own", None, example.read_request(node, shown, example.STRONG, chain, self.key())
+        return "shared", (self.newest[chain], shown), example.read_request(node, shown, example.STRONG, chain, "shared")
 
     def begin(self):
         """Chooses some asks of one chain."""
@@ -145,11 +155,11 @@ class Writer:
             self.send()
         self.shown = max([self.shown] + [shown for shown, _ in replies if shown is not None])
         self.seen.answered[self.chain] += len(told)
-        for ask, it in zip(self.asks, told):
-            self.look(*ask[:2], it)
+        for ask, (shown, it) in zip(self.asks, replies):
+            self.look(*ask[:2], it, shown)
 
-    def look(self, kind, needed, told):
-        """Looks at one reply."""
+    def look(self, kind, needed, told, shown):
+        """Looks at one reply, and the pass that came with it."""
         chain, own, seen = self.chain, self.own[self.chain], self.seen
         where = f"client {self.id}, chain {chain}, {kind} {needed}: {told}"
         if kind == "put":
@@ -161,7 +171,7 @@ class Writer:
             seen.that(isinstance(told, example.Written), where)
             if isinstance(told, example.Written):
                 seen.counted[chain].append(told.version)
-                self.newest[chain] = max(self.newest[chain], told.version)
+                self.learn(told.version, shown)
             self.keep(needed, told)
         elif kind == "again":
             seen.that(told == self.replies[chain].get(needed, told), f"{where}, wanted {self.replies[chain].get(needed)}")
@@ -169,9 +179,16 @@ class Writer:
             seen.that(told in self.own_reads(), f"{where}, wanted version {len(own)}")
         else:
             value = told.version.to_bytes(8, "big") if isinstance(told, example.Read) and told.version else b""
-            seen.that(isinstance(told, example.Read) and told.version >= needed and told.value == value, where)
+            seen.that(isinstance(told, example.Read) and told.version >= needed[0] and told.value == value, where)
             if isinstance(told, example.Read):
-                self.newest[chain] = max(self.newest[chain], told.version)
+                seen.showed[chain] += [(needed[1], told.version)] if needed[1] else []
+                self.learn(told.version, shown)
+
+    def learn(self, version, shown):
+        """All know of an answer about the object that they count up, and its pass."""
+        self.seen.told[self.chain].append((shown, version))
+        self.newest[self.chain] = max(self.newest[self.chain], version)
+        self.passes[self.chain] = max(self.passes[self.chain], shown)
 
     def own_reads(self):
         """What may be read of this client's object: its newest; where the same was asked before, also what it puts then."""
@@ -191,12 +208,12 @@ class Writer:
             del kept[old]
 
 
-def asking(at, address, newest, until, given):
+def asking(at, address, newest, passes, until, given):
     """One process: it asks until that time, and gives what it saw."""
     seen = Seen()
     try:
         draw = random.Random(at)
-        writers = [Writer(address, at * ATONCE + it, draw, seen, newest, CONNECTS // ATONCE) for it in range(ATONCE)]
+        writers = [Writer(address, at * ATONCE + it, draw, seen, newest, passes, CONNECTS // ATONCE) for it in range(ATONCE)]
         while time.monotonic() < until and not seen.faults:
             for it in writers:
                 it.begin()
@@ -220,6 +237,14 @@ def looked_at(checks, seen):
     for chain in range(CHAINS):
         versions = sorted(version for it in seen for version in it.counted[chain])
         checks.same(f"the versions that all were given in chain {chain}", versions, list(range(1, len(versions) + 1)))
+        told, showed = (sorted(pair for it in seen for pair in pairs(it)[chain]) for pairs in (lambda it: it.told, lambda it: it.showed))
+        checks.same(f"reads of chain {chain} that are older than an answer of no larger pass than they showed", older(told, showed)[:3], [])
+
+
+def older(told, showed):
+    """Of the reads that showed a pass, as pairs of that and a version: those older than an answer, as such a pair, that came with no larger one."""
+    passes, newest = [it for it, _ in told], [*itertools.accumulate((it for _, it in told), max, initial=0)]
+    return [(shown, version) for shown, version in showed if version < newest[bisect.bisect_right(passes, shown)]]
 
 
 def memory_of(server, until):
@@ -238,8 +263,9 @@ def served(checks, craqd, seconds, journal):
     """One server that is asked for so long; gives what was counted, and how many asks were answered, in words."""
     server = running.Server(craqd, plan(), PROCESSES * CONNECTS + 1, journal=journal)
     try:
-        newest, given, until = multiprocessing.Array("Q", CHAINS, lock=False), multiprocessing.Queue(), time.monotonic() + seconds
-        some = [multiprocessing.Process(target=asking, args=(at, server.address, newest, until, given), daemon=True) for at in range(PROCESSES)]
+        newest, passes = (multiprocessing.Array("Q", CHAINS, lock=False) for _ in range(2))
+        given, until = multiprocessing.Queue(), time.monotonic() + seconds
+        some = [multiprocessing.Process(target=asking, args=(at, server.address, newest, passes, until, given), daemon=True) for at in range(PROCESSES)]
         for it in some:
             it.start()
         early, late = memory_of(server, until)
@@ -254,9 +280,22 @@ def served(checks, craqd, seconds, journal):
         ends(checks, server, seen, journal)
     finally:
         server.kill()
-    asks, lost, again = (sum(map(count, seen)) for count in (lambda it: sum(it.answered), lambda it: it.lost, lambda it: it.repeated))
-    counts = collections.Counter(answered=asks, unheard=lost, repeated=again, merged=CHAINS if journal else 0)
-    return counts, f"{asks} asks answered {'with' if journal else 'without'} journals, {lost} replies lost, {again} updates repeated, {early:.0f} to {late:.0f} MiB"
+    counts = collections.Counter(answered=sum(sum(it.answered) for it in seen), unheard=sum(it.lost for it in seen), repeated=sum(it.repeated for it in seen),
+                                 passes=sum(len(pairs) for it in seen for pairs in it.showed), merged=CHAINS if journal else 0)
+    asks, lost, again, shown = (counts[it] for it in ("answered", "unheard", "repeated", "passes"))
+    checks.that(min(asks, lost, again, shown) > 0, f"the soak asks a server, loses replies, repeats updates and shows passes: {counts}")
+    return counts, (f"{asks} asks answered {'with' if journal else 'without'} journals, {shown} of them reads of what all count up with a pass, "
+                    f"{lost} replies lost, {again} updates repeated, {early:.0f} to {late:.0f} MiB")
+
+
+def asked_for(checks, craqd, seconds, counts):
+    """A server with journals, and one without, for so long together; adds to the counts, and gives what was seen, in words."""
+    journaled, told = min(seconds / 2, JOURNALED), []
+    for each, journal in (journaled, True), (seconds - journaled, False):
+        more, words = served(checks, craqd, each, journal)
+        counts.update(more)
+        told.append(words)
+    return ", ".join(told)
 
 
 def ends(checks, server, seen, journal):
@@ -308,29 +347,39 @@ def in_all(counts):
     return "in all " + ", ".join(f"{counts[name]} {words}" for name, words in COUNTED.items())
 
 
+def is_enough(checks, counts, minutes, names):
+    """As much was done as is due in so many minutes on the processors that there are, of four at most."""
+    share = minutes / 5 * min(4, len(os.sched_getaffinity(0))) / 4
+    for name in names:
+        checks.that(counts[name] >= DUE[name] * share, f"{COUNTED[name]} in {minutes} minutes: {counts[name]}, of {DUE[name] * share:.0f} that are due")
+
+
 def tried(checks, craq_lab, craqd, minutes):
     """The soak, and what was tried, in words."""
     if shutil.which("rt"):
         counts, stored = stores.tried(checks, minutes * STORED * 60)
-        minutes *= 1 - STORED
+        more, words = scripts_and_servers(checks, craq_lab, craqd, minutes * (1 - STORED))
+        is_enough(checks, counts + more, minutes, DUE)
     else:
         counts, stored = collections.Counter(), "stores on threads are left out: there is no rt to build them"
+        more, words = scripts_and_servers(checks, craq_lab, craqd, minutes)
+        is_enough(checks, more, minutes, ["answered"])
+    return f"{stored}; {words}; {in_all(counts + more)}"
+
+
+def scripts_and_servers(checks, craq_lab, craqd, minutes):
+    """Servers that are asked, beside random scripts; gives what was counted, and what was tried, in words."""
     seed, given, until = int(time.time()), multiprocessing.Queue(), time.monotonic() + minutes * 60
     beside = [multiprocessing.Process(target=scripted, args=(craq_lab, seed + at * FAR, until, given), daemon=True) for at in range(PLAYERS)]
     for it in beside:
         it.start()
-    journaled = min(minutes * 30, JOURNALED)
-    told = [stored]
-    for seconds, journal in (journaled, True), (minutes * 60 - journaled, False):
-        more, words = served(checks, craqd, seconds, journal)
-        counts += more
-        told.append(words)
+    counts = collections.Counter()
+    told = running.in_each_way(checks, lambda: asked_for(checks, craqd, minutes * 60 / len(running.WAYS), counts))
     played = [given.get(timeout=minutes * 60 + running.PATIENCE * 30) for _ in beside]
     for it in beside:
         it.join()
     checks.same("scripts of the soak that failed", [name for _, failed in played for name in failed], [])
     checks.that(min(it["scripts"] for it, _ in played) > 0, "the soak plays scripts")
-    scripts_played = sum((it for it, _ in played), collections.Counter())
-    told.append(f"{scripts_played['scripts']} scripts from seed {seed} on, {scripts_played['stops']} stops and {scripts_played['joins']} joins in them, "
-                f"{DRAWS * scripts_played['scripts']} schedules")
-    return "; ".join([*told, in_all(counts + scripts_played)])
+    more = sum((it for it, _ in played), collections.Counter())
+    return counts + more, (f"{told}; {more['scripts']} scripts from seed {seed} on, {more['stops']} stops and {more['joins']} joins in them, "
+                           f"{DRAWS * more['scripts']} schedules")

@@ -1,4 +1,5 @@
-"""The programs under valgrind, Debian's package: the worked scripts with either core, and a server under load for a minute.
+"""The programs under valgrind, Debian's package: the worked scripts with either core, and a server under load for a minute, in each way
+of serving.
 
 It reports what is read or written where nothing may be, what is used without a value, and what is lost to all: none of these.
 Where it is not installed the part is left out, and says so.
@@ -72,4 +73,5 @@ def tried(checks, craq_lab, craqd, seconds=60):
     """Both, and what was tried, in words."""
     if not shutil.which(WORDS[0]):
         return "left out: valgrind is not installed"
-    return f"{scripts(checks, craq_lab)} scripts, and {served(checks, craqd, seconds)} asks of a server in {seconds} s"
+    played = scripts(checks, craq_lab)
+    return f"{played} scripts; " + running.in_each_way(checks, lambda: f"{served(checks, craqd, seconds)} asks of a server in {seconds} s")

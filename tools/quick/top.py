@@ -261,12 +261,16 @@ def plant(checks, clone):
 
 
 def refuse(checks, clone):
-    """./refuse has `rt ci` try the edits of wrong/ in a copy, and counts those that are refused."""
-    for said, wanted in (("refused, as it must be", (0, "1 refused, 0 not")), ("NOT REFUSED", (1, "0 refused, 1 not"))):
-        clone.rt_does("ci", f"test -e crates/craq_names/must-fail/never.edit || exit 3\necho 'rt: must-fail craq_names/never.edit: {said}'\n")
-        status, out, _ = clone.ran("refuse")
-        checks.same(f"an edit that is {said}", (status, out.splitlines()[-1]), wanted)
-        checks.that(out.startswith(f"craq_names/never: {said}\n"), f"its line: {out}")
+    """./refuse has `rt ci NAME..`, or `rt must-fail` where that takes no names, try the edits of wrong/ in a copy, and counts those that are refused."""
+    for help, verb in ("  rt ci [NAME..]  the gate", "ci"), ("  rt ci           the gate", "must-fail"):
+        clone.rt_does("--help", f"echo '{help}' >&2\n")
+        for said, wanted in (("refused, as it must be", (0, "1 refused, 0 not")), ("NOT REFUSED", (1, "0 refused, 1 not"))):
+            clone.rt_does(verb, f"test -e crates/craq_names/must-fail/never.edit || exit 3\necho 'rt: must-fail craq_names/never.edit: {said}'\n")
+            clone.words()
+            status, out, err = clone.ran("refuse")
+            checks.same(f"an edit that is {said}", (status, out.splitlines()[-1], err), (*wanted, f"refuse: rt {verb} tries the edits\n"))
+            checks.that(out.startswith(f"craq_names/never: {said}\n"), f"its line: {out}")
+            checks.that(clone.words()[-1].endswith(f": {verb} craq_names"), f"rt is asked to {verb}")
     status, out, err = clone.ran("refuse", "craq_lab")
     checks.same("a crate without wrong/", (status, out, err), (2, "", "refuse: craq_lab is no crate with a folder wrong/; there are craq_names\n"))
 
@@ -288,10 +292,11 @@ def test(checks, clone):
     for tool in "rows/run", "end_to_end/run", "pages/try", "hostile/run", "quick/run":
         clone.write(f"tools/{tool}", f"import sys\nprint('{tool}', *sys.argv[1:])\n")
     clone.rt_does("ci", "echo 'rt: craq_names proved'; echo '5 passed, 0 failed'\n")
-    for words in [], ["--anew"]:
+    for words, help, asked in ([], "", "ci"), (["--anew"], "rt ci [--anew]", "ci --anew"), (["--anew"], "rt ci", "ci"):
+        clone.rt_does("--help", f"echo '{help}'\n")
         clone.words()
         status, out, _ = clone.ran("test", *words)
-        checks.same(f"./test {words}", (status, out.splitlines()[-1], clone.words()), (0, "5 passed, 0 failed", [" ".join(["clone: ci", *words])]))
+        checks.same(f"./test {words}", (status, out.splitlines()[-1], clone.words()[-1]), (0, "5 passed, 0 failed", f"clone: {asked}"))
         after = [it.split()[0] for it in out.splitlines() if it.partition(" ")[0] in ("rows/run", "end_to_end/run", "pages/try", "hostile/run")]
         checks.same("what runs after the gate", after, ["rows/run", "end_to_end/run", "end_to_end/run", "pages/try", "hostile/run"])
     clone.write("tools/pages/try", "print('pages: 0 passed, 1 failed')\nraise SystemExit(1)\n")

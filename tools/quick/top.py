@@ -285,18 +285,23 @@ def hostile(checks, clone):
 
 def test(checks, clone):
     """./test ends with the gate's last line and status; --anew is the gate's; bad words are refused."""
-    for tool in "rows/run", "end_to_end/run", "pages/try", "hostile/run", "quick/run":
-        clone.write(f"tools/{tool}", f"import sys\nprint('{tool}', *sys.argv[1:])\n")
+    run_after = ["pages/check", "lint", "rows/run", "end_to_end/run", "end_to_end/run", "pages/try", "hostile/run"]
+    for tool in *run_after, "quick/run":
+        clone.write(f"tools/{tool}", f"#!/usr/bin/env python3\nimport sys\nprint('{tool}', *sys.argv[1:])\n")
     clone.rt_does("ci", "echo 'rt: craq_names proved'; echo '5 passed, 0 failed'\n")
     for words in [], ["--anew"]:
         clone.words()
         status, out, _ = clone.ran("test", *words)
         checks.same(f"./test {words}", (status, out.splitlines()[-1], clone.words()), (0, "5 passed, 0 failed", [" ".join(["clone: ci", *words])]))
-        after = [it.split()[0] for it in out.splitlines() if it.partition(" ")[0] in ("rows/run", "end_to_end/run", "pages/try", "hostile/run")]
-        checks.same("what runs after the gate", after, ["rows/run", "end_to_end/run", "end_to_end/run", "pages/try", "hostile/run"])
+        after = [it.split()[0] for it in out.splitlines() if it.partition(" ")[0] in run_after]
+        checks.same("what runs after the gate", after, run_after)
     clone.write("tools/pages/try", "print('pages: 0 passed, 1 failed')\nraise SystemExit(1)\n")
     status, out, _ = clone.ran("test")
     checks.same("a script after the gate that fails", (status, out.splitlines()[-1]), (1, "pages: 0 passed, 1 failed"))
+    for tool in "lint", "pages/check":
+        clone.write(f"tools/{tool}", f"#!/usr/bin/env bash\necho {tool}: 1 fault\nexit 1\n")
+        status, out, _ = clone.ran("test")
+        checks.same(f"tools/{tool} that fails", (status, out.splitlines()[-1], "rows/run" in out), (1, f"{tool}: 1 fault", False))
     clone.rt_does("ci", "echo '4 passed, 1 failed'; exit 1\n")
     status, out, _ = clone.ran("test")
     checks.same("a gate that fails", (status, out.splitlines()[-1], "rows/run" in out), (1, "4 passed, 1 failed", False))

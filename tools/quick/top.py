@@ -9,6 +9,7 @@ The last line is 'top: N passed, M failed', and the status 1 where one failed. `
 import os
 import shutil
 import signal
+import socket
 import stat
 import subprocess
 import sys
@@ -41,6 +42,21 @@ host, _, port = sys.argv[1].rpartition(":")
 it = socket.create_server((host, int(port)))
 while True:
     it.accept()[0].close()
+' "${@: -1}"
+"""
+
+
+# The same, which is over after one connection, as by --connections 1.
+LISTENS_ONCE = """
+exec python3 -c '
+import socket, sys
+host, _, port = sys.argv[1].rpartition(":")
+it = socket.create_server((host, int(port)))
+it.accept()
+print("listening " + port)
+print("audit merged 1")
+print("checked: ended status=3", file=sys.stderr)
+sys.exit(3)
 ' "${@: -1}"
 """
 
@@ -159,6 +175,22 @@ def is_free(port):
             return True
         time.sleep(0.1)
     return False
+
+
+def serve_ends_itself(checks, clone):
+    """./serve makes no connection to the server without proofs, passes on what it said once it has ended, and its status; where another
+    listens it says so and builds nothing."""
+    clone.rt_does("try", LISTENS_ONCE)
+    it = clone.started("serve", "--connections", "1")
+    port = it.stdout.readline().removeprefix("listening ").strip()
+    time.sleep(1.5)
+    checks.same("whether it is over before a connection", it.poll(), None)
+    clone.words()
+    status, out, err = clone.ran("serve", os.path.join(clone.top, "examples", "plan.toml"), f"127.0.0.1:{port}")
+    checks.same("a port that is taken", (status, out, err, clone.words()), (4, "", f"cannot listen on 127.0.0.1:{port}\n", []))
+    socket.create_connection(("127.0.0.1", int(port))).close()
+    out, _ = it.communicate(timeout=PATIENCE)
+    checks.same("what comes in the end", (it.returncode, out.splitlines()[-1], out.count("checked"), out.count("listening")), (3, "audit merged 1", 0, 0))
 
 
 def serve_fails(checks, clone):
@@ -312,7 +344,7 @@ def test(checks, clone):
 
 def main():
     checks = Checks("top")
-    for part in has_no_rt, serve_unproved, serve_fails, serve_proved, serve_ends, play, build, plant, refuse, hostile, test:
+    for part in has_no_rt, serve_unproved, serve_ends_itself, serve_fails, serve_proved, serve_ends, play, build, plant, refuse, hostile, test:
         with tempfile.TemporaryDirectory(prefix="top-") as room:
             checks.part(part.__doc__, part, Clone(os.path.realpath(room)))
     print(f"top: {checks.passed} passed, {checks.failed} failed")

@@ -251,6 +251,9 @@ def play(checks, clone):
     checks.same("what rt is asked", clone.words(), [f"craq_lab: try --data script={sample} -- play script", f"craq_lab: try --data script={script} -- play --nodes 2 script"])
     clone.built("craq_lab", 'echo "$*"; exit 3\n')
     checks.same("the proved program", clone.ran("play", "--core", "plain", script), (3, f"play --core plain {script}\n", ""))
+    clone.words()
+    status, out, _ = clone.ran("play", "--help")
+    checks.that(status == 0 and out.startswith("Plays a script") and clone.words() == [], f"its help: {status} {out}")
 
 
 def build(checks, clone):
@@ -290,6 +293,9 @@ def plant(checks, clone):
     clone.rt_does("plant", "echo 'not proved'; exit 2\n")
     checks.same("a crate that is not proved", clone.ran("plant", "craq_names")[:2], (2, "craq_names: rt plant judged nothing: not proved\n"))
     checks.same("a crate that there is not", clone.ran("plant", "no_such_crate")[0], 2)
+    clone.words()
+    status, out, _ = clone.ran("plant", "--help")
+    checks.that(status == 0 and out.startswith("Tries wrong bodies") and clone.words() == [], f"its help: {status} {out}")
 
 
 def refuse(checks, clone):

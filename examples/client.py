@@ -526,6 +526,10 @@ def tour(address):
         print("pass:", store.shown)
 
 
+# The part of the text above that says what a command line has.
+USAGE = __doc__[__doc__.index("As a command:"):].partition("\n\nAn OBJECT")[0]
+
+
 def main():
     """Does what the command line asks, and gives the status."""
     if sys.argv[1:] in (["help"], ["--help"]):
@@ -548,10 +552,11 @@ def main():
         print("refused", refused)
         return 3
     except (OSError, BadReply) as fault:
-        print(f"client: {fault}", file=sys.stderr)
+        print(f"client: {address}: {getattr(fault, 'strerror', None) or fault}", file=sys.stderr)
         return 4
     except (IndexError, ValueError, OverflowError):
-        print(__doc__, file=sys.stderr)
+        given = " ".join(sys.argv[1:]) or "no words"
+        print(f"client: not understood: {given}\n\n{USAGE}\n\n{sys.argv[0]} help tells more", file=sys.stderr)
         return 2
     return 0
 

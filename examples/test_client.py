@@ -249,6 +249,7 @@ def command(checks):
         with Played(status(1), *replies) as server:
             ended, out, err = ran(server, *words)
             checks.same(" ".join(words), (ended, out, bool(err)), wanted)
+            checks.same(f"whether {' '.join(words)} is not understood", err.startswith("client: not understood: "), ended == 2)
 
 
 def left_open(checks):

@@ -9,6 +9,7 @@ The last line is 'top: N passed, M failed', and the status 1 where one failed. `
 import os
 import shutil
 import signal
+import socket
 import stat
 import subprocess
 import sys
@@ -41,6 +42,21 @@ host, _, port = sys.argv[1].rpartition(":")
 it = socket.create_server((host, int(port)))
 while True:
     it.accept()[0].close()
+' "${@: -1}"
+"""
+
+
+# The same, which is over after one connection, as by --connections 1.
+LISTENS_ONCE = """
+exec python3 -c '
+import socket, sys
+host, _, port = sys.argv[1].rpartition(":")
+it = socket.create_server((host, int(port)))
+it.accept()
+print("listening " + port)
+print("audit merged 1")
+print("checked: ended status=3", file=sys.stderr)
+sys.exit(3)
 ' "${@: -1}"
 """
 
@@ -161,6 +177,22 @@ def is_free(port):
     return False
 
 
+def serve_ends_itself(checks, clone):
+    """./serve makes no connection to the server without proofs, passes on what it said once it has ended, and its status; where another
+    listens it says so and builds nothing."""
+    clone.rt_does("try", LISTENS_ONCE)
+    it = clone.started("serve", "--connections", "1")
+    port = it.stdout.readline().removeprefix("listening ").strip()
+    time.sleep(1.5)
+    checks.same("whether it is over before a connection", it.poll(), None)
+    clone.words()
+    status, out, err = clone.ran("serve", os.path.join(clone.top, "examples", "plan.toml"), f"127.0.0.1:{port}")
+    checks.same("a port that is taken", (status, out, err, clone.words()), (4, "", f"cannot listen on 127.0.0.1:{port}\n", []))
+    socket.create_connection(("127.0.0.1", int(port))).close()
+    out, _ = it.communicate(timeout=PATIENCE)
+    checks.same("what comes in the end", (it.returncode, out.splitlines()[-1], out.count("checked"), out.count("listening")), (3, "audit merged 1", 0, 0))
+
+
 def serve_fails(checks, clone):
     """./serve passes on why the server did not start, and its status."""
     clone.rt_does("try", "echo 'cannot listen on nowhere'; echo 'checked: ended status=4'; exit 4\n")
@@ -219,6 +251,9 @@ def play(checks, clone):
     checks.same("what rt is asked", clone.words(), [f"craq_lab: try --data script={sample} -- play script", f"craq_lab: try --data script={script} -- play --nodes 2 script"])
     clone.built("craq_lab", 'echo "$*"; exit 3\n')
     checks.same("the proved program", clone.ran("play", "--core", "plain", script), (3, f"play --core plain {script}\n", ""))
+    clone.words()
+    status, out, _ = clone.ran("play", "--help")
+    checks.that(status == 0 and out.startswith("Plays a script") and clone.words() == [], f"its help: {status} {out}")
 
 
 def build(checks, clone):
@@ -258,6 +293,9 @@ def plant(checks, clone):
     clone.rt_does("plant", "echo 'not proved'; exit 2\n")
     checks.same("a crate that is not proved", clone.ran("plant", "craq_names")[:2], (2, "craq_names: rt plant judged nothing: not proved\n"))
     checks.same("a crate that there is not", clone.ran("plant", "no_such_crate")[0], 2)
+    clone.words()
+    status, out, _ = clone.ran("plant", "--help")
+    checks.that(status == 0 and out.startswith("Tries wrong bodies") and clone.words() == [], f"its help: {status} {out}")
 
 
 def refuse(checks, clone):
@@ -289,19 +327,24 @@ def hostile(checks, clone):
 
 def test(checks, clone):
     """./test ends with the gate's last line and status; --anew is the gate's; bad words are refused."""
-    for tool in "rows/run", "end_to_end/run", "pages/try", "hostile/run", "quick/run":
-        clone.write(f"tools/{tool}", f"import sys\nprint('{tool}', *sys.argv[1:])\n")
+    run_after = ["pages/check", "lint", "rows/run", "end_to_end/run", "end_to_end/run", "pages/try", "hostile/run"]
+    for tool in *run_after, "quick/run":
+        clone.write(f"tools/{tool}", f"#!/usr/bin/env python3\nimport sys\nprint('{tool}', *sys.argv[1:])\n")
     clone.rt_does("ci", "echo 'rt: craq_names proved'; echo '5 passed, 0 failed'\n")
     for words, help, asked in ([], "", "ci"), (["--anew"], "rt ci [--anew]", "ci --anew"), (["--anew"], "rt ci", "ci"):
         clone.rt_does("--help", f"echo '{help}'\n")
         clone.words()
         status, out, _ = clone.ran("test", *words)
         checks.same(f"./test {words}", (status, out.splitlines()[-1], clone.words()[-1]), (0, "5 passed, 0 failed", f"clone: {asked}"))
-        after = [it.split()[0] for it in out.splitlines() if it.partition(" ")[0] in ("rows/run", "end_to_end/run", "pages/try", "hostile/run")]
-        checks.same("what runs after the gate", after, ["rows/run", "end_to_end/run", "end_to_end/run", "pages/try", "hostile/run"])
+        after = [it.split()[0] for it in out.splitlines() if it.partition(" ")[0] in run_after]
+        checks.same("what runs after the gate", after, run_after)
     clone.write("tools/pages/try", "print('pages: 0 passed, 1 failed')\nraise SystemExit(1)\n")
     status, out, _ = clone.ran("test")
     checks.same("a script after the gate that fails", (status, out.splitlines()[-1]), (1, "pages: 0 passed, 1 failed"))
+    for tool in "lint", "pages/check":
+        clone.write(f"tools/{tool}", f"#!/usr/bin/env bash\necho {tool}: 1 fault\nexit 1\n")
+        status, out, _ = clone.ran("test")
+        checks.same(f"tools/{tool} that fails", (status, out.splitlines()[-1], "rows/run" in out), (1, f"{tool}: 1 fault", False))
     clone.rt_does("ci", "echo '4 passed, 1 failed'; exit 1\n")
     status, out, _ = clone.ran("test")
     checks.same("a gate that fails", (status, out.splitlines()[-1], "rows/run" in out), (1, "4 passed, 1 failed", False))
@@ -312,7 +355,7 @@ def test(checks, clone):
 
 def main():
     checks = Checks("top")
-    for part in has_no_rt, serve_unproved, serve_fails, serve_proved, serve_ends, play, build, plant, refuse, hostile, test:
+    for part in has_no_rt, serve_unproved, serve_ends_itself, serve_fails, serve_proved, serve_ends, play, build, plant, refuse, hostile, test:
         with tempfile.TemporaryDirectory(prefix="top-") as room:
             checks.part(part.__doc__, part, Clone(os.path.realpath(room)))
     print(f"top: {checks.passed} passed, {checks.failed} failed")

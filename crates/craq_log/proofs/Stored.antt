@@ -6,7 +6,7 @@ use Rattle.std.proofs.lemmas.Grind.{common_steps}
 use Rattle.craq_commands.specs.declared.entry.Entry.{Entry}
 use Rattle.craq_node_invariant.specs.Sound.{AreInRow}
 use Rattle.craq_node_invariant.proofs.Rows.{row_append, row_drop}
-use Rattle.craq_log.specs.Suffixed.{IsStored}
+use Rattle.craq_log.specs.Suffixed.{IsStored, IsTrimmed}
 
 moved : (m n : ℕ) (es fs : List Entry) → m ≡ n → es ≡ fs → AreInRow m es → AreInRow n fs
 moved m n es fs e f a = subst (λ (k : ℕ). AreInRow k fs) e (subst (λ (xs : List Entry). AreInRow m xs) f a)
@@ -21,6 +21,10 @@ stored_more start settled es fs h small next =
       numbered = omega (arith, length-append es fs, length-drop settled es);
       in_row = subst (λ (xs : List Entry). AreInRow (start + settled + 1) xs) (sym (drop-append-le settled es fs within)) (row_append (start + settled + 1) (drop settled es) fs h.in_row more);
     }
+
+-- more at the end leave at most half of all let go
+pub trimmed_more : (settled : ℕ) (es fs : List Entry) → IsTrimmed settled es → IsTrimmed settled (es ++ fs)
+trimmed_more settled es fs h = omega (arith, length-append es fs)
 
 -- one more
 pub stored_one : (start settled : ℕ) (es : List Entry) (e : Entry) → IsStored start settled es → e.position ≡ (start + settled) + length (drop settled es) + 1 → e.position < 2 ^ 64 → IsStored start settled (es ++ e ∷ [])

@@ -26,3 +26,7 @@ pub record IsStored (start settled : ℕ) (entries : List Entry) : Type 0 where
   pub within : settled ≤ length entries
   pub numbered : start + length entries < 2 ^ 64
   pub in_row : AreInRow (start + settled + 1) (drop settled entries)
+
+-- at most half of the entries that are stored are let go already
+abbrev pub IsTrimmed : ℕ → List Entry → Type 0
+IsTrimmed settled entries = settled + settled ≤ length entries

@@ -1,7 +1,7 @@
 //! `Suffix`: the entries of a history after a base position; for histories that forget.
 ghost use Rattle.std.specs.Prelude.{◌≡◌, ◌+◌, ◌-◌, ◌<◌, ◌≤◌, ◌^◌, [], ◌∷◌, ◌++◌, drop, length, vec_len, vec_capacity, IsOk, OnOk, OnErr, MatchOption};
 ghost use Rattle.craq_node_invariant.specs.Sound.{AreInRow};
-ghost use Rattle.craq_log.specs.Suffixed.{length_of, entries_after, IsFirstOf};
+ghost use Rattle.craq_log.specs.Suffixed.{length_of, entries_after, IsFirstOf, IsStored, IsTrimmed};
 
 use craq_commands::{Entry, Reply};
 use craq_names::{Items, Seq};
@@ -23,7 +23,7 @@ pub struct Suffix {
 
 impl Model for Suffix {
     ghost use Rattle.std.specs.Prelude.{◌+◌, ◌-◌, drop, vec_len, vec_capacity};
-    ghost use Rattle.craq_log.specs.Suffixed.{Suffixed, IsStored};
+    ghost use Rattle.craq_log.specs.Suffixed.{Suffixed, IsStored, IsTrimmed};
 
     ghost Value = { Suffixed };
 
@@ -33,7 +33,7 @@ impl Model for Suffix {
       room = vec_capacity s.entries - vec_len s.entries;
     } };
 
-    ghost invariant = { λ s. IsStored s.start s.settled s.entries.items };
+    ghost invariant = { λ s. IsStored s.start s.settled s.entries.items × IsTrimmed s.settled s.entries.items };
 }
 
 impl Suffix {
@@ -113,7 +113,7 @@ impl Suffix {
             Some(entry) => taken_out(alloc, entry),
         };
         self.settled += 1;
-        self.trim();
+        trim(&mut self.start, &mut self.entries, &mut self.settled);
         Some(first)
     }
 
@@ -126,20 +126,7 @@ impl Suffix {
         ensures room { self.old.room ≤ self.new.room }
     {
         self.settled = (position.get() - self.start) as usize;
-        self.trim();
-    }
-
-    /// Lets the settled entries go where they are at least half of all. What is seen stays.
-    fn trim(&mut self)
-        ensures base { self.new.base ≡ self.old.base }
-        ensures entries { self.new.entries ≡ self.old.entries }
-        ensures room { self.old.room ≤ self.new.room }
-    {
-        if self.settled >= self.entries.len() - self.settled {
-            let_go(&mut self.entries, self.settled);
-            self.start += self.settled as u64;
-            self.settled = 0;
-        }
+        trim(&mut self.start, &mut self.entries, &mut self.settled);
     }
 
     /// The entries after a position, one after another. It takes no memory.
@@ -168,6 +155,22 @@ fn taken_out(alloc: Global, entry: &mut Entry) -> Entry
         writes: Items::new(alloc),
     };
     mem::replace(entry, empty)
+}
+
+/// Lets the settled entries go where they are at least half of all. What is seen stays.
+fn trim(start: &mut u64, entries: &mut Vec<Entry>, settled: &mut usize)
+    requires { IsStored start.old settled.old entries.old.items }
+    ensures base { start.new + settled.new ≡ start.old + settled.old }
+    ensures entries { drop settled.new entries.new.items ≡ drop settled.old entries.old.items }
+    ensures room { vec_capacity entries.old - vec_len entries.old ≤ vec_capacity entries.new - vec_len entries.new }
+    ensures stored { IsStored start.new settled.new entries.new.items }
+    ensures few { IsTrimmed settled.new entries.new.items }
+{
+    if *settled >= entries.len() - *settled {
+        let_go(entries, *settled);
+        *start += *settled as u64;
+        *settled = 0;
+    }
 }
 
 /// Drops the first of the entries, this many. The vector keeps its memory.

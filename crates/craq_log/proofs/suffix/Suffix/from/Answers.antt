@@ -5,4 +5,4 @@ pub returns-clause-in_row : goal.returns-clause-in_row
 returns-clause-in_row c =
     let held = rw (← c.self.view_is) at c.requires.held in
     rw (c.as_slice.ensures.value, c.get.ensures, rest_taken)
-    (row_after c.self.inside.start c.self.inside.settled c.args.position c.self.inside.entries.items c.self.invariant held)
+    (row_after c.self.inside.start c.self.inside.settled c.args.position c.self.inside.entries.items c.self.invariant.0 held)

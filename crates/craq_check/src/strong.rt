@@ -10,6 +10,7 @@ use crate::index::{AskIndex, ask_at};
 use crate::lookups::UpdateSeen;
 use crate::seen::AnswerSeen;
 use crate::single::Single;
+use craq_commands::Mini;
 use craq_runs::Place;
 use std::alloc::{AllocError, Global};
 use std::marker::Model;
@@ -149,7 +150,7 @@ fn are_said_in_order(
             None => return Ok(false),
         }
         single.apply(alloc, update.update(), highest)?;
-        highest += 16;
+        highest += Mini::MOST_ITEMS as u64;
         count += 1;
     }
     let last = said_from(asks, &single, count, claims, from);

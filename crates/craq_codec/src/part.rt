@@ -148,13 +148,14 @@ impl Part for Key {
     #[tactic(auto, unfolding(crate::specs::PartReading::key_at))]
     fn read(alloc: Global, bytes: &[u8]) -> Result<(Self, &[u8]), Unread> {
         let (len, rest) = read_u8(bytes)?;
+        let len = len as usize;
         if len == 0 {
             return Err(Unread::BadFrame);
         }
-        if 128 < len {
+        if Key::MAX < len {
             return Err(Unread::BadFrame);
         }
-        let (text, rest) = read_bytes(len as usize, rest)?;
+        let (text, rest) = read_bytes(len, rest)?;
         match Key::new(alloc, text) {
             Ok(key) => Ok((key, rest)),
             Err(_) => Err(Unread::Memory),

@@ -15,14 +15,14 @@ fn has_key(object: &ScriptObject) -> bool
     ensures { result ≡ has_key object.now }
 {
     let length = object.key.len();
-    1 <= length && length <= 128
+    1 <= length && length <= Key::MAX
 }
 
 /// Whether the value is as long as values may be.
 fn is_value(value: &Items<u8>) -> bool
     ensures { result ≡ is_value value.now }
 {
-    value.len() <= 4096
+    value.len() <= Value::MAX
 }
 
 /// Whether the item's object has a key.

@@ -55,6 +55,7 @@ it = socket.create_server((host, int(port)))
 it.accept()
 print("listening " + port)
 print("audit merged 1")
+print("craqd serves", file=sys.stderr)
 print("checked: ended status=3", file=sys.stderr)
 sys.exit(3)
 ' "${@: -1}"
@@ -189,8 +190,9 @@ def serve_ends_itself(checks, clone):
     status, out, err = clone.ran("serve", os.path.join(clone.top, "examples", "plan.toml"), f"127.0.0.1:{port}")
     checks.same("a port that is taken", (status, out, err, clone.words()), (4, "", f"cannot listen on 127.0.0.1:{port}\n", []))
     socket.create_connection(("127.0.0.1", int(port))).close()
-    out, _ = it.communicate(timeout=PATIENCE)
-    checks.same("what comes in the end", (it.returncode, out.splitlines()[-1], out.count("checked"), out.count("listening")), (3, "audit merged 1", 0, 0))
+    out, err = it.communicate(timeout=PATIENCE)
+    checks.same("what comes in the end", (it.returncode, out.splitlines()[-1], out.count("listening")), (3, "audit merged 1", 0))
+    checks.same("what comes on standard error in the end", (err.splitlines()[-1], err.count("checked")), ("craqd serves", 0))
 
 
 def serve_fails(checks, clone):

@@ -8,7 +8,7 @@ use craq_runs::Taken;
 use std::alloc::{AllocError, Global};
 
 /// How far a message that was lost goes down.
-const FALL: u64 = 12;
+const FALL: u64 = 6;
 
 /// A place beside another one, so far toward a third.
 fn beside(x: u64, other: u64, by: u64) -> u64 {

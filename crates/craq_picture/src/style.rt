@@ -3,7 +3,7 @@
 /// What stands before the shapes: the colours by class, and the head of an arrow.
 pub(crate) const STYLE: &str = "<style>
 text { font: 11px 'DejaVu Sans', Verdana, sans-serif; fill: #1c2733; }
-.label, .answer, .why, .who { paint-order: stroke; stroke: #ffffff; stroke-width: 3px; stroke-linejoin: round; }
+.label, .answer, .why, .who { paint-order: stroke; stroke: #ffffff; stroke-width: 5px; stroke-linejoin: round; }
 .name { font-weight: bold; font-size: 13px; }
 .faint { fill: #5c6873; }
 .who { font-size: 9px; fill: #5c6873; }

@@ -10,3 +10,4 @@ pub mod Found
 pub mod Following
 pub mod Applicable
 pub mod Settling
+pub mod Rooms

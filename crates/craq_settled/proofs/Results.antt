@@ -14,6 +14,9 @@ err_then (Err e) f p = f p
 clash : true ≡ false → ⊥
 clash h = cc
 
+pub not_ok : false ≡ true → ⊥
+not_ok h = cc
+
 pub not_err : {T E P : Type 0} (r : Result T E) → is_err r ≡ false → OnOk r P → P
 not_err (Ok x) h p = p
 not_err (Err e) h p = absurd (clash h)

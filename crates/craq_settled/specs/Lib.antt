@@ -3,3 +3,4 @@ pub mod Followed
 pub mod Placed
 pub mod Listed
 pub mod Held
+pub mod Room

@@ -1,5 +1,5 @@
 //! Folds entries into objects and kept replies.
-ghost use Rattle.std.specs.Prelude.{◌≡◌, ℕ, ◌+◌, ◌<◌, ◌≤◌, List, [], ◌∷◌, IsTrue, OnOk, OnErr, length, max, take};
+ghost use Rattle.std.specs.Prelude.{◌≡◌, ◌↔◌, ℕ, ◌+◌, ◌-◌, ◌<◌, ◌≤◌, List, [], ◌∷◌, IsOk, IsTrue, OnOk, OnErr, length, max, take};
 ghost use Rattle.std.specs.List.{AllByRecursion};
 ghost use Rattle.craq_commands.specs.declared.entry.Entry.{Entry};
 ghost use Rattle.craq_commands.specs.declared.entry.Write.{Write};
@@ -7,11 +7,12 @@ ghost use Rattle.craq_commands.specs.Objects.{version_of};
 ghost use Rattle.craq_commands.specs.SingleCopy.{after_entry, with_writes};
 ghost use Rattle.craq_log.specs.Suffixed.{length_of};
 ghost use Rattle.craq_model.specs.Past.{values_in, values_after};
-ghost use Rattle.craq_replies.specs.Replies.{room_at};
+ghost use Rattle.craq_replies.specs.Replies.{room_at, KeepsOthersRoom, KeepsRoom};
 ghost use Rattle.craq_settled.specs.Folded.{AreFolded};
 ghost use Rattle.craq_settled.specs.Followed.{AreNext, CanFold};
 ghost use Rattle.craq_settled.specs.Listed.{AreListed};
 ghost use Rattle.craq_settled.specs.Placed.{objects_of, state_at, versions_of, IsRising, LaterWithout};
+ghost use Rattle.craq_settled.specs.Room.{AreFoldable, HasRoomForReplies, IsFoldable};
 
 use crate::listing::list_next;
 use crate::objects::settle_object;
@@ -50,6 +51,7 @@ fn fold_one(table: &mut ObjectTable<Place>, replies: &mut ReplyTable, entry: Ent
     ensures state { state_at (objects_of table.new) replies.new.kept ≡ after_entry (state_at (objects_of table.old) replies.old.kept) entry }
     ensures later { LaterWithout entry.writes table.old table.new }
     ensures rising { IsRising table.new }
+    ensures rooms { KeepsOthersRoom replies.old replies.new entry.client }
 {
     let Entry {
         client,
@@ -72,7 +74,7 @@ fn first_of(entries: &Suffix) -> &Entry
 
 /// Whether each write is of an object that was there before: its version is not the first.
 fn are_rewrites(writes: &[Write]) -> bool
-    ensures { IsTrue result → AllByRecursion (λ (w : Write). 2 ≤ w.version) writes.now }
+    ensures { IsTrue result ↔ AllByRecursion (λ (w : Write). 2 ≤ w.version) writes.now }
 {
     for write in writes {
         if write.version.get() < 2 {
@@ -83,7 +85,7 @@ fn are_rewrites(writes: &[Write]) -> bool
 }
 
 /// Makes sure that the first of some entries can be folded without memory: there is room for its reply, and it is listed
-/// or writes objects that have versions. Where memory is refused what is seen stays.
+/// or writes objects that have versions. Where memory is refused what is seen stays; where both are so already it isn't.
 fn make_room(
     table: &mut ObjectTable<Place>,
     replies: &mut ReplyTable,
@@ -99,7 +101,10 @@ fn make_room(
     ensures objects { objects_of table.new ≡ objects_of table.old }
     ensures kept { replies.new.kept ≡ replies.old.kept }
     ensures listed { AreListed table.new entries.now listed.new }
+    ensures more { listed.old ≤ listed.new }
     ensures rising { IsRising table.new }
+    ensures rooms { KeepsRoom replies.old replies.new }
+    ensures succeeds { (e : Entry) → take 1 entries.now.entries ≡ e ∷ [] → 0 < room_at replies.old e.client → IsFoldable entries.now.base listed.old e → IsOk result }
 {
     let first = first_of(entries);
     replies.reserve(first.client)?;
@@ -123,7 +128,8 @@ fn later(position: Seq, other: Seq) -> Seq
     }
 }
 
-/// Folds the first of some entries, and takes it out. Where memory is refused the entries stay.
+/// Folds the first of some entries, and takes it out. Where memory is refused the entries stay; where there is room for its
+/// reply, and it is listed or writes objects that have versions, it isn't.
 fn fold_first(
     alloc: Global,
     table: &mut ObjectTable<Place>,
@@ -140,7 +146,10 @@ fn fold_first(
     ensures folded { AreFolded (state_at (objects_of table.old) replies.old.kept) entries.old (state_at (objects_of table.new) replies.new.kept) entries.new }
     ensures listed { AreListed table.new entries.new listed.new }
     ensures next { (q : List ℕ) → AreNext (version_of (objects_of table.new) q) (values_after entries.new.entries q) }
+    ensures more { listed.old ≤ listed.new }
     ensures rising { IsRising table.new }
+    ensures rooms { OnOk result ((e : Entry) → take 1 entries.old.entries ≡ e ∷ [] → KeepsOthersRoom replies.old replies.new e.client) }
+    ensures succeeds { (e : Entry) → take 1 entries.old.entries ≡ e ∷ [] → 0 < room_at replies.old e.client → IsFoldable entries.old.base listed.old e → IsOk result }
 {
     make_room(table, replies, entries, listed)?;
     if let Some(entry) = entries.take_first(alloc) {
@@ -151,7 +160,8 @@ fn fold_first(
 }
 
 /// Folds entries in order, up to a position, and takes them out. It stops at the first growth that is refused: the entries
-/// from that one on stay, and the next call begins with it.
+/// from that one on stay, and the next call begins with it. None is refused where each client has one of them at most, with
+/// room for its reply, and each is listed or writes objects that have versions.
 pub fn fold(
     alloc: Global,
     table: &mut ObjectTable<Place>,
@@ -173,6 +183,7 @@ pub fn fold(
     ensures listed { AreListed table.new entries.new listed.new }
     ensures next { (q : List ℕ) → AreNext (version_of (objects_of table.new) q) (values_after entries.new.entries q) }
     ensures rising { IsRising table.new }
+    ensures succeeds { HasRoomForReplies replies.old (take (position - entries.old.base) entries.old.entries) → AreFoldable entries.old.base listed.old (take (position - entries.old.base) entries.old.entries) → IsOk result }
 {
     while entries.base().get() < position.get() {
         fold_first(alloc, table, replies, entries, listed)?;

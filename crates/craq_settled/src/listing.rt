@@ -1,14 +1,16 @@
 //! Says in the table where entries write objects.
-ghost use Rattle.std.specs.Prelude.{◌≡◌, ℕ, ◌+◌, ◌-◌, ◌<◌, ◌≤◌, List, [], ◌∷◌, ◌++◌, OnOk, OnErr, if◌then◌else◌, length, max, take};
+ghost use Rattle.std.specs.Prelude.{◌≡◌, ℕ, ◌+◌, ◌-◌, ◌<◌, ◌≤◌, List, [], ◌∷◌, ◌++◌, IsOk, OnOk, OnErr, if◌then◌else◌, length, drop, max, take};
 ghost use Rattle.craq_names.specs.Maps.{same_bytes};
 ghost use Rattle.craq_model.specs.Past.{values_in, values_after};
 ghost use Rattle.craq_commands.specs.Objects.{version_of};
 ghost use Rattle.craq_log.specs.Suffixed.{length_of};
+ghost use Rattle.craq_versions.specs.Tables.{room_at};
 ghost use Rattle.craq_versions.specs.Versions.{CanPush};
 ghost use Rattle.craq_settled.specs.declared.places.Place.TheVariants.{Written};
 ghost use Rattle.craq_settled.specs.Followed.{AreNext};
 ghost use Rattle.craq_settled.specs.Listed.{written_in, AreListed};
-ghost use Rattle.craq_settled.specs.Placed.{has_some, newest_version, objects_of, later_of, versions_of, IsRising, KeepsLater, LaterTakenBack};
+ghost use Rattle.craq_settled.specs.Placed.{count_of, has_some, newest_version, objects_of, later_of, versions_of, IsRising, KeepsLater, LaterTakenBack};
+ghost use Rattle.craq_settled.specs.Room.{HasRoomForVersions, HasRoomForWrites, KeepsRoomBut};
 
 use crate::places::{Place, WriteRef, has_later};
 use craq_commands::Write;
@@ -18,10 +20,10 @@ use craq_versions::ObjectTable;
 use std::alloc::AllocError;
 
 /// How many entries at most are not listed, while memory is there: a look at so few costs less than a look-up.
-const MOST_UNLISTED: u64 = 4;
+pub const MOST_UNLISTED: u64 = 4;
 
 /// One more version of an object, the next, which is written there. It looks the object up once, or twice where it is new.
-/// Where memory is refused the versions stay.
+/// Where memory is refused the versions stay; where there is room it isn't.
 fn push_version(
     table: &mut ObjectTable<Place>,
     key: &Key,
@@ -35,6 +37,8 @@ fn push_version(
     ensures later { OnOk result ((q : List ℕ) → later_of table.new q ≡ later_of table.old q ++ (if same_bytes key.now q then (version, Written at) ∷ [] else [])) }
     ensures err { OnErr result (KeepsLater table.old table.new) }
     ensures rising { IsRising table.new }
+    ensures room { (q : List ℕ) → room_at table.old q ≤ room_at table.new q + (if same_bytes key.now q then 1 else 0) }
+    ensures succeeds { 0 < room_at table.old key.now → IsOk result }
 {
     table.push(key, version, Place::Written(at))
 }
@@ -74,7 +78,7 @@ fn unlist(table: &mut ObjectTable<Place>, writes: &[Write])
 }
 
 /// Says in the table where an entry writes each object, of which it writes the next version. Where memory is refused the
-/// versions stay.
+/// versions stay; where there is room for them it isn't.
 pub fn list_writes(
     table: &mut ObjectTable<Place>,
     position: Seq,
@@ -86,6 +90,8 @@ pub fn list_writes(
     ensures ok { OnOk result ((q : List ℕ) → later_of table.new q ≡ later_of table.old q ++ written_in position 0 writes.now q) }
     ensures err { OnErr result (KeepsLater table.old table.new) }
     ensures rising { IsRising table.new }
+    ensures room { OnOk result ((q : List ℕ) → room_at table.old q ≤ room_at table.new q + count_of writes.now q) }
+    ensures succeeds { HasRoomForWrites table.old writes.now → IsOk result }
 {
     for index in 0..writes.len() {
         let at = WriteRef { position, index };
@@ -99,7 +105,7 @@ pub fn list_writes(
 }
 
 /// Says in the table where the next entry writes each object, and keeps the position up to which all entries are listed.
-/// Where memory is refused the versions stay.
+/// Where memory is refused the versions stay; where there is room for them it isn't.
 pub fn list_next(
     table: &mut ObjectTable<Place>,
     entries: &Suffix,
@@ -114,6 +120,8 @@ pub fn list_next(
     ensures objects { objects_of table.new ≡ objects_of table.old }
     ensures listed { AreListed table.new entries.now listed.new }
     ensures rising { IsRising table.new }
+    ensures room { OnOk result (KeepsRoomBut (take 1 (drop (listed.old - entries.now.base) entries.now.entries)) table.old table.new) }
+    ensures succeeds { HasRoomForVersions table.old.rooms (take 1 (drop (listed.old - entries.now.base) entries.now.entries)) → IsOk result }
 {
     let entry = &entries.from(*listed)[0];
     list_writes(table, entry.position, entry.writes.as_slice())?;
@@ -122,8 +130,8 @@ pub fn list_next(
 }
 
 /// Says in the table where entries write each object: all entries but the last few. It stops at the first growth that is
-/// refused: the entries before that one are listed, and the next call begins with it. It keeps the position up to which all
-/// are listed.
+/// refused: the entries before that one are listed, and the next call begins with it. Where there is room for all versions
+/// none is refused. It keeps the position up to which all are listed.
 pub fn list_entries(
     table: &mut ObjectTable<Place>,
     entries: &Suffix,
@@ -138,6 +146,7 @@ pub fn list_entries(
     ensures listed { AreListed table.new entries.now listed.new }
     ensures more { listed.old ≤ listed.new }
     ensures rising { IsRising table.new }
+    ensures succeeds { HasRoomForVersions table.old.rooms (drop (listed.old - entries.now.base) entries.now.entries) → IsOk result }
 {
     let most = entries.len().get().saturating_sub(MOST_UNLISTED);
     while listed.get() < most {

@@ -1,6 +1,8 @@
-use Rattle.std.proofs.Common.{◌∙◌, arith}
+use Rattle.std.proofs.Common.{◌-◌, ◌∙◌, ℕ, arith}
 use Rattle.craq_settled.specs.Placed.{objects_of}
 use Rattle.craq_settled.proofs.Following.{next_of_same}
+use Rattle.craq_settled.proofs.Results.{not_ok}
+use Rattle.craq_settled.proofs.Rooms.{room_of_first, room_of_rest}
 use Rattle.craq_settled.proofs.listing.list_entries.Goals as goal
 
 pub list_next-requires-clause-next : goal.list_next-requires-clause-next
@@ -13,10 +15,18 @@ loop-table-preserved c =
     let below = c.loop-table-test.true in
     let most = before.most in
     let more = before.more in
+    let from = before.listed.from in
+    let n : ℕ = c.loop-table.listed - c.args.entries.now.base in
     record {
       objects = c.list_next.ensures.objects ∙ before.objects;
       listed = c.list_next.ensures.listed;
       more = omega (arith, next, more);
       most = omega (arith, next, most, below, c.get.ensures);
       rising = c.list_next.ensures.rising;
+      room = λ has. room_of_rest c.loop-table.table c.list_next.new.table n (c.list_next.new.listed - c.args.entries.now.base) c.args.entries.now.entries (omega (arith, next, from)) (before.room has) c.in_ok-list_next.ensures.room;
     }
+
+pub returns-in_err-list_next-clause-succeeds : goal.returns-in_err-list_next-clause-succeeds
+returns-in_err-list_next-clause-succeeds c = λ has.
+    let s = c.args.entries.now in
+    absurd (not_ok (c.in_err-list_next.ensures.succeeds (room_of_first c.loop-table.table (c.loop-table.listed - s.base) s.entries (c.loop-table.invariant.room has))))

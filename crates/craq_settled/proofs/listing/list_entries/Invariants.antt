@@ -1,6 +1,7 @@
-use Rattle.std.proofs.Common.{◌≡◌, ◌≤◌, ◌-◌, max}
+use Rattle.std.proofs.Common.{◌≡◌, ◌≤◌, ◌-◌, drop, max}
 use Rattle.craq_settled.specs.Listed.{AreListed}
 use Rattle.craq_settled.specs.Placed.{objects_of, IsRising}
+use Rattle.craq_settled.specs.Room.{HasRoomForVersions}
 use Rattle.craq_settled.proofs.listing.list_entries.Given as goal
 
 -- the entries so far are listed
@@ -11,6 +12,7 @@ invariant-loop-table l = record {
   more : l.initial.listed ≤ l.listed;
   most : l.listed ≤ max l.initial.listed l.most;
   rising : IsRising l.table;
+  room : HasRoomForVersions l.initial.table.rooms (drop (l.initial.listed - l.entries.base) l.entries.entries) → HasRoomForVersions l.table.rooms (drop (l.listed - l.entries.base) l.entries.entries);
 }
 
 abbrev pub decreases-loop-table : goal.decreases-loop-table

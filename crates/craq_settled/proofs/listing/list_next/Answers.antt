@@ -1,9 +1,12 @@
-use Rattle.std.proofs.Common.{◌≡◌, ◌+◌, ◌++◌, ◌∙◌, List, ap, arith}
+use Rattle.std.proofs.Common.{◌-◌, ◌++◌, ◌∙◌, List, ap, drop}
 use Rattle.craq_commands.specs.declared.entry.Write.{Write}
 use Rattle.craq_settled.specs.Listed.{written_in}
 use Rattle.craq_settled.specs.Placed.{later_of}
+use Rattle.craq_settled.specs.Room.{HasRoomForWrites}
 use Rattle.craq_settled.proofs.Entered.{front_some, listed_later, listed_next, listed_still}
 use Rattle.craq_settled.proofs.Following.{next_listed}
+use Rattle.craq_settled.proofs.Results.{not_ok}
+use Rattle.craq_settled.proofs.Rooms.{room_entry, room_first}
 use Rattle.craq_settled.proofs.listing.list_next.Goals as goal
 
 pub list_writes-requires-clause-next : goal.list_writes-requires-clause-next
@@ -27,3 +30,19 @@ returns-clause-listed c =
     let more = c.in_ok-list_writes.ensures.ok in
     listed_next c.args.table.now c.list_writes.new.table c.args.entries.now c.args.listed.now c.from.result.now e c.requires.listed c.requires.more c.from.ensures.entries c.from.ensures.in_row c.index-from-0.is
     (λ q. more q ∙ ap (λ (ws : List Write). later_of c.args.table.now q ++ written_in e.position 0 ws q) c.as_slice.ensures)
+
+pub returns-in_err-list_writes-clause-succeeds : goal.returns-in_err-list_writes-clause-succeeds
+returns-in_err-list_writes-clause-succeeds c = λ has.
+    let s = c.args.entries.now in
+    let some = front_some s c.args.listed.now c.from.result.now c.requires.listed c.requires.more c.from.ensures.entries in
+    let room : HasRoomForWrites c.args.table.now c.as_slice.result.now = rw c.as_slice.ensures (room_first c.args.table.now (drop (c.args.listed.now - s.base) s.entries) c.from.result.now c.index-from-0.result c.from.ensures.entries some c.index-from-0.is has) in
+    absurd (not_ok (c.in_err-list_writes.ensures.succeeds room))
+
+pub returns-clause-room : goal.returns-clause-room
+returns-clause-room c =
+    let s = c.args.entries.now in
+    let e = c.index-from-0.result in
+    let some = front_some s c.args.listed.now c.from.result.now c.requires.listed c.requires.more c.from.ensures.entries in
+    let kept = c.in_ok-list_writes.ensures.room in
+    room_entry c.args.table.now c.list_writes.new.table (drop (c.args.listed.now - s.base) s.entries) c.from.result.now e c.from.ensures.entries some c.index-from-0.is
+    (λ q. rw (← c.as_slice.ensures) (kept q))

@@ -1,4 +1,5 @@
 use Rattle.craq_settled.proofs.Placing.{later_pushed, later_same, objects_pushed, objects_same, rising_put, rising_same, versions_pushed}
+use Rattle.craq_settled.proofs.Rooms.{room_pushed}
 use Rattle.craq_settled.proofs.Results.{either, err_then, ok_then}
 use Rattle.craq_settled.proofs.listing.push_version.Goals as goal
 
@@ -20,3 +21,6 @@ pub returns-clause-rising : goal.returns-clause-rising
 returns-clause-rising c =
     either c.push.result (ok_then c.push.result (λ is. rising_put c.args.table.now c.push.new.self c.args.key.now _ is c.requires.rising) c.push.ensures.ok)
     (err_then c.push.result (λ is. rising_same c.args.table.now c.push.new.self is c.requires.rising) c.push.ensures.err)
+
+pub returns-clause-room : goal.returns-clause-room
+returns-clause-room c = room_pushed c.args.table.now c.push.new.self c.args.key.now c.push.ensures.room c.push.ensures.rooms

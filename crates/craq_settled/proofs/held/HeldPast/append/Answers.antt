@@ -1,4 +1,3 @@
-use Rattle.std.proofs.Common.{◌∙◌}
 use Rattle.craq_settled.specs.Placed.{objects_of, state_at}
 use Rattle.craq_settled.proofs.Entered.{listed_before, listed_same}
 use Rattle.craq_settled.proofs.Following.{next_appended, next_of_same, next_same}

@@ -341,7 +341,7 @@ def one_too_many(checks, craqd):
         checks.that(is_answered_at_last(Honest(server, 1)), "a connection is served once another has gone")
         for it in some:
             it.close()
-        return "one connection more than 8 was told so"
+        return "one connection more than 8"
     finally:
         server.kill()
 

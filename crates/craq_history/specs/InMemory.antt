@@ -1,12 +1,13 @@
 -- What is in memory of a past.
-use Rattle.std.specs.Prelude.{◌≡◌, ◌≤◌, ◌-◌, take}
+use Rattle.std.specs.Prelude.{◌≡◌, ◌<◌, ◌≤◌, ◌-◌, take}
 use Rattle.craq_commands.specs.SingleCopy.{after_entries}
 use Rattle.craq_model.specs.Past.{Past, entries_in}
 
--- some of the settled entries, from the first one on, are folded into the state before them; the others are entries still
+-- some of the settled entries, from the first one on, are folded into the state before them; the others, at least one, are
+-- entries still
 pub record ArePartlyFolded (old new : Past) : Type 0 where
   pub from : old.base ≤ new.base
-  pub to : new.base ≤ new.acknowledged
+  pub to : new.base < new.acknowledged
   pub base_state : new.base_state ≡ after_entries old.base_state (take (new.base - old.base) old.entries)
   pub entries : new.entries ≡ entries_in old new.base
   pub acknowledged : new.acknowledged ≡ old.acknowledged

@@ -100,8 +100,8 @@ pub trait History: Drop {
 
     /// The entries up to the position are committed, whatever the answer is; one that forgets settled entries forgets
     /// them now. After `Ok` no settled entry that is forgotten is in memory. An error says that a growth was refused:
-    /// the settled entries after some position are in memory still, and nothing else that is seen differs. The next
-    /// call lets them go too, where it answers `Ok`.
+    /// the settled entries after some position below this one are in memory still, one at least, and nothing else that is
+    /// seen differs. The next call tries again: after its `Ok` they are gone too.
     fn acknowledge(&mut self, position: Seq) -> Result<(), AllocError>
         requires { HoldsCommitted (acknowledged_in (past self.old) position) }
         ensures past { past self.new ≡ remembered_in forgets (acknowledged_in (past self.old) position) }

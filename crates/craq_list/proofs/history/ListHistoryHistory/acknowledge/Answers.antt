@@ -16,7 +16,7 @@ returns-clause-ok c = on_ok_weaker c.fold.result (λ base. all_folded c.fold.new
 pub returns-clause-err : goal.returns-clause-err
 returns-clause-err c =
     on_err_weaker c.fold.result
-    (λ low. record { from = c.fold.ensures.from; to = c.fold.ensures.to; base_state = c.fold.ensures.state; entries = c.fold.ensures.entries; acknowledged = refl })
+    (λ low. record { from = c.fold.ensures.from; to = low; base_state = c.fold.ensures.state; entries = c.fold.ensures.entries; acknowledged = refl })
     c.fold.ensures.err
 
 pub invariant_of-self : goal.invariant_of-self

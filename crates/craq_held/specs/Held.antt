@@ -1,15 +1,20 @@
 -- The cells of a chain whose locks are held, and what an audit of a chain that runs confirms.
-use Rattle.std.specs.Prelude.{◌≡◌, ℕ, List, Ok}
+use Rattle.std.specs.Prelude.{◌≡◌, ℕ, List, Result}
+use Rattle.std.specs.List.{AllByRecursion}
 use Rattle.std.specs.declared.sync.MutexGuard.{MutexGuard}
 use Rattle.std.specs.Sync.Mutex.{mutex_guard_value}
+use Rattle.craq_names.specs.declared.refusal.Refusal.{Refusal}
 use Rattle.craq_model.specs.declared.ask.Event.{Event}
+use Rattle.craq_model.specs.Plain.{Plain}
 use Rattle.craq_epochs.specs.Mastered.{Mastered}
 use Rattle.craq_audit.specs.declared.finding.Audit.{Audit}
 use Rattle.craq_audit.specs.Audited.{Audits}
 use Rattle.craq_seat.specs.declared.journal.BookEvent.{BookEvent}
 use Rattle.craq_seat.specs.declared.seat.Seated.{Seated}
+use Rattle.craq_seat.specs.Books.{IsBook}
 use Rattle.craq_seat.specs.Calls.{Called}
 use Rattle.craq_seat.specs.Cells.{Celled}
+use Rattle.craq_seat.specs.Kept.{IsKept}
 
 -- a chain's master and the cells of its nodes, as their locks hold them
 pub record Held (C : Type 0) : Type 0 where
@@ -20,7 +25,15 @@ pub record Held (C : Type 0) : Type 0 where
 abbrev pub cell_in : {C W : Type 0} → MutexGuard (Seated C W) → Celled C Event
 cell_in seat = (mutex_guard_value seat).desk.cell
 
--- the answer is that of an audit of cells of this chain
-abbrev pub Confirms : (C : Type 0) → ℕ → List Called → Audit → Type 0
-Confirms C chain receipts answer =
-    (held : Held C) × (held.book.opening.name.chain ≡ chain) × Audits held.book held.cells receipts (Ok answer)
+-- the master is one that was opened with members, and each step of the master and of the nodes is their own: replaying a
+-- journal leads to what its cell has
+pub record AreOwn {C : Type 0} (represents : C → Plain → Type 0) (held : Held C) : Type 0 where
+  pub book : IsBook held.book
+  pub cells : AllByRecursion (IsKept represents) held.cells
+
+-- the answer, or the refusal, is that of an audit of cells of this chain whose steps are their own
+pub record Confirms {C : Type 0} (represents : C → Plain → Type 0) (chain : ℕ) (receipts : List Called) (answer : Result Audit Refusal) : Type 0 where
+  pub held : Held C
+  pub own : AreOwn represents held
+  pub named : held.book.opening.name.chain ≡ chain
+  pub audited : Audits held.book held.cells receipts answer

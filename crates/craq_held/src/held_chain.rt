@@ -1,9 +1,11 @@
 //! `HeldChain`: a chain's cells under their locks, as one value that lends them; for a store that is audited as it runs.
-ghost use Rattle.std.specs.Prelude.{◌≡◌, ◌⊎◌, Err, IfOk, map};
+ghost use Rattle.std.specs.Prelude.{◌≡◌, ◌≤◌, [], IfOk, length, map, vec_capacity, vec_len};
+ghost use Rattle.std.specs.List.{AllByRecursion};
 ghost use Rattle.std.specs.Sync.Mutex.{mutex_guard_value};
 ghost use Rattle.craq_audit.specs.Audited.{Audits};
 ghost use Rattle.craq_audit.specs.Lookups.{cells_of};
-ghost use Rattle.craq_held.specs.Held.{cell_in};
+ghost use Rattle.craq_held.specs.Held.{AreOwn, cell_in};
+ghost use Rattle.craq_seat.specs.Kept.{IsKept};
 
 use craq_audit::{Audit, audit};
 use craq_names::Refusal;
@@ -14,50 +16,74 @@ use std::marker::Model;
 use std::sync::MutexGuard;
 
 /// The cells of a chain, its master's and its nodes', each under its lock: no step is taken at them as long as this value
-/// has the locks. A contract sees the cells that the locks hold. Which cell stands behind a lock that nobody has no
-/// contract can say.
+/// has the locks. A contract sees the cells that the locks hold, and that each step of theirs is their own. Which cell
+/// stands behind a lock that nobody has no contract can say.
 #[derive(Drop)]
 pub struct HeldChain<'b, 's, C: Core, W: Drop = ()> {
     alloc: Global,
     book: MutexGuard<'b, BookCell>,
     seats: Vec<MutexGuard<'s, Seated<C, W>>>,
+    /// Room for the list of the cells, for an audit.
+    room: Vec<&'s Cell<C>>,
 }
 
 impl<'b, 's, C: Core, W: Drop> Model for HeldChain<'b, 's, C, W> {
-    ghost use Rattle.std.specs.Prelude.{map};
+    ghost use Rattle.std.specs.Prelude.{◌≡◌, ◌≤◌, [], length, map, vec_capacity};
     ghost use Rattle.std.specs.Sync.Mutex.{mutex_guard_value};
-    ghost use Rattle.craq_held.specs.Held.{Held, cell_in};
+    ghost use Rattle.craq_held.specs.Held.{AreOwn, Held, cell_in};
 
     ghost Value = { Held C };
 
     ghost view = { λ h. record { book = mutex_guard_value h.book; cells = map cell_in h.seats.items } };
+
+    ghost invariant = { λ h. AreOwn C.represents (record { book = mutex_guard_value h.book; cells = map cell_in h.seats.items }) × (h.room.items ≡ []) × (length h.seats.items ≤ vec_capacity h.room) };
 }
 
-/// The cells of seats whose locks are held, in their order. It fails for want of memory alone.
-fn cells_in<'a, 's, C: Core, W: Drop>(
-    alloc: Global,
-    seats: &'a [MutexGuard<'s, Seated<C, W>>],
-) -> Result<Vec<&'a Cell<C>>, AllocError>
-    ensures { IfOk result (λ cells. cells_of cells.items ≡ map cell_in seats.now) }
+/// The cells that locks hold keep what their type says. It does nothing.
+fn keep_seats<C: Core, W: Drop>(seats: &[MutexGuard<'_, Seated<C, W>>])
+    ensures { AllByRecursion (IsKept C.represents) (map cell_in seats.now) }
 {
-    let mut cells = Vec::new(alloc);
     for seat in seats {
-        cells.push(seat.desk.cell())?;
+        seat.desk.cell().journal();
     }
-    Ok(cells)
+}
+
+/// The cells of seats whose locks are held, in their order, in a list with room for them. It takes no memory.
+fn cells_in<'a, 's, C: Core, W: Drop>(
+    room: Vec<&'a Cell<C>>,
+    seats: &'a [MutexGuard<'s, Seated<C, W>>],
+) -> Vec<&'a Cell<C>>
+    requires empty { room.items ≡ [] }
+    requires room { length seats.now ≤ vec_capacity room }
+    ensures { cells_of result.items ≡ map cell_in seats.now }
+{
+    let mut cells = room;
+    for seat in seats {
+        cells.push_reserved(seat.desk.cell());
+    }
+    cells
 }
 
 impl<'b, 's, C: Core, W: Drop> HeldChain<'b, 's, C, W> {
-    /// The cells behind these locks, those of the nodes in the order of their seats. It takes no memory.
+    /// The cells behind these locks, those of the nodes in the order of their seats, and room for their audit. It fails for
+    /// want of memory alone, and then the locks are free.
     pub fn new(
         alloc: Global,
         book: MutexGuard<'b, BookCell>,
         seats: Vec<MutexGuard<'s, Seated<C, W>>>,
-    ) -> Self
-        ensures book { result.book ≡ mutex_guard_value book.entry }
-        ensures cells { result.cells ≡ map cell_in seats.entry.items }
+    ) -> Result<Self, AllocError>
+        ensures book { IfOk result (λ held. held.book ≡ mutex_guard_value book.entry) }
+        ensures cells { IfOk result (λ held. held.cells ≡ map cell_in seats.entry.items) }
     {
-        HeldChain { alloc, book, seats }
+        let room = Vec::with_capacity(alloc, seats.len())?;
+        book.journal();
+        keep_seats(seats.as_slice());
+        Ok(HeldChain {
+            alloc,
+            book,
+            seats,
+            room,
+        })
     }
 
     /// The master's cell. It takes no memory.
@@ -71,18 +97,27 @@ impl<'b, 's, C: Core, W: Drop> HeldChain<'b, 's, C, W> {
     pub fn cells(&self) -> Result<Vec<&Cell<C>>, AllocError>
         ensures { IfOk result (λ cells. cells_of cells.items ≡ self.now.cells) }
     {
-        cells_in(self.alloc, self.seats.as_slice())
+        let room = Vec::with_capacity(self.alloc, self.seats.len())?;
+        Ok(cells_in(room, self.seats.as_slice()))
     }
 
-    /// The audit of these cells with call receipts, as `craq_audit::audit` has it: their journals as one run, or the first
-    /// fault. It changes nothing. Where it answers `Merged` the run is the merge of the journals and a run of the chain,
-    /// which `explain_run` explains, and each receipt is an ask and its answer in that run.
+    /// The audit of these cells with call receipts, exactly as `craq_audit::audit` has it: their journals as one run, or the
+    /// first fault. Afterwards the locks are free, and the cells as they were. Where it answers `Merged` the run is the merge
+    /// of the journals and a run of the chain, which `explain_run` explains, and each receipt is an ask and its answer in
+    /// that run.
     ///
-    /// Refused as `craq_audit::audit` is, and for want of memory (`Memory`) also before its tests.
-    pub fn audit(&self, receipts: &[CallReceipt]) -> Result<Audit, Refusal>
-        ensures { (result ≡ Err Refusal.Memory) ⊎ Audits self.now.book self.now.cells receipts.now result }
+    /// Refused as `craq_audit::audit` is.
+    pub fn audit(self, receipts: &[CallReceipt]) -> Result<Audit, Refusal>
+        ensures audited { Audits self.entry.book self.entry.cells receipts.now result }
+        ensures own { AreOwn C.represents self.entry }
     {
-        let cells = self.cells()?;
-        audit(self.alloc, self.book(), cells.as_slice(), receipts)
+        let HeldChain {
+            alloc,
+            book,
+            seats,
+            room,
+        } = self;
+        let cells = cells_in(room, seats.as_slice());
+        audit(alloc, &book, cells.as_slice(), receipts)
     }
 }

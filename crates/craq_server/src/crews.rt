@@ -44,7 +44,7 @@ where
     ghost use Rattle.std.specs.Prelude.{⊤};
     ghost use Rattle.craq_server.specs.Status.{TellsStatus};
 
-    ghost tells = { λ crew text. TellsStatus crew.callee.store.now text };
+    ghost tells = { λ crew text. TellsStatus crew.callee.store.now.names text };
 
     // No contract says with what a store refuses a call.
     ghost refuses = { λ crew node pass ask refusal. ⊤ };

@@ -38,7 +38,7 @@ where
     C: Core,
     G: Gate,
 {
-    ghost tells = { λ store text. TellsStatus store.store.now text };
+    ghost tells = { λ store text. TellsStatus store.store.now.names text };
 
     // No contract says with what a store refuses a call.
     ghost refuses = { λ store node pass ask refusal. ⊤ };

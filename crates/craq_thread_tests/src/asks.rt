@@ -39,10 +39,13 @@ fn object(alloc: Global, key: &[u8]) -> Result<ObjectId, Refusal> {
     })
 }
 
+/// What each put writes.
+const WRITTEN: &[u8] = b"a";
+
 /// A put of `a`, by a client of this id under this number.
 pub fn put_of(alloc: Global, id: u64, number: u64, key: &[u8]) -> Result<Ask, Refusal> {
     let object = object(alloc, key)?;
-    let value = Value::new(alloc, b"a")?;
+    let value = Value::new(alloc, WRITTEN)?;
     Ok(Ask::Update(Update {
         client: ClientId::new(id),
         number: RequestNo::new(number)?,
@@ -56,6 +59,27 @@ pub fn read_of(alloc: Global, mode: ReadMode, key: &[u8]) -> Result<Ask, Refusal
         mode,
         object: object(alloc, key)?,
     })
+}
+
+/// What an answer is to tell.
+#[derive(Clone, Copy)]
+pub enum Told {
+    /// The put wrote this version.
+    Written(u64),
+    /// The read finds this version, and what was put; where it is 0, nothing.
+    Found(u64),
+}
+
+/// Whether an answer tells that and nothing else.
+pub fn tells(answer: &Answer, told: Told) -> bool {
+    match (answer, told) {
+        (Answer::Update(Reply::Written(version)), Told::Written(number)) => version.get() == number,
+        (Answer::Read { version, value }, Told::Found(number)) => {
+            let found: &[u8] = if number == 0 { &[] } else { WRITTEN };
+            version.get() == number && value.as_slice() == found
+        }
+        _ => false,
+    }
 }
 
 /// The version that an answer tells, or 0.

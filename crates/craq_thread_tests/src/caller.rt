@@ -1,5 +1,5 @@
 //! A client of a store that is tried, on a thread of its own: it puts, reads what it put, and asks again.
-use crate::asks::{name_of, put_of, read_of, version_of};
+use crate::asks::{Told, name_of, put_of, read_of, tells};
 use crate::course::Course;
 use crate::gate::{TestGate, Tested};
 use crate::waits::rest;
@@ -53,18 +53,18 @@ impl Caller {
         read_of(self.alloc, mode, &self.key(number))
     }
 
-    /// Asks a node: the version that it tells. The receipt of the call goes to the others.
+    /// Asks a node, which is to tell this. The receipt of the call goes to the others.
     fn ask<R: Wait>(
         &mut self,
         rt: &R,
         course: &Course,
         node: u32,
         ask: Ask,
-        version: u64,
+        told: Told,
     ) -> Result<(), Refusal> {
         let asked = course.ticks.load(Ordering::SeqCst);
         let (answer, receipt) = self.client.call(rt, name_of(node), ask)?;
-        let is_right = version_of(&answer) == version;
+        let is_right = tells(&answer, told);
         drop(answer);
         course.note(rt, receipt, asked, is_right);
         Ok(())
@@ -73,21 +73,21 @@ impl Caller {
     /// Whether a node answers. It waits for no tick.
     pub fn glance<R: Wait>(&mut self, rt: &R, course: &Course, node: u32) -> Result<(), Refusal> {
         let ask = self.read(1, ReadMode::Eventual)?;
-        self.ask(rt, course, node, ask, 0)
+        self.ask(rt, course, node, ask, Told::Found(0))
     }
 
     /// The put of this number at the head.
     fn try_put<R: Wait>(&mut self, rt: &R, course: &Course, number: u64) -> Result<(), Refusal> {
         let ask = self.put(number)?;
         let head = course.head.load(Ordering::SeqCst);
-        self.ask(rt, course, head, ask, version_after(number))
+        self.ask(rt, course, head, ask, Told::Written(version_after(number)))
     }
 
     /// A strong read at the tail of what the put of this number wrote.
     fn try_read<R: Wait>(&mut self, rt: &R, course: &Course, number: u64) -> Result<(), Refusal> {
         let ask = self.read(number, ReadMode::Strong)?;
         let tail = course.tail.load(Ordering::SeqCst);
-        self.ask(rt, course, tail, ask, version_after(number))?;
+        self.ask(rt, course, tail, ask, Told::Found(version_after(number)))?;
         course.ready.fetch_max(u64::from(tail), Ordering::SeqCst);
         Ok(())
     }

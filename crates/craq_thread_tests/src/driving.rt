@@ -25,6 +25,9 @@ const CALM: u64 = 50;
 /// The most nodes that ever join.
 const MOST_JOINS: u32 = 10_000;
 
+/// How many calls a client makes that asks under one number: a put, a read, and the put again.
+const CALLS: u64 = 3;
+
 /// No more numbers than these.
 const MANY: u64 = 1_000_000;
 
@@ -121,7 +124,8 @@ impl Ground {
         expect(held, Fact::IsHeld)
     }
 
-    /// A put is under way while node 2 is held, stops and is removed. Then it is asked again.
+    /// A put is under way while node 2 is held, stops and is removed. Then it is asked again by another client of the same
+    /// id. All calls of both are answered, the puts with one and the same reply.
     fn stop<R>(&self, rt: R, callers: &mut Callers) -> Result<(), Fault>
     where
         R: Threads + Wait + Copy + Send + 'static,
@@ -130,7 +134,12 @@ impl Ground {
         self.store.stop(&rt, chain(), NodeId::new(2))?;
         self.store.remove(&rt, chain(), NodeId::new(2))?;
         self.course.open.store(true, Ordering::SeqCst);
-        self.start_caller(rt, 1, 1, callers)
+        self.start_caller(rt, 1, 1, callers)?;
+        self.end_asking(&rt)?;
+        let late = self.course.late.load(Ordering::SeqCst);
+        let answered = self.course.answered.load(Ordering::SeqCst);
+        expect(!late, Fact::IsFree)?;
+        expect(answered == 2 * CALLS, Fact::IsAnswered)
     }
 
     /// A put is under way while node 2 is held, and meanwhile the locks are free, but that of node 2 where it is held within

@@ -1,6 +1,7 @@
 //! `Store::audit`: the audit of a chain whose nodes are all locked for it.
-ghost use Rattle.std.specs.Prelude.{IfOk};
-ghost use Rattle.craq_held.specs.Held.{Confirms};
+ghost use Rattle.std.specs.Prelude.{◌≡◌, IfOk};
+ghost use Rattle.std.specs.Sync.Mutex.{mutex_guard_value};
+ghost use Rattle.craq_workers.specs.Stores.{Answers};
 
 use crate::gate::Gate;
 use crate::node::Node;
@@ -8,9 +9,10 @@ use crate::steps::Served;
 use crate::store::Store;
 use craq_audit::Audit;
 use craq_held::HeldChain;
+use craq_letters::Addressee;
 use craq_names::{ChainId, Refusal};
 use craq_node::Core;
-use craq_seat::CallReceipt;
+use craq_seat::{BookCell, CallReceipt};
 use std::alloc::{AllocError, Global};
 use std::sync::{Arc, MutexGuard, Wait};
 
@@ -27,19 +29,34 @@ fn lock_all<'a, R: Wait, C: Core>(
     Ok(seats)
 }
 
+/// The cells of a chain, whose master's lock is held, under the locks of these nodes. It fails for want of memory alone. Here
+/// alone an audit reaches the locks of nodes.
+fn lock_chain<'b, 's, R: Wait, C: Core>(
+    rt: &R,
+    alloc: Global,
+    book: MutexGuard<'b, BookCell>,
+    nodes: &'s [Arc<Node<C>>],
+) -> Result<HeldChain<'b, 's, C, Addressee>, AllocError>
+    ensures { IfOk result (λ held. held.book ≡ mutex_guard_value book.entry) }
+{
+    let seats = lock_all(rt, alloc, nodes)?;
+    HeldChain::new(alloc, book, seats)
+}
+
 impl<C: Core + Send + 'static, G: Gate + Send + Sync + 'static> Store<C, G> {
     /// The audit of a chain with receipts of calls: that of its cells (`HeldChain::audit`), under the locks of its master
-    /// and of all nodes that it ever had, which wait for it.
+    /// and of all nodes that it ever had, which wait for it. It changes nothing.
     ///
-    /// Refused: `UnknownChain`; `JournalOff` where the store keeps no journals; `WrongNode` where another chain's master
-    /// stands behind the lock; `Closed` where the store is; as `HeldChain::audit` is.
+    /// Refused for the first of these that applies: `UnknownChain`; `JournalOff` where the store keeps no journals;
+    /// `WrongNode` where another chain's master stands behind the lock; `Memory` where there is no room for the list of the
+    /// nodes; as `HeldChain::audit` is.
     pub fn audit<R: Wait>(
         &self,
         rt: &R,
         chain: ChainId,
         receipts: &[CallReceipt],
     ) -> Result<Audit, Refusal>
-        ensures { IfOk result (λ a. Confirms C chain receipts.now a) }
+        ensures { Answers C.represents self.now chain receipts.now result }
     {
         let place = self.shared.chain(chain)?;
         if !self.has_journals() {
@@ -47,10 +64,10 @@ impl<C: Core + Send + 'static, G: Gate + Send + Sync + 'static> Store<C, G> {
         }
         let book = place.book.lock(rt);
         if book.opening().name.chain != chain {
+            book.journal();
             return Err(Refusal::WrongNode);
         }
-        let nodes = place.nodes(rt, self.alloc)?;
-        let seats = lock_all(rt, self.alloc, nodes.as_slice())?;
-        HeldChain::new(self.alloc, book, seats).audit(receipts)
+        let nodes = place.all_nodes(rt, self.alloc)?;
+        lock_chain(rt, self.alloc, book, nodes.as_slice())?.audit(receipts)
     }
 }

@@ -7,7 +7,7 @@ use craq_names::{NodeId, Refusal};
 use craq_node::Core;
 use craq_seat::{BookCell, Caller};
 use crossbeam_channel::{SendError, Sender};
-use std::alloc::Global;
+use std::alloc::{AllocError, Global};
 use std::mem;
 use std::sync::{Arc, Mutex, RwLock, Wait};
 
@@ -44,6 +44,17 @@ impl<C: Core> Ways<C> {
             Some(open) => Ok(open),
             None => Err(Refusal::Closed),
         }
+    }
+
+    /// All nodes that the chain has. It fails for want of memory alone.
+    fn all(&self, alloc: Global) -> Result<Vec<Arc<Node<C>>>, AllocError> {
+        let mut nodes = Vec::new(alloc);
+        for way in self.nodes.as_slice() {
+            if let Some(node) = &way.node {
+                nodes.push(Arc::try_clone(node)?)?;
+            }
+        }
+        Ok(nodes)
     }
 
     /// The way to the node of this id. `WrongNode` where the chain never had it.
@@ -126,7 +137,7 @@ impl<C: Core> Chain<C> {
         }
     }
 
-    /// All nodes that the chain has.
+    /// All nodes that the chain has. `Closed` where the store is.
     pub(crate) fn nodes<R: Wait>(
         &self,
         rt: &R,
@@ -134,13 +145,16 @@ impl<C: Core> Chain<C> {
     ) -> Result<Vec<Arc<Node<C>>>, Refusal> {
         let ways = self.ways.read(rt);
         let _ = ways.open()?;
-        let mut nodes = Vec::new(alloc);
-        for way in ways.nodes.as_slice() {
-            if let Some(node) = &way.node {
-                nodes.push(Arc::try_clone(node)?)?;
-            }
-        }
-        Ok(nodes)
+        Ok(ways.all(alloc)?)
+    }
+
+    /// The same of a store that whoever asks has not closed. It fails for want of memory alone.
+    pub(crate) fn all_nodes<R: Wait>(
+        &self,
+        rt: &R,
+        alloc: Global,
+    ) -> Result<Vec<Arc<Node<C>>>, AllocError> {
+        self.ways.read(rt).all(alloc)
     }
 
     /// A sender for a worker to keep as long as it works. `Closed` where the store is.
@@ -170,6 +184,20 @@ impl<C: Core> Chain<C> {
             }
         }
         self.bell.ring();
+    }
+
+    /// There is room for the way to one more node. It stays for whoever has the master's lock: a join alone takes it, under
+    /// that lock. `Closed` where the store is, `Memory`.
+    pub(crate) fn make_room<R: Wait>(&self, rt: &R) -> Result<(), Refusal> {
+        let mut ways = self.ways.write(rt);
+        let _ = ways.open()?;
+        Ok(ways.nodes.reserve(1)?)
+    }
+
+    /// The way to a node that joined goes behind the others. Where there was room for it that does not fail.
+    pub(crate) fn add<R: Wait>(&self, rt: &R, way: Way<C>) -> Result<(), Refusal> {
+        let mut ways = self.ways.write(rt);
+        Ok(ways.nodes.push(way)?)
     }
 
     /// Nothing more goes to the workers of the node of this id. Once their queues are empty they end. Where no audit will

@@ -1,4 +1,6 @@
 //! What all threads of a store share, how a step's messages go out, and how one ask is served.
+ghost use Rattle.std.specs.Prelude.{◌≡◌, ◌<◌, ◌≤◌, IfErr, OnOk, length};
+
 use crate::carrying::carry_on;
 use crate::chain::Chain;
 use crate::gate::{Gate, Work};
@@ -40,7 +42,10 @@ fn in_hand(reply: Option<Reply>) -> Result<Option<CallReceipt>, Refusal> {
 
 impl<C: Core, G: Gate> Shared<C, G> {
     /// The chain of this id, or `UnknownChain`.
-    pub(crate) fn chain(&self, id: ChainId) -> Result<&Chain<C>, Refusal> {
+    pub(crate) fn chain(&self, id: ChainId) -> Result<&Chain<C>, Refusal>
+        ensures there { OnOk result (id < length self.now.chains.items) }
+        ensures err { IfErr result (λ e. (e ≡ Refusal.UnknownChain) × (length self.now.chains.items ≤ id)) }
+    {
         match self.chains.as_slice().get(id.get() as usize) {
             Some(chain) => Ok(chain),
             None => Err(Refusal::UnknownChain),

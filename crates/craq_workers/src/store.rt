@@ -35,7 +35,7 @@ pub struct ChainStatus {
 
 /// A store that runs: two threads for each node, one for its asks and one for what arrives there, or one for each chain
 /// where it is carried; and one for each chain's master. Whoever has it has to close it. A contract sees the names of its
-/// chains, by id: what stands behind locks and channels it does not see.
+/// chains, by id, and whether it keeps journals: what stands behind locks and channels it does not see.
 pub struct Store<C: Core, G: Gate> {
     pub(crate) alloc: Global,
     form: Form,
@@ -45,11 +45,12 @@ pub struct Store<C: Core, G: Gate> {
 }
 
 impl<C: Core, G: Gate> Model for Store<C, G> {
-    ghost use Rattle.std.specs.Prelude.{ℕ, List, map, string_bytes};
+    ghost use Rattle.std.specs.Prelude.{map, string_bytes};
+    ghost use Rattle.craq_workers.specs.Stores.{Stored};
 
-    ghost Value = { List (List ℕ) };
+    ghost Value = { Stored };
 
-    ghost view = { λ s. map (λ c. string_bytes c.name) s.shared.value.chains.items };
+    ghost view = { λ s. record { names = map (λ c. string_bytes c.name) s.shared.value.chains.items; journals = s.form.journal } };
 }
 
 /// What a chain's status is now. It fails for want of memory alone.
@@ -127,7 +128,9 @@ fn test_join(book: &BookCell, node: NodeId) -> Result<(), Refusal>
 
 impl<C: Core, G: Gate> Store<C, G> {
     /// Whether the store keeps journals, so that it can be audited.
-    pub fn has_journals(&self) -> bool {
+    pub fn has_journals(&self) -> bool
+        ensures { result ≡ self.now.journals }
+    {
         self.form.journal
     }
 
@@ -169,7 +172,7 @@ impl<C: Core, G: Gate> Store<C, G> {
 
     /// Each chain's name and membership, by id. It fails for want of memory alone.
     pub fn status<R: Wait>(&self, rt: &R) -> Result<Vec<ChainStatus>, AllocError>
-        ensures { IfOk result (λ statuses. map (λ s. string_bytes s.name) statuses.items ≡ self.now) }
+        ensures { IfOk result (λ statuses. map (λ s. string_bytes s.name) statuses.items ≡ self.now.names) }
     {
         statuses_of(rt, self.alloc, self.shared.chains.as_slice())
     }
@@ -186,7 +189,8 @@ impl<C: Core + Send + 'static, G: Gate + Send + Sync + 'static> Store<C, G> {
         journal: bool,
     ) -> Result<Self, Refusal>
         requires { IsPlan plan.now }
-        ensures names { IfOk result (λ store. store ≡ map (λ c. c.0) plan.now) }
+        ensures names { IfOk result (λ store. store.names ≡ map (λ c. c.0) plan.now) }
+        ensures journals { IfOk result (λ store. store.journals ≡ journal) }
         ensures err { IfErr result (λ e. e ≡ Refusal.Memory) }
     {
         let form = Form {
@@ -331,7 +335,9 @@ impl<C: Core + Send + 'static, G: Gate + Send + Sync + 'static> Store<C, G> {
         Ok(())
     }
 
-    /// The workers of a node begin, and then it joins. Where that is refused its ways are gone, so its workers end.
+    /// The workers of a node begin, there is room for its way, and then it joins: the master's step is taken under the
+    /// master's lock alone. Where that is refused the node's way is gone, so its workers end. Nobody sees the step before the
+    /// way is there, since the master's lock is held.
     fn join_opened<R: Threads + Wait + Copy + Send + 'static>(
         &self,
         rt: R,
@@ -344,11 +350,9 @@ impl<C: Core + Send + 'static, G: Gate + Send + Sync + 'static> Store<C, G> {
         if !self.form.carried {
             self.hire_two(rt, place, &way, hired)?;
         }
-        let mut ways = place.ways.write(&rt);
-        let _ = ways.open()?;
-        ways.nodes.reserve(1)?;
+        place.make_room(&rt)?;
         let receipt = book.take(self.alloc, BookEvent::Join(id), Pass::start())?;
-        ways.nodes.push(way)?;
+        place.add(&rt, way)?;
         Ok(receipt)
     }
 

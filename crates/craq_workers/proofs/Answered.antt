@@ -1,0 +1,54 @@
+-- What an audit of a chain's cells answers is what the store answers that has the chain and keeps journals.
+use Rattle.std.proofs.Common.{◌≡◌, ℕ, Bool, true, false, not, nat_eq, List, Result, Ok, Err, inr, refl, sym, ◌∙◌}
+use Rattle.std.proofs.lemmas.Bool.{eqb-true}
+use Rattle.craq_names.specs.declared.refusal.Refusal.{Refusal}
+use Rattle.craq_names.specs.declared.refusal.Refusal.TheVariants as refusals
+use Rattle.craq_model.specs.Plain.{Plain}
+use Rattle.craq_audit.specs.declared.finding.Audit.{Audit}
+use Rattle.craq_seat.specs.Calls.{Called}
+use Rattle.craq_held.specs.Held.{Confirms}
+use Rattle.craq_workers.specs.Stores.{Answers, HasJournals, IsRefused, Stored}
+
+passes : (t : Bool) → not t ≡ false → t ≡ true
+passes true h = refl
+passes false h = cc
+
+-- two numbers are one where the test that they are two fails
+pub one : (x y : ℕ) (b : Bool) → b ≡ not (nat_eq x y) → b ≡ false → x ≡ y
+one x y b is fails = eqb-true x y (passes (nat_eq x y) (sym is ∙ fails))
+
+refused : {C : Type 0} (represents : C → Plain → Type 0) (store : Stored) (chain : ℕ) (receipts : List Called) (e : Refusal)
+    → HasJournals store chain → Confirms represents chain receipts (Err e) → IsRefused represents store chain receipts e
+refused represents store chain receipts refusals.BadKey h k = absurd k.audited
+refused represents store chain receipts refusals.ValueTooLong h k = absurd k.audited
+refused represents store chain receipts refusals.TooManyItems h k = absurd k.audited
+refused represents store chain receipts refusals.EmptyTransaction h k = absurd k.audited
+refused represents store chain receipts refusals.DuplicateKey h k = absurd k.audited
+refused represents store chain receipts refusals.BadNumber h k = absurd k.audited
+refused represents store chain receipts refusals.UnknownChain h k = absurd k.audited
+refused represents store chain receipts refusals.TwoChains h k = absurd k.audited
+refused represents store chain receipts (refusals.NotHead head) h k = absurd k.audited
+refused represents store chain receipts refusals.NotReady h k = absurd k.audited
+refused represents store chain receipts refusals.Stopped h k = absurd k.audited
+refused represents store chain receipts refusals.PendingFull h k = absurd k.audited
+refused represents store chain receipts refusals.Exhausted h k = absurd k.audited
+refused represents store chain receipts refusals.Memory h k = h
+refused represents store chain receipts refusals.BadFrame h k = absurd k.audited
+refused represents store chain receipts refusals.FrameTooLong h k = absurd k.audited
+refused represents store chain receipts refusals.NotMember h k = absurd k.audited
+refused represents store chain receipts refusals.NotStopped h k = absurd k.audited
+refused represents store chain receipts refusals.UsedId h k = absurd k.audited
+refused represents store chain receipts refusals.ChainFull h k = absurd k.audited
+refused represents store chain receipts refusals.LastNode h k = absurd k.audited
+refused represents store chain receipts refusals.UnknownMessage h k = absurd k.audited
+refused represents store chain receipts refusals.WrongNode h k = (h, inr k)
+refused represents store chain receipts refusals.JournalOff h k = (h.0, inr k)
+refused represents store chain receipts (refusals.BadScript line) h k = absurd k.audited
+refused represents store chain receipts refusals.BadConfig h k = absurd k.audited
+refused represents store chain receipts refusals.Closed h k = absurd k.audited
+refused represents store chain receipts refusals.Io h k = absurd k.audited
+
+pub answered : {C : Type 0} (represents : C → Plain → Type 0) (store : Stored) (chain : ℕ) (receipts : List Called) (result : Result Audit Refusal)
+    → HasJournals store chain → Confirms represents chain receipts result → Answers represents store chain receipts result
+answered represents store chain receipts (Ok audit) h k = (h, k)
+answered represents store chain receipts (Err e) h k = refused represents store chain receipts e h k

@@ -86,7 +86,10 @@ class Changing(running.Server):
 
     def ends(self):
         """Its input ends: its status, and what it then says."""
-        out, err = self.process.communicate(timeout=running.PATIENCE * 5)
+        try:
+            out, err = self.process.communicate(timeout=running.PATIENCE * 5)
+        except subprocess.TimeoutExpired:
+            return "no end", [], ""
         return self.process.returncode, out.splitlines(), err
 
     def kill(self):
@@ -100,15 +103,15 @@ class Late(Exception):
 
 
 class Insistent(example.Client):
-    """A client that asks what is refused for the moment again at once, for as long as a call may take. It knows the pass that came last, how
-    often it asked, and how often again."""
+    """A client that asks what is refused for the moment again at once, for so many seconds. It knows the pass that came last, how often it
+    asked, and how often again."""
 
-    def __init__(self, address, client):
-        self.came = self.asked = self.again = 0
+    def __init__(self, address, client, seconds=PATIENCE):
+        self.seconds, self.came, self.asked, self.again = seconds, 0, 0, 0
         super().__init__(address, 2, client)
 
     def retried(self, attempt):
-        until, is_first = time.monotonic() + PATIENCE, True
+        until, is_first = time.monotonic() + self.seconds, True
         while time.monotonic() < until:
             try:
                 return attempt(is_first)
@@ -120,7 +123,7 @@ class Insistent(example.Client):
             is_first = False
             self.again += 1
             time.sleep(0.002)
-        raise Late(f"no answer in {PATIENCE} s")
+        raise Late(f"no answer in {self.seconds} s")
 
     def exchange(self, payload):
         before, self.shown = self.shown, 0

@@ -1,15 +1,18 @@
 """A node that is removed from a store without journals lets its objects go.
 
 In each way of serving a chain is filled with some MiB of objects. Then its members are replaced many times: the head, the middle or the tail
-by turns stops, is removed, and another node joins, which comes to hold all objects. The memory of the process may hardly grow meanwhile. It
-would grow by what a node holds with each one that stays. The process has as many threads as before.
+by turns stops, is removed, and another node joins, which comes to hold all objects. The memory of the process does not grow by what was held
+by those that went. The process has as many threads as before.
 """
 import changing
 from asked import example
 
 OBJECTS, VALUE, ATONCE = 2_000, b"v" * 4_000, 8
-# After how many turns the memory counts, how many there are, and how many MiB more there may be after all: of the 24 turns each adds 8 where nodes stay.
-FIRST, TURNS, GROWTH = 6, 30, 24
+# After how many turns the memory counts, how many there are, and how many MiB more there may be in one of the rest: where nodes stay these 20 turns
+# add 160. What comes and goes between two turns is up to 20.
+FIRST, TURNS, GROWTH = 10, 30, 48
+# How many seconds a node that joined may take to hold all objects.
+COPIED = 60
 
 
 def key(at):
@@ -38,7 +41,7 @@ def replaces_all(checks, program):
     """The members of a store are replaced; gives what was seen, in words."""
     store = changing.Changing(program, 1, journals=False)
     try:
-        client = changing.Insistent(store.address, 1)
+        client = changing.Insistent(store.address, 1, COPIED)
         empty, threads = store.memory(), store.threads()
         fill(client)
         filled, memory = store.memory(), []

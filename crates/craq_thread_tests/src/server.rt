@@ -1,4 +1,4 @@
-//! The store, its server and its ticks, each on a thread, beside the clients; in the end its audit.
+//! The store, its server and its ticks, each on a thread, beside the clients; in the end its audit; called by `main`.
 use crate::asks::{chain, plan};
 use crate::client::ask_all;
 use crate::gate::{TestGate, Tested};

@@ -1,4 +1,4 @@
-//! What clients see of a run, lent from it.
+//! What clients see of a run, lent from it; made by `verdict`, and read by its tests.
 ghost use Rattle.std.specs.Prelude.{◌≡◌, ◌++◌, [], IfOk, OnOk};
 ghost use Rattle.craq_runs.specs.Seen.{Asked, Answered, asks_from, answers_from, answers_in, receivers_in};
 

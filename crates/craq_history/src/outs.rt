@@ -1,4 +1,4 @@
-//! What a node sends.
+//! What a node sends; called by the rules of `craq_read` and `craq_write`.
 ghost use Rattle.std.specs.Prelude.{◌≡◌, ◌<◌, ◌≤◌, ◌++◌, ◌∷◌, [], List, OnOk, OnErr, IfOk, map, take, length, option_to_list};
 ghost use Rattle.craq_commands.specs.declared.entry.Entry.{Entry};
 ghost use Rattle.craq_model.specs.declared.waiting.WaitingRead.{WaitingRead};

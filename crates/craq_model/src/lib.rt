@@ -1,4 +1,4 @@
-//! The types of a node's events, messages and steps.
+//! The types of a node's events, messages and steps; apart from the node, since `craq_wire` and `craq_check` use them without it.
 //! Definitions: `specs/` defines a node's step (`node_step`). Of the code only copies and tests of equality run.
 #![tactic(auto)]
 

@@ -1,4 +1,4 @@
-//! `LinkMessage`, a message between nodes, with its `Body`.
+//! `LinkMessage`, a message between nodes, with its `Body`; `craq_history` makes them, and `craq_wire` has them as bytes.
 use craq_commands::{Entry, State};
 use craq_names::{ChainId, Copied, Epoch, Items, Key, NodeId, Same, Seq, Stamp, Ticket, Version};
 use std::alloc::{AllocError, Global};

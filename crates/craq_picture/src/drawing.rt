@@ -1,4 +1,4 @@
-//! The drawing of a run as a value, before any text or place on paper.
+//! The drawing of a run as a value, before any text or place on paper; made in `painting`, and read by what is drawn.
 ghost use Rattle.std.specs.Prelude.{◌≡◌, ◌++◌, List, length, map, IfOk, OnOk};
 ghost use Rattle.std.specs.List.{sum_by};
 ghost use Rattle.craq_runs.specs.Chain.{sent_in};

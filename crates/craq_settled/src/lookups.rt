@@ -1,4 +1,4 @@
-//! What stands for an object, by its versions and by the entries that are not listed.
+//! What stands for an object, by its versions and by the entries that are not listed; called by `held`.
 ghost use Rattle.std.specs.Prelude.{◌≡◌, ℕ, ◌+◌, ◌-◌, ◌≤◌, List, [], drop, length, take, unwrap_or};
 ghost use Rattle.std.specs.List.{AllZip};
 ghost use Rattle.craq_commands.specs.Objects.{object_of};

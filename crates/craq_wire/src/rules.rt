@@ -1,4 +1,4 @@
-//! The rules that a message keeps which has an encoding, tested before and after its bytes.
+//! The rules that a message keeps which has an encoding, tested before and after its bytes; called by `wire`.
 ghost use Rattle.std.specs.Prelude.{◌≡◌};
 ghost use Rattle.craq_model.specs.Parts.{item_count};
 ghost use Rattle.std.specs.List.{list_all};

@@ -1,4 +1,4 @@
-//! A state as it is sent: whole, or in parts. Its items are moved into the messages, not copied.
+//! A state as it is sent: whole, or in parts. Its items are moved into the messages, not copied. Called by `deliveries`.
 ghost use Rattle.std.specs.Prelude.{◌≡◌, ◌<◌, ◌++◌, map, take, drop, IfOk, IfErr, OnOk, MatchOption};
 ghost use Rattle.craq_names.specs.Limits.{greatest_count};
 ghost use Rattle.craq_model.specs.declared.message.Body.TheVariants.{Part as part_body};

@@ -135,7 +135,12 @@ fn change_of(alloc: Global, name: UpdateName, words: &[&str]) -> Result<Change, 
 
 /// CLIENT NUMBER and a change, asked of this node.
 #[tactic(auto, unfolding(crate::specs::Commands::update_of))]
-fn update_of(alloc: Global, node: NodeId, name: UpdateName, words: &[&str]) -> Result<Request, Unread>
+fn update_of(
+    alloc: Global,
+    node: NodeId,
+    name: UpdateName,
+    words: &[&str],
+) -> Result<Request, Unread>
     ensures { Reads (λ x. x) result (update_of node name (map (λ w. w.now) words.now)) }
 {
     let client = number_at(words, 1, Expected::Client, 0, u64::MAX)?;

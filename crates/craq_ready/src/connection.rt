@@ -1,4 +1,4 @@
-//! A connection of a thread that serves many.
+//! A connection of a thread that serves many: its socket and its `Dialogue`, and what goes between them; called by `crowd`.
 use crate::host::{Arrival, Host};
 use craq_door::{Dialogue, Stepped};
 use craq_letters::Outcome;

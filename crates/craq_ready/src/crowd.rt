@@ -1,5 +1,5 @@
-//! `Crowd`: the connections of a thread and the loop over them: it takes what came, steps each connection that has something
-//! to do, and sleeps where none has.
+//! `Crowd`: the connections of a thread and the loop over them, for the thread that serves them: it takes what came, steps each
+//! connection that has something to do, and sleeps where none has.
 use crate::connection::Connection;
 use crate::host::{Arrival, Host};
 use craq_letters::{Letter, Outcome};

@@ -1,4 +1,4 @@
-//! `accept_by_threads`: the connections of a listener served by a few threads, each of which serves many.
+//! `accept_by_threads`: the connections of a listener served by a few threads, each of which serves many; for programs that serve.
 use crate::accepting::{Served, Server, Serving};
 use crate::connections::Connections;
 use crate::door::ServedStore;

@@ -1,4 +1,4 @@
-//! `ServedStore`: a store that runs, as the door of a connection calls it.
+//! `ServedStore`: a store that runs, as the door of a connection calls it; made by `accepting` and `crews`.
 ghost use Rattle.std.specs.Prelude.{⊤, IfOk};
 ghost use Rattle.craq_calls.specs.Calls.{IsCallOf};
 ghost use Rattle.craq_server.specs.Status.{TellsStatus};

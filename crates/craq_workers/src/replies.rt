@@ -1,4 +1,4 @@
-//! What the callers that a step answers are told, kept until its lock is free.
+//! What the callers that a step answers are told, kept until its lock is free; for whoever takes a step.
 use craq_letters::{Addressee, Reply};
 use craq_names::Ticket;
 use craq_seat::Caller;

@@ -1,12 +1,12 @@
-//! What all threads of a store share, how a step's messages go out, and how one ask is served.
+//! What all threads of a store share, how a step's messages go out, and how one ask is served; called by workers and clients.
 ghost use Rattle.std.specs.Prelude.{◌≡◌, ◌<◌, ◌≤◌, IfErr, OnOk, length};
 
 use crate::carrying::carry_on;
 use crate::chain::Chain;
 use crate::gate::{Gate, Work};
-use crate::node::{Brought, Node};
+use crate::node::{Brought, RunningNode};
 use crate::replies::Replies;
-use crate::steps::{Asked, Served, refuse_asked, sent_by_node, take_own, take_queued};
+use crate::steps::{QueuedAsk, SeatedNode, refuse_asked, sent_by_node, take_own, take_queued};
 use craq_letters::{Addressee, Letterbox, Reply};
 use craq_model::Ask;
 use craq_names::{ChainId, NodeName, Pass, Refusal};
@@ -90,8 +90,8 @@ impl<C: Core, G: Gate> Shared<C, G> {
         &self,
         rt: &R,
         alloc: Global,
-        node: &Node<C>,
-        seated: &Served<C>,
+        node: &RunningNode<C>,
+        seated: &SeatedNode<C>,
         quiet: bool,
     ) {
         let sent = sent_by_node(alloc, seated.desk.cell());
@@ -103,9 +103,9 @@ impl<C: Core, G: Gate> Shared<C, G> {
         &self,
         rt: &R,
         alloc: Global,
-        node: &Node<C>,
-        seated: &mut Served<C>,
-        asked: Asked,
+        node: &RunningNode<C>,
+        seated: &mut SeatedNode<C>,
+        asked: QueuedAsk,
         replies: &mut Replies,
         quiet: bool,
     ) {
@@ -117,7 +117,13 @@ impl<C: Core, G: Gate> Shared<C, G> {
     }
 
     /// A piece of a node's ask work: the step of one ask that was queued.
-    pub(crate) fn serve<R: Wait>(&self, rt: &R, alloc: Global, node: &Node<C>, asked: Asked) {
+    pub(crate) fn serve<R: Wait>(
+        &self,
+        rt: &R,
+        alloc: Global,
+        node: &RunningNode<C>,
+        asked: QueuedAsk,
+    ) {
         let count = node.next_piece();
         self.gate.before(node.name, Work::Asks, count);
         let mut replies = Replies::new(alloc);
@@ -134,8 +140,8 @@ impl<C: Core, G: Gate> Shared<C, G> {
         &self,
         rt: &R,
         alloc: Global,
-        node: &Node<C>,
-        seated: &mut Served<C>,
+        node: &RunningNode<C>,
+        seated: &mut SeatedNode<C>,
         ask: Ask,
         pass: Pass,
         back: Return<'_>,
@@ -167,7 +173,7 @@ impl<C: Core, G: Gate> Shared<C, G> {
         &self,
         rt: &R,
         alloc: Global,
-        node: &Node<C>,
+        node: &RunningNode<C>,
         ask: Ask,
         pass: Pass,
         back: Return<'_>,
@@ -287,7 +293,7 @@ fn queue<R: Wait, C: Core>(
             Err(Refusal::Memory)
         }
         Ok(caller) => {
-            chain.enqueue(rt, name.node, Asked { ask, pass, caller })?;
+            chain.enqueue(rt, name.node, QueuedAsk { ask, pass, caller })?;
             Ok(None)
         }
     }

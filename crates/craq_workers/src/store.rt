@@ -1,4 +1,4 @@
-//! `Store`, the primary object of the crate: it starts, stops, removes, joins and closes.
+//! `Store`, the primary object of the crate: it starts, stops, removes, joins and closes; for whoever runs a store.
 ghost use Rattle.std.specs.Prelude.{◌≡◌, ◌≤◌, IfErr, IfOk, OnOk, map, string_bytes};
 ghost use Rattle.craq_place.specs.Plan.{IsPlan};
 

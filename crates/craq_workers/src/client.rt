@@ -5,7 +5,7 @@ ghost use Rattle.craq_calls.specs.Calls.{IsCallOf};
 use crate::gate::Gate;
 use crate::shared::{Return, Shared};
 use craq_calls::{answer_of_call, pass_after};
-use craq_letters::{Letterbox, Reply};
+use craq_letters::{Letterbox, Outcome};
 use craq_model::{Answer, Ask};
 use craq_names::{Copied, NodeName, Pass, Refusal};
 use craq_node::Core;
@@ -89,7 +89,7 @@ impl<C: Core, G: Gate> Client<C, G> {
     }
 
     /// What is replied to an ask, in hand or by a letter into a box of its own.
-    fn reply<R: Wait>(&self, rt: &R, node: &NodeName, ask: &Ask) -> Reply {
+    fn reply<R: Wait>(&self, rt: &R, node: &NodeName, ask: &Ask) -> Outcome {
         let letters = Arc::new(self.alloc, Letterbox::new(self.alloc, None))?;
         self.reply_into(rt, node, ask, &letters)
     }
@@ -101,7 +101,7 @@ impl<C: Core, G: Gate> Client<C, G> {
         node: &NodeName,
         ask: &Ask,
         letters: &Arc<Letterbox>,
-    ) -> Reply {
+    ) -> Outcome {
         let ask = ask.copied(self.alloc)?;
         let back = Return { letters, token: 0 };
         let found = self
@@ -115,7 +115,7 @@ impl<C: Core, G: Gate> Client<C, G> {
 }
 
 /// The reply in the letter that will come.
-fn wait_for_letter<R: Wait>(rt: &R, letters: &Letterbox) -> Reply {
+fn wait_for_letter<R: Wait>(rt: &R, letters: &Letterbox) -> Outcome {
     match letters.wait(rt) {
         Some(letter) => letter.reply,
         None => Err(Refusal::Closed),

@@ -7,7 +7,7 @@ use crate::gate::{Gate, Work};
 use crate::node::{Brought, RunningNode};
 use crate::replies::Replies;
 use crate::steps::{QueuedAsk, SeatedNode, refuse_asked, sent_by_node, take_own, take_queued};
-use craq_letters::{Addressee, Letterbox, Reply};
+use craq_letters::{Addressee, Letterbox, Outcome};
 use craq_model::Ask;
 use craq_names::{ChainId, NodeName, Pass, Refusal};
 use craq_node::Core;
@@ -32,7 +32,7 @@ pub(crate) struct Return<'a> {
 }
 
 /// The reply in hand, or none where a letter will come.
-fn in_hand(reply: Option<Reply>) -> Result<Option<CallReceipt>, Refusal> {
+fn in_hand(reply: Option<Outcome>) -> Result<Option<CallReceipt>, Refusal> {
     match reply {
         None => Ok(None),
         Some(Ok(receipt)) => Ok(Some(receipt)),
@@ -147,7 +147,7 @@ impl<C: Core, G: Gate> Shared<C, G> {
         back: Return<'_>,
         replies: &mut Replies,
         quiet: bool,
-    ) -> Option<Reply> {
+    ) -> Option<Outcome> {
         if node.is_closed() {
             drop(ask);
             return Some(Err(Refusal::Closed));
@@ -178,7 +178,7 @@ impl<C: Core, G: Gate> Shared<C, G> {
         pass: Pass,
         back: Return<'_>,
         quiet: bool,
-    ) -> Option<Reply> {
+    ) -> Option<Outcome> {
         let count = node.next_piece();
         self.gate.before(node.name, Work::Asks, count);
         let mut replies = Replies::new(alloc);
@@ -267,7 +267,7 @@ impl<C: Core, G: Gate> Shared<C, G> {
         pass: Pass,
         back: Return<'_>,
         quiet: bool,
-    ) -> Option<Reply> {
+    ) -> Option<Outcome> {
         match chain.node(rt, name.node) {
             Err(refusal) => {
                 drop(ask);

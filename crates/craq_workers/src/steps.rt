@@ -9,7 +9,7 @@ ghost use Rattle.craq_seat.specs.Numbered.{CanBeSent, numbered_from};
 ghost use Rattle.craq_sending.specs.Sent.{AreSentAs};
 
 use crate::replies::{Replies, take_caller};
-use craq_letters::{Addressee, Letterbox, Reply};
+use craq_letters::{Addressee, Letterbox, Outcome};
 use craq_model::{Ask, Event, Out, Step};
 use craq_names::{Pass, Refusal, Ticket};
 use craq_node::Core;
@@ -34,7 +34,7 @@ pub(crate) struct QueuedAsk {
 #[derive(Drop)]
 struct Taken {
     ticket: Option<Ticket>,
-    reply: Option<Reply>,
+    reply: Option<Outcome>,
 }
 
 /// What a step sends, under its receipt. Without memory it is lost.
@@ -89,7 +89,7 @@ fn answer<R: Wait>(
     receipts: Vec<CallReceipt>,
     ticket: Option<Ticket>,
     replies: &mut Replies,
-) -> Option<Reply> {
+) -> Option<Outcome> {
     let mut own = None;
     for receipt in receipts {
         if ticket == Some(receipt.ticket()) {
@@ -130,7 +130,7 @@ fn finish<R: Wait, C: Core>(
     calls: Result<Vec<CallReceipt>, AllocError>,
     ticket: Option<Ticket>,
     replies: &mut Replies,
-) -> Option<Reply> {
+) -> Option<Outcome> {
     match calls {
         Ok(receipts) => answer(rt, &mut seated.callers, receipts, ticket, replies),
         Err(_) => {
@@ -263,7 +263,7 @@ pub(crate) fn take_own<R: Wait, C: Core>(
     letters: &Arc<Letterbox>,
     token: usize,
     replies: &mut Replies,
-) -> (bool, Option<Reply>) {
+) -> (bool, Option<Outcome>) {
     match take_ask(rt, alloc, seated, ask, pass, replies) {
         Err(refusal) => (false, Some(Err(refusal))),
         Ok(taken) => {
@@ -287,7 +287,7 @@ fn expect_letter<R: Wait, C: Core>(
     letters: &Arc<Letterbox>,
     token: usize,
     replies: &mut Replies,
-) -> Option<Reply> {
+) -> Option<Outcome> {
     match Addressee::expect(rt, letters, token) {
         Err(_) => Some(Err(Refusal::Memory)),
         Ok(caller) => {

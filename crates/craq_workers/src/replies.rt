@@ -54,12 +54,13 @@ impl Replies {
     }
 }
 
-/// The caller that waits under this ticket, who then waits no more.
+/// The caller that waits under this ticket, who then waits no more. The others stay in their order: who asked first is answered
+/// first, and so found first.
 pub(crate) fn take_caller(
     callers: &mut Vec<Caller<Addressee>>,
     ticket: Ticket,
 ) -> Option<Addressee> {
     let place = callers.iter().position(|caller| caller.ticket == ticket)?;
-    let Caller { ticket: _, at } = callers.swap_remove(place);
+    let Caller { ticket: _, at } = callers.remove(place);
     Some(at)
 }

@@ -27,12 +27,6 @@ clean_told h key o es e f =
     ∙ sym (last_of_values h.base_state (take (h.acknowledged - h.base) h.entries) key)
     ∙ sym (ap (λ (s : State). object_of s.objects key) (compacted_clean h))
 
--- it is that of the state, where all settled entries are folded
-pub clean_folded : (h : Past) (key : List ℕ) (o : ℕ × List ℕ) → h.acknowledged ≡ h.base → o ≡ object_of h.base_state.objects key → o ≡ object_of (clean_in (compacted_in h)).objects key
-clean_folded h key o all e =
-    let none : h.acknowledged - h.base ≡ 0 = omega (arith, all) in
-    e ∙ ap (λ (n : ℕ). object_of (after_entries h.base_state (take n h.entries)).objects key) (sym none) ∙ sym (ap (λ (s : State). object_of s.objects key) (compacted_clean h))
-
 nothing : (n : ℕ) → n - n ≡ 0
 nothing n = omega arith
 

@@ -93,16 +93,21 @@ impl ListHistory {
 
     /// The clean version of an object, with its value, of which this one is found in the state: mostly it is that one, since
     /// all settled entries are folded.
-    fn settled_past<'a>(&'a self, found: (Version, &'a [u8]), key: &Key) -> (Version, &'a [u8])
-        requires found { (found.0, found.1.now) ≡ object_of self.now.held.state.objects key.now }
-        requires short { length found.1.now ≤ 4096 }
+    fn settled_past<'a>(
+        &'a self,
+        version: Version,
+        value: &'a [u8],
+        key: &Key,
+    ) -> (Version, &'a [u8])
+        requires found { (version, value.now) ≡ object_of self.now.held.state.objects key.now }
+        requires short { length value.now ≤ 4096 }
         ensures object { (result.0, result.1.now) ≡ object_of (clean_in (⟦<ListHistory as History>⟧.past self.now)).objects key.now }
         ensures short { length result.1.now ≤ 4096 }
     {
         if self.acknowledged.get() == self.held.base().get() {
-            return found;
+            return (version, value);
         }
-        object_past(found.0, found.1, self.settled(), key)
+        object_past(version, value, self.settled(), key)
     }
 
     /// The version of an object after all entries and these further ones.
@@ -182,14 +187,16 @@ impl History for ListHistory {
     }
 
     fn clean(&self, key: &Key) -> (Version, &[u8]) {
-        self.settled_past(self.held.settled(key), key)
+        let (version, value) = self.held.settled(key);
+        self.settled_past(version, value, key)
     }
 
     fn versions(&self, key: &Key) -> ObjectVersions<'_> {
         let Seen { newest, settled } = self.held.seen(key);
+        let (version, value) = settled;
         ObjectVersions {
             newest,
-            clean: self.settled_past(settled, key),
+            clean: self.settled_past(version, value, key),
         }
     }
 

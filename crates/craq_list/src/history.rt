@@ -1,10 +1,10 @@
-//! `ListHistory`: a `History` over a held past and an index of clients' entries.
+//! `ListHistory`: a `History` over a held past and an index of clients' entries; `ListCore` is a node over it.
 ghost use Rattle.std.specs.Prelude.{◌≡◌, ◌+◌, ◌-◌, ◌≤◌, true, length, take, drop};
 ghost use Rattle.arrayvec.specs.ArrayVec.{array_vec_len};
-ghost use Rattle.craq_commands.specs.Objects.{version_of};
+ghost use Rattle.craq_commands.specs.Objects.{object_of, version_of};
 ghost use Rattle.craq_commands.specs.SingleCopy.{after_entries, is_new_to, window_of};
 ghost use Rattle.craq_model.specs.Deliveries.{is_applicable};
-ghost use Rattle.craq_model.specs.Past.{newest_in};
+ghost use Rattle.craq_model.specs.Past.{clean_in, newest_in};
 ghost use Rattle.craq_node_invariant.specs.Sound.{AreInRow};
 ghost use Rattle.craq_compaction.specs.Compacted.{compacted_in};
 ghost use Rattle.craq_compaction.proofs.Pasts.{compacted_twice};
@@ -91,6 +91,25 @@ impl ListHistory {
         self.held.from(self.acknowledged)
     }
 
+    /// The clean version of an object, with its value, of which this one is found in the state: mostly it is that one, since
+    /// all settled entries are folded.
+    fn settled_past<'a>(
+        &'a self,
+        version: Version,
+        value: &'a [u8],
+        key: &Key,
+    ) -> (Version, &'a [u8])
+        requires found { (version, value.now) ≡ object_of self.now.held.state.objects key.now }
+        requires short { length value.now ≤ 4096 }
+        ensures object { (result.0, result.1.now) ≡ object_of (clean_in (⟦<ListHistory as History>⟧.past self.now)).objects key.now }
+        ensures short { length result.1.now ≤ 4096 }
+    {
+        if self.acknowledged.get() == self.held.base().get() {
+            return (version, value);
+        }
+        object_past(version, value, self.settled(), key)
+    }
+
     /// The version of an object after all entries and these further ones.
     fn version_later(&self, later: &[Entry], key: &Key) -> Version
         ensures { result ≡ version_of (after_entries (newest_in (⟦<ListHistory as History>⟧.past self.now)) later.now).objects key.now }
@@ -168,16 +187,16 @@ impl History for ListHistory {
     }
 
     fn clean(&self, key: &Key) -> (Version, &[u8]) {
-        let (first, bytes) = self.held.settled(key);
-        object_past(first, bytes, self.settled(), key)
+        let (version, value) = self.held.settled(key);
+        self.settled_past(version, value, key)
     }
 
     fn versions(&self, key: &Key) -> ObjectVersions<'_> {
         let Seen { newest, settled } = self.held.seen(key);
-        let (first, bytes) = settled;
+        let (version, value) = settled;
         ObjectVersions {
             newest,
-            clean: object_past(first, bytes, self.settled(), key),
+            clean: self.settled_past(version, value, key),
         }
     }
 

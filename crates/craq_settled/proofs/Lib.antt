@@ -1,4 +1,5 @@
 pub mod Placing
+pub mod Clean
 pub mod Lists
 pub mod Folded
 pub mod Results
@@ -7,6 +8,7 @@ pub mod Written
 pub mod Entered
 pub mod Looked
 pub mod Found
+pub mod Newest
 pub mod Following
 pub mod Applicable
 pub mod Settling

@@ -34,20 +34,6 @@ module _ {K X : Type 0} (R : K → K → Ordering) (o : IsTotalOrder R) where
       let above : R k e.0 ≡ Greater = o.antisymm k e.0 ∙ ap ordering_reverse below in
       ap (λ r. by_order r ((k, x) ∷ e ∷ xs) ((e.0, x) ∷ xs) (e ∷ put R k x xs)) above ∙ ap (λ (l : List (K × X)). e ∷ l) (put_last xs ys k x (second _ _ h))
 
-  find_last : (xs ys : List (K × X)) (k : K) (x : X) → T (is_sorted R (xs ++ (k, x) ∷ ys)) → find R k xs ≡ None
-  find_last [] ys k x h = refl
-  find_last (e ∷ xs) ys k x h =
-      let below : R e.0 k ≡ Less = less (R e.0 k) (below_last e.0 k x xs ys (first _ _ h)) in
-      let above : R k e.0 ≡ Greater = o.antisymm k e.0 ∙ ap ordering_reverse below in
-      ap (λ r. cond (is_eq r) (Some e.1) (find R k xs)) above ∙ find_last xs ys k x (second _ _ h)
-
-  -- the next item's key is not among those before it
-  pub none_yet : (xs rest ys all : List (K × X)) (k : K) (x : X) → xs ++ rest ≡ all → rest ≡ (k, x) ∷ ys → T (is_sorted R all) → find R k xs ≡ None
-  none_yet xs rest ys all k x moved step h =
-      let P : List (K × X) → Type 0 = λ l. T (is_sorted R l) in
-      let whole : xs ++ (k, x) ∷ ys ≡ all = ap (λ (l : List (K × X)). xs ++ l) (sym step) ∙ moved in
-      find_last xs ys k x (subst P (sym whole) h)
-
   -- one more of the items that are left, of a list by rising key
   pub put_one : (xs rest ys zs all : List (K × X)) (k : K) (x : X) → xs ++ rest ≡ all → rest ≡ (k, x) ∷ ys → T (is_sorted R all) → zs ≡ put R k x xs → zs ++ ys ≡ all
   put_one xs rest ys zs all k x moved step h is =

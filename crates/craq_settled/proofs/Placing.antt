@@ -13,12 +13,12 @@ use Rattle.std.specs.FinMap.Entries.{find, find-put, is_sorted, is_sorted-put, s
 use Rattle.craq_names.specs.Maps.{key_cmp, at_key, at_number, put_key, same_bytes}
 use Rattle.craq_names.proofs.Places.{find_filled, is_sorted_filled, is_sorted_of}
 use Rattle.craq_commands.specs.Objects.{Objects, object_of}
-use Rattle.craq_versions.specs.Tables.{Held, held_at, held_in, nothing, popped, pushed, settled_as}
+use Rattle.craq_versions.specs.Tables.{Held, held_at, held_in, nothing, only_clean, popped, pushed, settled_as}
 use Rattle.craq_versions.specs.Versions.{Versions, CanPush, CanSettleAs, AreConsecutive, AreVersions, IsNext, newest_of, versions_from, without_newest}
 use Rattle.craq_settled.specs.declared.places.Place.{Place}
 use Rattle.craq_settled.specs.declared.places.Place.TheVariants.{Settled, Written}
 use Rattle.craq_settled.specs.declared.places.WriteRef.{WriteRef}
-use Rattle.craq_settled.specs.Placed.{Placed, shown, has_some, later_from, later_in, later_of, objects_of, settled_in, versions_of, IsRising, KeepsLater, SettlesNext, StartsAt}
+use Rattle.craq_settled.specs.Placed.{Placed, shown, has_some, later_from, later_in, later_of, objects_of, settled_in, settled_version, versions_of, IsPlaced, IsRising, KeepsLater, SettlesNext, StartsAt}
 
 -- one key has these versions, and the others theirs
 abbrev pub IsChanged : Placed → Placed → List ℕ → List (ℕ × Place) → Type 0
@@ -43,7 +43,7 @@ pub own : (key : List ℕ) → same_bytes key key ≡ true
 own key = texts_ties key key ∙ ap is_eq (tied_itself nat_list_cmp_total key)
 
 -- two ways to compare keys, in either order
-same_either_way : (key q : List ℕ) → eq_by_cmp key_cmp q key ≡ same_bytes key q
+pub same_either_way : (key q : List ℕ) → eq_by_cmp key_cmp q key ≡ same_bytes key q
 same_either_way key q = (eq_by_cmp_equiv nat_list_cmp_total).symm q key ∙ sym (texts_ties key q)
 
 -- a key is written
@@ -160,7 +160,7 @@ one_more false x l = none_more l
 settled_first : (v : ℕ × Place) (vs ws : List (ℕ × Place)) → settled_in (v ∷ vs) ≡ settled_in (v ∷ ws)
 settled_first v vs ws = refl
 
-settled_more : (vs : List (ℕ × Place)) (n : ℕ) (at : WriteRef) → settled_in (vs ++ (n, Written at) ∷ []) ≡ settled_in vs
+pub settled_more : (vs : List (ℕ × Place)) (n : ℕ) (at : WriteRef) → settled_in (vs ++ (n, Written at) ∷ []) ≡ settled_in vs
 settled_more [] n at = refl
 settled_more (v ∷ vs) n at = settled_first v (vs ++ (n, Written at) ∷ []) vs
 
@@ -211,7 +211,7 @@ written_taken zero n at vs = (refl, refl)
 written_taken (suc k) n at vs = (refl, refl)
 
 -- what is settled stays, and of the later versions the newest is gone
-without_is : (vs : List (ℕ × Place)) → has_some (later_in vs) ≡ true → (settled_in (without_newest vs) ≡ settled_in vs) × (later_in (without_newest vs) ≡ take (length (later_in vs) - 1) (later_in vs))
+pub without_is : (vs : List (ℕ × Place)) → has_some (later_in vs) ≡ true → (settled_in (without_newest vs) ≡ settled_in vs) × (later_in (without_newest vs) ≡ take (length (later_in vs) - 1) (later_in vs))
 without_is [] some = absurd (clash (sym some))
 without_is (v ∷ vs) some = split v.0 v.1 vs some
   where
@@ -249,7 +249,7 @@ nothing_popped t key none q =
 le_true : (m n : ℕ) → m ≤ n → nat_le m n ≡ true
 le_true m n le = search (rules, le)
 
-le_false : (m n : ℕ) → n < m → nat_le m n ≡ false
+pub le_false : (m n : ℕ) → n < m → nat_le m n ≡ false
 le_false m n above = search (rules, above)
 
 tied : (q n : ℕ) → q ≡ n → eq_by_cmp nat_cmp q n ≡ true
@@ -326,43 +326,24 @@ objects_settled t u key version value rise is =
     let h : Held Place = settled_as (held_at t key) version (Settled value) in
     objects_put t u key h.versions (version, value) refl rise (rising_put t u key h is rise) (changed t u key h is)
 
--- the first version of a key is settled
-first_versions : (vs : List (ℕ × Place)) (x : ℕ × Place) → vs ≡ [] → vs ++ x ∷ [] ≡ x ∷ []
-first_versions vs x none = ap (λ (l : List (ℕ × Place)). l ++ x ∷ []) none
+-- an object of one version is put in, which is settled
+pub objects_first : (t u : Placed) (key : List ℕ) (version : ℕ) (value : List ℕ) → IsRising t → u.objects ≡ put_key t.objects key (only_clean version (Settled value)) → objects_of u ≡ put_key (objects_of t) key (version, value)
+objects_first t u key version value rise is =
+    let h : Held Place = only_clean version (Settled value) in
+    objects_put t u key h.versions (version, value) refl rise (rising_put t u key h is rise) (changed t u key h is)
 
-pub objects_first : (t u : Placed) (key : List ℕ) (version : ℕ) (value : List ℕ) → IsRising t → versions_of t key ≡ [] → u.objects ≡ put_key t.objects key (pushed (held_at t key) version (Settled value)) → objects_of u ≡ put_key (objects_of t) key (version, value)
-objects_first t u key version value rise none is =
-    let h : Held Place = pushed (held_at t key) version (Settled value) in
-    objects_put t u key h.versions (version, value) (ap settled_in (first_versions (versions_of t key) (version, Settled value) none)) rise (rising_put t u key h is rise) (changed t u key h is)
-
-pub later_first : (t u : Placed) (key : List ℕ) (version : ℕ) (value : List ℕ) → versions_of t key ≡ [] → u.objects ≡ put_key t.objects key (pushed (held_at t key) version (Settled value)) → (q : List ℕ) → later_of t q ≡ [] → later_of u q ≡ []
-later_first t u key version value none is q h =
-    let all : Held Place = pushed (held_at t key) version (Settled value) in
+pub later_first : (t u : Placed) (key : List ℕ) (version : ℕ) (value : List ℕ) → u.objects ≡ put_key t.objects key (only_clean version (Settled value)) → (q : List ℕ) → later_of t q ≡ [] → later_of u q ≡ []
+later_first t u key version value is q h =
+    let all : Held Place = only_clean version (Settled value) in
     let split : (b : Bool) → cond b [] (later_of t q) ≡ [] = elim [ true ↦ refl | false ↦ h ] in
-    later_changed t u key all.versions (λ l. []) (changed t u key all is) (ap later_in (first_versions (versions_of t key) (version, Settled value) none)) q ∙ split (same_bytes key q)
-
--- a key of which nothing is settled, and nothing comes later, has no versions
-pub no_versions : (vs : List (ℕ × Place)) → None ≡ settled_in vs → later_in vs ≡ [] → vs ≡ []
-no_versions [] none empty = refl
-no_versions (v ∷ vs) none empty = split v.0 v.1 vs none empty
-  where
-    some_is : {A : Type 0} (x : A) → None ≡ Some x → ⊥
-    some_is x e = cc
-
-    list_is : (v : ℕ × Place) (vs : List (ℕ × Place)) → v ∷ vs ≡ [] → ⊥
-    list_is v vs e = cc
-
-    split : (n : ℕ) (p : Place) (vs : List (ℕ × Place)) → None ≡ settled_in ((n, p) ∷ vs) → later_from p ((n, p) ∷ vs) vs ≡ [] → (n, p) ∷ vs ≡ []
-    split n (Settled value) vs none empty = absurd (some_is (n, value) none)
-    split n (Written at) vs none empty = absurd (list_is (n, Written at) vs empty)
-
--- any version from 1 can be the first
-pub first_can : (vs : List (ℕ × Place)) (version : ℕ) → vs ≡ [] → 1 ≤ version → CanPush vs version
-first_can vs version none one = subst (λ (l : List (ℕ × Place)). CanPush l version) (sym none) (one, tt)
+    later_changed t u key all.versions (λ l. []) (changed t u key all is) refl q ∙ split (same_bytes key q)
 
 empty_at : (m : List (List ℕ × Held Place)) (q : List ℕ) → m ≡ [] → (unwrap_or (at_key m q) nothing).versions ≡ []
 empty_at m q none = ap (λ (x : List (List ℕ × Held Place)). (unwrap_or (at_key x q) nothing).versions) none
 
 -- a new table
-pub new_is_empty : (t : Placed) → t.objects ≡ [] → (objects_of t ≡ []) × ((q : List ℕ) → later_of t q ≡ []) × IsRising t
-new_is_empty t none = (search (rules, none), λ q. ap later_in (empty_at t.objects q none), subst (λ (m : List (List ℕ × Held Place)). T (is_sorted key_cmp m)) (sym none) tt)
+pub new_is_empty : (t : Placed) → t.objects ≡ [] → (objects_of t ≡ []) × ((q : List ℕ) → later_of t q ≡ []) × IsPlaced t
+new_is_empty t none =
+    let rising : IsRising t = subst (λ (m : List (List ℕ × Held Place)). T (is_sorted key_cmp m)) (sym none) tt in
+    let clean : (q : List ℕ) → (held_at t q).clean ≡ settled_version (versions_of t q) = λ q. subst (λ (m : List (List ℕ × Held Place)). (unwrap_or (at_key m q) nothing).clean ≡ settled_version (unwrap_or (at_key m q) nothing).versions) (sym none) refl in
+    (search (rules, none), λ q. ap later_in (empty_at t.objects q none), record { rising = rising; clean = clean })

@@ -1,5 +1,5 @@
 -- Objects by key, each with its versions, and where their values stand.
-use Rattle.std.specs.Prelude.{◌≡◌, ◌⊎◌, ℕ, ◌-◌, Bool, true, false, T, List, [], ◌∷◌, Option, None, Some, drop, length, take}
+use Rattle.std.specs.Prelude.{◌≡◌, ◌⊎◌, ℕ, ◌-◌, Bool, true, false, T, List, [], ◌∷◌, Option, None, Some, drop, length, take, unwrap_or}
 use Rattle.std.specs.FinMap.Entries.{is_sorted}
 use Rattle.craq_names.specs.Maps.{key_cmp}
 use Rattle.craq_names.specs.Places.{filled}
@@ -51,6 +51,10 @@ objects_of t = filled shown t.objects
 abbrev pub state_at : Objects → List (ℕ × Window) → State
 state_at objects kept = record { objects = objects; kept = kept }
 
+-- the settled version, 0 where none is settled
+abbrev pub settled_version : List (ℕ × Place) → ℕ
+settled_version vs = (unwrap_or (settled_in vs) (0, [])).0
+
 -- the versions of an object
 abbrev pub versions_of : Placed → List ℕ → List (ℕ × Place)
 versions_of t key = (held_at t key).versions
@@ -79,6 +83,11 @@ SettlesNext vs version = StartsAt version (later_in vs) ⊎ ((later_in vs ≡ []
 -- each key stands once, and in order
 abbrev pub IsRising : Placed → Type 0
 IsRising t = T (is_sorted key_cmp t.objects)
+
+-- each key stands once, and in order, and of each object the settled version is the clean one
+pub record IsPlaced (t : Placed) : Type 0 where
+  pub rising : IsRising t
+  pub clean : (key : List ℕ) → (held_at t key).clean ≡ settled_version (versions_of t key)
 
 -- each object has the later versions that it had
 abbrev pub KeepsLater : Placed → Placed → Type 0

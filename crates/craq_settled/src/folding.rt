@@ -1,4 +1,4 @@
-//! Folds entries into objects and kept replies.
+//! Folds entries into objects and kept replies; called by `held`.
 ghost use Rattle.std.specs.Prelude.{◌≡◌, ◌↔◌, ℕ, ◌+◌, ◌-◌, ◌<◌, ◌≤◌, List, [], ◌∷◌, IsOk, IsTrue, OnOk, OnErr, length, max, take};
 ghost use Rattle.std.specs.List.{AllByRecursion};
 ghost use Rattle.craq_commands.specs.declared.entry.Entry.{Entry};
@@ -11,7 +11,7 @@ ghost use Rattle.craq_replies.specs.Replies.{room_at, KeepsOthersRoom, KeepsRoom
 ghost use Rattle.craq_settled.specs.Folded.{AreFolded};
 ghost use Rattle.craq_settled.specs.Followed.{AreNext, CanFold};
 ghost use Rattle.craq_settled.specs.Listed.{AreListed};
-ghost use Rattle.craq_settled.specs.Placed.{objects_of, state_at, versions_of, IsRising, LaterWithout};
+ghost use Rattle.craq_settled.specs.Placed.{objects_of, state_at, versions_of, IsPlaced, LaterWithout};
 ghost use Rattle.craq_settled.specs.Room.{AreFoldable, HasRoomForReplies, IsFoldable};
 
 use crate::listing::list_next;
@@ -27,11 +27,11 @@ use std::alloc::{AllocError, Global};
 /// Settles what is written of objects, whose next versions these are, in order. Their values are moved, and it takes no
 /// memory.
 fn settle_objects(table: &mut ObjectTable<Place>, writes: Items<Write>)
-    requires rising { IsRising table.old }
+    requires placed { IsPlaced table.old }
     requires ready { (q : List ℕ) → CanFold (values_in writes q) (versions_of table.old q) }
     ensures objects { objects_of table.new ≡ with_writes (objects_of table.old) writes }
     ensures later { LaterWithout writes table.old table.new }
-    ensures rising { IsRising table.new }
+    ensures placed { IsPlaced table.new }
 {
     for write in writes.into_vec() {
         let Write {
@@ -45,12 +45,12 @@ fn settle_objects(table: &mut ObjectTable<Place>, writes: Items<Write>)
 
 /// Folds an entry of which there is room for the versions and for the reply: its values are moved. It takes no memory.
 fn fold_one(table: &mut ObjectTable<Place>, replies: &mut ReplyTable, entry: Entry)
-    requires rising { IsRising table.old }
+    requires placed { IsPlaced table.old }
     requires ready { (q : List ℕ) → CanFold (values_in entry.writes q) (versions_of table.old q) }
     requires room { 0 < room_at replies.old entry.client }
     ensures state { state_at (objects_of table.new) replies.new.kept ≡ after_entry (state_at (objects_of table.old) replies.old.kept) entry }
     ensures later { LaterWithout entry.writes table.old table.new }
-    ensures rising { IsRising table.new }
+    ensures placed { IsPlaced table.new }
     ensures rooms { KeepsOthersRoom replies.old replies.new entry.client }
 {
     let Entry {
@@ -92,7 +92,7 @@ fn make_room(
     entries: &Suffix,
     listed: &mut Seq,
 ) -> Result<(), AllocError>
-    requires rising { IsRising table.old }
+    requires placed { IsPlaced table.old }
     requires some { 1 ≤ length entries.now.entries }
     requires listed { AreListed table.old entries.now listed.old }
     requires next { (q : List ℕ) → AreNext (version_of (objects_of table.old) q) (values_after entries.now.entries q) }
@@ -102,7 +102,7 @@ fn make_room(
     ensures kept { replies.new.kept ≡ replies.old.kept }
     ensures listed { AreListed table.new entries.now listed.new }
     ensures more { listed.old ≤ listed.new }
-    ensures rising { IsRising table.new }
+    ensures placed { IsPlaced table.new }
     ensures rooms { KeepsRoom replies.old replies.new }
     ensures succeeds { (e : Entry) → take 1 entries.now.entries ≡ e ∷ [] → 0 < room_at replies.old e.client → IsFoldable entries.now.base listed.old e → IsOk result }
 {
@@ -137,7 +137,7 @@ fn fold_first(
     entries: &mut Suffix,
     listed: &mut Seq,
 ) -> Result<(), AllocError>
-    requires rising { IsRising table.old }
+    requires placed { IsPlaced table.old }
     requires some { 1 ≤ length entries.old.entries }
     requires listed { AreListed table.old entries.old listed.old }
     requires next { (q : List ℕ) → AreNext (version_of (objects_of table.old) q) (values_after entries.old.entries q) }
@@ -147,7 +147,7 @@ fn fold_first(
     ensures listed { AreListed table.new entries.new listed.new }
     ensures next { (q : List ℕ) → AreNext (version_of (objects_of table.new) q) (values_after entries.new.entries q) }
     ensures more { listed.old ≤ listed.new }
-    ensures rising { IsRising table.new }
+    ensures placed { IsPlaced table.new }
     ensures rooms { OnOk result ((e : Entry) → take 1 entries.old.entries ≡ e ∷ [] → KeepsOthersRoom replies.old replies.new e.client) }
     ensures succeeds { (e : Entry) → take 1 entries.old.entries ≡ e ∷ [] → 0 < room_at replies.old e.client → IsFoldable entries.old.base listed.old e → IsOk result }
 {
@@ -170,7 +170,7 @@ pub fn fold(
     listed: &mut Seq,
     position: Seq,
 ) -> Result<(), AllocError>
-    requires rising { IsRising table.old }
+    requires placed { IsPlaced table.old }
     requires from { entries.old.base ≤ position }
     requires to { position ≤ length_of entries.old }
     requires listed { AreListed table.old entries.old listed.old }
@@ -182,7 +182,7 @@ pub fn fold(
     ensures folded { AreFolded (state_at (objects_of table.old) replies.old.kept) entries.old (state_at (objects_of table.new) replies.new.kept) entries.new }
     ensures listed { AreListed table.new entries.new listed.new }
     ensures next { (q : List ℕ) → AreNext (version_of (objects_of table.new) q) (values_after entries.new.entries q) }
-    ensures rising { IsRising table.new }
+    ensures placed { IsPlaced table.new }
     ensures succeeds { HasRoomForReplies replies.old (take (position - entries.old.base) entries.old.entries) → AreFoldable entries.old.base listed.old (take (position - entries.old.base) entries.old.entries) → IsOk result }
 {
     while entries.base().get() < position.get() {

@@ -1,4 +1,4 @@
-//! `HeldPast`, what a past that forgets holds. `craq_list` alone calls it.
+//! `HeldPast`, what a past that forgets holds. `craq_list` calls it, and else only tests do.
 ghost use Rattle.std.specs.Prelude.{◌≡◌, ◌+◌, ◌-◌, ◌<◌, ◌≤◌, ◌^◌, ◌++◌, T, ℕ, List, [], IfOk, OnOk, OnErr, drop, length, max, take};
 ghost use Rattle.std.specs.List.{AllByRecursion};
 ghost use Rattle.std.specs.Ordering.{nat_cmp};
@@ -42,13 +42,13 @@ impl Model for HeldPast {
     ghost use Rattle.craq_settled.specs.Followed.{AreNextVersions};
     ghost use Rattle.craq_settled.specs.Held.{Held};
     ghost use Rattle.craq_settled.specs.Listed.{AreListed};
-    ghost use Rattle.craq_settled.specs.Placed.{objects_of, state_at, IsRising};
+    ghost use Rattle.craq_settled.specs.Placed.{objects_of, state_at, IsPlaced};
 
     ghost Value = { Held };
 
     ghost view = { λ h. record { base = h.entries.base; state = state_at (objects_of h.table) h.replies.kept; entries = h.entries.entries; listed = h.listed; rooms = h.table.rooms } };
 
-    ghost invariant = { λ h. IsRising h.table × AreListed h.table h.entries h.listed × AreNextVersions (state_at (objects_of h.table) h.replies.kept) h.entries.entries };
+    ghost invariant = { λ h. IsPlaced h.table × AreListed h.table h.entries h.listed × AreNextVersions (state_at (objects_of h.table) h.replies.kept) h.entries.entries };
 }
 
 /// The kept replies, which come by rising client, moved into a table.

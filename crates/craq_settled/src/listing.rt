@@ -1,4 +1,4 @@
-//! Says in the table where entries write objects.
+//! Says in the table where entries write objects; called by `held` and `folding`.
 ghost use Rattle.std.specs.Prelude.{◌≡◌, ℕ, ◌+◌, ◌-◌, ◌<◌, ◌≤◌, List, [], ◌∷◌, ◌++◌, IsOk, OnOk, OnErr, if◌then◌else◌, length, drop, max, take};
 ghost use Rattle.craq_names.specs.Maps.{same_bytes};
 ghost use Rattle.craq_model.specs.Past.{values_in, values_after};
@@ -9,7 +9,7 @@ ghost use Rattle.craq_versions.specs.Versions.{CanPush};
 ghost use Rattle.craq_settled.specs.declared.places.Place.TheVariants.{Written};
 ghost use Rattle.craq_settled.specs.Followed.{AreNext};
 ghost use Rattle.craq_settled.specs.Listed.{written_in, AreListed};
-ghost use Rattle.craq_settled.specs.Placed.{count_of, has_some, newest_version, objects_of, later_of, versions_of, IsRising, KeepsLater, LaterTakenBack};
+ghost use Rattle.craq_settled.specs.Placed.{count_of, has_some, newest_version, objects_of, later_of, versions_of, IsPlaced, KeepsLater, LaterTakenBack};
 ghost use Rattle.craq_settled.specs.Room.{HasRoomForVersions, HasRoomForWrites, KeepsRoomBut};
 
 use crate::places::{Place, WriteRef, has_later};
@@ -30,13 +30,13 @@ fn push_version(
     version: Version,
     at: WriteRef,
 ) -> Result<(), AllocError>
-    requires rising { IsRising table.old }
+    requires placed { IsPlaced table.old }
     requires next { CanPush (versions_of table.old key.now) version }
     ensures objects { objects_of table.new ≡ objects_of table.old }
     ensures ok { OnOk result ((q : List ℕ) → versions_of table.new q ≡ versions_of table.old q ++ (if same_bytes key.now q then (version, Written at) ∷ [] else [])) }
     ensures later { OnOk result ((q : List ℕ) → later_of table.new q ≡ later_of table.old q ++ (if same_bytes key.now q then (version, Written at) ∷ [] else [])) }
     ensures err { OnErr result (KeepsLater table.old table.new) }
-    ensures rising { IsRising table.new }
+    ensures placed { IsPlaced table.new }
     ensures room { (q : List ℕ) → room_at table.old q ≤ room_at table.new q + (if same_bytes key.now q then 1 else 0) }
     ensures succeeds { 0 < room_at table.old key.now → IsOk result }
 {
@@ -55,10 +55,10 @@ fn has_later_in(table: &ObjectTable<Place>, key: &Key) -> bool
 
 /// Takes the newest of the later versions of an object back.
 fn pop_version(table: &mut ObjectTable<Place>, key: &Key)
-    requires { IsRising table.old }
+    requires { IsPlaced table.old }
     ensures objects { objects_of table.new ≡ objects_of table.old }
     ensures later { (q : List ℕ) → later_of table.new q ≡ take (length (later_of table.old q) - (if same_bytes key.now q then 1 else 0)) (later_of table.old q) }
-    ensures rising { IsRising table.new }
+    ensures placed { IsPlaced table.new }
 {
     if has_later_in(table, key) {
         table.pop(key);
@@ -67,10 +67,10 @@ fn pop_version(table: &mut ObjectTable<Place>, key: &Key)
 
 /// Takes back as many of the later versions of each object as these writes give it.
 fn unlist(table: &mut ObjectTable<Place>, writes: &[Write])
-    requires { IsRising table.old }
+    requires { IsPlaced table.old }
     ensures objects { objects_of table.new ≡ objects_of table.old }
     ensures later { LaterTakenBack writes.now table.old table.new }
-    ensures rising { IsRising table.new }
+    ensures placed { IsPlaced table.new }
 {
     for write in writes {
         pop_version(table, &write.key);
@@ -84,12 +84,12 @@ pub fn list_writes(
     position: Seq,
     writes: &[Write],
 ) -> Result<(), AllocError>
-    requires rising { IsRising table.old }
+    requires placed { IsPlaced table.old }
     requires next { (q : List ℕ) → AreNext (newest_version (versions_of table.old q)) (values_in writes.now q) }
     ensures objects { objects_of table.new ≡ objects_of table.old }
     ensures ok { OnOk result ((q : List ℕ) → later_of table.new q ≡ later_of table.old q ++ written_in position 0 writes.now q) }
     ensures err { OnErr result (KeepsLater table.old table.new) }
-    ensures rising { IsRising table.new }
+    ensures placed { IsPlaced table.new }
     ensures room { OnOk result ((q : List ℕ) → room_at table.old q ≤ room_at table.new q + count_of writes.now q) }
     ensures succeeds { HasRoomForWrites table.old writes.now → IsOk result }
 {
@@ -111,7 +111,7 @@ pub fn list_next(
     entries: &Suffix,
     listed: &mut Seq,
 ) -> Result<(), AllocError>
-    requires rising { IsRising table.old }
+    requires placed { IsPlaced table.old }
     requires listed { AreListed table.old entries.now listed.old }
     requires next { (q : List ℕ) → AreNext (version_of (objects_of table.old) q) (values_after entries.now.entries q) }
     requires more { listed.old < length_of entries.now }
@@ -119,7 +119,7 @@ pub fn list_next(
     ensures err { OnErr result (listed.new ≡ listed.old) }
     ensures objects { objects_of table.new ≡ objects_of table.old }
     ensures listed { AreListed table.new entries.now listed.new }
-    ensures rising { IsRising table.new }
+    ensures placed { IsPlaced table.new }
     ensures room { OnOk result (KeepsRoomBut (take 1 (drop (listed.old - entries.now.base) entries.now.entries)) table.old table.new) }
     ensures succeeds { HasRoomForVersions table.old.rooms (take 1 (drop (listed.old - entries.now.base) entries.now.entries)) → IsOk result }
 {
@@ -137,7 +137,7 @@ pub fn list_entries(
     entries: &Suffix,
     listed: &mut Seq,
 ) -> Result<(), AllocError>
-    requires rising { IsRising table.old }
+    requires placed { IsPlaced table.old }
     requires listed { AreListed table.old entries.now listed.old }
     requires next { (q : List ℕ) → AreNext (version_of (objects_of table.old) q) (values_after entries.now.entries q) }
     ensures ok { OnOk result (listed.new ≡ max listed.old (length_of entries.now - MOST_UNLISTED)) }
@@ -145,7 +145,7 @@ pub fn list_entries(
     ensures objects { objects_of table.new ≡ objects_of table.old }
     ensures listed { AreListed table.new entries.now listed.new }
     ensures more { listed.old ≤ listed.new }
-    ensures rising { IsRising table.new }
+    ensures placed { IsPlaced table.new }
     ensures succeeds { HasRoomForVersions table.old.rooms (drop (listed.old - entries.now.base) entries.now.entries) → IsOk result }
 {
     let most = entries.len().get().saturating_sub(MOST_UNLISTED);

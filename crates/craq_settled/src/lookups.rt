@@ -1,17 +1,22 @@
-//! What stands for an object, by its versions and by the entries that are not listed.
-ghost use Rattle.std.specs.Prelude.{◌≡◌, ℕ, ◌+◌, ◌-◌, ◌≤◌, List, [], drop, length, take, unwrap_or};
+//! What stands for an object, by its versions and by the entries that are not listed; called by `held`.
+ghost use Rattle.std.specs.Prelude.{◌≡◌, ℕ, ◌+◌, ◌-◌, ◌≤◌, List, [], IfSome, drop, length, take, unwrap_or};
+ghost use Rattle.std.specs.Option.{option_map};
 ghost use Rattle.std.specs.List.{AllZip};
+ghost use Rattle.craq_names.specs.Maps.{same_bytes};
 ghost use Rattle.craq_commands.specs.Objects.{object_of};
 ghost use Rattle.craq_log.specs.Suffixed.{length_of};
-ghost use Rattle.craq_model.specs.Past.{newest_within, values_after};
+ghost use Rattle.craq_model.specs.Past.{newest_within, values_in, values_after};
 ghost use Rattle.craq_plain.specs.Scans.{last_value};
+ghost use Rattle.craq_versions.specs.Versions.{newest_of};
 ghost use Rattle.craq_settled.specs.Listed.{AreListed, Gives, IsGiven, Stands};
-ghost use Rattle.craq_settled.specs.Placed.{later_in, objects_of, settled_in, IsRising};
+ghost use Rattle.craq_settled.specs.Placed.{later_in, objects_of, settled_in, IsPlaced};
 
+use crate::objects::object_in;
 use crate::places::{Place, WriteRef, settled_object};
+use craq_commands::{Entry, Write};
 use craq_log::Suffix;
 use craq_names::{Key, Seq, Version};
-use craq_plain::lookups::{object_past, object_up_to};
+use craq_plain::lookups::object_up_to;
 use craq_versions::{ObjectTable, VersionList};
 
 /// The version and value that are written there.
@@ -64,7 +69,7 @@ fn seen_listed<'a>(
     listed: Seq,
     key: &Key,
 ) -> Seen<'a>
-    requires rising { IsRising table.now }
+    requires placed { IsPlaced table.now }
     requires listed { AreListed table.now entries.now listed }
     ensures settled { (result.settled.0, result.settled.1.now) ≡ object_of (objects_of table.now) key.now }
     ensures newest { (result.newest.0, result.newest.1.now) ≡ last_value (object_of (objects_of table.now) key.now) (values_after (take (listed - entries.now.base) entries.now.entries) key.now) }
@@ -83,25 +88,62 @@ fn seen_listed<'a>(
     }
 }
 
-/// What is seen of an object after all entries. It looks the object up once, and takes no memory.
+/// Whether two keys have the same bytes. Their order tells it by words of 8 bytes, which costs less than `==`.
+fn are_same(key: &Key, other: &Key) -> bool
+    ensures { result ≡ same_bytes key.now other.now }
+{
+    key.cmp(other).is_eq()
+}
+
+/// The version and value that the last of the writes of an object gives it, where there is one.
+fn last_written<'a>(writes: &'a [Write], key: &Key) -> Option<(Version, &'a [u8])>
+    ensures object { option_map (λ found. (found.0, found.1.now)) result ≡ newest_of (values_in writes.now key.now) }
+    ensures short { IfSome result (λ found. length found.1.now ≤ 4096) }
+{
+    for index in (0..writes.len()).rev() {
+        let write = &writes[index];
+        if are_same(&write.key, key) {
+            return Some((write.version, write.value.as_slice()));
+        }
+    }
+    None
+}
+
+/// The newest version that entries give an object, with its value, where one of them does. It looks at the newest first.
+fn newest_past<'a>(entries: &'a [Entry], key: &Key) -> Option<(Version, &'a [u8])>
+    ensures object { option_map (λ found. (found.0, found.1.now)) result ≡ newest_of (values_after entries.now key.now) }
+    ensures short { IfSome result (λ found. length found.1.now ≤ 4096) }
+{
+    for index in (0..entries.len()).rev() {
+        let entry = &entries[index];
+        if let Some(found) = last_written(entry.writes.as_slice(), key) {
+            return Some(found);
+        }
+    }
+    None
+}
+
+/// What is seen of an object after all entries. It looks at the entries that are not listed, then looks the object up once,
+/// and takes no memory.
 pub fn seen_in<'a>(
     table: &'a ObjectTable<Place>,
     entries: &'a Suffix,
     listed: Seq,
     key: &Key,
 ) -> Seen<'a>
-    requires rising { IsRising table.now }
+    requires placed { IsPlaced table.now }
     requires listed { AreListed table.now entries.now listed }
     ensures settled { (result.settled.0, result.settled.1.now) ≡ object_of (objects_of table.now) key.now }
     ensures newest { (result.newest.0, result.newest.1.now) ≡ last_value (object_of (objects_of table.now) key.now) (values_after entries.now.entries key.now) }
     ensures short_settled { length result.settled.1.now ≤ 4096 }
     ensures short_newest { length result.newest.1.now ≤ 4096 }
 {
-    let seen = seen_listed(table, entries, listed, key);
-    let (version, value) = seen.newest;
-    Seen {
-        settled: seen.settled,
-        newest: object_past(version, value, entries.from(listed), key),
+    match newest_past(entries.from(listed), key) {
+        Some(newest) => Seen {
+            settled: object_in(table, key),
+            newest,
+        },
+        None => seen_listed(table, entries, listed, key),
     }
 }
 
@@ -147,7 +189,7 @@ pub fn within_in<'a>(
     version: u64,
     above: u64,
 ) -> (Version, &'a [u8])
-    requires rising { IsRising table.now }
+    requires placed { IsPlaced table.now }
     requires listed { AreListed table.now entries.now listed }
     ensures object { (result.0, result.1.now) ≡ newest_within (version + above) (object_of (objects_of table.now) key.now) (values_after entries.now.entries key.now) }
     ensures short { length result.1.now ≤ 4096 }

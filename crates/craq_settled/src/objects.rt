@@ -1,4 +1,4 @@
-//! Objects by key, each with its versions.
+//! Objects by key, each with its versions; called by `held` and `folding`.
 ghost use Rattle.std.specs.Prelude.{◌≡◌, ◌≤◌, ℕ, List, [], T, IfOk, OnOk, drop, if◌then◌else◌, length};
 ghost use Rattle.std.specs.List.{AllByRecursion};
 ghost use Rattle.std.specs.FinMap.Entries.{is_sorted};
@@ -6,7 +6,7 @@ ghost use Rattle.craq_names.specs.Maps.{key_cmp, put_key, same_bytes};
 ghost use Rattle.craq_commands.specs.Objects.{object_of, set_object};
 ghost use Rattle.craq_versions.specs.Versions.{versions_settled};
 ghost use Rattle.craq_settled.specs.declared.places.Place.TheVariants.{Settled};
-ghost use Rattle.craq_settled.specs.Placed.{objects_of, later_of, versions_of, IsRising, SettlesNext};
+ghost use Rattle.craq_settled.specs.Placed.{objects_of, later_of, versions_of, IsPlaced, SettlesNext};
 
 use crate::places::{Place, settled_object, settled_of};
 use craq_names::{Copied, Items, Key, Value, Version};
@@ -15,7 +15,7 @@ use std::alloc::{AllocError, Global};
 
 /// The settled version and value of an object; version 0 and no bytes where it is absent. It takes no memory.
 pub fn object_in<'a>(table: &'a ObjectTable<Place>, key: &Key) -> (Version, &'a [u8])
-    requires { IsRising table.now }
+    requires { IsPlaced table.now }
     ensures object { (result.0, result.1.now) ≡ object_of (objects_of table.now) key.now }
     ensures short { length result.1.now ≤ 4096 }
 {
@@ -28,31 +28,30 @@ pub fn object_in<'a>(table: &'a ObjectTable<Place>, key: &Key) -> (Version, &'a 
 /// Settles the next version of an object, the oldest of its later ones where there are some; its value is moved here. It
 /// looks the object up once, and takes no memory.
 pub fn settle_object(table: &mut ObjectTable<Place>, key: &Key, version: Version, value: Value)
-    requires rising { IsRising table.old }
+    requires placed { IsPlaced table.old }
     requires next { SettlesNext (versions_of table.old key.now) version }
     ensures objects { objects_of table.new ≡ set_object (objects_of table.old) key.now version value }
     ensures versions { (q : List ℕ) → versions_of table.new q ≡ (if same_bytes key.now q then versions_settled (versions_of table.old key.now) version (Settled value) else versions_of table.old q) }
     ensures later { (q : List ℕ) → later_of table.new q ≡ drop (if same_bytes key.now q then 1 else 0) (later_of table.old q) }
-    ensures rising { IsRising table.new }
+    ensures placed { IsPlaced table.new }
 {
     table.settle_as(key, version, Place::Settled(value));
 }
 
-/// Puts in an object of one settled version, of a key that has none.
+/// Puts in an object of one version, which is settled, in place of the versions that the key has.
 fn put_object(
     table: &mut ObjectTable<Place>,
-    key: &Key,
+    key: Key,
     version: Version,
     value: Value,
 ) -> Result<(), AllocError>
-    requires rising { IsRising table.old }
-    requires absent { versions_of table.old key.now ≡ [] }
+    requires placed { IsPlaced table.old }
     requires written { 1 ≤ version }
-    ensures objects { OnOk result (objects_of table.new ≡ put_key (objects_of table.old) key.now (version, value)) }
+    ensures objects { OnOk result (objects_of table.new ≡ put_key (objects_of table.old) key (version, value)) }
     ensures later { OnOk result ((q : List ℕ) → later_of table.old q ≡ [] → later_of table.new q ≡ []) }
-    ensures rising { OnOk result (IsRising table.new) }
+    ensures placed { OnOk result (IsPlaced table.new) }
 {
-    table.push(key, version, Place::Settled(value))
+    table.put_clean(key, version, Place::Settled(value))
 }
 
 /// Copies of the objects, by rising key.
@@ -80,11 +79,11 @@ pub fn objects_placed(
     requires written { AllByRecursion (λ (o : List ℕ × (ℕ × List ℕ)). 1 ≤ o.1.0) objects }
     ensures objects { IfOk result (λ table. objects_of table ≡ objects) }
     ensures later { IfOk result (λ table. (q : List ℕ) → later_of table q ≡ []) }
-    ensures rising { IfOk result (λ table. IsRising table) }
+    ensures placed { IfOk result (λ table. IsPlaced table) }
 {
     let mut table = ObjectTable::new(alloc);
     for (key, (version, value)) in objects.into_vec() {
-        put_object(&mut table, &key, version, value)?;
+        put_object(&mut table, key, version, value)?;
     }
     Ok(table)
 }

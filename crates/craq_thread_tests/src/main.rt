@@ -3,6 +3,7 @@
 //! them larger: for how many turns of 10 milliseconds messages are lost, how often a store is closed, and how many calls are
 //! answered while members change. In the end three connections reach a store over the loopback, all in one process, in each
 //! manner of serving: what they are answered is printed, and what the audit of the store finds.
+//! Run by `./test` and `tools/quick/run`, which compare what it prints with the file `stdout`; by `./hostile` too.
 #![tactic(auto)]
 
 mod asker;

@@ -1,4 +1,5 @@
-//! A store, its server and its ticks, each on a thread, beside the clients; in the end its audit. It is served in each manner.
+//! The store, its server and its ticks, each on a thread, beside the clients; in the end its audit. It is served in each
+//! manner; called by `main`.
 use crate::asks::{chain, plan};
 use crate::client::ask_all;
 use crate::gate::{TestGate, Tested};

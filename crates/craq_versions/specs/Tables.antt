@@ -18,6 +18,10 @@ pub record Table (V : Type 0) : Type 0 where
 abbrev pub nothing : {V : Type 0} → Held V
 nothing = record { versions = []; clean = 0 }
 
+-- one version, which is clean, and what is held of it
+abbrev pub only_clean : {V : Type 0} → ℕ → V → Held V
+only_clean version held = record { versions = (version, held) ∷ []; clean = version }
+
 -- what is held of a key
 abbrev pub held_at : {V : Type 0} → Table V → List ℕ → Held V
 held_at t key = unwrap_or (at_key t.objects key) nothing

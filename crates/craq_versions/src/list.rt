@@ -64,6 +64,21 @@ impl<V: Drop> VersionList<V> {
         })
     }
 
+    /// One version, which is clean, with what is held of it, and room for no more.
+    pub fn of_clean(alloc: Global, version: Version, held: V) -> Result<Self, AllocError>
+        requires { 1 ≤ version }
+        ensures versions { IfOk result (λ list. list.versions ≡ (version, held) ∷ []) }
+        ensures clean { IfOk result (λ list. list.clean ≡ version) }
+    {
+        let mut items = VecDeque::with_capacity(alloc, 1)?;
+        items.push_back(held)?;
+        Ok(VersionList {
+            first: version.get(),
+            has_clean: true,
+            items,
+        })
+    }
+
     /// Whether there are no versions.
     pub fn is_empty(&self) -> bool
         ensures { IsTrue result ↔ (self.now.versions ≡ []) }

@@ -1,9 +1,9 @@
-//! The lists of a table, by key. A list without versions only has room.
+//! The lists of a table, by key. A list without versions only has room. Called by `table`.
 ghost use Rattle.std.specs.Prelude.{◌≡◌, ◌≢◌, ℕ, ◌+◌, ◌<◌, ◌≤◌, List, [], ◌∷◌, None, IfOk, IsSome, IsOk, OnOk, OnErr, if◌then◌else◌};
 ghost use Rattle.std.specs.BTreeMap.{get, IsOrdered};
 ghost use Rattle.craq_names.specs.Maps.{key_cmp, put_key, same_bytes};
 ghost use Rattle.craq_versions.specs.Versions.{AreVersions, CanPush, CanSettle, CanSettleAs};
-ghost use Rattle.craq_versions.specs.Tables.{table_of, held_at, held_in, popped, room_at, pushed, settled, settled_as, KeepsRoom, KeepsOthersRoom};
+ghost use Rattle.craq_versions.specs.Tables.{table_of, held_at, held_in, only_clean, popped, room_at, pushed, settled, settled_as, KeepsRoom, KeepsOthersRoom};
 
 use crate::VersionList;
 use craq_names::{Copied, Key, Version};
@@ -112,9 +112,8 @@ fn list_of_one<V: Drop>(
     Ok(list)
 }
 
-// Puts in a list of one version for a key that has no list. Where memory is refused the lists stay.
+// Puts in a list with versions, in place of the one that the key has. Where memory is refused the lists stay.
 fn put_list<V: Drop>(lists: &mut Lists<V>, key: Key, list: VersionList<V>) -> Result<(), AllocError>
-    requires absent { get key_cmp lists.old key ≡ None }
     requires some { list.versions ≢ [] }
     ensures ok { OnOk result ((table_of lists.new.entries).objects ≡ put_key (table_of lists.old.entries).objects key (held_in list)) }
     ensures err { OnErr result ((table_of lists.new.entries).objects ≡ (table_of lists.old.entries).objects) }
@@ -123,6 +122,26 @@ fn put_list<V: Drop>(lists: &mut Lists<V>, key: Key, list: VersionList<V>) -> Re
 {
     lists.insert(key, list)?;
     Ok(())
+}
+
+/// Puts in one version of a key, which is clean, in place of those that the key has. It looks the key up once. Where memory
+/// is refused the lists stay.
+pub fn put_clean_in<V: Drop>(
+    alloc: Global,
+    lists: &mut Lists<V>,
+    key: Key,
+    version: Version,
+    held: V,
+) -> Result<(), AllocError>
+    requires ordered { IsOrdered key_cmp lists.old }
+    requires written { 1 ≤ version }
+    ensures ok { OnOk result ((table_of lists.new.entries).objects ≡ put_key (table_of lists.old.entries).objects key (only_clean version held)) }
+    ensures err { OnErr result ((table_of lists.new.entries).objects ≡ (table_of lists.old.entries).objects) }
+    ensures rooms { KeepsOthersRoom (table_of lists.old.entries) (table_of lists.new.entries) key }
+    ensures ordered { IsOrdered key_cmp lists.new }
+{
+    let list = VersionList::of_clean(alloc, version, held)?;
+    put_list(lists, key, list)
 }
 
 /// One more version of a key. It looks the key up once, or twice where the key has no list yet.

@@ -5,9 +5,11 @@ ghost use Rattle.std.specs.List.{AllByRecursion};
 ghost use Rattle.std.specs.List.Sorted.{IsStrictlySortedBy};
 ghost use Rattle.craq_names.specs.Maps.{at_key, key_cmp, put_key, same_bytes};
 ghost use Rattle.craq_versions.specs.Versions.{AreVersions, CanPush, CanSettle, CanSettleAs};
-ghost use Rattle.craq_versions.specs.Tables.{held_at, held_in, popped, room_at, pushed, settled, settled_as, KeepsRoom, KeepsOthersRoom};
+ghost use Rattle.craq_versions.specs.Tables.{held_at, held_in, only_clean, popped, room_at, pushed, settled, settled_as, KeepsRoom, KeepsOthersRoom};
 
-use crate::lists::{Lists, place, pop_in, push_in, reserve_in, settle_as_in, settle_in};
+use crate::lists::{
+    Lists, place, pop_in, push_in, put_clean_in, reserve_in, settle_as_in, settle_in,
+};
 use crate::{Keys, Objects, VersionList};
 use craq_names::{Key, Version};
 use std::alloc::{AllocError, Global};
@@ -68,6 +70,17 @@ impl<V: Drop> ObjectTable<V> {
         ensures succeeds { 0 < room_at self.old key.now → IsOk result }
     {
         push_in(self.alloc, &mut self.lists, key, version, held)
+    }
+
+    /// Puts in one version of the key, which is clean, with what is held of it, in place of the versions that the key has. It
+    /// looks the key up once. Where memory is refused the versions stay.
+    pub fn put_clean(&mut self, key: Key, version: Version, held: V) -> Result<(), AllocError>
+        requires { 1 ≤ version }
+        ensures ok { OnOk result (self.new.objects ≡ put_key self.old.objects key (only_clean version held)) }
+        ensures err { OnErr result (self.new.objects ≡ self.old.objects) }
+        ensures rooms { KeepsOthersRoom self.old self.new key }
+    {
+        put_clean_in(self.alloc, &mut self.lists, key, version, held)
     }
 
     /// Takes the newest version of the key back, where there is one; none of the key is clean once none is left. It takes

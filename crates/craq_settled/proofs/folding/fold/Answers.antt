@@ -11,7 +11,7 @@ loop-alloc-init c = record {
   folded = search rules;
   listed = c.requires.listed;
   next = c.requires.next;
-  rising = c.requires.rising;
+  placed = c.requires.placed;
   room = λ has all. (has, all);
 }
 
@@ -33,7 +33,7 @@ loop-alloc-preserved c =
       folded = more_folded _ _ _ _ _ _ low high c.loop-alloc.invariant.folded c.fold_first.ensures.folded;
       listed = c.fold_first.ensures.listed;
       next = c.fold_first.ensures.next;
-      rising = c.fold_first.ensures.rising;
+      placed = c.fold_first.ensures.placed;
       room = λ has all.
           let before = c.loop-alloc.invariant.room has all in
           let rest : c.fold_first.new.entries.entries ≡ drop 1 c.loop-alloc.entries.entries = c.fold_first.ensures.folded.entries ∙ ap (λ (k : ℕ). drop k c.loop-alloc.entries.entries) one in

@@ -4,7 +4,7 @@ use Rattle.craq_model.specs.Past.{values_after}
 use Rattle.craq_settled.specs.Folded.{AreFolded}
 use Rattle.craq_settled.specs.Followed.{AreNext}
 use Rattle.craq_settled.specs.Listed.{AreListed}
-use Rattle.craq_settled.specs.Placed.{objects_of, state_at, IsRising}
+use Rattle.craq_settled.specs.Placed.{objects_of, state_at, IsPlaced}
 use Rattle.craq_settled.specs.Room.{AreFoldable, HasRoomForReplies}
 use Rattle.craq_settled.proofs.folding.fold.Given as goal
 
@@ -16,7 +16,7 @@ invariant-loop-alloc l = record {
   folded : AreFolded (state_at (objects_of l.initial.table) l.initial.replies.kept) l.initial.entries (state_at (objects_of l.table) l.replies.kept) l.entries;
   listed : AreListed l.table l.entries l.listed;
   next : (q : List ℕ) → AreNext (version_of (objects_of l.table) q) (values_after l.entries.entries q);
-  rising : IsRising l.table;
+  placed : IsPlaced l.table;
   room : HasRoomForReplies l.initial.replies (take (l.position - l.initial.entries.base) l.initial.entries.entries) → AreFoldable l.initial.entries.base l.initial.listed (take (l.position - l.initial.entries.base) l.initial.entries.entries) → HasRoomForReplies l.replies (take (l.position - l.entries.base) l.entries.entries) × AreFoldable l.entries.base l.listed (take (l.position - l.entries.base) l.entries.entries);
 }
 

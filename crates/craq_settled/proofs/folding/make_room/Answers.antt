@@ -19,7 +19,7 @@ pub returns-then-are_rewrites-clause-ready : goal.returns-then-are_rewrites-clau
 returns-then-are_rewrites-clause-ready c =
     let low : c.args.listed.now ≤ c.args.entries.now.base = omega arith in
     let high = rw c.as_slice.ensures at (c.are_rewrites.ensures.0 c.if-are_rewrites.true) in
-    λ e is q. ready_next c.args.table.now c.args.entries.now c.args.listed.now e c.requires.rising c.requires.listed low c.requires.next is
+    λ e is q. ready_next c.args.table.now c.args.entries.now c.args.listed.now e c.requires.placed.rising c.requires.listed low c.requires.next is
     (subst (λ (x : Entry). AllByRecursion (λ (w : Write). 2 ≤ w.version) x.writes) (same_first c.first_of-first.result.now e (sym c.first_of-first.ensures ∙ is)) high) q
 
 pub returns-clause-ready : goal.returns-clause-ready

@@ -23,7 +23,7 @@ loop-write-preserved c =
       later = λ q. write_settled _ (later_of c.loop-write.table q) _ _ left w q step (c.loop-write.invariant.later q) (c.settle_object.ensures.later q);
       ready = λ q. folds_on w left q (versions_of c.loop-write.table q) (versions_of c.settle_object.new.table q) (versions_of c.loop-write.table w.key) w.value (c.settle_object.ensures.versions q) (c.settle_object.ensures.later q)
           (subst (λ (l : List Write). CanFold (values_in l q) (versions_of c.loop-write.table q)) step (c.loop-write.invariant.ready q));
-      rising = c.settle_object.ensures.rising;
+      placed = c.settle_object.ensures.placed;
     }
 
 pub returns-clause-later : goal.returns-clause-later

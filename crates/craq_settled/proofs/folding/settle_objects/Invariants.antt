@@ -2,7 +2,7 @@ use Rattle.std.proofs.Common.{◌≡◌, ℕ, List, drop}
 use Rattle.craq_commands.specs.SingleCopy.{with_writes}
 use Rattle.craq_model.specs.Past.{values_in}
 use Rattle.craq_settled.specs.Followed.{CanFold}
-use Rattle.craq_settled.specs.Placed.{objects_of, count_of, later_of, versions_of, IsRising}
+use Rattle.craq_settled.specs.Placed.{objects_of, count_of, later_of, versions_of, IsPlaced}
 use Rattle.craq_settled.proofs.folding.settle_objects.Given as goal
 
 -- what is written so far, and the writes that are left, come to all writes
@@ -11,5 +11,5 @@ invariant-loop-write l = record {
   written : with_writes (objects_of l.table) l.write-iterator.rest.items ≡ with_writes (objects_of l.initial.table) l.fn.writes;
   later : (q : List ℕ) → drop (count_of l.write-iterator.rest.items q) (later_of l.table q) ≡ drop (count_of l.fn.writes q) (later_of l.initial.table q);
   ready : (q : List ℕ) → CanFold (values_in l.write-iterator.rest.items q) (versions_of l.table q);
-  rising : IsRising l.table;
+  placed : IsPlaced l.table;
 }

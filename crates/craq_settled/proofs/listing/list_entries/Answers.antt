@@ -22,7 +22,7 @@ loop-table-preserved c =
       listed = c.list_next.ensures.listed;
       more = omega (arith, next, more);
       most = omega (arith, next, most, below, c.get.ensures);
-      rising = c.list_next.ensures.rising;
+      placed = c.list_next.ensures.placed;
       room = λ has. room_of_rest c.loop-table.table c.list_next.new.table n (c.list_next.new.listed - c.args.entries.now.base) c.args.entries.now.entries (omega (arith, next, from)) (before.room has) c.in_ok-list_next.ensures.room;
     }
 

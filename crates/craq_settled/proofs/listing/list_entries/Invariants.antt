@@ -1,6 +1,6 @@
 use Rattle.std.proofs.Common.{◌≡◌, ◌≤◌, ◌-◌, drop, max}
 use Rattle.craq_settled.specs.Listed.{AreListed}
-use Rattle.craq_settled.specs.Placed.{objects_of, IsRising}
+use Rattle.craq_settled.specs.Placed.{objects_of, IsPlaced}
 use Rattle.craq_settled.specs.Room.{HasRoomForVersions}
 use Rattle.craq_settled.proofs.listing.list_entries.Given as goal
 
@@ -11,7 +11,7 @@ invariant-loop-table l = record {
   listed : AreListed l.table l.entries l.listed;
   more : l.initial.listed ≤ l.listed;
   most : l.listed ≤ max l.initial.listed l.most;
-  rising : IsRising l.table;
+  placed : IsPlaced l.table;
   room : HasRoomForVersions l.initial.table.rooms (drop (l.initial.listed - l.entries.base) l.entries.entries) → HasRoomForVersions l.table.rooms (drop (l.listed - l.entries.base) l.entries.entries);
 }
 

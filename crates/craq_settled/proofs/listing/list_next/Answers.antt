@@ -14,7 +14,7 @@ list_writes-requires-clause-next c =
     let e = c.index-from-0.result in
     let s = c.args.entries.now in
     let some = front_some s c.args.listed.now c.from.result.now c.requires.listed c.requires.more c.from.ensures.entries in
-    rw c.as_slice.ensures (next_listed c.args.table.now s c.args.listed.now c.from.result.now e c.requires.rising c.requires.listed c.requires.next c.from.ensures.entries some c.index-from-0.is)
+    rw c.as_slice.ensures (next_listed c.args.table.now s c.args.listed.now c.from.result.now e c.requires.placed.rising c.requires.listed c.requires.next c.from.ensures.entries some c.index-from-0.is)
 
 pub returns-in_err-list_writes-clause-listed : goal.returns-in_err-list_writes-clause-listed
 returns-in_err-list_writes-clause-listed c = listed_still c.args.table.now c.list_writes.new.table c.args.entries.now c.args.listed.now c.requires.listed c.in_err-list_writes.ensures.err

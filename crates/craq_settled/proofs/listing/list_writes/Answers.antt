@@ -11,7 +11,7 @@ loop-index-init c = record {
   objects = refl;
   later = λ q. written_none (later_of c.args.table.now q) c.args.position q;
   next = c.requires.next;
-  rising = c.requires.rising;
+  placed = c.requires.placed;
   room = λ q. room_none (room_at c.args.table.now q) c.args.writes.now q;
 }
 
@@ -40,6 +40,6 @@ loop-index-preserved c =
       later = λ q. written_next (later_of c.args.table.now q) (later_of c.loop-index.table q) (later_of c.push_version.new.table q) c.args.position c.args.writes.now c.loop-index.index w q
           c.loop-index-test.true c.index-writes-index.is (c.loop-index.invariant.later q) (c.in_default.ensures.later q);
       next = λ q. next_pushed (versions_of c.loop-index.table q) (versions_of c.push_version.new.table q) _ c.args.writes.now c.loop-index.index w q c.loop-index-test.true c.index-writes-index.is (c.in_default.ensures.ok q) (c.loop-index.invariant.next q);
-      rising = c.push_version.ensures.rising;
+      placed = c.push_version.ensures.placed;
       room = λ q. room_next (room_at c.args.table.now q) (room_at c.loop-index.table q) (room_at c.push_version.new.table q) c.args.writes.now c.loop-index.index w q c.loop-index-test.true c.index-writes-index.is (c.loop-index.invariant.room q) (c.push_version.ensures.room q);
     }

@@ -12,7 +12,7 @@ unfolding values_in
 loop-write-init c = record {
   objects = refl;
   later = λ q. none_gone (later_of c.args.table.now q);
-  rising = c.requires;
+  placed = c.requires;
 }
 
 pub loop-write-preserved : goal.loop-write-preserved
@@ -27,5 +27,5 @@ loop-write-preserved c = record {
       c.pop_version.ensures.later q
       ∙ gone_twice l (later_of c.loop-write.table q) (count_of (take i ws) q) one (c.loop-write.invariant.later q)
       ∙ ap (λ (n : ℕ). take (length l - n) l) (sym (count_next ws i w q c.loop-write-test.true c.write-item.is));
-  rising = c.pop_version.ensures.rising;
+  placed = c.pop_version.ensures.placed;
 }

@@ -1,5 +1,5 @@
 use Rattle.std.proofs.Common.{◌≡◌, take}
-use Rattle.craq_settled.specs.Placed.{objects_of, IsRising, LaterTakenBack}
+use Rattle.craq_settled.specs.Placed.{objects_of, IsPlaced, LaterTakenBack}
 use Rattle.craq_settled.proofs.listing.unlist.Given as goal
 
 -- of each object as many are taken back as the writes so far give it
@@ -7,5 +7,5 @@ abbrev pub invariant-loop-write : goal.invariant-loop-write
 invariant-loop-write l = record {
   objects : objects_of l.table ≡ objects_of l.initial.table;
   later : LaterTakenBack (take l.write-index l.writes) l.initial.table l.table;
-  rising : IsRising l.table;
+  placed : IsPlaced l.table;
 }

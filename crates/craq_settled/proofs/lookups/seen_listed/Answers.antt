@@ -18,7 +18,7 @@ returns-in-None-clause-newest c =
     let t = c.args.table.now in
     let o : ℕ × List ℕ = object_of (objects_of t) c.args.key.now in
     let none = none_listed_of t c.args.entries.now c.args.listed c.args.key.now c.requires.listed (none_here t c.args.key.now c.in-None.ensures) in
-    rw c.new-in-None.ensures (absent_here t c.args.key.now c.requires.rising c.in-None.ensures ∙ ap (λ (vs : List (ℕ × List ℕ)). last_value o vs) (sym none))
+    rw c.new-in-None.ensures (absent_here t c.args.key.now c.requires.placed.rising c.in-None.ensures ∙ ap (λ (vs : List (ℕ × List ℕ)). last_value o vs) (sym none))
 
 pub returns-in-Some-clause-newest : goal.returns-in-Some-clause-newest
 returns-in-Some-clause-newest c =
@@ -26,10 +26,10 @@ returns-in-Some-clause-newest c =
     let key = c.args.key.now in
     let vs : List (ℕ × List ℕ) = values_after (take (c.args.listed - c.args.entries.now.base) c.args.entries.now.entries) key in
     c.newest_of.ensures.object vs (seen_listed t c.args.entries.now c.args.listed key c.in-Some.list.now.versions c.requires.listed (found_here t key c.in-Some.list.now c.in-Some.ensures))
-    ∙ ap (λ (o : ℕ × List ℕ). last_value o vs) (listed_here t key c.in-Some.list.now c.requires.rising c.in-Some.ensures)
+    ∙ ap (λ (o : ℕ × List ℕ). last_value o vs) (listed_here t key c.in-Some.list.now c.requires.placed.rising c.in-Some.ensures)
 
 pub returns-in-None-clause-settled : goal.returns-in-None-clause-settled
-returns-in-None-clause-settled c = rw c.new.ensures (absent_here c.args.table.now c.args.key.now c.requires.rising c.in-None.ensures)
+returns-in-None-clause-settled c = rw c.new.ensures (absent_here c.args.table.now c.args.key.now c.requires.placed.rising c.in-None.ensures)
 
 pub returns-in-Some-clause-settled : goal.returns-in-Some-clause-settled
-returns-in-Some-clause-settled c = c.settled_object.ensures.object ∙ listed_here c.args.table.now c.args.key.now c.in-Some.list.now c.requires.rising c.in-Some.ensures
+returns-in-Some-clause-settled c = c.settled_object.ensures.object ∙ listed_here c.args.table.now c.args.key.now c.in-Some.list.now c.requires.placed.rising c.in-Some.ensures

@@ -20,9 +20,9 @@ returns-in-None-clause-object c =
     ∙ ap (λ (n : ℕ). newest_within bound (n, []) (values_after c.from.result.now key)) c.new.ensures
     ∙ ap (λ (es : List Entry). newest_within bound (0, []) (values_after es key)) c.from.ensures.entries
     ∙ ap (λ (vs : List (ℕ × List ℕ)). newest_within bound (0, []) vs) (none_before (c.args.listed - c.args.entries.now.base) all key (none_listed_of t c.args.entries.now c.args.listed key c.requires.listed (none_here t key c.in-None.ensures)))
-    ∙ ap (λ (o : ℕ × List ℕ). newest_within bound o (values_after all key)) (absent_here t key c.requires.rising c.in-None.ensures)
+    ∙ ap (λ (o : ℕ × List ℕ). newest_within bound o (values_after all key)) (absent_here t key c.requires.placed.rising c.in-None.ensures)
 
 pub returns-in-Some-clause-object : goal.returns-in-Some-clause-object
 returns-in-Some-clause-object c =
     c.within_list.ensures.object
-    ∙ ap (λ (o : ℕ × List ℕ). newest_within (c.args.version + c.args.above) o (values_after c.args.entries.now.entries c.args.key.now)) (listed_here c.args.table.now c.args.key.now c.in-Some.list.now c.requires.rising c.in-Some.ensures)
+    ∙ ap (λ (o : ℕ × List ℕ). newest_within (c.args.version + c.args.above) o (values_after c.args.entries.now.entries c.args.key.now)) (listed_here c.args.table.now c.args.key.now c.in-Some.list.now c.requires.placed.rising c.in-Some.ensures)

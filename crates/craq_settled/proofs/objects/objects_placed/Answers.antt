@@ -1,9 +1,9 @@
-use Rattle.std.proofs.Common.{◌≡◌, sym, ◌∙◌, rules}
+use Rattle.std.proofs.Common.{◌≡◌, rules}
 use Rattle.std.specs.Cmp.Lexicographic.{nat_list_cmp_total}
 use Rattle.craq_names.specs.Maps.{key_cmp}
-use Rattle.craq_settled.specs.Placed.{objects_of, versions_of}
-use Rattle.craq_settled.proofs.Lists.{none_yet, put_one}
-use Rattle.craq_settled.proofs.Placing.{new_is_empty, no_versions, object_found}
+use Rattle.craq_settled.specs.Placed.{objects_of}
+use Rattle.craq_settled.proofs.Lists.{put_one}
+use Rattle.craq_settled.proofs.Placing.{new_is_empty}
 use Rattle.craq_settled.proofs.objects.objects_placed.Goals as goal
 
 pub loop-key-init : goal.loop-key-init
@@ -14,13 +14,8 @@ loop-key-init c =
       moved = rw empty.0 same;
       later = empty.1;
       written = rw same c.requires.written;
-      rising = empty.2;
+      placed = empty.2;
     }
-
-pub put_object-requires-clause-absent : goal.put_object-requires-clause-absent
-put_object-requires-clause-absent c =
-    let none = none_yet key_cmp nat_list_cmp_total (objects_of c.loop-key.table) c.loop-key.key-iterator.rest.items c.next.new.self.rest.items c.args.objects c.in-Some.key (c.in-Some.version, c.in-Some.value) c.loop-key.invariant.moved c.in-Some.ensures.steps.0 c.requires.rising in
-    no_versions (versions_of c.loop-key.table c.in-Some.key) (sym none ∙ object_found c.loop-key.table c.in-Some.key c.loop-key.invariant.rising) (c.loop-key.invariant.later c.in-Some.key)
 
 pub put_object-requires-clause-written : goal.put_object-requires-clause-written
 put_object-requires-clause-written c = (rw c.in-Some.ensures.steps.0 at c.loop-key.invariant.written).0
@@ -31,5 +26,5 @@ loop-key-preserved c = record {
       c.loop-key.invariant.moved c.in-Some.ensures.steps.0 c.requires.rising c.in_ok-put_object.ensures.objects;
   later = λ q. c.in_ok-put_object.ensures.later q (c.loop-key.invariant.later q);
   written = (rw c.in-Some.ensures.steps.0 at c.loop-key.invariant.written).1;
-  rising = c.in_ok-put_object.ensures.rising;
+  placed = c.in_ok-put_object.ensures.placed;
 }

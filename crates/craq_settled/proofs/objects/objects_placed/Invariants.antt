@@ -1,6 +1,6 @@
 use Rattle.std.proofs.Common.{◌≡◌, ◌≤◌, ◌++◌, ℕ, List, []}
 use Rattle.std.specs.List.{AllByRecursion}
-use Rattle.craq_settled.specs.Placed.{later_of, objects_of, IsRising}
+use Rattle.craq_settled.specs.Placed.{later_of, objects_of, IsPlaced}
 use Rattle.craq_settled.proofs.objects.objects_placed.Given as goal
 
 -- what is placed, with the objects that are left, are all objects, and each has one version
@@ -9,5 +9,5 @@ invariant-loop-key l = record {
   moved : objects_of l.table ++ l.key-iterator.rest.items ≡ l.fn.objects;
   later : (q : List ℕ) → later_of l.table q ≡ [];
   written : AllByRecursion (λ (o : List ℕ × (ℕ × List ℕ)). 1 ≤ o.1.0) l.key-iterator.rest.items;
-  rising : IsRising l.table;
+  placed : IsPlaced l.table;
 }

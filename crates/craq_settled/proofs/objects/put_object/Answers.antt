@@ -1,16 +1,13 @@
-use Rattle.craq_settled.proofs.Placing.{first_can, later_first, objects_first, rising_put}
+use Rattle.craq_settled.proofs.Clean.{placed_first}
+use Rattle.craq_settled.proofs.Placing.{later_first, objects_first}
 use Rattle.craq_settled.proofs.Results.{ok_then}
-use Rattle.craq_settled.specs.Placed.{versions_of}
 use Rattle.craq_settled.proofs.objects.put_object.Goals as goal
 
-pub push-requires : goal.push-requires
-push-requires c = first_can (versions_of c.args.table.now c.args.key.now) c.args.version c.requires.absent c.requires.written
-
 pub returns-clause-objects : goal.returns-clause-objects
-returns-clause-objects c = ok_then c.push.result (λ is. objects_first c.args.table.now c.push.new.self c.args.key.now c.args.version c.args.value c.requires.rising c.requires.absent is) c.push.ensures.ok
+returns-clause-objects c = ok_then c.put_clean.result (λ is. objects_first c.args.table.now c.put_clean.new.self c.args.key c.args.version c.args.value c.requires.placed.rising is) c.put_clean.ensures.ok
 
 pub returns-clause-later : goal.returns-clause-later
-returns-clause-later c = ok_then c.push.result (λ is. later_first c.args.table.now c.push.new.self c.args.key.now c.args.version c.args.value c.requires.absent is) c.push.ensures.ok
+returns-clause-later c = ok_then c.put_clean.result (λ is. later_first c.args.table.now c.put_clean.new.self c.args.key c.args.version c.args.value is) c.put_clean.ensures.ok
 
-pub returns-clause-rising : goal.returns-clause-rising
-returns-clause-rising c = ok_then c.push.result (λ is. rising_put c.args.table.now c.push.new.self c.args.key.now _ is c.requires.rising) c.push.ensures.ok
+pub returns-clause-placed : goal.returns-clause-placed
+returns-clause-placed c = ok_then c.put_clean.result (λ is. placed_first c.args.table.now c.put_clean.new.self c.args.key c.args.version c.args.value is c.requires.placed) c.put_clean.ensures.ok

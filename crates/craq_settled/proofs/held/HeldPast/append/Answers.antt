@@ -23,4 +23,4 @@ invariant_of-self-2 c =
     let s = state_at (objects_of c.self.inside.table) c.self.inside.replies.kept in
     let next = rw (← c.self.view_is) at c.requires.next in
     let all = next_appended s c.self.inside.entries.entries c.args.entries c.append_all.new.self.entries c.in_ok-append_all.ensures.ok c.self.invariant.2 next in
-    (c.list_entries-refused.ensures.rising, c.list_entries-refused.ensures.listed, next_of_same (objects_of c.self.inside.table) (objects_of c.list_entries-refused.new.table) c.append_all.new.self.entries c.list_entries-refused.ensures.objects all)
+    (c.list_entries-refused.ensures.placed, c.list_entries-refused.ensures.listed, next_of_same (objects_of c.self.inside.table) (objects_of c.list_entries-refused.new.table) c.append_all.new.self.entries c.list_entries-refused.ensures.objects all)

@@ -146,14 +146,18 @@ def changed(checks, store, until, given):
 
 
 def ends(checks, store, seen, looks):
-    """The store ends, and each chain is audited with all that was answered; beside the clients' asks so many looked at members that joined."""
+    """The store ends, and each chain is audited with all that was answered; beside the clients' asks so many looked at members that joined.
+    Gives how many audits were merged."""
     status, lines, err = store.ends()
     checks.same("how the store ends", (status, err), (0, ""))
     checks.same("how many chains are audited", len(lines), CHAINS)
+    merged = 0
     for chain, line in enumerate(lines):
         answered, asked = (sum(counts(it)[chain] for it in seen) for counts in (lambda it: it.answered, lambda it: it.asked))
         found = re.fullmatch(rf"chain {chain} merged (\d+)", line)
+        merged += found is not None
         checks.that(found and answered <= int(found[1]) - looks[chain] <= asked, f"{line}, {looks[chain]} of them looks, of {answered} answers to {asked} asks")
+    return merged
 
 
 def serves(checks, program):
@@ -172,19 +176,19 @@ def serves(checks, program):
             it.join()
         seen = [it for it, _ in found]
         soak.looked_at(checks, seen)
-        ends(checks, store, seen, changes)
-        return told(checks, seen, sum(changes), sum(it for _, it in found))
+        merged = ends(checks, store, seen, changes)
+        return told(checks, seen, sum(changes), sum(it for _, it in found), merged)
     finally:
         store.kill()
 
 
-def told(checks, seen, changes, again):
+def told(checks, seen, changes, again, merged):
     """What was tried, in words; enough of it was."""
     answered, lost, repeated = sum(sum(it.answered) for it in seen), sum(it.lost for it in seen), sum(it.repeated for it in seen)
     checks.that(changes >= DUE * SECONDS and min(answered, lost, repeated, again) > 0,
                 f"members change {changes} times, {answered} asks are answered, {lost} replies lost, {repeated} updates repeated, {again} asked again")
     return (f"{answered} asks answered and {again} asked again in {SECONDS} s while {changes} members stopped, were removed and others joined, "
-            f"{lost} replies lost, {repeated} updates repeated, {CHAINS} audits merged")
+            f"{lost} replies lost, {repeated} updates repeated, {merged} audits merged")
 
 
 def tried(checks):

@@ -65,13 +65,13 @@ def plan():
 
 
 class Seen:
-    """What one process asked, was told, and found wrong."""
+    """What one process asked of so many chains, was told, and found wrong."""
 
-    def __init__(self):
-        self.faults, self.counted = [], {chain: [] for chain in range(CHAINS)}
-        self.asked, self.answered = [0] * CHAINS, [0] * CHAINS
+    def __init__(self, chains=CHAINS):
+        self.faults, self.counted = [], {chain: [] for chain in range(chains)}
+        self.asked, self.answered = [0] * chains, [0] * chains
         # By chain, of the object that all count up: the pass and the version of each answer, and of each read with a pass what it showed.
-        self.told, self.showed = [[] for _ in range(CHAINS)], [[] for _ in range(CHAINS)]
+        self.told, self.showed = [[] for _ in range(chains)], [[] for _ in range(chains)]
         self.lost = self.repeated = 0
 
     def that(self, holds, what):
@@ -233,8 +233,8 @@ def asking(at, address, newest, passes, until, given):
 def looked_at(checks, seen):
     """What all processes saw together."""
     for it in seen:
-        checks.same("what a process of the soak found wrong", it.faults, [])
-    for chain in range(CHAINS):
+        checks.same("what a process of clients found wrong", it.faults, [])
+    for chain in range(len(seen[0].asked)):
         versions = sorted(version for it in seen for version in it.counted[chain])
         checks.same(f"the versions that all were given in chain {chain}", versions, list(range(1, len(versions) + 1)))
         told, showed = (sorted(pair for it in seen for pair in pairs(it)[chain]) for pairs in (lambda it: it.told, lambda it: it.showed))

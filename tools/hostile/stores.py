@@ -48,19 +48,19 @@ def copied(room, crate):
             shutil.copytree(f"{here}/{part}", f"{there}/{part}")
 
 
-def made(room):
-    """The crate in that folder, with the crates below it; gives its own folder."""
+def made(room, name, texts, own, kit=()):
+    """The crate of this name and these texts in that folder, with the crates that it stands on; gives its own folder."""
     known = repository.crates()
-    below = [it for it in repository.lowest_first(known) if it in {*OWN, *repository.below(OWN)}]
+    below = [it for it in repository.lowest_first(known) if it in {*own, *repository.below(own)}]
     for crate in below:
         copied(room, crate)
-    folder = os.path.join(room, "crates", NAME)
+    folder = os.path.join(room, "crates", name)
     os.makedirs(f"{folder}/src")
-    for name in os.listdir(TEXTS):
-        shutil.copyfile(os.path.join(TEXTS, name), f"{folder}/src/{name.removesuffix('.txt')}.rt")
+    for text in os.listdir(texts):
+        shutil.copyfile(os.path.join(texts, text), f"{folder}/src/{text.removesuffix('.txt')}.rt")
     with open(f"{room}/crates.txt", "w", encoding="utf-8") as it:
         it.writelines(f"{crate}: {' '.join(known[crate])}\n" for crate in below)
-        it.write(f"{NAME}: {' '.join([*OWN, *KIT])}\n")
+        it.write(f"{name}: {' '.join([*own, *kit])}\n")
     shutil.copy2(repository.path("HANDLES"), room)
     return folder
 
@@ -112,7 +112,7 @@ def tried(checks, seconds):
     began, seed, folder = time.monotonic(), int(time.time()), tempfile.mkdtemp(prefix="hostile-soak-")
     with tempfile.TemporaryDirectory(prefix="stores-") as room:
         try:
-            fast, checked = unproved.built(made(room), os.path.join(room, NAME))
+            fast, checked = unproved.built(made(room, NAME, TEXTS, OWN, KIT), os.path.join(room, NAME))
         except unproved.Unbuilt as why:
             checks.that(False, f"stores on threads cannot be built: {why}")
             return collections.Counter(), "stores on threads could not be built"

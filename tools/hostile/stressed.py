@@ -1,8 +1,9 @@
 """Stores on threads in trials that are larger than those of the gate.
 
 craq_thread_tests is given how long messages are lost (turns of 10 milliseconds), how often a store is closed while clients ask, and how
-many calls are answered while members change, in each of its three forms. It prints whether each trial holds. On standard error it
-says how many calls each time of a trial answered and refused, and the most ticks that one waited.
+many calls are answered while members change, in each of its three forms. It prints whether each trial holds, and then what three
+connections over the loopback are answered in each manner of serving, which is no larger here. On standard error it says how many calls
+each time of a trial answered and refused, and the most ticks that one waited.
 """
 import os
 import re
@@ -11,8 +12,8 @@ import subprocess
 LOST, CLOSES, CALLS = 1_000, 1_000, 100_000
 SIZES = (LOST, CLOSES, CALLS)
 LIMIT = 1_800
-# What comes after the trials begins with this line.
-LOOPBACK = "three connections over the loopback"
+# With this the first line after the trials begins, and one for each manner of serving.
+LOOPBACK, MANNERS = "three connections over the loopback", 2
 
 
 def tried(checks, program):
@@ -22,10 +23,12 @@ def tried(checks, program):
     except subprocess.TimeoutExpired:
         checks.that(False, f"{os.path.basename(program)} ends within {LIMIT} s")
         return "did not end"
-    trials, after, _ = ran.stdout.partition(f"{LOOPBACK}\n")
+    trials, *served = ran.stdout.split(LOOPBACK)
     lines = [it for it in trials.splitlines() if ":" in it]
     checks.same("how craq_thread_tests ends", ran.returncode, 0)
-    checks.that(lines and after, "craq_thread_tests prints its trials, and then comes to the loopback")
+    checks.same("how many manners of serving craq_thread_tests comes to after its trials", len(served) if lines else 0, MANNERS)
+    for it in served:
+        checks.that("\naudit: merged, 2 calls; lacked false\n" in it, f"the calls over the loopback are audited{it}")
     for line in lines:
         checks.that(line.endswith(": holds"), line)
     told = [tuple(map(int, it)) for it in re.findall(r"^(\d+) answered, (\d+) refused, (\d+) ticks at most$", ran.stderr, re.M)]

@@ -320,6 +320,7 @@ def hostile(checks, clone):
     shutil.rmtree(os.path.join(clone.top, "crates/craqd/out"), ignore_errors=True)
     checks.same("./hostile without programs", clone.ran("hostile"), (1, "", "hostile: there are no programs yet: ./build makes them\n"))
     clone.executable(os.path.join(clone.top, "tools/hostile/run"), '#!/usr/bin/env bash\necho "$*"\n')
+    checks.same("its help, without programs", clone.ran("hostile", "--help"), (0, "--help\n", ""))
     checks.same("its programs of a folder", clone.ran("hostile", "--programs", "/some", "--only", "stops"), (0, "--only stops /some/craq_lab /some/craqd\n", ""))
     for name in "craq_lab", "craqd":
         clone.built(name, "exit 0\n")

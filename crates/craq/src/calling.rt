@@ -4,7 +4,7 @@ ghost use Rattle.std.specs.Prelude.{◌≡◌};
 use crate::fault::Fault;
 use craq_frames::{ClientMessage, ClientReply};
 use craq_front::{Stream, exchange};
-use craq_line::Asked;
+use craq_line::Request;
 use craq_model::{Answer, Ask};
 use craq_names::{NodeId, Pass, Refusal};
 use craq_words::{print_answer, print_refusal, read_of, update_of};
@@ -63,12 +63,12 @@ fn message_in(
     alloc: Global,
     node: NodeId,
     pass: Pass,
-    asked: &Asked,
+    request: &Request,
 ) -> Result<ClientMessage, Refusal> {
-    match asked {
-        Asked::Status => Ok(ClientMessage::Status),
-        Asked::Update(update) => Ok(message_of(node, pass, update_of(alloc, update)?)),
-        Asked::Read { mode, object } => {
+    match request {
+        Request::Status => Ok(ClientMessage::Status),
+        Request::Update(update) => Ok(message_of(node, pass, update_of(alloc, update)?)),
+        Request::Read { mode, object } => {
             Ok(message_of(node, pass, read_of(alloc, *mode, object)?))
         }
     }
@@ -154,11 +154,11 @@ where
 
 /// Asks over a connection of its own, and gives what is to be printed of the answer. What is refused whatever the server says is
 /// not sent.
-pub fn shown_for<R>(rt: &R, asker: &Asker<'_>, asked: &Asked) -> Result<Shown, Fault>
+pub fn shown_for<R>(rt: &R, asker: &Asker<'_>, request: &Request) -> Result<Shown, Fault>
 where
     R: AllocGlobal + Net<Listener = TcpListener, Stream = TcpStream>,
 {
-    match message_in(rt.alloc(), asker.node, asker.pass, asked) {
+    match message_in(rt.alloc(), asker.node, asker.pass, request) {
         Ok(message) => {
             let reply = reply_to(rt, asker.address, &message)?;
             Ok(shown_of(rt.alloc(), reply, asker.pass)?)

@@ -1,4 +1,5 @@
-//! Why `craq` ends without an answer, with the text and the status of each reason; for all of its modules.
+//! Why `craq` ends without an answer, with the text and the status of each reason; for `main`, `calling`, `shell`, `watch` and
+//! `bench`.
 use craq_line::{CANNOT_PRINT, report_memory, report_words};
 use std::alloc::AllocError;
 use std::io;

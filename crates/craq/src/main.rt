@@ -1,4 +1,4 @@
-//! The program: `craq --connect ADDRESS --node N [--pass P] [COMMAND ..]`.
+//! The program with which people and scripts ask a server: `craq --connect ADDRESS --node N [--pass P] [COMMAND ..]`.
 #![tactic(auto)]
 
 mod bench;
@@ -10,7 +10,7 @@ mod tally;
 mod watch;
 
 use calling::{Asker, shown_for};
-use craq_line::{Asked, CallLine, Task, report_failure, report_no_text, words_of};
+use craq_line::{CallLine, Request, Task, report_failure, report_no_text, words_of};
 use fault::{Fault, REFUSED};
 use std::env::Env;
 use std::io;
@@ -29,11 +29,11 @@ struct Terminals {
 }
 
 /// Asks once, and prints the answer with its pass on a line of its own, or the refusal. Gives the status.
-fn ask_once<R>(rt: &R, asker: &Asker<'_>, asked: &Asked) -> Result<u8, Fault>
+fn ask_once<R>(rt: &R, asker: &Asker<'_>, request: &Request) -> Result<u8, Fault>
 where
     R: AllocGlobal + Print + Net<Listener = TcpListener, Stream = TcpStream>,
 {
-    let shown = shown_for(rt, asker, asked)?;
+    let shown = shown_for(rt, asker, request)?;
     let text = shown.text.as_str();
     let (printed, status) = match shown.pass {
         Some(pass) => {
@@ -61,7 +61,7 @@ where
         pass: line.pass,
     };
     match &line.task {
-        Task::Ask(asked) => ask_once(&rt, &asker, asked),
+        Task::Ask(request) => ask_once(&rt, &asker, request),
         Task::Watch(seconds) => watch::watch(&rt, line.address, *seconds),
         Task::Bench(load) => bench::bench(rt, &asker, load, terminals.errors),
         Task::Shell => shell::shell(&rt, &asker, terminals.input),

@@ -1,4 +1,5 @@
-//! `Session`: what a prompt remembers, which is whom it asks, the largest pass that it was given, and the lines that were entered.
+//! `Session`: what a prompt remembers, which is whom it asks, the largest pass that it was given, and the lines that were
+//! entered; for `shell`.
 ghost use Rattle.std.specs.Prelude.{◌≡◌, ◌++◌, [], ◌∷◌, max, OnOk, OnErr};
 
 use crate::calling::Asker;

@@ -2,7 +2,7 @@
 use crate::calling::{Asker, shown_for};
 use crate::fault::Fault;
 use crate::session::Session;
-use craq_line::{BadWord, Unread, VERSION, asked_of};
+use craq_line::{BadWord, Unread, VERSION, request_of};
 use craq_names::NodeId;
 use craq_script::{GREATEST_NODE, number_up_to};
 use std::alloc::{AllocError, Global};
@@ -86,12 +86,12 @@ where
     R: AllocGlobal + Print + Eprint + Net<Listener = TcpListener, Stream = TcpStream>,
 {
     let asker = session.asker();
-    let asked = match asked_of(rt.alloc(), asker.node, words) {
-        Ok(asked) => asked,
+    let request = match request_of(rt.alloc(), asker.node, words) {
+        Ok(request) => request,
         Err(Unread::Memory) => return Err(Fault::Memory),
         Err(Unread::Bad(bad)) => return print_bad(rt, &bad, words),
     };
-    match shown_for(rt, &asker, &asked) {
+    match shown_for(rt, &asker, &request) {
         Ok(shown) => {
             if let Some(pass) = shown.pass {
                 session.note_pass(pass);

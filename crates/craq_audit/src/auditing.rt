@@ -1,4 +1,4 @@
-//! The call of the crate, `audit`: its tests in order, and the merge that it answers.
+//! The call of the crate, `audit`: its tests in order, and the merge that it answers; called by `craq_held`.
 ghost use Rattle.std.specs.Prelude.{◌≡◌};
 ghost use Rattle.craq_audit.specs.Audited.{Audits};
 ghost use Rattle.craq_audit.specs.Lookups.{cells_of};

@@ -1,4 +1,4 @@
-//! Whether cells are those of a chain.
+//! Whether cells are those of a chain; called by `audit` before it merges them.
 ghost use Rattle.std.specs.Prelude.{◌≡◌, ◌↔◌, IsTrue, IsSome, map, Contains};
 ghost use Rattle.std.specs.List.{AllByRecursion};
 ghost use Rattle.std.specs.Option.{option_copied};

@@ -1,4 +1,4 @@
-//! Copies of steps.
+//! Copies of steps; called by `merging`, whose run owns its steps while the journals keep theirs.
 ghost use Rattle.std.specs.Prelude.{◌≡◌, IfOk};
 
 use craq_model::{Out, Step};

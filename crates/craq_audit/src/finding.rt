@@ -1,4 +1,4 @@
-//! What `audit` answers.
+//! What `audit` answers; looked at by `craq_workers`, `craqd` and `craq_embedding`.
 use craq_names::NodeId;
 use craq_runs::Run;
 

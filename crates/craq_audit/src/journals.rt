@@ -1,4 +1,4 @@
-//! The records that cells keep.
+//! The records that cells keep; called by the modules that test and merge them.
 ghost use Rattle.std.specs.Prelude.{◌≡◌, ◌↔◌, Some, IfSome, IsSome, IsTrue, Contains};
 ghost use Rattle.std.specs.List.{AllByRecursion};
 ghost use Rattle.std.specs.Option.{option_copied};

@@ -1,4 +1,4 @@
-//! All steps of a chain, lent from its journals.
+//! All steps of a chain, lent from its journals; called by `merging`, and read by `numbers`.
 ghost use Rattle.std.specs.Prelude.{◌≡◌, ◌++◌, map, IfOk, OnOk, IsPermutation};
 ghost use Rattle.craq_seat.specs.Merge.{all_lines, book_line, node_line};
 ghost use Rattle.craq_merge.specs.Sorted.{AreSorted};

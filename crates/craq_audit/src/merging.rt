@@ -1,4 +1,4 @@
-//! The journals of a chain as one run.
+//! The journals of a chain as one run; called by `audit` once its tests are passed.
 ghost use Rattle.std.specs.Prelude.{◌≡◌, ◌≤◌, ℕ, List, flat_map, length, map, IfOk, IfErr, OnOk};
 ghost use Rattle.std.specs.List.{AllByRecursion};
 ghost use Rattle.craq_names.specs.Limits.{greatest};

@@ -1,4 +1,4 @@
-//! The numbers of messages in a run.
+//! The numbers of messages in a run; called by `merging`, since journals name messages by stamp and index.
 ghost use Rattle.std.specs.Prelude.{◌≡◌, ◌≤◌, ◌<◌, flat_map, length, IfOk, IfErr, OnOk};
 ghost use Rattle.craq_names.specs.Limits.{greatest};
 ghost use Rattle.craq_runs.specs.Chain.{sent_in};

@@ -1,4 +1,4 @@
-//! The ask and the answer of each call receipt.
+//! The ask and the answer of each call receipt, looked up in the journals; called by `audit`.
 ghost use Rattle.std.specs.Prelude.{◌≡◌, ◌↔◌, Some, IsTrue, MatchOption};
 ghost use Rattle.std.specs.List.{AllByRecursion};
 ghost use Rattle.craq_seat.specs.Audits.{IsAnswered, IsAsked};

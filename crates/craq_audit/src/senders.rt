@@ -1,4 +1,4 @@
-//! The sending of each message that arrived.
+//! The sending of each message that arrived, looked up in the journals; called by `audit`.
 ghost use Rattle.std.specs.Prelude.{ℕ, List, [], ◌∷◌, ◌++◌, ◌≡◌, ◌↔◌, ⊤, ◌<◌, IsTrue, MatchOption};
 ghost use Rattle.std.specs.List.{AllByRecursion};
 ghost use Rattle.std.specs.Borrow.{Bor};

@@ -1,4 +1,4 @@
-//! The two calls of the crate: the answer of a receipt that is the caller's own, and the pass after it.
+//! The answer of a receipt that is the caller's own, and the pass after it; for clients and doors.
 ghost use Rattle.std.specs.Prelude.{◌≡◌, ◌⊎◌, ◌↔◌, max, Err, IfOk, IfErr, IsTrue};
 ghost use Rattle.craq_calls.specs.Calls.{IsCallOf};
 

@@ -1,4 +1,5 @@
-//! `ChainCore`, the primary object of the crate: a chain that takes moves, with its run.
+//! `ChainCore`, the primary object of the crate: a chain that takes moves, with its run; for `craq_world`, `craq_play`,
+//! `craq_schedules`, `craq_explain` and `craq_lab`.
 ghost use Rattle.std.specs.Prelude.{◌≡◌, ◌<◌, ◌≤◌, ◌+◌, ◌∷◌, ◌++◌, [], ◌⊎◌, ◌↔◌, ℕ, length, Ok, Err, Some, None, IfOk, IfErr, MatchOption, OnOk, slice_index, vec_capacity, vec_len, ◌^◌};
 ghost use Rattle.std.specs.List.{AllByRecursion, AllZip};
 ghost use Rattle.std.specs.Option.{option_copied};

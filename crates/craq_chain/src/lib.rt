@@ -1,4 +1,5 @@
-//! A chain that takes moves: its master, its nodes, its messages and its run so far.
+//! A chain that takes moves: its master, its nodes, its messages and its run so far; for worlds, scripts and explanations.
+//! A crate apart since it has no threads and no locks; `craq_seat` and `craq_audit` call parts of it.
 //! Code that runs in the program.
 #![tactic(auto)]
 

@@ -1,4 +1,5 @@
-//! A move before it is kept: the look for its node and message, and its step at a node or at the master.
+//! A move before it is kept: the look for its node and message, and its step at a node or at the master;
+//! called by `chain`.
 ghost use Rattle.std.specs.Prelude.{◌≡◌, ◌⊎◌, IfOk, IsSome};
 ghost use Rattle.std.specs.List.{AllByRecursion};
 ghost use Rattle.craq_model.specs.Spelled.{IsSpelled};

@@ -1,4 +1,5 @@
-//! The invariants of a chain's nodes, messages and waiting updates, after every run.
+//! The invariants of a chain's nodes, messages and waiting updates, after every run; `craq_world` and `craq_recovery`
+//! stand on them. Apart from `craq_promise`, which says nothing of what nodes hold.
 //! Laws: functions without bodies, whose contracts are the theorems.
 #![tactic(auto)]
 

@@ -1,4 +1,4 @@
-//! Tests of an explanation's form and of its list of committed updates.
+//! Tests of an explanation's form and of its list of committed updates; called by `verdict` and `strong`.
 ghost use Rattle.std.specs.Prelude.{◌≡◌, ◌∷◌, true, nat_le, slice_index, take, drop};
 ghost use Rattle.std.specs.List.{list_all};
 ghost use Rattle.craq_check.specs.Tests.{all_pairs, is_named, never_fall, asked_in_time};

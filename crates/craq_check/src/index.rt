@@ -1,4 +1,4 @@
-//! Finds asks by node and ticket.
+//! Finds asks by node and ticket; made by `verdict`, and asked by `lookups` and `strong`.
 ghost use Rattle.std.specs.Prelude.{◌≡◌, ℕ, [], ◌∷◌, IfOk, OnOk};
 ghost use Rattle.std.specs.Option.{option_map, option_or};
 ghost use Rattle.std.specs.Borrow.{Bor};

@@ -1,4 +1,5 @@
-//! Whether an explanation of a run holds, from the run and the explanation alone.
+//! Whether an explanation of a run holds, from the run and the explanation alone; for `craq_lab` and `craq_schedules`.
+//! A crate apart since it stands on no node, no chain and nothing of how explanations are found.
 //! Code that runs in the program.
 #![tactic(auto)]
 

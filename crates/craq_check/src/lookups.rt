@@ -1,4 +1,4 @@
-//! Finds asks, and the updates that numbers name, among what was seen.
+//! Finds asks, and the updates that numbers name, among what was seen; called by `verdict`.
 ghost use Rattle.std.specs.Prelude.{◌≡◌, filter_map, IfOk};
 ghost use Rattle.std.specs.Option.{option_map};
 ghost use Rattle.std.specs.Borrow.{Bor};

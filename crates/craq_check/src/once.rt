@@ -1,4 +1,4 @@
-//! Tests that nothing stands twice.
+//! Tests that nothing stands twice; called by `verdict`.
 ghost use Rattle.std.specs.Prelude.{◌≡◌, IfOk};
 ghost use Rattle.craq_runs.specs.Valid.{same_request, same_name};
 ghost use Rattle.craq_check.specs.Tests.{stand_once};

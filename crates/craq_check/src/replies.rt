@@ -1,4 +1,4 @@
-//! Compares replies.
+//! Compares replies; called by `single`.
 ghost use Rattle.std.specs.Prelude.{◌≡◌};
 ghost use Rattle.craq_check.specs.Tests.{kind_of, number_of, found_of, same_found, same_reply, all_pairs};
 

@@ -1,6 +1,6 @@
-//! What clients see of a run, lent from it.
+//! What clients see of a run, lent from it; made by `verdict`, and read by its tests.
 ghost use Rattle.std.specs.Prelude.{◌≡◌, ◌++◌, [], IfOk, OnOk};
-ghost use Rattle.craq_runs.specs.Seen.{Asked, Answered, asks_from, answers_from, answers_in, receivers_in, receiver_of, node_of};
+ghost use Rattle.craq_runs.specs.Seen.{Asked, Answered, asks_from, answers_from, answers_in, receivers_in};
 
 use craq_model::{Answer, Ask, Out};
 use craq_names::{NodeId, Ticket};
@@ -155,31 +155,6 @@ fn push_answers<'a>(
     Ok(())
 }
 
-/// To whom the message of a number was sent; 0 where no such message was.
-fn receiver(receivers: &[NodeId], number: u64) -> NodeId
-    ensures { result ≡ receiver_of receivers.now number }
-{
-    if number == 0 {
-        return NodeId::new(0);
-    }
-    match receivers.get((number - 1) as usize) {
-        Some(node) => *node,
-        None => NodeId::new(0),
-    }
-}
-
-/// At which node a move happens; 0 where at none.
-fn node_of(receivers: &[NodeId], chosen: &Move) -> NodeId
-    ensures { result ≡ node_of receivers.now chosen.now }
-{
-    match chosen {
-        Move::Ask { node, .. } => *node,
-        Move::Deliver(number) => receiver(receivers, *number),
-        Move::Tick(node) | Move::Stop(node) => *node,
-        Move::Remove(_) | Move::Join(_) => NodeId::new(0),
-    }
-}
-
 /// The answers of these moves, in order.
 #[tactic(auto, unfolding(craq_runs::specs::Seen::answers_from))]
 pub fn answers_of<'a>(alloc: Global, moves: &'a [Taken]) -> Result<Vec<AnswerSeen<'a>>, AllocError>
@@ -190,7 +165,7 @@ pub fn answers_of<'a>(alloc: Global, moves: &'a [Taken]) -> Result<Vec<AnswerSee
     let mut number = 0;
     for taken in moves {
         number += 1;
-        let node = node_of(receivers.as_slice(), &taken.chosen);
+        let node = taken.chosen.node(receivers.as_slice());
         let outs = taken.step.outs.as_slice();
         push_answers(&mut answers, number, node, outs)?;
         push_receivers(&mut receivers, outs)?;

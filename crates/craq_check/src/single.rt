@@ -1,4 +1,4 @@
-//! The single copy: it takes the committed updates one after another.
+//! The single copy: it takes the committed updates one after another; called by `strong`.
 ghost use Rattle.std.specs.Prelude.{◌≡◌, ◌+◌, ◌<◌, ◌≤◌, [], length, unwrap_or, OnOk, IfOk};
 ghost use Rattle.craq_names.specs.Limits.{greatest};
 ghost use Rattle.craq_names.specs.Maps.{at_number, put_key, put_number};

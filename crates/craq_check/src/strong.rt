@@ -1,4 +1,5 @@
-//! Tests of the strong answers: each was reached in time, and is what the single copy says at its place.
+//! Tests of the strong answers: each was reached in time, and is what the single copy says at its place;
+//! called by `verdict`.
 ghost use Rattle.std.specs.Prelude.{◌≡◌, ◌≤◌, length, drop, IfOk, IfSome};
 ghost use Rattle.std.specs.Option.{option_map};
 ghost use Rattle.std.specs.List.Sorted.{IsNonDecreasingBy, IsPermutation};

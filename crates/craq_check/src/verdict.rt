@@ -1,4 +1,4 @@
-//! The whole test of an explanation.
+//! The whole test of an explanation: `check`, the call of the crate.
 ghost use Rattle.std.specs.Prelude.{◌≡◌, ◌↔◌, true, IfOk, length};
 ghost use Rattle.craq_commands.specs.SingleCopy.{opening_state};
 ghost use Rattle.craq_runs.specs.Seen.{seen};

@@ -1,4 +1,4 @@
-//! Why a text is no explanation, and where.
+//! Why a text is no explanation, and where; answered by `reading`, and told by `craq_lab`.
 ghost use Rattle.std.specs.Prelude.{◌≡◌};
 ghost use Rattle.craq_claim.specs.declared.misread.Misread.TheVariants.{Memory};
 

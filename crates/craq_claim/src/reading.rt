@@ -1,4 +1,4 @@
-//! Reading an explanation.
+//! Reading an explanation: `explanation_of`, the call of the crate, for `craq_lab`.
 ghost use Rattle.std.specs.Prelude.{◌≡◌, map, Some, IfOk, IfSome};
 ghost use Rattle.serde_json.specs.View.{items_view, view};
 ghost use Rattle.serde_json.specs.Data.{Data, array};

@@ -1,4 +1,5 @@
 //! The parts of messages as bytes: numbers, keys, values, replies, entries, lists of them, and commands.
+//! A crate apart since `craq_wire`, for nodes, and `craq_frames`, for clients, both build their messages of them.
 //! Code that runs in the programs.
 #![tactic(auto)]
 

@@ -1,4 +1,5 @@
-//! Numbers of 1, 2, 4 and 8 bytes and runs of bytes, from the front of bytes and at the end of a buffer.
+//! Numbers of 1, 2, 4 and 8 bytes and runs of bytes, from the front of bytes and at the end of a buffer;
+//! called by the other modules, and by `craq_wire` and `craq_frames`.
 ghost use Rattle.std.specs.Prelude.{◌≡◌, ◌≢◌, ◌++◌, Err, OnOk, OnErr};
 ghost use Rattle.std.specs.Int.{w8, w16, w32, w64};
 ghost use Rattle.craq_codec.specs.NumberReading.{Gives, bytes_at, number_at};

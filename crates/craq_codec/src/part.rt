@@ -1,4 +1,5 @@
-//! `Part`, the trait of a value inside a message, and keys, values, objects and pairs of them as such.
+//! `Part`, the trait of a value inside a message, and keys, values, objects and pairs of them as such;
+//! called by the other modules, and by `craq_wire` and `craq_frames`.
 ghost use Rattle.std.specs.Prelude.{◌≡◌, ◌<◌, ◌≤◌, ◌^◌, ⊤, ℕ, List, Option, ◌++◌, OnOk, OnErr};
 ghost use Rattle.std.specs.Int.{w16, w32, w64};
 ghost use Rattle.std.specs.Io.{StartsWith};

@@ -1,4 +1,4 @@
-//! Replies to updates as parts of messages.
+//! Replies to updates as parts of messages; called by `entry`, and by `craq_frames` for what a client gets.
 ghost use Rattle.std.specs.Prelude.{◌≡◌};
 ghost use Rattle.craq_codec.specs.NumberReading.{Gives};
 ghost use Rattle.craq_model.specs.Spelled.{IsReply};

@@ -1,4 +1,4 @@
-//! Which replies have an encoding, and which may stand in an entry.
+//! Which replies have an encoding, and which may stand in an entry; called by the tests of `craq_wire` and `craq_frames`.
 ghost use Rattle.std.specs.Prelude.{◌≡◌, ◌↔◌, IsTrue};
 ghost use Rattle.craq_codec.specs.Tests.{is_object_read, is_reply, is_not_stale};
 ghost use Rattle.std.specs.List.{list_all};

@@ -1,4 +1,5 @@
-//! What a failed write takes off a buffer again, so that each write adds all or nothing.
+//! What a failed write takes off a buffer again, so that each write adds all or nothing; called by `part`, `list` and
+//! `command`.
 ghost use Rattle.std.specs.Prelude.{◌≡◌, take, OnOk, OnErr};
 
 use bytes::BytesMut;

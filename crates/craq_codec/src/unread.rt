@@ -1,4 +1,4 @@
-//! Why bytes were not read: they encode nothing, or there was no memory.
+//! Why bytes were not read: they encode nothing, or there was no memory; what each reading of a part answers.
 ghost use Rattle.std.specs.Prelude.{◌≡◌};
 ghost use Rattle.craq_codec.specs.NumberReading.{refusal_of};
 ghost use Rattle.craq_codec.specs.declared.unread.Unread.TheVariants.{Memory};

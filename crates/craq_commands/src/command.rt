@@ -1,4 +1,4 @@
-//! `Command`, what an update does, and `Update`, a command with its client and number.
+//! `Command`, what an update does, and `Update`, a command with its client and number; an `Ask` brings one to a node.
 ghost use Rattle.std.specs.Prelude.{◌≡◌};
 ghost use Rattle.craq_commands.specs.Evaluation.{chain_of_first, objects_named};
 

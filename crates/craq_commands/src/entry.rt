@@ -1,4 +1,4 @@
-//! `Entry`, an update with its outcome, and `Write`, a value that it gives an object.
+//! `Entry`, an update with its outcome, and `Write`, a value that it gives an object; nodes keep entries and pass them on.
 use crate::Reply;
 use craq_names::{
     ClientId, Copied, Items, Key, NodeId, RequestNo, Same, Seq, Ticket, Value, Version,

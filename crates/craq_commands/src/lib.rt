@@ -1,4 +1,5 @@
-//! Commands, their replies, and what a command does to the objects.
+//! Commands, their replies, and what a command does to the objects; apart from the node, since `craq_check` and `craq_codec`
+//! use them without it.
 //! Code that runs in the program; `specs/` defines the single copy.
 #![tactic(auto)]
 

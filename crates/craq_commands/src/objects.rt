@@ -1,4 +1,5 @@
-//! Tests of the objects that a command names: their chain, and versions that are used up.
+//! Tests of the objects that a command names: their chain, for `craq_admission`, and versions that are used up, for
+//! `craq_write`.
 ghost use Rattle.std.specs.Prelude.{◌≡◌, ◌==◌, map};
 ghost use Rattle.std.specs.List.{list_all, list_any};
 ghost use Rattle.craq_names.specs.Limits.{greatest};

@@ -1,4 +1,4 @@
-//! `ReadMode`: strong, eventual or bounded.
+//! `ReadMode`: strong, eventual or bounded; a read's `Ask` says it, and `craq_read` plans by it.
 /// How new the answer to a read has to be.
 #[derive(Clone, Copy, Debug, PartialEq, Eq)]
 pub enum ReadMode {

@@ -1,4 +1,4 @@
-//! `Reply`: what a client is told about an update.
+//! `Reply`: what a client is told about an update; entries and windows hold it.
 use craq_names::{Copied, Items, RequestNo, Same, Value, Version};
 use std::alloc::{AllocError, Global};
 

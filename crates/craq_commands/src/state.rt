@@ -1,4 +1,4 @@
-//! `State`: the objects and the kept replies after a list of updates, as it is sent to a node that joins.
+//! `State`: the objects and the kept replies after a list of updates, as it is sent to a node that joins; messages hold it.
 use crate::Window;
 use craq_names::{ClientId, Copied, Items, Key, Same, Value, Version};
 use std::alloc::{AllocError, Global};

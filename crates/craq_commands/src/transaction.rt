@@ -1,4 +1,4 @@
-//! `Mini`, a transaction whose type keeps its limits.
+//! `Mini`, a transaction whose type keeps its limits; a `Command` can hold one.
 ghost use Rattle.std.specs.Prelude.{◌≡◌, ◌≤◌, length, map};
 ghost use Rattle.std.specs.List.{list_any};
 ghost use Rattle.craq_names.specs.Limits.{item_limit};

@@ -1,4 +1,5 @@
-//! The replies that are kept for a client: what is known of a number, and how a new reply is kept.
+//! The replies that are kept for a client: what is known of a number, and how a new reply is kept; a `State` holds windows,
+//! and `craq_replies` keeps replies by the same calls.
 ghost use Rattle.std.specs.Prelude.{◌≡◌, ◌≤◌, [], length, OnOk, OnErr, vec_len, vec_capacity};
 ghost use Rattle.std.specs.Option.{option_copied};
 ghost use Rattle.craq_names.specs.Maps.{at_number};

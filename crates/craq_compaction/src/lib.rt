@@ -1,4 +1,5 @@
-//! Nodes that forget settled entries: what is remembered of a node decides its steps.
+//! Nodes that forget settled entries: what is remembered of a node decides its steps; used by `craq_history`, `craq_node` and
+//! `craq_list`.
 //! Laws: functions without bodies, whose contracts are the theorems.
 #![tactic(auto)]
 

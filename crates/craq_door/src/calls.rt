@@ -1,4 +1,4 @@
-//! `DoorCalls`: the receipts of a door's calls, and the reply with the answer of one.
+//! `DoorCalls`: the receipts of a door's calls, and the reply with the answer of one; for `door` and `question`.
 ghost use Rattle.std.specs.Prelude.{◌≡◌, ◌<◌, [], ◌∷◌, ◌++◌, vec_capacity, vec_len, OnOk};
 ghost use Rattle.craq_door.specs.Turns.{IsReplyOf, kept, message_of, reply_of};
 

@@ -1,4 +1,4 @@
-//! `CallDoor`: the messages of one client, answered by calls of what is served.
+//! `CallDoor`: the messages of one client, answered by calls of what is served; for whoever serves a connection on its own thread.
 ghost use Rattle.std.specs.Prelude.{◌≡◌, ℕ, List, [], IfErr, IfOk, OnErr};
 ghost use Rattle.craq_names.specs.declared.name.NodeName.{NodeName};
 ghost use Rattle.craq_names.specs.declared.refusal.Refusal.{Refusal};

@@ -1,4 +1,4 @@
-//! A law: a turn in two halves is a turn.
+//! A law: a turn in two halves is a turn, so that what holds of each turn of a `CallDoor` holds of a `Dialogue` too.
 ghost use Rattle.std.specs.Prelude.{List, Bool, Result};
 ghost use Rattle.craq_names.specs.declared.refusal.Refusal.{Refusal};
 ghost use Rattle.craq_frames.specs.declared.ask.ClientMessage.{ClientMessage};

@@ -1,4 +1,5 @@
-//! The two halves of a turn whose call comes back later: what a message asks of a store, and its reply once the call came back.
+//! The two halves of a turn whose call comes back later: what a message asks of a store, and its reply once the call came back;
+//! called by `phases`.
 ghost use Rattle.std.specs.Prelude.{◌≡◌, ℕ, List, IfErr, IfOk, OnErr};
 ghost use Rattle.craq_front.specs.Door.{IsAllowed};
 ghost use Rattle.craq_door.specs.Turns.{IsCalled, name_of};

@@ -1,4 +1,4 @@
-//! What is told of a message, in the place of what no door may tell too.
+//! What is told of a message, in the place of what no door may tell too; called by `door` and `question`.
 ghost use Rattle.craq_front.specs.Door.{IsAllowed};
 ghost use Rattle.craq_door.specs.Turns.{IsTold, IsToldFor};
 

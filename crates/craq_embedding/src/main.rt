@@ -1,4 +1,5 @@
-//! A store in a process of one's own: three nodes, a client, a node that stops, one that joins, and the audit of all of it.
+//! A store in a process of one's own: three nodes, a client, a node that stops, one that joins, and the audit of all of it;
+//! the gate runs it, and the page on embedding explains it line by line.
 #![tactic(auto)]
 
 use craq_audit::Audit;

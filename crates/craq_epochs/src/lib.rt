@@ -1,4 +1,5 @@
-//! The master, which alone makes the next membership of a chain, and the switch that stops a node.
+//! The master, which alone makes the next membership of a chain, and the switch that stops a node; apart from the node, since
+//! `craq_place` and `craq_wire` use it without the node.
 //! Code that runs in the program.
 #![tactic(auto)]
 

@@ -1,4 +1,4 @@
-//! `Master`: it alone makes the memberships of a chain, one after another.
+//! `Master`: it alone makes the memberships of a chain, one after another; `craq_chain`, `craq_seat` and `craq_workers` call it.
 ghost use Rattle.std.specs.Prelude.{◌≡◌, ◌⊎◌, ◌↔◌, Ok, Err, IfOk, IfErr, OnOk, OnErr};
 ghost use Rattle.craq_names.specs.Order.{Refuses};
 ghost use Rattle.craq_model.specs.Members.{IsMembership};

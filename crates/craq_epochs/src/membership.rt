@@ -1,4 +1,5 @@
-//! Tests of lists of ids: which can be members of a chain; and how many members and chains there can be.
+//! Tests of lists of ids: which can be members of a chain; and how many members and chains there can be. Called by `master`,
+//! and by crates above that make or read lists of members.
 ghost use Rattle.std.specs.Prelude.{◌≡◌, ◌≤◌, ◌↔◌, ℕ, IsTrue, IfOk};
 ghost use Rattle.std.specs.List.{AllByRecursion};
 ghost use Rattle.craq_names.specs.Limits.{greatest_count};

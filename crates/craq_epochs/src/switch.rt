@@ -1,4 +1,5 @@
-//! `Switch`, which tells whether a node runs, and the receipt that a stopped one gives.
+//! `Switch`, which tells whether a node runs, and the receipt that a stopped one gives: a `Core` has the one, `master` asks for
+//! the other.
 ghost use Rattle.std.specs.Prelude.{◌≡◌, true, false, Ok, Err, Some, None, if◌then◌else◌};
 
 use craq_names::{NodeName, Refusal};

@@ -1,4 +1,4 @@
-//! What is noted of a run, move by move.
+//! What is noted of a run, move by move; called by `replay`.
 ghost use Rattle.std.specs.Prelude.{◌≡◌, ◌+◌, ◌++◌, ℕ, List, IfOk, OnOk, length, map};
 ghost use Rattle.craq_commands.specs.declared.entry.Entry.{Entry};
 ghost use Rattle.craq_runs.specs.declared.explanation.Place.{Place};

@@ -1,4 +1,4 @@
-//! Where the strong answers of a step stand.
+//! Where the strong answers of a step stand; called by `account` and `replay`.
 ghost use Rattle.std.specs.Prelude.{◌≡◌, ◌∷◌, ◌-◌, ◌++◌, ℕ, List, IfOk, OnOk, slice_index};
 ghost use Rattle.std.specs.Option.{option_copied};
 ghost use Rattle.craq_commands.specs.declared.entry.Entry.{Entry};

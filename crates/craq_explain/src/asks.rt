@@ -1,4 +1,4 @@
-//! The asks of a run by node and ticket, and where the replies to updates stand.
+//! The asks of a run by node and ticket, and where the replies to updates stand; called by `tables` and `answers`.
 ghost use Rattle.std.specs.Prelude.{◌≡◌, ◌++◌, ◌-◌, ℕ, List, OnOk, option_map, slice_get};
 ghost use Rattle.std.specs.Option.{option_copied};
 ghost use Rattle.craq_runs.specs.declared.explanation.Place.{Place};

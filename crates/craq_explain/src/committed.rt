@@ -1,4 +1,4 @@
-//! What is kept of the committed entries.
+//! What is kept of the committed entries; called by `tables`.
 ghost use Rattle.std.specs.Prelude.{◌≡◌, ◌++◌, ◌∷◌, [], ℕ, List, OnOk, IfOk, length};
 ghost use Rattle.std.specs.Option.{option_or};
 ghost use Rattle.std.specs.BTreeMap.{get};

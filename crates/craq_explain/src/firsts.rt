@@ -1,4 +1,4 @@
-//! Numbers by key, of which the first that is put stays.
+//! Numbers by key, of which the first that is put stays; called by `asks`, `committed`, `answers` and `account`.
 ghost use Rattle.std.specs.Prelude.{◌≡◌, OnOk};
 ghost use Rattle.std.specs.Option.{option_or};
 ghost use Rattle.std.specs.BTreeMap.{get, is_at};

@@ -1,4 +1,4 @@
-//! What is noted of a move: where a reply is due, and what was sent.
+//! What is noted of a move: where a reply is due, and what was sent; called by `account` and `tables`.
 ghost use Rattle.std.specs.Prelude.{◌≡◌, ◌++◌, OnOk, map};
 ghost use Rattle.craq_model.specs.declared.message.LinkMessage.{LinkMessage};
 ghost use Rattle.craq_runs.specs.Chain.{sent_in};

@@ -1,4 +1,4 @@
-//! A run, taken once more.
+//! A run, taken once more: `explain_run_of`, the call of the crate.
 ghost use Rattle.std.specs.Prelude.{◌≡◌, ◌+◌, ◌++◌, Ok, IfOk, OnOk, length};
 ghost use Rattle.craq_runs.specs.Chain.{chain_step, node_at};
 ghost use Rattle.craq_runs.specs.Runs.{IsRunOf, Takes};

@@ -1,4 +1,4 @@
-//! What is looked up for the answers of a run.
+//! What is looked up for the answers of a run; filled by `account`, and read by `answers`.
 ghost use Rattle.std.specs.Prelude.{◌≡◌, ◌++◌, [], List, OnOk, length};
 ghost use Rattle.craq_commands.specs.declared.entry.Entry.{Entry};
 ghost use Rattle.craq_runs.specs.declared.explanation.Place.{Place};

@@ -1,4 +1,4 @@
-//! `ClientReply`: what a client gets, with its reading and writing.
+//! `ClientReply`: what a client gets, with its reading and writing; called by `first` and `versions`.
 ghost use Rattle.std.specs.Prelude.{◌≡◌, ◌<◌, ◌^◌, ◌++◌, length, OnOk, OnErr};
 ghost use Rattle.std.specs.Io.{StartsWith};
 ghost use Rattle.craq_names.specs.Refused.{detail_of};

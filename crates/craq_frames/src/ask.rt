@@ -1,4 +1,4 @@
-//! `ClientMessage`: what a client sends, with its reading and writing.
+//! `ClientMessage`: what a client sends, with its reading and writing; called by `first` and `versions`.
 ghost use Rattle.std.specs.Prelude.{◌≡◌, ⊤, ◌++◌, OnOk, OnErr};
 ghost use Rattle.std.specs.Io.{StartsWith};
 ghost use Rattle.craq_codec.specs.NumberReading.{Gives};

@@ -1,4 +1,5 @@
-//! One message or one reply as a payload of version 1: the calls of `ClientMessage` and `ClientReply`.
+//! One message or one reply as a payload of version 1: the calls of `ClientMessage` and `ClientReply`; for `exchange`
+//! in `craq_front`.
 ghost use Rattle.std.specs.Prelude.{◌≡◌, ◌⊎◌, ◌↔◌, ℕ, List, Err, IfOk, IfErr, IsTrue, true};
 ghost use Rattle.craq_codec.specs.NumberReading.{Gives};
 ghost use Rattle.craq_frames.specs.Payload.{IsAnswer, SpellsAsk, SpellsAnswer};

@@ -1,4 +1,5 @@
-//! Frames: a payload behind its length, cut off the front of bytes and written at the end.
+//! Frames: a payload behind its length, cut off the front of bytes and written at the end; called by `craq_front` and
+//! `craq_server`.
 ghost use Rattle.std.specs.Prelude.{◌≡◌, ◌≢◌, ◌<◌, ◌≤◌, ◌^◌, ◌⊎◌, ◌↔◌, ℕ, List, ◌++◌, length, All, Ok, Err, None, IsTrue, IfSome, IfOk, IfErr, OnOk, OnErr};
 ghost use Rattle.std.specs.IoError.{error_kind};
 ghost use Rattle.std.specs.declared.io.ErrorKind.TheVariants.{OutOfMemory};

@@ -1,4 +1,4 @@
-//! Laws: which messages and replies have a spelling at all.
+//! Laws: which messages and replies have a spelling at all; no code calls them, `spelled` names them to its readers.
 ghost use Rattle.std.specs.Prelude.{◌↔◌, ℕ, List};
 ghost use Rattle.craq_frames.specs.Payload.{AskFits, IsAnswer, SpellsAnswer, SpellsAsk};
 ghost use Rattle.craq_frames.specs.Typed.{IsTypedAnswer};

@@ -1,4 +1,5 @@
-//! What clients and servers of a store say to one another, as bytes in frames.
+//! What clients and servers of a store say to one another, as bytes in frames; for the server's crates and for `craq`.
+//! A crate apart since a client needs it and needs no node.
 //! Code that runs in the programs.
 #![tactic(auto)]
 

@@ -1,4 +1,4 @@
-//! `Text`: a text that contracts see as its bytes.
+//! `Text`: a text that contracts see as its bytes; a reply to a client that asks for the status holds one.
 ghost use Rattle.std.specs.Prelude.{◌≡◌, ℕ, List, string_bytes, IfOk};
 ghost use Rattle.std.specs.Str.{IsUtf8};
 

@@ -1,4 +1,5 @@
-//! Payloads of versions 1 and 2, those of several messages among them: `Payload` and `Answered`.
+//! Payloads of versions 1 and 2, those of several messages among them: `Payload` and `Answered`; for the conversation
+//! of `craq_front`, which takes both versions, and for `craq_server`.
 ghost use Rattle.std.specs.Prelude.{◌≡◌, ◌≤◌, ◌⊎◌, ◌++◌, length, Err, IfOk, IfErr, OnOk};
 ghost use Rattle.std.specs.List.{AllByRecursion, list_all};
 ghost use Rattle.craq_codec.specs.NumberReading.{Gives};

@@ -1,4 +1,5 @@
-//! Laws: which replies a door may give, and what the bytes of a conversation are.
+//! Laws: which replies a door may give, and what the bytes of a conversation are; for whoever reads the contracts, since no
+//! code calls them.
 ghost use Rattle.std.specs.Prelude.{◌≤◌, ◌↔◌, ℕ, List, [], ◌∷◌, ◌++◌, length, Option, None, Some, Ok};
 ghost use Rattle.craq_frames.specs.declared.answer.ClientReply.{ClientReply};
 ghost use Rattle.craq_frames.specs.Payload.{AnswerFits, IsAnswer, answer_spelling};

@@ -1,4 +1,5 @@
-//! The cells of a chain whose locks are held, and their audit. Code that runs in the program.
+//! The cells of a chain whose locks are held, and their audit; for `craq_workers`. A crate apart from `craq_audit` since
+//! the audit itself knows no locks. Code that runs in the program.
 #![tactic(auto)]
 
 mod held_chain;

@@ -1,4 +1,5 @@
-//! What a node keeps of the past, behind the trait `History`, and what a step changes of a node.
+//! What a node keeps of the past, behind the trait `History`, and what a step changes of a node; apart, since the crates of
+//! rules and those of pasts both stand on it.
 //! Code that runs in the program.
 #![tactic(auto)]
 

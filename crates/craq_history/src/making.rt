@@ -1,4 +1,4 @@
-//! Makes a change of a node.
+//! Makes a change of a node: `Node::apply`, which `craq_node` calls with what a rule has planned.
 ghost use Rattle.std.specs.Prelude.{◌≡◌, ◌<◌, ◌-◌, ◌^◌, ◌++◌, ◌∷◌, [], true, IsOk, OnOk, OnErr, vec_len, vec_capacity};
 ghost use Rattle.craq_model.specs.Deliveries.{later_updates, reads_without};
 ghost use Rattle.craq_history.specs.Change.{changed, no_change, past_by, gathering_by, IsGain, commits_by, updates_by, reads_by, epoch_by, members_by, floor_by, ticket_by};

@@ -1,4 +1,4 @@
-//! Members of a chain, head first.
+//! Members of a chain, head first: the first, the last and the neighbours; called by `outs`, by the rules and by `craq_explain`.
 ghost use Rattle.std.specs.Prelude.{◌≡◌};
 ghost use Rattle.craq_model.specs.Members.{is_member, first_of, last_of, successor_in, predecessor_in};
 

@@ -1,4 +1,4 @@
-//! What a node sends.
+//! What a node sends; called by the rules of `craq_read` and `craq_write`.
 ghost use Rattle.std.specs.Prelude.{◌≡◌, ◌<◌, ◌≤◌, ◌++◌, ◌∷◌, [], List, OnOk, OnErr, IfOk, map, take, length, option_to_list};
 ghost use Rattle.craq_commands.specs.declared.entry.Entry.{Entry};
 ghost use Rattle.craq_model.specs.declared.waiting.WaitingRead.{WaitingRead};
@@ -8,13 +8,10 @@ ghost use Rattle.craq_history.specs.Standing.{sent_from, caught_up, ready_outs, 
 
 use crate::members::{last_member, predecessor_of, successor_of};
 use craq_commands::Entry;
-use craq_model::{Body, LinkMessage, Out, WaitingRead};
+use craq_model::{BATCH_LIMIT, Body, LinkMessage, Out, WaitingRead};
 use craq_names::{Copied, Epoch, Items, NodeId, NodeName, Seq, Stamp};
 use std::alloc::{AllocError, Global};
 use std::mem;
-
-/// How many entries a run has at most.
-const RUN_LENGTH: usize = 16;
 
 /// Who sends, and in which epoch.
 #[derive(Clone, Copy, Debug, PartialEq, Eq)]
@@ -102,7 +99,7 @@ fn add_to_run(
         → bodies.new.items ++ entry_bodies (run.new.items ++ rest) ≡ bodies.old.items ++ entry_bodies (run.old.items ++ entry ∷ rest)) }
 {
     run.push(entry)?;
-    if run.as_slice().len() < RUN_LENGTH {
+    if run.as_slice().len() < BATCH_LIMIT {
         return Ok(());
     }
     let full = mem::replace(run, Vec::new(alloc));

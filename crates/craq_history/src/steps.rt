@@ -1,4 +1,4 @@
-//! Steps by what they say.
+//! Steps by what they say; made by the rules of `craq_read` and `craq_write`, and by `craq_node`.
 ghost use Rattle.std.specs.Prelude.{◌≡◌, [], Some, None};
 
 use craq_model::{Out, Step, Why};

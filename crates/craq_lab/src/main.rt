@@ -1,4 +1,4 @@
-//! The program: `craq_lab play [--nodes N] [--core CORE] [FILE]`,
+//! The program, which `./play` and `tools/rows/run` start: `craq_lab play [--nodes N] [--core CORE] [FILE]`,
 //! `craq_lab draw [--nodes N] [--core CORE] FILE CHOICES`, `craq_lab stops [--nodes N] [--core CORE] FILE NODE`,
 //! `craq_lab picture [--nodes N] [--core CORE] FILE`, `craq_lab check [--nodes N] [--core CORE] FILE EXPLANATION`.
 #![tactic(auto)]

@@ -1,4 +1,4 @@
-//! Numbers and choices on the command line, by the grammar of scripts; called by `command_line`.
+//! Numbers and choices on the command line, by the grammar of scripts; called by `main`.
 use craq_script::number_up_to;
 use std::alloc::{AllocError, Global};
 

@@ -1,4 +1,4 @@
-//! What is printed of a whole run: its picture, or whether an explanation of it holds.
+//! What is printed of a whole run: its picture, or whether an explanation of it holds; called by `main`.
 ghost use Rattle.std.specs.Prelude.{◌≤◌};
 
 use craq_chain::ChainCore;

@@ -1,4 +1,4 @@
-//! First laws of the definitions of the single copy, the node and the chain.
+//! First laws of the definitions of the single copy, the node and the chain; the crates of the theorem and of chains use them.
 //! Laws: functions without bodies, whose contracts are the theorems.
 #![tactic(auto)]
 

@@ -1,6 +1,6 @@
-//! `Addressee`: the right to put one letter into a box, in which there is room for it.
+//! `Addressee`: the right to put one letter into a box, in which there is room for it; made and told by `craq_workers`.
 use crate::letterbox::Letterbox;
-use crate::pile::Reply;
+use crate::pile::Outcome;
 use std::alloc::AllocError;
 use std::sync::{Arc, Wait};
 
@@ -24,7 +24,7 @@ impl Addressee {
     }
 
     /// The reply goes into the box. It takes no memory.
-    pub fn tell<R: Wait>(self, rt: &R, reply: Reply) {
+    pub fn tell<R: Wait>(self, rt: &R, reply: Outcome) {
         self.letters.put(rt, self.token, reply);
     }
 

@@ -1,5 +1,6 @@
 //! Replies on their way to those who wait for them: a box of letters, into which any thread puts, and its one owner, who
-//! looks into it between other work or sleeps until a letter comes.
+//! looks into it between other work or sleeps until a letter comes. For `craq_workers`, `craq_server` and `craq_ready`; a crate
+//! apart, since `craq_ready` takes letters without knowing the store that puts them.
 //! Code that runs in the programs.
 #![tactic(auto)]
 
@@ -9,4 +10,4 @@ mod pile;
 
 pub use addressee::Addressee;
 pub use letterbox::Letterbox;
-pub use pile::{Letter, Reply};
+pub use pile::{Letter, Outcome};

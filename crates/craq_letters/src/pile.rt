@@ -7,13 +7,13 @@ use std::alloc::{AllocError, Global};
 use std::marker::Model;
 
 /// What a caller is told: the receipt of its answered call, or why it was refused.
-pub type Reply = Result<CallReceipt, Refusal>;
+pub type Outcome = Result<CallReceipt, Refusal>;
 
 /// A reply, under the token by which its reader knows the ask.
 #[derive(Drop)]
 pub struct Letter {
     pub token: usize,
-    pub reply: Reply,
+    pub reply: Outcome,
 }
 
 /// The letters that have come and are not yet taken. There is room for each that is expected.

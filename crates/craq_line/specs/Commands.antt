@@ -18,8 +18,8 @@ use Rattle.craq_line.specs.declared.commands.UpdateName.{UpdateName}
 use Rattle.craq_line.specs.declared.commands.UpdateName.TheVariants as updates
 use Rattle.craq_line.specs.declared.commands.Name.{Name}
 use Rattle.craq_line.specs.declared.commands.Name.TheVariants as names
-use Rattle.craq_line.specs.declared.task.Asked.{Asked}
-use Rattle.craq_line.specs.declared.task.Asked.TheVariants as asks
+use Rattle.craq_line.specs.declared.task.Request.{Request}
+use Rattle.craq_line.specs.declared.task.Request.TheVariants as asks
 use Rattle.craq_line.specs.declared.task.Task.{Task}
 use Rattle.craq_line.specs.declared.task.Task.TheVariants as tasks
 use Rattle.craq_line.specs.declared.task.Load.{Load}
@@ -94,7 +94,7 @@ change_of updates.Decrement words = object_and_number words >>= λ x. Ok (change
 change_of updates.Mini words = items_from 3 (drop 3 words) >>= λ items. Ok (changes.Mini items)
 
 -- CLIENT NUMBER and a change, asked of this node
-unfoldable pub update_of : ℕ → UpdateName → List (List ℕ) → Result Asked BadWord
+unfoldable pub update_of : ℕ → UpdateName → List (List ℕ) → Result Request BadWord
 update_of node name words = do
   client ← word_at expected.Client (number_between 0 greatest) words 1
   number ← word_at expected.Number (number_between 0 greatest) words 2
@@ -102,7 +102,7 @@ update_of node name words = do
   Ok (asks.Update (record { node = node; client = client; number = number; change = change }))
 
 -- MODE OBJECT
-unfoldable pub read_of : List (List ℕ) → Result Asked BadWord
+unfoldable pub read_of : List (List ℕ) → Result Request BadWord
 read_of words = do
   mode ← word_at expected.Mode mode_of words 1
   object ← word_at expected.Object object_of words 2
@@ -123,14 +123,14 @@ name_of word =
     else None))))))))
 
 -- what a command of this name asks for
-abbrev pub asked_as : ℕ → List (List ℕ) → Name → Result Asked BadWord
-asked_as node words (names.Update name) = update_of node name words
-asked_as node words names.Read = read_of words
-asked_as node words names.Status = at_end asks.Status words 1
+abbrev pub request_as : ℕ → List (List ℕ) → Name → Result Request BadWord
+request_as node words (names.Update name) = update_of node name words
+request_as node words names.Read = read_of words
+request_as node words names.Status = at_end asks.Status words 1
 
 -- what the words of a command ask of this node
-unfoldable pub asked_of : ℕ → List (List ℕ) → Result Asked BadWord
-asked_of node words = word_at expected.Command name_of words 0 >>= asked_as node words
+unfoldable pub request_of : ℕ → List (List ℕ) → Result Request BadWord
+request_of node words = word_at expected.Command name_of words 0 >>= request_as node words
 
 -- CONNECTIONS SECONDS READS
 unfoldable pub load_of : List (List ℕ) → Result Load BadWord
@@ -153,7 +153,7 @@ task_by node words (Some word) =
     if same_bytes word (codes "shell") then at_end tasks.Shell words 1
     else (if same_bytes word (codes "watch") then (watch_of words >>= λ seconds. Ok (tasks.Watch seconds))
     else (if same_bytes word (codes "bench") then (load_of words >>= λ load. Ok (tasks.Bench load))
-    else (asked_of node words >>= λ asked. Ok (tasks.Ask asked))))
+    else (request_of node words >>= λ request. Ok (tasks.Ask request))))
 
 -- what `craq` is to do by all words of the command
 unfoldable pub task_of : ℕ → List (List ℕ) → Result Task BadWord

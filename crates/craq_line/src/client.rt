@@ -1,4 +1,4 @@
-//! The command line of `craq`: its options, its help, and what its command is to do.
+//! The command line of `craq`: its options, its help, and what its command is to do; called by the main of `craq`.
 use crate::commands::task_of;
 use crate::numbers::number_between;
 use crate::{Task, Unread, VERSION};

@@ -1,10 +1,10 @@
 //! What the words of a command ask for, or the first that is not what is expected there; for `client` and for a prompt.
 ghost use Rattle.std.specs.Prelude.{◌≡◌, map, drop};
 ghost use Rattle.craq_script.specs.Words.{item_of};
-ghost use Rattle.craq_line.specs.Commands.{Reads, expect, word_at, object_and_value, object_and_number, test_and_set_of, items_from, change_of, update_of, read_of, name_of, asked_of, load_of, watch_of, task_of};
+ghost use Rattle.craq_line.specs.Commands.{Reads, expect, word_at, object_and_value, object_and_number, test_and_set_of, items_from, change_of, update_of, read_of, name_of, request_of, load_of, watch_of, task_of};
 
 use crate::words::{at_end, bad, bytes_at, mode_at, number_at, object_at, value_at};
-use crate::{Asked, Expected, Load, Task, Unread};
+use crate::{Expected, Load, Request, Task, Unread};
 use craq_names::{ClientId, Items, NodeId, Version};
 use craq_script::{Change, MiniItem, Misread, ScriptObject, UpdateLine, item_of};
 use std::alloc::Global;
@@ -135,13 +135,18 @@ fn change_of(alloc: Global, name: UpdateName, words: &[&str]) -> Result<Change, 
 
 /// CLIENT NUMBER and a change, asked of this node.
 #[tactic(auto, unfolding(crate::specs::Commands::update_of))]
-fn update_of(alloc: Global, node: NodeId, name: UpdateName, words: &[&str]) -> Result<Asked, Unread>
+fn update_of(
+    alloc: Global,
+    node: NodeId,
+    name: UpdateName,
+    words: &[&str],
+) -> Result<Request, Unread>
     ensures { Reads (λ x. x) result (update_of node name (map (λ w. w.now) words.now)) }
 {
     let client = number_at(words, 1, Expected::Client, 0, u64::MAX)?;
     let number = number_at(words, 2, Expected::Number, 0, u64::MAX)?;
     let change = change_of(alloc, name, words)?;
-    Ok(Asked::Update(UpdateLine {
+    Ok(Request::Update(UpdateLine {
         node,
         client: ClientId::new(client),
         number,
@@ -151,12 +156,12 @@ fn update_of(alloc: Global, node: NodeId, name: UpdateName, words: &[&str]) -> R
 
 /// MODE OBJECT.
 #[tactic(auto, unfolding(crate::specs::Commands::read_of))]
-fn read_of(alloc: Global, words: &[&str]) -> Result<Asked, Unread>
+fn read_of(alloc: Global, words: &[&str]) -> Result<Request, Unread>
     ensures { Reads (λ x. x) result (read_of (map (λ w. w.now) words.now)) }
 {
     let mode = mode_at(words, 1)?;
     let object = object_at(alloc, words, 2)?;
-    at_end(Asked::Read { mode, object }, words, 3)
+    at_end(Request::Read { mode, object }, words, 3)
 }
 
 /// The command of this name.
@@ -211,14 +216,14 @@ fn name_at(words: &[&str]) -> Result<Name, Unread>
 /// are spelled as in scripts; a value may have any characters.
 ///
 /// `Bad` with the first word that is not what is expected there, or is missing; `Memory` where a growth was refused.
-#[tactic(auto, unfolding(crate::specs::Commands::asked_of))]
-pub fn asked_of(alloc: Global, node: NodeId, words: &[&str]) -> Result<Asked, Unread>
-    ensures { Reads (λ x. x) result (asked_of node (map (λ w. w.now) words.now)) }
+#[tactic(auto, unfolding(crate::specs::Commands::request_of))]
+pub fn request_of(alloc: Global, node: NodeId, words: &[&str]) -> Result<Request, Unread>
+    ensures { Reads (λ x. x) result (request_of node (map (λ w. w.now) words.now)) }
 {
     match name_at(words)? {
         Name::Update(name) => update_of(alloc, node, name, words),
         Name::Read => read_of(alloc, words),
-        Name::Status => at_end(Asked::Status, words, 1),
+        Name::Status => at_end(Request::Status, words, 1),
     }
 }
 
@@ -269,5 +274,5 @@ pub(crate) fn task_of(alloc: Global, node: NodeId, words: &[&str]) -> Result<Tas
     if word == b"bench".as_slice() {
         return Ok(Task::Bench(load_of(words)?));
     }
-    Ok(Task::Ask(asked_of(alloc, node, words)?))
+    Ok(Task::Ask(request_of(alloc, node, words)?))
 }

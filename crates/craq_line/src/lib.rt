@@ -1,4 +1,5 @@
 //! The command lines of the programs `craqd` and `craq`, the words of a command, and what each program does around its work.
+//! For these two and `craq_lab`; a crate apart, since programs cannot share modules.
 //! Code that runs in the programs.
 #![tactic(auto)]
 
@@ -13,13 +14,13 @@ mod task;
 mod words;
 
 pub use client::{CallLine, Fault};
-pub use commands::asked_of;
+pub use commands::request_of;
 pub use expected::{BadWord, Expected, Unread};
 pub use program::{
     BAD_INPUT, CANNOT_PRINT, report_failure, report_memory, report_no_text, report_words, words_of,
 };
 pub use server::Line;
-pub use task::{Asked, Load, Task};
+pub use task::{Load, Request, Task};
 
 /// What `--version` prints of each program behind its name.
 pub const VERSION: &str = "0.1.0";

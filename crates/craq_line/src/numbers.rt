@@ -1,4 +1,4 @@
-//! Numbers on command lines, spelled as in scripts.
+//! Numbers on command lines, spelled as in scripts; called by `client`, `options` and `words`.
 ghost use Rattle.std.specs.Prelude.{◌≤◌, IfOk};
 ghost use Rattle.craq_script.specs.Reading.{Gives};
 ghost use Rattle.craq_line.specs.Numbers.{number_between};

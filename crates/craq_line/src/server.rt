@@ -1,4 +1,4 @@
-//! The command line of `craqd`: its options and its help.
+//! The command line of `craqd`: its options and its help; called by the main of `craqd`.
 ghost use Rattle.std.specs.Prelude.{IfOk};
 ghost use Rattle.craq_line.specs.Lines.{IsServable};
 

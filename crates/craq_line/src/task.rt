@@ -1,10 +1,10 @@
-//! What a command line asks of `craq`, as values.
+//! What a command line asks of `craq`, as values; made by `commands`, done by the program `craq`.
 use craq_commands::ReadMode;
 use craq_script::{ScriptObject, UpdateLine};
 
 /// What `craq` asks a server.
 #[derive(Debug, Drop)]
-pub enum Asked {
+pub enum Request {
     /// The chains and their members.
     Status,
     /// An update. Its key and values may be longer than they may be: such an update is refused before it is sent.
@@ -31,7 +31,7 @@ pub struct Load {
 #[derive(Debug, Drop)]
 pub enum Task {
     /// One request, and its answer printed.
-    Ask(Asked),
+    Ask(Request),
     /// The members of each chain, printed as they change; for so many seconds where there is a number.
     Watch(Option<u64>),
     /// A load on the server, and what came of it as a table.

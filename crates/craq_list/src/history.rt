@@ -1,4 +1,4 @@
-//! `ListHistory`: a `History` over a held past and an index of clients' entries.
+//! `ListHistory`: a `History` over a held past and an index of clients' entries; `ListCore` is a node over it.
 ghost use Rattle.std.specs.Prelude.{◌≡◌, ◌+◌, ◌-◌, ◌≤◌, true, length, take, drop};
 ghost use Rattle.arrayvec.specs.ArrayVec.{array_vec_len};
 ghost use Rattle.craq_commands.specs.Objects.{object_of, version_of};

@@ -1,5 +1,5 @@
 //! The past of a node that forgets settled entries: the state after them, in maps, and the entries that are not
-//! settled. Code that runs in the program.
+//! settled; `craqd`, `craq_lab` and `craq_embedding` run nodes over it. Code that runs in the program.
 #![tactic(auto)]
 
 ghost use Rattle.craq_model.specs.Plain.{Plain};

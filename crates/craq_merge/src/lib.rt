@@ -1,4 +1,5 @@
-//! The journals of a chain's cells are a run: all their steps, by stamp and, under one stamp, by node.
+//! The journals of a chain's cells are a run: all their steps, by stamp and, under one stamp, by node; `craq_audit`
+//! stands on it. A crate apart from the audit since it has laws alone.
 //! Laws: functions without bodies, whose contracts are the theorems.
 //!
 //! Each contract is a law of journals, or of the cells that keep them (`AreSeated`): a chain's master and one node for

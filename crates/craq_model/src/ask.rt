@@ -1,4 +1,4 @@
-//! `Ask`, `Answer` and `Event`: what a node is asked, what it answers, and what happens at it.
+//! `Ask`, `Answer` and `Event`: what a node is asked, what it answers, and what happens at it; a node's step takes an event.
 ghost use Rattle.std.specs.Prelude.{◌≡◌};
 ghost use Rattle.craq_commands.specs.Evaluation.{chain_of_first};
 ghost use Rattle.craq_model.specs.Asks.{asked_objects};

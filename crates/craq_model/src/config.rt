@@ -1,4 +1,4 @@
-//! `Config`: a membership with its epoch.
+//! `Config`: a membership with its epoch; the master in `craq_epochs` makes it, and nodes are told it.
 use craq_names::{Copied, Epoch, Items, NodeId, Same};
 use std::alloc::{AllocError, Global};
 

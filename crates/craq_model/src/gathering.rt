@@ -1,4 +1,4 @@
-//! `Gathering`: the parts of a state that a node which is not ready holds.
+//! `Gathering`: the parts of a state that a node which is not ready holds; `Node` of `craq_history` keeps it.
 use craq_commands::State;
 use craq_names::{Items, Seq};
 

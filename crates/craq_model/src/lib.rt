@@ -1,4 +1,4 @@
-//! The types of a node's events, messages and steps.
+//! The types of a node's events, messages and steps; apart from the node, since `craq_wire` and `craq_check` use them without it.
 //! Definitions: `specs/` defines a node's step (`node_step`). Of the code only copies and tests of equality run.
 #![tactic(auto)]
 
@@ -12,6 +12,6 @@ mod waiting;
 pub use ask::{Answer, Ask, Event};
 pub use config::Config;
 pub use gathering::Gathering;
-pub use message::{Body, LinkMessage, StatePart};
+pub use message::{BATCH_LIMIT, Body, LinkMessage, PART_LIMIT, StatePart};
 pub use step::{Out, Step, Why};
 pub use waiting::{WaitingRead, WaitingUpdate};

@@ -1,7 +1,13 @@
-//! `LinkMessage`, a message between nodes, with its `Body`.
+//! `LinkMessage`, a message between nodes, with its `Body`; `craq_history` makes them, and `craq_wire` has them as bytes.
 use craq_commands::{Entry, State};
 use craq_names::{ChainId, Copied, Epoch, Items, Key, NodeId, Same, Seq, Stamp, Ticket, Version};
 use std::alloc::{AllocError, Global};
+
+/// How many entries a batch has at most.
+pub const BATCH_LIMIT: usize = 16;
+
+/// How many items of a state one message has at most.
+pub const PART_LIMIT: usize = 64;
 
 /// One part of a state that has more items than one message takes. Its items are its objects by rising
 /// key, then its kept replies by rising client.

@@ -1,4 +1,4 @@
-//! `Step`: what a node did at an event, with its outs and the reasons to ignore a message.
+//! `Step`: what a node did at an event, with its outs and the reasons to ignore a message; `craq_node` gives it back.
 use crate::{Answer, LinkMessage};
 use craq_names::{Items, NodeId, Same, Ticket};
 

@@ -1,4 +1,4 @@
-//! The asks that wait at a node: updates for their entry to be committed, reads for the tail's word.
+//! The asks that wait at a node: updates for their entry to be committed, reads for the tail's word; `Node` holds them.
 use craq_commands::Reply;
 use craq_names::{Key, Seq, Ticket};
 

@@ -1,4 +1,5 @@
-//! `Copied`: values that can be made again in other memory, each copy equal to its value.
+//! `Copied`: values that can be made again in other memory, each copy equal to its value. It stands here since types of
+//! `craq_commands`, `craq_model` and `craq_runs` implement it too.
 ghost use Rattle.std.specs.Prelude.{◌≡◌, IfOk};
 
 use crate::{ClientId, Items, Key, NodeId, ObjectId, RequestNo, Value, Version};

@@ -1,4 +1,4 @@
-//! `Key` and `Value`: bytes within their limits, by their types.
+//! `Key` and `Value`: bytes within their limits, by their types; commands, pasts and messages hold them.
 ghost use Rattle.std.specs.Prelude.{◌≡◌, ◌<◌, ◌≤◌, ◌⊎◌, ◌↔◌, ℕ, List, [], length, nat_eq, refl, Err, Some, IfOk, IfErr};
 ghost use Rattle.std.specs.Ordering.{nat_cmp};
 ghost use Rattle.std.specs.Cmp.{partial_equiv_from_equiv};

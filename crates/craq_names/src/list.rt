@@ -1,4 +1,4 @@
-//! `Items`: a vector that a contract sees as the plain list of its items.
+//! `Items`: a vector that a contract sees as the plain list of its items; messages, steps and states hold their lists so.
 ghost use Rattle.std.specs.Prelude.{◌≡◌, ◌↔◌, [], ◌∷◌, ◌++◌, List, length, IsTrue, IfOk, OnOk, OnErr};
 ghost use Rattle.std.specs.FinMap.Entries.{put};
 

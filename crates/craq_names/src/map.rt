@@ -1,4 +1,4 @@
-//! A list of pairs by rising key as a map: where it is put into.
+//! A list of pairs by rising key as a map: where it is put into; called by `list`, `craq_commands` and `craq_plain`.
 ghost use Rattle.std.specs.Prelude.{◌≡◌, ◌≤◌, OnOk, OnErr, vec_len, vec_capacity};
 ghost use Rattle.std.specs.FinMap.Entries.{put};
 

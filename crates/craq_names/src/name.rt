@@ -1,4 +1,4 @@
-//! `NodeName` and `ObjectId`: a node, or an object, with its chain.
+//! `NodeName` and `ObjectId`: a node, or an object, with its chain; nodes hold the first, commands and asks the second.
 use crate::{ChainId, Key, NodeId};
 
 /// A node of a chain.

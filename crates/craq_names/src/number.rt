@@ -1,4 +1,5 @@
-//! The numbers of the store, each a type of its own: versions, positions, epochs, ids, tickets, stamps, passes.
+//! The numbers of the store: versions, positions, epochs, ids, tickets, stamps, passes; each a type of its own, so that none
+//! is taken for another.
 ghost use Rattle.std.specs.Prelude.{◌≡◌, ◌+◌, ◌-◌, ◌^◌, ℕ, ◌≤◌, ◌↔◌, max, Err, IfOk, IfErr};
 
 use crate::Refusal;

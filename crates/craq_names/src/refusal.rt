@@ -1,4 +1,4 @@
-//! `Refusal`: why a call was refused, with the number and the detail that clients are told.
+//! `Refusal`: why a call was refused, with the number and the detail that clients are told; nodes and masters refuse with it.
 ghost use Rattle.std.specs.Prelude.{◌≡◌};
 ghost use Rattle.craq_names.specs.declared.refusal.Refusal.TheVariants.{Memory};
 

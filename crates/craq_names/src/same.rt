@@ -1,4 +1,5 @@
-//! `Same`: a test that is true exactly where two values are equal.
+//! `Same`: a test that is true exactly where two values are equal. It stands here since types of `craq_commands` and
+//! `craq_model` implement it too; `craq_audit` and `craq_calls` call it.
 ghost use Rattle.std.specs.Prelude.{◌≡◌, ◌↔◌, IsTrue};
 
 use crate::{ClientId, Items, Key, NodeId, ObjectId, Refusal, RequestNo, Value, Version};

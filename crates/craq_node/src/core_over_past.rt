@@ -1,4 +1,5 @@
 //! `NodeCore`: the one core that is here, over any `History`. It admits an event, has a rule plan it, and makes the change.
+//! `craq_list`, `craq_play` and `craq_explain` name it with a past of theirs.
 ghost use Rattle.std.specs.Prelude.{◌≡◌, ◌≢◌, true, IfOk, IsOk, IsSome};
 ghost use Rattle.craq_model.specs.Deliveries.{delivery_turn};
 ghost use Rattle.craq_model.specs.Plain.{Plain, opening_member};

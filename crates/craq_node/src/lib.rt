@@ -1,4 +1,5 @@
-//! The whole step of a node: the trait `Core`, and `NodeCore`, which meets it over any `History`.
+//! The whole step of a node: the trait `Core`, and `NodeCore`, which meets it over any `History`; chains, seats and workers
+//! run nodes by it.
 //! Code that runs in the program.
 #![tactic(auto)]
 

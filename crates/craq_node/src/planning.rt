@@ -1,5 +1,5 @@
-//! What a running node does on an ask or a message: the rule of it plans a change, which is then made. Each rule has a function
-//! of its own, since a function pays at entry for all that it may hold.
+//! What a running node does on an ask or a message: the rule of it plans a change, which is then made; called by
+//! `core_over_past`. Each rule has a function of its own, since a function pays at entry for all that it may hold.
 ghost use Rattle.std.specs.Prelude.{◌≡◌, ◌≤◌, ◌<◌, ◌-◌, ◌^◌, ◌∷◌, [], true, false, IsOk, IsSome, Ok};
 ghost use Rattle.craq_commands.specs.SingleCopy.{said};
 ghost use Rattle.craq_model.specs.Asks.{ask_turn, read_turn, update_turn};

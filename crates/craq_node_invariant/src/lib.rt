@@ -1,4 +1,5 @@
-//! The invariant of a node (`IsSound`), and that all that a node sends can be encoded as bytes.
+//! The invariant of a node (`IsSound`), and that all that a node sends can be encoded as bytes; the crates of the node, of
+//! chains and of recovery use it.
 //! Laws: functions without bodies, whose contracts are the theorems.
 #![tactic(auto)]
 

@@ -1,4 +1,4 @@
-//! Audits of cells: those whose journals merge into one run, with its explanation, and those that no run fits.
+//! Audits of cells: those whose journals merge into one run, with its explanation, and those that no run fits; run by `main`.
 use crate::cells::{deliver_at, opened, take_all};
 use crate::moves::print_explanation;
 use craq_audit::{Audit, audit};

@@ -1,5 +1,5 @@
 //! Scripts on a chain, and explanations of what they do: those that the definitions choose and that hold, and spoiled
-//! ones, which do not.
+//! ones, which do not; run by `main`.
 use crate::moves::members;
 use craq_chain::ChainCore;
 use craq_check::check;

@@ -1,6 +1,7 @@
 //! Facts of nodes, of chains with what explains their runs, of worlds, and of locked cells: each public call that may run
 //! out of memory is made with ample memory. Random scripts on both cores, in which messages arrive that nobody sent. Each
 //! fact is printed with what was seen of it.
+//! Run by `./test` and `tools/quick/run`, which compare what it prints with the file `stdout`.
 #![tactic(auto)]
 
 mod audits;

@@ -1,4 +1,5 @@
-//! What nodes do, one by one: each case is a node, what happens there, and what it then sends, answers, ignores or refuses.
+//! What nodes do, one by one: each case is a node, what happens there, and what it then sends, answers, ignores or refuses; run
+//! by `main`.
 ghost use Rattle.std.specs.Prelude.{◌≤◌, IfOk};
 ghost use Rattle.craq_node.specs.Represented.{CanArrive};
 

@@ -1,4 +1,5 @@
-//! Scripts on chains of both cores, messages that nobody sent arriving after each move: each core has to take the same steps.
+//! Scripts on chains of both cores, messages that nobody sent arriving after each move: each core has to take the same steps;
+//! run by `main`.
 ghost use Rattle.std.specs.Prelude.{◌<◌, ◌≤◌};
 ghost use Rattle.craq_model.specs.Spelled.{IsSpelled};
 

@@ -1,4 +1,4 @@
-//! Worlds of two chains, over any core.
+//! Worlds of two chains, over any core; run by `main`.
 use crate::moves::{members, moves_of, print_explanation};
 use craq_names::{ChainId, Refusal};
 use craq_node::Core;

@@ -1,4 +1,4 @@
-//! The door that answers in these tests.
+//! The door that answers in these tests; for `rows`.
 ghost use Rattle.std.specs.Prelude.{⊤};
 ghost use Rattle.craq_front.specs.Door.{IsAllowed};
 

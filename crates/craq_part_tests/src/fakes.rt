@@ -1,4 +1,4 @@
-//! Readers and writers over memory that give pieces, end or fail where they are told to.
+//! Readers and writers over memory that give pieces, end or fail where they are told to; for `rows` and `exchanges`.
 use std::io;
 use std::io::{Read, Write};
 

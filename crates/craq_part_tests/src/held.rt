@@ -1,4 +1,4 @@
-//! A held past after very many puts: what is settled is folded, and not held any more.
+//! A held past after very many puts: what is settled is folded, and not held any more; run by `main`.
 ghost use Rattle.std.specs.Prelude.{◌≡◌, ◌+◌, [], ◌∷◌, IfOk};
 ghost use Rattle.craq_commands.specs.Objects.{version_of};
 ghost use Rattle.craq_commands.specs.SingleCopy.{after_entries};

@@ -1,6 +1,7 @@
 //! Tests of parts over memory, with ample memory: names, commands, memberships, versions, entries, kept replies and held pasts;
 //! messages, payloads, frames and plans against bytes and texts from outside; and serving and asking. Prints what each call
 //! answers, what bytes are read as, whether they are written again as they were, and what a connection is sent.
+//! Run by `./test` and `tools/quick/run`, which compare what it prints with the file `stdout`.
 #![tactic(auto)]
 
 mod commands;

@@ -1,4 +1,4 @@
-//! The worked bytes that these tests send and want.
+//! The worked bytes that these tests send and want; for `rows`, `cuts` and `exchanges`.
 /// A put of `a` on `k` of chain 0 at node 1, under pass 0, of client 1 and number 1, in its frame.
 pub(crate) const PUT: [u8; 42] = [
     0, 0, 0, 38, 1, 1, 0, 0, 0, 1, 0, 0, 0, 0, 0, 0, 0, 0, 0, 0, 0, 0, 0, 0, 0, 1, 0, 0, 0, 0, 0,

@@ -1,4 +1,5 @@
-//! The arrows: each message from where it was sent to each place where it was taken, or into the air.
+//! The arrows: each message from where it was sent to each place where it was taken, or into the air; called by
+//! `painting`.
 use crate::layout::{Layout, Point, first_out, sent_at};
 use crate::pen::{Side, draw_cross, draw_line, draw_text};
 use crate::{Arrival, Arrow, Sent};

@@ -1,4 +1,4 @@
-//! The columns: the name of each node, and its line from where it joined to where it stopped.
+//! The columns: the name of each node, and its line from where it joined to where it stopped; called by `painting`.
 use crate::layout::{Layout, Point};
 use crate::pen::{Side, draw_line, draw_text};
 use craq_names::NodeId;

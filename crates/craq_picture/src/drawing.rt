@@ -1,7 +1,6 @@
-//! The drawing of a run as a value, before any text or place on paper.
+//! The drawing of a run as a value, before any text or place on paper; made in `painting`, and read by what is drawn.
 ghost use Rattle.std.specs.Prelude.{◌≡◌, ◌++◌, List, length, map, IfOk, OnOk};
 ghost use Rattle.std.specs.List.{sum_by};
-ghost use Rattle.craq_runs.specs.Seen.{node_of, receiver_of};
 ghost use Rattle.craq_runs.specs.Chain.{sent_in};
 ghost use Rattle.craq_runs.specs.declared.run.Taken.{Taken};
 ghost use Rattle.craq_picture.specs.Drawn.{arrivals_from, arrow_of, arrows_of, columns_of, joined_in, receivers_of, rows_from, sends_from, sends_in};
@@ -130,33 +129,6 @@ fn receivers_of(alloc: Global, sends: &[Sent]) -> Result<Vec<NodeId>, AllocError
     sends.iter().map(|sent| sent.to).collect(alloc)
 }
 
-/// Whom the message of a number was sent to; 0 where there is none.
-fn receiver(receivers: &[NodeId], number: u64) -> NodeId
-    ensures { result ≡ receiver_of receivers.now number }
-{
-    if number == 0 {
-        return NodeId::new(0);
-    }
-    match receivers.get((number - 1) as usize) {
-        Some(node) => *node,
-        None => NodeId::new(0),
-    }
-}
-
-/// At which node a move happens; a message arrives at its receiver.
-fn node_of(receivers: &[NodeId], chosen: &Move) -> NodeId
-    ensures { result ≡ node_of receivers.now chosen.now }
-{
-    match chosen {
-        Move::Ask { node, ask: _ } => *node,
-        Move::Deliver(number) => receiver(receivers, *number),
-        Move::Tick(node) => *node,
-        Move::Stop(node) => *node,
-        Move::Remove(_) => NodeId::new(0),
-        Move::Join(_) => NodeId::new(0),
-    }
-}
-
 /// A row for each move.
 fn rows_of(
     alloc: Global,
@@ -170,7 +142,7 @@ fn rows_of(
     for (index, taken) in moves.iter().enumerate() {
         let committed = lens.get(index).copied().unwrap_or(0);
         rows.push(Row {
-            node: node_of(receivers, &taken.chosen),
+            node: taken.chosen.node(receivers),
             committed,
         })?;
     }

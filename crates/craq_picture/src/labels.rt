@@ -1,4 +1,4 @@
-//! The words of a picture: what a move asks for, in short.
+//! The words of a picture: what a move asks for, in short; called by `rows`.
 use craq_commands::{Command, ReadMode};
 use craq_model::Ask;
 use craq_names::{Key, NodeId};

@@ -1,4 +1,5 @@
-//! Where columns and rows lie on the picture, in its units from the left upper corner.
+//! Where columns and rows lie on the picture, in its units from the left upper corner; called by `painting`, `rows`,
+//! `columns` and `arrows`.
 use crate::Row;
 use craq_model::{LinkMessage, Out};
 use craq_names::NodeId;

@@ -1,4 +1,5 @@
 //! A run drawn as a picture: a column a node, a row a move, an arrow a message; as a value, and as SVG text.
+//! For `craq_lab`; a crate apart since nothing else draws.
 //! Code that runs in the program.
 #![tactic(auto)]
 

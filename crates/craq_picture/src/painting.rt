@@ -1,4 +1,4 @@
-//! The whole picture as SVG text.
+//! The whole picture as SVG text: `picture_of`, called by `craq_lab`.
 use crate::arrows::{draw_all_labels, draw_all_lines};
 use crate::columns::draw_columns;
 use crate::layout::{Layout, Point, tops_of};

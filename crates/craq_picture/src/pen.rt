@@ -1,4 +1,4 @@
-//! The shapes of SVG that a picture is drawn with.
+//! The shapes of SVG that a picture is drawn with; called by `painting`, `rows`, `columns` and `arrows`.
 use crate::layout::Point;
 use std::alloc::AllocError;
 

@@ -1,4 +1,5 @@
-//! The rows: what each move asks for, where it happens, its answers, and how many updates are committed after it.
+//! The rows: what each move asks for, where it happens, its answers, and how many updates are committed after it;
+//! called by `painting`.
 use crate::Row;
 use crate::labels::print_move;
 use crate::layout::{Layout, Point, first_out};

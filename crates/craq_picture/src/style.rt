@@ -1,4 +1,4 @@
-//! The colours and lines of a picture, on paper and on a dark screen.
+//! The colours and lines of a picture, on paper and on a dark screen; put by `painting` at the head of the SVG text.
 
 /// What stands before the shapes: the colours by class, and the head of an arrow.
 pub(crate) const STYLE: &str = "<style>

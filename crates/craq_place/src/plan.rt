@@ -1,4 +1,5 @@
-//! `Plan`: the chains of a store by name, and the chain of an object or of a transaction.
+//! `Plan`: the chains of a store by name, and the chain of an object or of a transaction; `craqd` and `craq_embedding`
+//! read one, and `craq_workers` opens a store of it.
 ghost use Rattle.std.specs.Prelude.{◌≡◌, ◌⊎◌, ◌++◌, ◌∷◌, ℕ, List, [], false, nat_le, length, map, string_bytes, Ok, Err, MatchResult, OnOk, IfOk, IfErr};
 ghost use Rattle.toml.specs.View.{items_of, table_view, view};
 ghost use Rattle.std.specs.List.{list_any};

@@ -1,5 +1,5 @@
 //! What stands for a key or a client in a state and in the entries after it. Each call looks at all of
-//! them in turn.
+//! them in turn. Called by `history`, `craq_list`, `craq_settled` and `craq_unsettled`.
 ghost use Rattle.std.specs.Prelude.{◌≡◌, ◌==◌, ◌+◌, ◌≤◌, [], length, unwrap_or};
 ghost use Rattle.craq_names.specs.Maps.{at_number};
 ghost use Rattle.craq_commands.specs.Objects.{object_of, version_of};

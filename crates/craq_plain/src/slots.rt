@@ -1,4 +1,5 @@
-//! Windows of kept replies, without memory: each number with where its reply stands.
+//! Windows of kept replies, without memory: each number with where its reply stands; called by `lookups`, `craq_list` and
+//! `craq_unsettled`.
 ghost use Rattle.std.specs.Prelude.{◌≡◌, ◌+◌, ◌<◌, ◌≤◌, ◌^◌, length};
 ghost use Rattle.std.specs.Option.{option_copied};
 ghost use Rattle.arrayvec.specs.ArrayVec.{array_vec_len};

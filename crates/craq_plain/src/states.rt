@@ -1,4 +1,4 @@
-//! The state after entries, as a copy of its own.
+//! The state after entries, as a copy of its own; called by `history` and by `craq_list`.
 ghost use Rattle.std.specs.Prelude.{◌≡◌, [], unwrap_or, IfOk, OnOk};
 ghost use Rattle.craq_names.specs.Maps.{at_number, put_number};
 ghost use Rattle.craq_commands.specs.Kept.{keep};

@@ -1,4 +1,4 @@
-//! An explanation as compact JSON.
+//! An explanation as compact JSON; called by `playing` for a line that asks for one.
 ghost use Rattle.std.specs.Prelude.{◌≡◌, IfOk, map, string_bytes};
 ghost use Rattle.serde_json.specs.View.{items_view, view};
 ghost use Rattle.craq_play.specs.Explained.{

@@ -1,4 +1,4 @@
-//! Why a script was not played to its end.
+//! Why a script was not played to its end; answered by `play`, and told by `craq_lab`.
 ghost use Rattle.std.specs.Prelude.{◌≡◌};
 ghost use Rattle.craq_names.specs.declared.refusal.Refusal.TheVariants.{Memory};
 ghost use Rattle.craq_play.specs.declared.fault.PlayFault.TheVariants.{Refused};

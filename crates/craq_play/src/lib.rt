@@ -1,4 +1,5 @@
-//! Plays a script on one chain, and on locked cells beside it: from the script's bytes to the printed lines, with
+//! Plays a script, for `craq_lab`, on one chain, and on locked cells beside it; `craq_schedules` and `craq_picture` call
+//! parts of it. A crate apart since it is without files and command line: from the script's bytes to the printed lines, with
 //! explanations.
 //! Code that runs in the program.
 #![tactic(auto)]

@@ -1,4 +1,4 @@
-//! `play`: a script on locked cells and on the chain beside them, printing what both did.
+//! `play`: a script on locked cells and on the chain beside them, printing what both did; called by `craq_lab`.
 ghost use Rattle.std.specs.Prelude.{◌≡◌, ◌++◌, ◌∷◌, [], ◌≤◌, List, IfErr, IfOk, OnOk, string_bytes};
 ghost use Rattle.craq_runs.specs.declared.run.Taken.{Taken};
 ghost use Rattle.craq_play.specs.Moves.{move_of};

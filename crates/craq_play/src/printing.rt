@@ -1,4 +1,5 @@
-//! Messages and steps as printed text, as `specs/Printed` has it.
+//! Messages and steps as printed text, as `specs/Printed` has it; called by `playing` and `on_cells`, and by
+//! `craq_picture`.
 ghost use Rattle.std.specs.Prelude.{◌≡◌, ◌+◌, ◌<◌, ◌^◌, ◌++◌, length, OnOk, string_bytes};
 ghost use Rattle.craq_model.specs.Deliveries.{final_position, first_position};
 ghost use Rattle.craq_play.specs.Printed.{batch_text, part_text, message_text, out_text, sent_after, outs_text, why_text, step_text};

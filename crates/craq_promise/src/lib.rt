@@ -1,4 +1,5 @@
-//! The promise of the store: every run of a chain has a valid explanation, the one of `explain`.
+//! The promise of the store: every run of a chain has a valid explanation, the one of `explain`; `craq_world` has it in
+//! the contracts of its calls. A crate apart since it puts together what the crates of the theorem below it say.
 //! Laws: functions without bodies, whose contracts are the theorems.
 //!
 //! Whatever is asked, delivered, lost, repeated, stopped, removed or joined, in any order, each chain has one growing list of

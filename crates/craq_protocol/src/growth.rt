@@ -1,4 +1,4 @@
-//! What is never taken back.
+//! What is never taken back; apart from `safety`, since these laws compare two moments of a run.
 
 ghost use Rattle.std.specs.Prelude.{◌≡◌, ◌≤◌, ℕ, List, length, true, false};
 ghost use Rattle.craq_protocol.specs.Machine.{Message, Move, World, after_move, after_moves};

@@ -1,4 +1,4 @@
-//! The machine does move: runs that commit entries.
+//! The machine does move: runs that commit entries; here since a machine that never moves would be safe too.
 
 ghost use Rattle.std.specs.Prelude.{◌≡◌, ◌∷◌, ◌++◌, ℕ, List, Some, []};
 ghost use Rattle.craq_protocol.specs.Machine.{Move, after_moves, entry_at};

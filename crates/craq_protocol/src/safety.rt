@@ -1,4 +1,5 @@
-//! What holds at all times, whatever happens, and whatever messages are lost, repeated or late.
+//! What holds at all times, whatever happens, and whatever messages are lost, repeated or late; the main laws of the
+//! crate.
 
 ghost use Rattle.std.specs.Prelude.{◌≡◌, ◌<◌, ◌≤◌, ℕ, List, length, take, true};
 ghost use Rattle.craq_protocol.specs.Machine.{Ack, Copy, Message, World, current_membership, is_tail, known_membership};

@@ -1,4 +1,4 @@
-//! The read rules of a node: each call plans what changes and what is sent, and changes nothing.
+//! The read rules of a node: each call plans what changes and what is sent, and changes nothing; called by `craq_node`.
 //! Code that runs in the program.
 #![tactic(auto)]
 

@@ -1,7 +1,7 @@
-//! A connection of a thread that serves many.
+//! A connection of a thread that serves many: its socket and its `Dialogue`, and what goes between them; called by `crowd`.
 use crate::host::{Arrival, Host};
 use craq_door::{Dialogue, Stepped};
-use craq_letters::Reply;
+use craq_letters::Outcome;
 use mio::event::Event;
 use mio::unix::SourceFd;
 use mio::{Interest, Registry, Token};
@@ -184,7 +184,7 @@ impl Connection {
     }
 
     /// The call that is under way came back.
-    pub(crate) fn answer<H: Host>(&mut self, alloc: Global, host: &H, outcome: Reply) {
+    pub(crate) fn answer<H: Host>(&mut self, alloc: Global, host: &H, outcome: Outcome) {
         if let Err(refusal) = &outcome {
             host.refused(self.place, *refusal);
         }

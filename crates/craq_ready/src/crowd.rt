@@ -1,8 +1,8 @@
-//! `Crowd`: the connections of a thread and the loop over them: it takes what came, steps each connection that has something
-//! to do, and sleeps where none has.
+//! `Crowd`: the connections of a thread and the loop over them, for the thread that serves them: it takes what came, steps each
+//! connection that has something to do, and sleeps where none has.
 use crate::connection::Connection;
 use crate::host::{Arrival, Host};
-use craq_letters::{Letter, Reply};
+use craq_letters::{Letter, Outcome};
 use mio::event::Events;
 use mio::{Poll, Registry, Token, Waker};
 use slab::Slab;
@@ -129,7 +129,7 @@ impl Members {
     }
 
     /// A connection's call came back.
-    fn deliver<H: Host>(&mut self, host: &H, token: usize, reply: Reply) {
+    fn deliver<H: Host>(&mut self, host: &H, token: usize, reply: Outcome) {
         if let Some(connection) = self.connections.get_mut(token) {
             connection.answer(self.alloc, host, reply);
         }

@@ -1,4 +1,5 @@
-//! `Host`: what a thread of connections reaches, a store that is asked without waiting, and where its connections come from.
+//! `Host`: what a thread of connections reaches, a store that is asked without waiting, and where its connections come from; the
+//! server of a store is one.
 use craq_door::{Callee, Question};
 use craq_letters::Letter;
 use craq_names::Refusal;

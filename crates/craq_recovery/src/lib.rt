@@ -1,4 +1,5 @@
-//! Recovery: rounds of ticks and arrivals, and what they bring about in a chain, whatever was lost before.
+//! Recovery: rounds of ticks and arrivals, and what they bring about in a chain, whatever was lost before. No crate stands
+//! on it: apart from `craq_promise`, which holds also where nothing ever arrives.
 //! Laws: functions without bodies, whose contracts are the theorems.
 #![tactic(auto)]
 

@@ -1,4 +1,5 @@
-//! The lines of a node's step and the master's moves, each with the moves of the protocol that it stands for.
+//! The lines of a node's step and the master's moves, each with the moves of the protocol that it stands for;
+//! a law each, so that a reader finds the one of a line.
 
 ghost use Rattle.std.specs.Prelude.{◌≡◌, ℕ, List, Ok, Some};
 ghost use Rattle.craq_commands.specs.declared.command.Update.{Update};

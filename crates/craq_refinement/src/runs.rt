@@ -1,4 +1,4 @@
-//! A chain's runs are runs of the protocol.
+//! A chain's runs are runs of the protocol; what the laws of `lines` come to, move after move.
 
 ghost use Rattle.std.specs.Prelude.{◌≡◌, ℕ, List, Ok};
 ghost use Rattle.craq_commands.specs.declared.entry.Entry.{Entry};

@@ -1,4 +1,4 @@
-//! The audit of the cells that took a script's moves.
+//! The audit of the cells that took a script's moves; called by `ways`.
 use crate::rows::{MOST_NODES, Row};
 use crate::teller::{Call, TRIES, Teller};
 use craq_audit::Audit;

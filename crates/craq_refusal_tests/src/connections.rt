@@ -1,4 +1,4 @@
-//! A connection that brings a script's asks, served by a door that takes no memory.
+//! A connection that brings a script's asks, served by a door that takes no memory; called by `ways` and `messages`.
 ghost use Rattle.std.specs.Prelude.{⊤};
 
 use crate::rows::Row;

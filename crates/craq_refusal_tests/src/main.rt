@@ -2,6 +2,7 @@
 //! `all`, a kind of nodes, how many there are, and the script. It prints what the calls answer, and marks the beginning and
 //! the end of each of them on standard error, for a library that is loaded before the program and refuses them memory. A
 //! call that is refused memory is made once more.
+//! Run by `./test` and `tools/quick/run`, which compare what it prints with the file `stdout`; by `./hostile` too.
 #![tactic(auto)]
 
 mod audits;

@@ -1,4 +1,4 @@
-//! The messages between nodes and the asks of clients, read from their bytes.
+//! The messages between nodes and the asks of clients, read from their bytes; called by `ways`.
 use crate::connections::messages_of;
 use crate::rows::{Row, chain};
 use crate::teller::{Call, TRIES, Teller};

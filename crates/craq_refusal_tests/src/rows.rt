@@ -1,4 +1,4 @@
-//! A script with its nodes: what it asks of the one chain.
+//! A script with its nodes: what it asks of the one chain; read by `main`, played by each way.
 use craq_locked::LockedChain;
 use craq_names::{ChainId, Copied, Items, NodeId, Pass, Refusal};
 use craq_node::Core;

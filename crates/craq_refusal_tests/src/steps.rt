@@ -1,4 +1,4 @@
-//! All that happened at each node, taken again by a new node, and at a new desk.
+//! All that happened at each node, taken again by a new node, and at a new desk; called by `ways`.
 ghost use Rattle.std.specs.Prelude.{IfOk, IsTrue};
 ghost use Rattle.craq_node.specs.Represented.{CanArrive, CanOpen};
 

@@ -1,4 +1,4 @@
-//! A store that starts with a script's members, is asked what the script asks, and takes one more node in.
+//! A store that starts with a script's members, is asked what the script asks, and takes one more node in; called by `ways`.
 ghost use Rattle.std.specs.Prelude.{IfOk};
 ghost use Rattle.craq_place.specs.Plan.{IsPlan};
 

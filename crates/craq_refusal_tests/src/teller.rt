@@ -1,4 +1,4 @@
-//! Marks of where each call begins and ends, and whether it was refused memory.
+//! Marks of where each call begins and ends, and whether it was refused memory; told by each way around the calls that it makes.
 use std::alloc::Global;
 
 /// A call of the library that may run out of memory.

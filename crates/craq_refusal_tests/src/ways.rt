@@ -1,4 +1,4 @@
-//! The ways in which a script is played by calls.
+//! The ways in which a script is played by calls; called by `main`.
 use crate::rows::Row;
 use crate::teller::Teller;
 use crate::{audits, connections, messages, steps, stores, worlds};

@@ -1,4 +1,4 @@
-//! A world that takes the moves one by one or all at once, and is explained.
+//! A world that takes the moves one by one or all at once, and is explained; called by `ways`.
 use crate::rows::{Row, chain};
 use crate::teller::{Call, TRIES, Teller};
 use craq_check::check;

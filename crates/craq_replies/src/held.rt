@@ -1,4 +1,4 @@
-//! The kept replies of one client.
+//! The kept replies of one client; `places` holds one such for each client.
 ghost use Rattle.std.specs.Prelude.{◌≡◌, ◌<◌, ◌≤◌, ◌↔◌, [], length, IsOk, OnOk, OnErr, IsTrue};
 ghost use Rattle.craq_commands.specs.Kept.{keep};
 

@@ -1,4 +1,4 @@
-//! The clients of a table that have replies, rising, each with its window.
+//! The clients of a table that have replies, rising, each with its window; `ReplyTable::items` gives them.
 ghost use Rattle.std.specs.Prelude.{◌≡◌};
 ghost use Rattle.craq_names.specs.Places.{filled};
 ghost use Rattle.craq_replies.specs.Replies.{shown, shown_pair};

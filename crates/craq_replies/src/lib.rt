@@ -1,4 +1,4 @@
-//! The kept replies of a node, as a map from client to a window of numbers with their replies.
+//! The kept replies of a node, as a map from client to a window of numbers with their replies; `craq_settled` holds one.
 //! Code that runs in the program.
 #![tactic(auto)]
 

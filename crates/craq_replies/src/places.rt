@@ -1,4 +1,4 @@
-//! The places of a table, by client. A place without replies only has room.
+//! The places of a table, by client. A place without replies only has room. Called by `table`.
 ghost use Rattle.std.specs.Prelude.{◌≡◌, ◌<◌, ◌≤◌, [], None, IsOk, IfOk, OnOk, OnErr, length};
 ghost use Rattle.std.specs.BTreeMap.{get, IsOrdered};
 ghost use Rattle.std.specs.Ordering.{nat_cmp};

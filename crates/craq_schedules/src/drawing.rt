@@ -1,4 +1,4 @@
-//! `draw`: one schedule of a script, chosen by numbers.
+//! `draw`: one schedule of a script, chosen by numbers; called by `craq_lab`.
 ghost use Rattle.std.specs.Prelude.{◌≡◌, ◌≤◌, ◌++◌, Bool, List, insert, length, slice_get, option_copied, IfOk, OnOk, string_bytes};
 ghost use Rattle.std.specs.List.{AllZip};
 ghost use Rattle.craq_model.specs.Plain.{Plain};

@@ -1,4 +1,5 @@
-//! Schedules of a script: one that numbers draw, and one for each move after which a node may stop.
+//! Schedules of a script: one that numbers draw, and one for each move after which a node may stop; for `craq_lab`.
+//! A crate apart since `craq_play` plays a script's lines as they stand.
 //! Code that runs in the program.
 #![tactic(auto)]
 

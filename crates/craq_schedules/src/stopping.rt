@@ -1,4 +1,4 @@
-//! `stops`: a script with a node that stops after each of its moves.
+//! `stops`: a script with a node that stops after each of its moves; called by `craq_lab`.
 ghost use Rattle.std.specs.Prelude.{◌≡◌, ◌≤◌, ◌+◌, ◌++◌, Bool, length, IfOk, OnOk, string_bytes};
 ghost use Rattle.craq_runs.specs.declared.explanation.Explanation.{Explanation};
 ghost use Rattle.craq_runs.specs.declared.run.Run.{Run};

@@ -1,4 +1,4 @@
-//! What is printed of a run at its end: how much is committed, and what `check` answers.
+//! What is printed of a run at its end: how much is committed, and what `check` answers; called by `draw` and `stops`.
 ghost use Rattle.std.specs.Prelude.{◌≡◌, ◌++◌, Bool, length, IfOk, OnOk, string_bytes};
 ghost use Rattle.craq_runs.specs.declared.explanation.Explanation.{Explanation};
 ghost use Rattle.craq_runs.specs.declared.run.Run.{Run};

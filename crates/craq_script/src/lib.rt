@@ -1,4 +1,5 @@
-//! The language of scripts: its lines, and exactly which texts spell them.
+//! The language of scripts: its lines, and exactly which texts spell them; for `craq_play` and `craq_schedules`, and
+//! for the command lines of `craq_line`. A crate apart since it stands on no node and no chain.
 //! Code that runs in the program.
 #![tactic(auto)]
 

@@ -1,4 +1,4 @@
-//! `Line`: a line of a script as values.
+//! `Line`: a line of a script as values; made by `reading`, and played by `craq_play` and `craq_schedules`.
 use craq_commands::ReadMode;
 use craq_names::{ChainId, ClientId, Items, NodeId, Version};
 

@@ -1,4 +1,4 @@
-//! Why a line was not read: it is outside the grammar, or there was no memory.
+//! Why a line was not read: it is outside the grammar, or there was no memory; also for the words of `craq_line`.
 ghost use Rattle.std.specs.Prelude.{◌≡◌};
 ghost use Rattle.craq_script.specs.declared.misread.Misread.TheVariants.{Memory};
 

@@ -1,4 +1,4 @@
-//! Numbers, objects and values as words of a script.
+//! Numbers, objects and values as words of a script; called by `reading` and `words`, and by `craq_line`.
 ghost use Rattle.std.specs.Prelude.{◌≡◌, ◌==◌, ◌<◌, ◌≤◌, ◌^◌, ◌+◌, ◌*◌, ◌-◌, IfOk, IfSome, SomeIff, option_map};
 ghost use Rattle.std.specs.List.{list_all, position};
 ghost use Rattle.craq_script.specs.Reading.{Gives};

@@ -1,4 +1,5 @@
-//! `BookCell`: a chain's master as node 0, whose steps bear stamps and stand in a journal.
+//! `BookCell`: a chain's master as node 0, whose steps bear stamps and stand in a journal; for `craq_workers`,
+//! `craq_locked` and the audit.
 ghost use Rattle.std.specs.Prelude.{◌≡◌, ◌⊎◌, ◌↔◌, Err, IfOk, IfErr, IfSome, OnOk};
 ghost use Rattle.std.specs.Option.{option_copied};
 ghost use Rattle.craq_epochs.specs.Mastered as masters;

@@ -1,4 +1,5 @@
-//! `Cell`: a node whose steps bear stamps and, where one is kept, stand in a journal.
+//! `Cell`: a node whose steps bear stamps and, where one is kept, stand in a journal; called by `desk`, and read by
+//! the audit.
 ghost use Rattle.std.specs.Prelude.{◌≡◌, ◌<◌, IfOk, IfErr, IfSome, IsNone, IsOk, OnOk, vec_capacity, vec_len};
 ghost use Rattle.std.specs.Option.{option_copied};
 ghost use Rattle.craq_model.specs.Plain.{Plain};

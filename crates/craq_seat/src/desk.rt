@@ -1,4 +1,4 @@
-//! `Desk`: a cell and the calls that wait at it, of which it tells the answers.
+//! `Desk`: a cell and the calls that wait at it, of which it tells the answers; for `craq_workers` and `craq_locked`.
 ghost use Rattle.std.specs.Prelude.{◌≡◌, [], IfOk, IfSome, IsNone, IsOk, OnErr};
 ghost use Rattle.craq_model.specs.Plain.{Plain};
 ghost use Rattle.craq_node.specs.Represented.{CanArrive, IsFree};

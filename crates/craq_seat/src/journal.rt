@@ -1,4 +1,5 @@
-//! What names a step, what a journal keeps of it, and what happens at a master.
+//! What names a step, what a journal keeps of it, and what happens at a master; for `cell` and `book`, which keep
+//! journals, and `craq_audit`, which reads them.
 use craq_epochs::StopReceipt;
 use craq_model::{Config, Step};
 use craq_names::{NodeId, NodeName, Pass, Stamp};

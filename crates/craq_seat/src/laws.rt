@@ -1,4 +1,4 @@
-//! A law: stamps rise in a journal.
+//! A law: stamps rise in a journal; no code calls it, it is stated for readers.
 ghost use Rattle.std.specs.Prelude.{ℕ, List};
 ghost use Rattle.craq_model.specs.declared.ask.Event.{Event};
 ghost use Rattle.craq_seat.specs.declared.journal.BookEvent.{BookEvent};

@@ -1,4 +1,4 @@
-//! `numbered`: the messages of a step, each under the step's receipt and its index.
+//! `numbered`: the messages of a step, each under the step's receipt and its index; called by `craq_locked`.
 ghost use Rattle.std.specs.Prelude.{◌≡◌, ◌≤◌, ◌^◌, length, IfOk};
 ghost use Rattle.std.specs.List.{AllByRecursion};
 ghost use Rattle.craq_model.specs.Spelled.{IsSpelled};

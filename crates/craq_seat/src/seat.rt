@@ -1,4 +1,4 @@
-//! `Seat`: a desk under a lock, with the callers that wait for its answers.
+//! `Seat`: a desk under a lock, with the callers that wait for its answers; for `craq_workers` and `craq_locked`.
 use crate::Desk;
 use craq_names::Ticket;
 use craq_node::Core;

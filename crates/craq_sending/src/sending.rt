@@ -1,4 +1,4 @@
-//! The one call of the crate: the messages of a step as bytes.
+//! The one call of the crate: the messages of a step as bytes; called by the steps of `craq_workers`.
 ghost use Rattle.std.specs.Prelude.{◌≡◌, ◌≤◌, ◌^◌, length, IfOk, OnOk};
 ghost use Rattle.std.specs.List.{AllByRecursion};
 ghost use Rattle.craq_runs.specs.Chain.{sent_in};

@@ -1,4 +1,4 @@
-//! `accept`: each connection of a listener served on a thread of its own, at most so many at once.
+//! `accept`: each connection of a listener served on a thread of its own, at most so many at once; for programs that serve.
 ghost use Rattle.std.specs.Prelude.{◌≡◌};
 
 use crate::connections::Connections;

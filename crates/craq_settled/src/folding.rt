@@ -1,4 +1,4 @@
-//! Folds entries into objects and kept replies.
+//! Folds entries into objects and kept replies; called by `held`.
 ghost use Rattle.std.specs.Prelude.{◌≡◌, ◌↔◌, ℕ, ◌+◌, ◌-◌, ◌<◌, ◌≤◌, List, [], ◌∷◌, IsOk, IsTrue, OnOk, OnErr, length, max, take};
 ghost use Rattle.std.specs.List.{AllByRecursion};
 ghost use Rattle.craq_commands.specs.declared.entry.Entry.{Entry};

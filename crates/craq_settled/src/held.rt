@@ -1,4 +1,4 @@
-//! `HeldPast`, what a past that forgets holds. `craq_list` alone calls it.
+//! `HeldPast`, what a past that forgets holds. `craq_list` calls it, and else only tests do.
 ghost use Rattle.std.specs.Prelude.{◌≡◌, ◌+◌, ◌-◌, ◌<◌, ◌≤◌, ◌^◌, ◌++◌, T, ℕ, List, [], IfOk, OnOk, OnErr, drop, length, max, take};
 ghost use Rattle.std.specs.List.{AllByRecursion};
 ghost use Rattle.std.specs.Ordering.{nat_cmp};

@@ -1,4 +1,4 @@
-//! Says in the table where entries write objects.
+//! Says in the table where entries write objects; called by `held` and `folding`.
 ghost use Rattle.std.specs.Prelude.{◌≡◌, ℕ, ◌+◌, ◌-◌, ◌<◌, ◌≤◌, List, [], ◌∷◌, ◌++◌, IsOk, OnOk, OnErr, if◌then◌else◌, length, drop, max, take};
 ghost use Rattle.craq_names.specs.Maps.{same_bytes};
 ghost use Rattle.craq_model.specs.Past.{values_in, values_after};

@@ -1,4 +1,4 @@
-//! What stands for an object, by its versions and by the entries that are not listed.
+//! What stands for an object, by its versions and by the entries that are not listed; called by `held`.
 ghost use Rattle.std.specs.Prelude.{◌≡◌, ℕ, ◌+◌, ◌-◌, ◌≤◌, List, [], IfSome, drop, length, take, unwrap_or};
 ghost use Rattle.std.specs.Option.{option_map};
 ghost use Rattle.std.specs.List.{AllZip};

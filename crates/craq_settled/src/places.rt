@@ -1,4 +1,4 @@
-//! Where the value of a version stands.
+//! Where the value of a version stands; called by `lookups`, `listing` and `objects`.
 ghost use Rattle.std.specs.Prelude.{◌≡◌, ◌≤◌, [], length, unwrap_or, if◌then◌else◌};
 ghost use Rattle.std.specs.Option.{option_map};
 ghost use Rattle.craq_settled.specs.Placed.{has_some, later_in, settled_in};

@@ -1,4 +1,6 @@
-//! Each strong answer is what one copy of the objects says at a moment from its ask to the answer.
+//! Each strong answer is what one copy of the objects says at a moment from its ask to the answer; `craq_promise`,
+//! `craq_chain_invariants`, `craq_recovery` and `craq_verdicts` stand on it. Apart from `craq_promise`, since the
+//! last three need strong answers alone.
 //! Laws: functions without bodies, whose contracts are the theorems.
 #![tactic(auto)]
 

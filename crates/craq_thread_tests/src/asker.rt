@@ -1,4 +1,4 @@
-//! A client of a store that is tested, with its own object and number.
+//! A client of a store that is tested, with its own object and number; for `cases`, `calls` and `changes`.
 use crate::asks::{name_of, put_of, read_of, version_of};
 use crate::gate::{TestGate, Tested};
 use craq_commands::ReadMode;

@@ -1,4 +1,4 @@
-//! A client of a store that is tried, on a thread of its own: it puts, reads what it put, and asks again.
+//! A client of a store that is tried, on a thread of its own: it puts, reads what it put, and asks again; for `driving`.
 use crate::asks::{Told, name_of, put_of, read_of, tells};
 use crate::course::Course;
 use crate::gate::{TestGate, Tested};

@@ -1,4 +1,4 @@
-//! Cases of calls: two that overlap, steps in place and by the ask worker, what is read back.
+//! Cases of calls: two that overlap, steps in place and by the ask worker, what is read back; called by `cases` and `changes`.
 use crate::asker::Asker;
 use crate::asks::chain;
 use crate::case_gate::Signs;

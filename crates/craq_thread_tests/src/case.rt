@@ -1,4 +1,4 @@
-//! The table of cases, and what one expects.
+//! The table of cases, and what one expects; `main` goes through it, and `cases` tries each.
 
 /// What is tested of a store that runs.
 #[derive(Clone, Copy)]

@@ -1,4 +1,5 @@
-//! The gate of a case, which holds workers up and cuts links, and the signs that it and the case give each other.
+//! The gate of a case, which holds workers up and cuts links, and the signs that it and the case give each other; made by
+//! `cases`, asked through `gate`.
 use crate::case::Case;
 use crate::form::Form;
 use crate::waits::{LIMIT, wait_for};

@@ -1,4 +1,4 @@
-//! Each case on a store of its own, which is closed in the end.
+//! Each case on a store of its own, which is closed in the end; called by `judge`.
 use crate::asker::Asker;
 use crate::asks::plan;
 use crate::calls::{free, overlap, read_back, stop, taking};

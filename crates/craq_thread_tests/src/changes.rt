@@ -1,4 +1,4 @@
-//! The case in which nodes stop, go and join while clients ask and messages are lost.
+//! The case in which nodes stop, go and join while clients ask and messages are lost; called by `cases`.
 use crate::asker::Asker;
 use crate::asks::chain;
 use crate::calls::confirm;

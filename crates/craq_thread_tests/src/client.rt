@@ -1,4 +1,4 @@
-//! The clients: each asks over a connection of its own and prints what it is answered.
+//! The clients: each asks over a connection of its own and prints what it is answered; called by `server`.
 use crate::requests::{put, read};
 use craq_commands::Reply;
 use craq_frames::{ClientMessage, ClientReply};

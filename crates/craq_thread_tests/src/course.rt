@@ -1,4 +1,4 @@
-//! What the clients, the gate and whoever drives a trial tell each other.
+//! What the clients, the gate and whoever drives a trial tell each other; for `caller`, `driving`, `trials` and `trial_gate`.
 use craq_seat::CallReceipt;
 use std::alloc::Global;
 use std::sync::atomic::{AtomicBool, AtomicU32, AtomicU64, Ordering};

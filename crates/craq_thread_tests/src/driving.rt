@@ -1,4 +1,4 @@
-//! What each trial does with its store.
+//! What each trial does with its store; called by `trials`.
 use crate::asks::chain;
 use crate::caller::Caller;
 use crate::course::Course;

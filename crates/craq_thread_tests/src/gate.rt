@@ -1,4 +1,4 @@
-//! The gate of a store that is tested: that of a case, that of a trial, or an open one.
+//! The gate of a store that is tested: that of a case, that of a trial, or an open one; made by `cases`, `trials` and `server`.
 use crate::case_gate::CaseGate;
 use crate::trial_gate::TrialGate;
 use craq_list::ListCore;

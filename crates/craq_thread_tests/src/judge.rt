@@ -1,4 +1,4 @@
-//! One test on a thread of its own, with a limit of time.
+//! One test on a thread of its own, with a limit of time; called by `main` for each case and each trial.
 use crate::case::Case;
 use crate::cases::try_case;
 use crate::fault::Fault;

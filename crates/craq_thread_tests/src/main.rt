@@ -1,8 +1,9 @@
 //! Tests of stores that run, on threads: each case and each trial is printed with whether it holds. One that does not end in
 //! its time ends the program. In the trials nodes stop, messages are lost and stores are closed. Up to three numbers make
 //! them larger: for how many turns of 10 milliseconds messages are lost, how often a store is closed, and how many calls are
-//! answered while members change. In the end three connections reach a store over the loopback, all in one process: what
-//! they are answered is printed, and what the audit of the store finds.
+//! answered while members change. In the end three connections reach a store over the loopback, all in one process, in each
+//! manner of serving: what they are answered is printed, and what the audit of the store finds.
+//! Run by `./test` and `tools/quick/run`, which compare what it prints with the file `stdout`; by `./hostile` too.
 #![tactic(auto)]
 
 mod asker;
@@ -32,6 +33,7 @@ use case::CASES;
 use fault::{Fault, tell};
 use form::{FORMS, Form};
 use judge::{Test, judge};
+use server::{MANNERS, serve_clients};
 use std::sync::Wait;
 use std::thread::Threads;
 use std::{env, io};
@@ -115,9 +117,11 @@ fn main(rt: HostRuntime) -> io::Result<()> {
             return Ok(());
         }
     }
-    println!(rt; "three connections over the loopback")?;
-    match server::serve_clients(rt) {
-        Ok(()) => Ok(()),
-        Err(refusal) => println!(rt; "refused: {refusal}"),
+    for (manner, words) in MANNERS {
+        println!(rt; "{words}")?;
+        if let Err(refusal) = serve_clients(rt, manner) {
+            println!(rt; "refused: {refusal}")?;
+        }
     }
+    Ok(())
 }

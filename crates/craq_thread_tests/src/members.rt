@@ -1,4 +1,4 @@
-//! Cases of memberships and of how many threads there are.
+//! Cases of memberships and of how many threads there are; called by `cases`.
 use crate::asks::chain;
 use crate::fault::{Fact, Fault, expect, expect_refusal};
 use crate::form::Form;

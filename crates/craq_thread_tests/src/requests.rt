@@ -1,4 +1,4 @@
-//! What the three connections ask.
+//! What the three connections ask; for `client`.
 use craq_commands::{Command, ReadMode, Update};
 use craq_frames::ClientMessage;
 use craq_names::{ChainId, ClientId, Key, NodeId, ObjectId, Pass, Refusal, RequestNo, Value};

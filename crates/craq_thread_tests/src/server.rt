@@ -1,11 +1,12 @@
-//! The store, its server and its ticks, each on a thread, beside the clients; in the end its audit.
+//! The store, its server and its ticks, each on a thread, beside the clients; in the end its audit. It is served in each
+//! manner; called by `main`.
 use crate::asks::{chain, plan};
 use crate::client::ask_all;
 use crate::gate::{TestGate, Tested};
 use craq_audit::Audit;
 use craq_names::Refusal;
 use craq_seat::CallReceipt;
-use craq_server::{Connections, Log, Served, Serving, accept};
+use craq_server::{Connections, Crowds, Log, Served, Serving, accept, accept_by_threads};
 use craq_workers::{OpenGate, Store};
 use std::alloc::{AllocError, Global};
 use std::net::{Net, TcpListener, TcpStream};
@@ -17,6 +18,48 @@ use std::time::{Clock, Duration};
 
 /// How often the nodes are told to send again what others may lack.
 const TICK_MILLISECONDS: u64 = 50;
+
+/// By how many threads all connections are served where each has none of its own.
+const THREADS: u32 = 2;
+
+/// How the connections of a store are served.
+#[derive(Clone, Copy)]
+pub enum Manner {
+    /// Each on a thread of its own.
+    Each,
+    /// All by a few threads.
+    Together,
+}
+
+/// Both manners, in words.
+pub const MANNERS: [(Manner, &str); 2] = [
+    (
+        Manner::Each,
+        "three connections over the loopback, a thread for each",
+    ),
+    (
+        Manner::Together,
+        "three connections over the loopback, two threads for all",
+    ),
+];
+
+impl Manner {
+    /// What the threads need that serve all connections; none where each connection has a thread.
+    fn crowds<R: AllocGlobal + Net>(self, rt: &R) -> Result<Option<Crowds>, AllocError> {
+        match self {
+            Manner::Each => Ok(None),
+            Manner::Together => Ok(Some(Crowds::new(rt, rt.alloc(), SERVING, THREADS)?)),
+        }
+    }
+
+    /// Who takes the steps of a store that is served so.
+    fn gate(self) -> OpenGate {
+        OpenGate {
+            in_place: true,
+            carried: matches!(self, Manner::Together),
+        }
+    }
+}
 
 /// How the three connections are served: their receipts are kept.
 const SERVING: Serving = Serving {
@@ -37,12 +80,32 @@ fn tick<R: Clock + Wait>(rt: &R, store: &Tested, over: &AtomicBool) {
     }
 }
 
+/// Serves the connections until all are over: by a thread for each crowd, or each on a thread of its own where there are
+/// none.
+fn accept_all<R>(
+    rt: R,
+    store: &Tested,
+    listener: &TcpListener,
+    connections: &Connections,
+    crowds: Option<Crowds>,
+) -> Result<Served, AllocError>
+where
+    R: AllocGlobal + Eprint + Clock + Threads + Wait + Copy + Drop + Send + Sync + 'static,
+{
+    let alloc = rt.alloc();
+    let Some(crowds) = crowds else {
+        return Ok(accept(rt, alloc, store, listener, SERVING, connections));
+    };
+    accept_by_threads(rt, alloc, store, listener, SERVING, connections, crowds)
+}
+
 /// The clients ask, while the store is ticked and served, each on a thread of its own. Gives what came of serving.
 fn ask_served<R>(
     rt: R,
     store: &Tested,
     listener: &TcpListener,
     connections: &Connections,
+    crowds: Option<Crowds>,
 ) -> Result<Served, Refusal>
 where
     R: AllocGlobal + Print + Eprint + Clock + Threads + Wait + Copy + Drop + Send + Sync + 'static,
@@ -57,22 +120,20 @@ where
         if scope.spawn(move || tick(&rt, store, ending)).is_err() {
             return Err(Refusal::Memory);
         }
-        let Ok(serving) = scope.spawn(move || accept(
-            rt,
-            rt.alloc(),
-            store,
-            listener,
-            SERVING,
-            connections,
-        )) else {
+        let Ok(serving) = scope.spawn(move || accept_all(rt, store, listener, connections, crowds))
+        else {
             ending.store(true, Ordering::SeqCst);
             return Err(Refusal::Memory);
         };
-        let asked = ask_all(&rt, address);
+        let asked = if connections.wait_for_begin(&rt) {
+            ask_all(&rt, address)
+        } else {
+            Err(Refusal::Memory)
+        };
         let served = serving.join(&rt);
         ending.store(true, Ordering::SeqCst);
         asked?;
-        Ok(served)
+        Ok(served?)
     })
 }
 
@@ -106,7 +167,7 @@ where
 }
 
 /// Serves the clients at any free port of the loopback, and audits the store.
-fn serve_store<R>(rt: R, store: &Tested) -> Result<(), Refusal>
+fn serve_store<R>(rt: R, store: &Tested, manner: Manner) -> Result<(), Refusal>
 where
     R: AllocGlobal + Print + Eprint + Clock + Threads + Wait + Copy + Drop + Send + Sync + 'static,
     R: Net<Listener = TcpListener, Stream = TcpStream>,
@@ -115,23 +176,21 @@ where
         return Err(Refusal::Io);
     };
     let connections = Connections::new(rt.alloc(), SERVING.connections)?;
-    let served = ask_served(rt, store, &listener, &connections)?;
+    let crowds = manner.crowds(&rt)?;
+    let served = ask_served(rt, store, &listener, &connections, crowds)?;
     print_audit(&rt, store, served)
 }
 
-/// Starts the store, serves the clients, audits it and closes it.
-pub fn serve_clients<R>(rt: R) -> Result<(), Refusal>
+/// Starts a store, serves the clients in this manner, audits it and closes it.
+pub fn serve_clients<R>(rt: R, manner: Manner) -> Result<(), Refusal>
 where
     R: AllocGlobal + Print + Eprint + Clock + Threads + Wait + Copy + Drop + Send + Sync + 'static,
     R: Net<Listener = TcpListener, Stream = TcpStream>,
 {
     let plan = plan(rt.alloc())?;
-    let gate = TestGate::Open(OpenGate {
-        in_place: true,
-        carried: false,
-    });
+    let gate = TestGate::Open(manner.gate());
     let store = Store::start(rt, rt.alloc(), &plan, gate, true)?;
-    let served = serve_store(rt, &store);
+    let served = serve_store(rt, &store, manner);
     store.close(&rt);
     served
 }

@@ -1,4 +1,4 @@
-//! What is tried, and what it expects, as data.
+//! What is tried, and what it expects, as data; chosen by `main`, done by `trials`, `driving` and `trial_gate`.
 
 /// Where a piece of work is held at the gate.
 #[derive(Clone, Copy, PartialEq, Eq)]

@@ -1,4 +1,4 @@
-//! The gate of a trial, which holds node 2 up, loses messages and slows them.
+//! The gate of a trial, which holds node 2 up, loses messages and slows them; made by `trials`, asked through `gate`.
 use crate::course::Course;
 use crate::form::Form;
 use crate::trial::{Place, Trial};

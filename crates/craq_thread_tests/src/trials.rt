@@ -1,4 +1,4 @@
-//! Each trial on stores of its own, which are closed in the end.
+//! Each trial on stores of its own, which are closed in the end; called by `judge`.
 use crate::asks::plan;
 use crate::course::Course;
 use crate::driving::{Callers, Ground};

@@ -1,4 +1,5 @@
-//! Waits of tests, each for a bounded time: for a flag, for the end of a test, and for how many threads there are.
+//! Waits of tests, each for a bounded time: for a flag, for the end of a test, and for how many threads there are; here so that
+//! no test waits for good.
 use crate::fault::Fault;
 use std::sync::atomic::{AtomicBool, Ordering};
 use std::thread::{JoinHandle, Threads};

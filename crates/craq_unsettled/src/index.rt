@@ -1,4 +1,4 @@
-//! The index that a history keeps of the entries that it doesn't know to be committed: whose they are.
+//! The index that a history keeps of the entries that it doesn't know to be committed: whose they are; called by `craq_list`.
 ghost use Rattle.std.specs.Prelude.{◌≡◌, ◌+◌, ◌-◌, ◌<◌, ◌≤◌, ◌^◌, List, drop, length, take};
 ghost use Rattle.arrayvec.specs.ArrayVec.{array_vec_len};
 ghost use Rattle.craq_commands.specs.declared.entry.Entry.{Entry};

@@ -1,5 +1,5 @@
 //! Where each client's entries stand among those that are not settled, so that what is asked of a client looks at its own
-//! entries alone. Code that runs in the program.
+//! entries alone; called by `craq_list`. Code that runs in the program.
 #![tactic(auto)]
 
 mod index;

@@ -1,5 +1,5 @@
 //! The positions of clients' entries, by client. A client whose entries are all let go keeps a place with no positions,
-//! which no call shows.
+//! which no call shows. Called by `index`.
 ghost use Rattle.std.specs.Prelude.{◌≡◌, ℕ, ◌+◌, ◌<◌, ◌≤◌, ◌^◌, ◌==◌, [], ◌∷◌, ◌++◌, List, None, OnOk, OnErr, if◌then◌else◌, drop, length, take, unwrap_or};
 ghost use Rattle.std.specs.BTreeMap.{get, IsOrdered};
 ghost use Rattle.std.specs.List.{last_or};

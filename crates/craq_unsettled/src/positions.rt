@@ -1,4 +1,4 @@
-//! The positions of one client. They come in order, and the oldest goes first.
+//! The positions of one client. They come in order, and the oldest goes first. Called by `places`.
 ghost use Rattle.std.specs.Prelude.{◌≡◌, ◌<◌, [], ◌∷◌, ◌++◌, None, drop, length, slice_index, unwrap_or, OnOk, OnErr};
 ghost use Rattle.std.specs.List.{last_or};
 

@@ -1,4 +1,4 @@
-//! The kept replies of a client, by the positions of its entries.
+//! The kept replies of a client, by the positions of its entries; called by `index`.
 ghost use Rattle.std.specs.Prelude.{◌≡◌, ◌+◌, ◌<◌, ◌≤◌, ◌^◌, length, slice_index_or};
 ghost use Rattle.std.specs.BTreeMap.{IsOrdered};
 ghost use Rattle.std.specs.Ordering.{nat_cmp};

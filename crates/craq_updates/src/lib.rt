@@ -1,4 +1,6 @@
-//! Each entry of a run was asked, and is what its update does on one copy of the objects.
+//! Each entry of a run was asked, and is what its update does on one copy of the objects; `craq_strong_answers`,
+//! `craq_promise`, `craq_chain_invariants`, `craq_recovery` and `craq_world` stand on it. Apart from
+//! `craq_strong_answers`, since it speaks of updates alone.
 //! Laws: functions without bodies, whose contracts are the theorems.
 #![tactic(auto)]
 

@@ -1,4 +1,5 @@
-//! What `draw` and `stops` print of `check` is `valid true`, whatever was played.
+//! What `draw` and `stops` print of `check` is `valid true`, whatever was played. No crate stands on it: it is apart from
+//! `craq_schedules` so that no program stands on the theorem.
 //! Laws: functions without bodies, whose contracts are the theorems.
 #![tactic(auto)]
 

@@ -1,4 +1,4 @@
-//! The iterators of a table: its keys that have versions, rising, with their versions or without.
+//! The iterators of a table: its keys that have versions, rising, with their versions or without; `table` gives them.
 ghost use Rattle.std.specs.Prelude.{◌≡◌, map};
 ghost use Rattle.std.specs.Iterator.{YieldsFirstBy, item_count};
 ghost use Rattle.craq_names.specs.Places.{filled};

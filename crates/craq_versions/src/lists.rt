@@ -1,4 +1,4 @@
-//! The lists of a table, by key. A list without versions only has room.
+//! The lists of a table, by key. A list without versions only has room. Called by `table`.
 ghost use Rattle.std.specs.Prelude.{◌≡◌, ◌≢◌, ℕ, ◌+◌, ◌<◌, ◌≤◌, List, [], ◌∷◌, None, IfOk, IsSome, IsOk, OnOk, OnErr, if◌then◌else◌};
 ghost use Rattle.std.specs.BTreeMap.{get, IsOrdered};
 ghost use Rattle.craq_names.specs.Maps.{key_cmp, put_key, same_bytes};

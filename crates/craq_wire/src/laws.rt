@@ -1,4 +1,4 @@
-//! Laws: which messages between nodes have a spelling at all.
+//! Laws: which messages between nodes have a spelling at all; no code calls them, `spelled` names them to its readers.
 ghost use Rattle.std.specs.Prelude.{◌↔◌, ℕ, List};
 ghost use Rattle.craq_model.specs.Spelled.{IsSpelled};
 ghost use Rattle.craq_wire.specs.Spelling.{Spells};

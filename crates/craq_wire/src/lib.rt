@@ -1,4 +1,5 @@
-//! The messages between the nodes of a chain as bytes: `encode` and `decode`.
+//! The messages between the nodes of a chain as bytes: `encode` and `decode`; for `craq_sending`, which writes them,
+//! and `craq_workers`, which reads them. Apart from `craq_frames`, since clients never see these messages.
 //! Code that runs in the programs.
 #![tactic(auto)]
 

@@ -1,4 +1,4 @@
-//! The rules that a message keeps which has an encoding, tested before and after its bytes.
+//! The rules that a message keeps which has an encoding, tested before and after its bytes; called by `wire`.
 ghost use Rattle.std.specs.Prelude.{◌≡◌};
 ghost use Rattle.craq_model.specs.Parts.{item_count};
 ghost use Rattle.std.specs.List.{list_all};
@@ -8,17 +8,11 @@ use crate::alike::{has_twice, rises};
 use craq_codec::{is_fresh_reply, is_spelled_reply};
 use craq_commands::{Entry, Kept, Mini, State, WINDOW_LIMIT, Window, Write};
 use craq_epochs::MEMBER_LIMIT;
-use craq_model::{Body, LinkMessage, StatePart};
+use craq_model::{BATCH_LIMIT, Body, LinkMessage, PART_LIMIT, StatePart};
 use craq_names::{ClientId, Key, NodeId, Value, Version};
 
 /// The most values that a count of a state can tell.
 const MOST_COPIED: usize = 0xffff_ffff;
-
-/// The most items of a part of a state.
-const PART_ITEMS: u128 = 64;
-
-/// The most entries of a batch.
-const MOST_ENTRIES: usize = 16;
 
 /// Whether each of them has a version.
 fn have_versions(writes: &[Write]) -> bool
@@ -98,7 +92,7 @@ fn items_in(state: &State) -> u128
 fn is_filled_part(part: &StatePart) -> bool
     ensures { result ≡ is_filled part.now }
 {
-    part.number >= part.count || items_in(&part.state) == PART_ITEMS
+    part.number >= part.count || items_in(&part.state) == PART_LIMIT as u128
 }
 
 /// The rules of parts of a state.
@@ -111,7 +105,7 @@ fn test_part(part: &StatePart) -> bool
         && part.number <= part.count
         && part.count >= 2
         && items_in(&part.state) >= 1
-        && items_in(&part.state) <= PART_ITEMS
+        && items_in(&part.state) <= PART_LIMIT as u128
         && is_filled_part(part)
         && test_state(&part.state)
 }
@@ -144,7 +138,7 @@ fn in_row(entries: &[Entry]) -> bool
 fn test_batch(entries: &[Entry]) -> bool
     ensures { result ≡ is_batch entries.now }
 {
-    entries.len() >= 2 && entries.len() <= MOST_ENTRIES && are_entries(entries) && in_row(entries)
+    entries.len() >= 2 && entries.len() <= BATCH_LIMIT && are_entries(entries) && in_row(entries)
 }
 
 /// Whether each id is that of a node.

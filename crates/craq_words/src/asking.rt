@@ -1,4 +1,4 @@
-//! The update or the read that a script's line asks, or the refusal of its values.
+//! The update or the read that a script's line asks, or the refusal of its values; called by `craq_play` and `craq`.
 ghost use Rattle.std.specs.Prelude.{◌≡◌, map, IfOk};
 ghost use Rattle.std.specs.List.{list_all, flat_map};
 ghost use Rattle.craq_commands.specs.Transaction.{mini_of};

@@ -1,4 +1,5 @@
 //! What the values of a command ask for, and the text of what is answered; for scripts and for `craq`.
+//! A crate apart since both ask and print alike, and `craq` plays no script.
 //! Code that runs in the programs.
 #![tactic(auto)]
 

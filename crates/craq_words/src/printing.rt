@@ -1,4 +1,5 @@
-//! Replies, answers and refusals as printed text, as `specs/Printed` has it.
+//! Replies, answers and refusals as printed text, as `specs/Printed` has it; called by `craq_play`, `craq` and
+//! `craq_embedding`.
 ghost use Rattle.std.specs.Prelude.{◌≡◌, ◌++◌, OnOk, string_bytes};
 ghost use Rattle.std.specs.List.{flat_map};
 ghost use Rattle.craq_words.specs.Printed.{byte_text, value_text, object_text, reply_text, answer_text, refusal_text};

@@ -1,11 +1,11 @@
-//! `Store::audit`: the audit of a chain whose nodes are all locked for it.
+//! `Store::audit`: the audit of a chain whose nodes are all locked for it; for whoever has receipts of a store that runs.
 ghost use Rattle.std.specs.Prelude.{◌≡◌, IfOk};
 ghost use Rattle.std.specs.Sync.Mutex.{mutex_guard_value};
 ghost use Rattle.craq_workers.specs.Stores.{Answers};
 
 use crate::gate::Gate;
-use crate::node::Node;
-use crate::steps::Served;
+use crate::node::RunningNode;
+use crate::steps::SeatedNode;
 use crate::store::Store;
 use craq_audit::Audit;
 use craq_held::HeldChain;
@@ -20,8 +20,8 @@ use std::sync::{Arc, MutexGuard, Wait};
 fn lock_all<'a, R: Wait, C: Core>(
     rt: &R,
     alloc: Global,
-    nodes: &'a [Arc<Node<C>>],
-) -> Result<Vec<MutexGuard<'a, Served<C>>>, AllocError> {
+    nodes: &'a [Arc<RunningNode<C>>],
+) -> Result<Vec<MutexGuard<'a, SeatedNode<C>>>, AllocError> {
     let mut seats = Vec::new(alloc);
     for node in nodes {
         seats.push(node.seat.lock(rt))?;
@@ -35,7 +35,7 @@ fn lock_chain<'b, 's, R: Wait, C: Core>(
     rt: &R,
     alloc: Global,
     book: MutexGuard<'b, BookCell>,
-    nodes: &'s [Arc<Node<C>>],
+    nodes: &'s [Arc<RunningNode<C>>],
 ) -> Result<HeldChain<'b, 's, C, Addressee>, AllocError>
     ensures { IfOk result (λ held. held.book ≡ mutex_guard_value book.entry) }
 {

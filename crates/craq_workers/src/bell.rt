@@ -1,4 +1,5 @@
-//! `Bell`: how the thread that carries a chain is told that something waits. It wakes only one who sleeps.
+//! `Bell`: how the thread that carries a chain is told that something waits; rung by whoever brings something to the chain. It
+//! wakes only one who sleeps.
 use std::sync::Wait;
 use std::sync::atomic::{AtomicBool, AtomicU64, Ordering};
 use std::thread::Parker;

@@ -1,10 +1,11 @@
-//! Steps of a chain that one thread carries: turns of its nodes, from the head to the tail and back.
+//! Steps of a chain that one thread carries: turns of its nodes, from the head to the tail and back; called by `work`, and by
+//! `shared` for a caller who carries its own step on.
 use crate::chain::Chain;
 use crate::gate::{Gate, Work};
-use crate::node::Node;
+use crate::node::RunningNode;
 use crate::replies::Replies;
 use crate::shared::Shared;
-use crate::steps::Served;
+use crate::steps::SeatedNode;
 use crate::work::take_brought;
 use craq_names::{ChainId, Refusal};
 use craq_node::Core;
@@ -22,8 +23,8 @@ fn take_waiting<R: Wait, C: Core, G: Gate>(
     rt: &R,
     alloc: Global,
     shared: &Shared<C, G>,
-    node: &Node<C>,
-    seated: &mut Served<C>,
+    node: &RunningNode<C>,
+    seated: &mut SeatedNode<C>,
     replies: &mut Replies,
     quiet: bool,
 ) {
@@ -46,8 +47,8 @@ fn turn<R: Wait, C: Core, G: Gate>(
     rt: &R,
     alloc: Global,
     shared: &Shared<C, G>,
-    node: &Node<C>,
-    mut seated: MutexGuard<'_, Served<C>>,
+    node: &RunningNode<C>,
+    mut seated: MutexGuard<'_, SeatedNode<C>>,
     count: u64,
     quiet: bool,
 ) {
@@ -70,9 +71,9 @@ enum Manner {
 /// The lock of a node; none where another thread has it and the visitor passes by.
 fn seat_of<'a, R: Wait, C: Core>(
     rt: &R,
-    node: &'a Node<C>,
+    node: &'a RunningNode<C>,
     manner: Manner,
-) -> Option<MutexGuard<'a, Served<C>>> {
+) -> Option<MutexGuard<'a, SeatedNode<C>>> {
     match manner {
         Manner::Waits => Some(node.seat.lock(rt)),
         Manner::PassesBy => node.seat.try_lock(),
@@ -84,7 +85,7 @@ fn visit<R: Wait, C: Core, G: Gate>(
     rt: &R,
     alloc: Global,
     shared: &Shared<C, G>,
-    node: &Node<C>,
+    node: &RunningNode<C>,
     manner: Manner,
 ) -> bool {
     if !node.has_work() {
@@ -104,7 +105,7 @@ fn visit_all<R: Wait, C: Core, G: Gate>(
     rt: &R,
     alloc: Global,
     shared: &Shared<C, G>,
-    nodes: &[Arc<Node<C>>],
+    nodes: &[Arc<RunningNode<C>>],
     manner: Manner,
 ) -> bool {
     let mut found = false;
@@ -142,7 +143,7 @@ fn carry_nodes<R: Wait, C: Core, G: Gate>(
     alloc: Global,
     shared: &Shared<C, G>,
     chain: &Chain<C>,
-    nodes: &[Arc<Node<C>>],
+    nodes: &[Arc<RunningNode<C>>],
     changes: u64,
 ) {
     for _ in rt.forever() {

@@ -1,8 +1,8 @@
-//! A chain that runs: the ways to its workers, through which all that asks, sends or ticks goes.
+//! A chain that runs: the ways to its workers, through which all that asks, sends or ticks goes; for `shared` and `store`.
 use crate::bell::Bell;
-use crate::node::{Brought, Entrances, Node, Waiting, Way};
+use crate::node::{Brought, Entrances, RunningNode, Waiting, Way};
 use crate::replies::Replies;
-use crate::steps::{Asked, dismiss};
+use crate::steps::{QueuedAsk, dismiss};
 use craq_names::{NodeId, Refusal};
 use craq_node::Core;
 use craq_seat::{BookCell, Caller};
@@ -47,7 +47,7 @@ impl<C: Core> Ways<C> {
     }
 
     /// All nodes that the chain has. It fails for want of memory alone.
-    fn all(&self, alloc: Global) -> Result<Vec<Arc<Node<C>>>, AllocError> {
+    fn all(&self, alloc: Global) -> Result<Vec<Arc<RunningNode<C>>>, AllocError> {
         let mut nodes = Vec::new(alloc);
         for way in self.nodes.as_slice() {
             if let Some(node) = &way.node {
@@ -80,7 +80,12 @@ impl<C: Core> Way<C> {
 }
 
 /// Something goes into a queue, or is lost for want of memory.
-fn put_on_link<R: Wait, C: Core>(rt: &R, node: &Node<C>, entrances: &Entrances, waiting: Waiting) {
+fn put_on_link<R: Wait, C: Core>(
+    rt: &R,
+    node: &RunningNode<C>,
+    entrances: &Entrances,
+    waiting: Waiting,
+) {
     match entrances.links.send(rt, waiting) {
         Ok(()) => (),
         Err(SendError::OutOfMemory(lost)) => node.lose(lost),
@@ -89,7 +94,7 @@ fn put_on_link<R: Wait, C: Core>(rt: &R, node: &Node<C>, entrances: &Entrances, 
 }
 
 /// An ask goes into a queue. Where it cannot its caller is told.
-fn put_in<R: Wait>(rt: &R, entrances: &Entrances, asked: Asked) -> Result<(), Refusal> {
+fn put_in<R: Wait>(rt: &R, entrances: &Entrances, asked: QueuedAsk) -> Result<(), Refusal> {
     match entrances.asks.send(rt, asked) {
         Ok(()) => Ok(()),
         Err(SendError::OutOfMemory(asked)) => take_back(rt, asked, Refusal::Memory),
@@ -98,8 +103,12 @@ fn put_in<R: Wait>(rt: &R, entrances: &Entrances, asked: Asked) -> Result<(), Re
 }
 
 /// An ask that was not queued is refused in hand, so no letter comes.
-pub(crate) fn take_back<R: Wait>(rt: &R, asked: Asked, refusal: Refusal) -> Result<(), Refusal> {
-    let Asked {
+pub(crate) fn take_back<R: Wait>(
+    rt: &R,
+    asked: QueuedAsk,
+    refusal: Refusal,
+) -> Result<(), Refusal> {
+    let QueuedAsk {
         ask,
         pass: _,
         caller,
@@ -112,7 +121,7 @@ pub(crate) fn take_back<R: Wait>(rt: &R, asked: Asked, refusal: Refusal) -> Resu
 impl<C: Core> Chain<C> {
     /// The node of this id: `Closed` where the store is, `WrongNode` where the chain never had it, `Stopped` where it was
     /// removed and let go.
-    pub(crate) fn node<R: Wait>(&self, rt: &R, id: NodeId) -> Result<Arc<Node<C>>, Refusal> {
+    pub(crate) fn node<R: Wait>(&self, rt: &R, id: NodeId) -> Result<Arc<RunningNode<C>>, Refusal> {
         let ways = self.ways.read(rt);
         let _ = ways.open()?;
         match &ways.to(id)?.node {
@@ -123,7 +132,12 @@ impl<C: Core> Chain<C> {
 
     /// An ask is queued for a node. Refused in hand, so that no letter comes: as `node` is, and `Memory`; `Stopped` where
     /// the node was removed.
-    pub(crate) fn enqueue<R: Wait>(&self, rt: &R, id: NodeId, asked: Asked) -> Result<(), Refusal> {
+    pub(crate) fn enqueue<R: Wait>(
+        &self,
+        rt: &R,
+        id: NodeId,
+        asked: QueuedAsk,
+    ) -> Result<(), Refusal> {
         let ways = self.ways.read(rt);
         if ways.open.is_none() {
             return take_back(rt, asked, Refusal::Closed);
@@ -142,7 +156,7 @@ impl<C: Core> Chain<C> {
         &self,
         rt: &R,
         alloc: Global,
-    ) -> Result<Vec<Arc<Node<C>>>, Refusal> {
+    ) -> Result<Vec<Arc<RunningNode<C>>>, Refusal> {
         let ways = self.ways.read(rt);
         let _ = ways.open()?;
         Ok(ways.all(alloc)?)
@@ -153,7 +167,7 @@ impl<C: Core> Chain<C> {
         &self,
         rt: &R,
         alloc: Global,
-    ) -> Result<Vec<Arc<Node<C>>>, AllocError> {
+    ) -> Result<Vec<Arc<RunningNode<C>>>, AllocError> {
         self.ways.read(rt).all(alloc)
     }
 
@@ -245,7 +259,7 @@ impl<C: Core> Chain<C> {
 }
 
 /// Callers that wait at a node, and those whose asks wait there, are told that the store is closed, and so is who asks later.
-fn empty<R: Wait, C: Core>(rt: &R, alloc: Global, node: &Node<C>) {
+fn empty<R: Wait, C: Core>(rt: &R, alloc: Global, node: &RunningNode<C>) {
     node.close();
     let mut seated = node.seat.lock(rt);
     let callers = dismiss(alloc, &mut seated);
@@ -260,12 +274,12 @@ fn empty<R: Wait, C: Core>(rt: &R, alloc: Global, node: &Node<C>) {
 }
 
 /// The callers whose asks wait at a node are refused.
-pub(crate) fn refuse_queued<R: Wait, C: Core>(rt: &R, node: &Node<C>, refusal: &Refusal) {
+pub(crate) fn refuse_queued<R: Wait, C: Core>(rt: &R, node: &RunningNode<C>, refusal: &Refusal) {
     for _ in rt.forever() {
         let Ok(asked) = node.queues.asks.try_recv(rt) else {
             break;
         };
-        let Asked {
+        let QueuedAsk {
             ask,
             pass: _,
             caller,

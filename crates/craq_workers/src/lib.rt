@@ -19,6 +19,6 @@ mod store;
 mod work;
 
 pub use client::Client;
-pub use craq_letters::{Letter, Letterbox, Reply};
+pub use craq_letters::{Letter, Letterbox, Outcome};
 pub use gate::{Gate, OpenGate, Work};
 pub use store::{ChainStatus, Store};

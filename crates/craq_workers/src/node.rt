@@ -1,6 +1,6 @@
-//! A node that runs, as its workers and its callers share it: the seat, what is known of its life, the ways to it.
+//! `RunningNode`: a node as its workers and its callers share it: the seat, what is known of its life, the ways to it.
 use crate::pending::Pending;
-use crate::steps::Asked;
+use crate::steps::QueuedAsk;
 use bytes::Bytes;
 use craq_epochs::StopReceipt;
 use craq_letters::Addressee;
@@ -41,13 +41,13 @@ pub(crate) enum Waiting {
 /// What waits at a node: the asks, and what was brought.
 #[derive(Drop)]
 pub(crate) struct Queues {
-    pub asks: Receiver<Asked>,
+    pub asks: Receiver<QueuedAsk>,
     pub links: Receiver<Waiting>,
 }
 
 /// A node that runs: its seat, what waits there, and what is known of its life.
 #[derive(Drop)]
-pub(crate) struct Node<C: Core> {
+pub(crate) struct RunningNode<C: Core> {
     pub name: NodeName,
     pub seat: Seat<C, Addressee>,
     pub queues: Queues,
@@ -61,9 +61,9 @@ pub(crate) struct Node<C: Core> {
     pub blank: Pending,
 }
 
-impl<C: Core> Node<C> {
+impl<C: Core> RunningNode<C> {
     pub(crate) fn new(alloc: Global, name: NodeName, desk: Desk<C>, queues: Queues) -> Self {
-        Node {
+        RunningNode {
             name,
             seat: Seat::new(alloc, desk),
             queues,
@@ -142,7 +142,7 @@ impl<C: Core> Node<C> {
 /// The ways to what waits at a node.
 #[derive(Drop)]
 pub(crate) struct Entrances {
-    pub asks: Sender<Asked>,
+    pub asks: Sender<QueuedAsk>,
     pub links: Sender<Waiting>,
 }
 
@@ -151,7 +151,7 @@ pub(crate) struct Entrances {
 #[derive(Drop)]
 pub(crate) struct Way<C: Core> {
     pub name: NodeName,
-    pub node: Option<Arc<Node<C>>>,
+    pub node: Option<Arc<RunningNode<C>>>,
     pub entrances: Option<Entrances>,
 }
 

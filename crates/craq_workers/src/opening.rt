@@ -7,7 +7,7 @@ ghost use Rattle.craq_place.specs.Plan.{IsPlan};
 
 use crate::bell::Bell;
 use crate::chain::{Chain, Open, Ways};
-use crate::node::{Entrances, Node, Queues, Way};
+use crate::node::{Entrances, Queues, RunningNode, Way};
 use crate::work::Worker;
 use craq_model::Config;
 use craq_names::{ChainId, NodeId, NodeName, Refusal, Stamp};
@@ -32,7 +32,7 @@ fn way_to<C: Core>(alloc: Global, name: &NodeName, desk: Desk<C>) -> Result<Way<
     let (to_asks, asks) = crossbeam_channel::unbounded(alloc)?;
     let (to_links, links) = crossbeam_channel::unbounded(alloc)?;
     let queues = Queues { asks, links };
-    let node = Arc::new(alloc, Node::new(alloc, *name, desk, queues))?;
+    let node = Arc::new(alloc, RunningNode::new(alloc, *name, desk, queues))?;
     Ok(Way {
         name: *name,
         node: Some(node),

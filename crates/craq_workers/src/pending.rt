@@ -1,4 +1,4 @@
-//! `Pending`: the last message of a kind of which one waits at a node at most; for `Node`.
+//! `Pending`: the last message of a kind of which one waits at a node at most; for `RunningNode`.
 use bytes::Bytes;
 use std::sync::atomic::{AtomicBool, Ordering};
 use std::sync::{Mutex, Wait};

@@ -1,5 +1,5 @@
-//! What the callers that a step answers are told, kept until its lock is free.
-use craq_letters::{Addressee, Reply};
+//! What the callers that a step answers are told, kept until its lock is free; for whoever takes a step.
+use craq_letters::{Addressee, Outcome};
 use craq_names::Ticket;
 use craq_seat::Caller;
 use std::alloc::{AllocFailed, Global};
@@ -9,7 +9,7 @@ use std::sync::Wait;
 #[derive(Drop)]
 struct Told {
     caller: Addressee,
-    reply: Reply,
+    reply: Outcome,
 }
 
 /// How many replies there is room for once there is one.
@@ -36,7 +36,7 @@ impl Replies {
     }
 
     /// A reply more. Where there is no room for it the caller is told at once.
-    pub(crate) fn add<R: Wait>(&mut self, rt: &R, caller: Addressee, reply: Reply) {
+    pub(crate) fn add<R: Wait>(&mut self, rt: &R, caller: Addressee, reply: Outcome) {
         if self.waiting.is_empty() {
             drop(self.waiting.reserve(ROOM));
         }
@@ -54,12 +54,13 @@ impl Replies {
     }
 }
 
-/// The caller that waits under this ticket, who then waits no more.
+/// The caller that waits under this ticket, who then waits no more. The others stay in their order: who asked first is answered
+/// first, and so found first.
 pub(crate) fn take_caller(
     callers: &mut Vec<Caller<Addressee>>,
     ticket: Ticket,
 ) -> Option<Addressee> {
     let place = callers.iter().position(|caller| caller.ticket == ticket)?;
-    let Caller { ticket: _, at } = callers.swap_remove(place);
+    let Caller { ticket: _, at } = callers.remove(place);
     Some(at)
 }

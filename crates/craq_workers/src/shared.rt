@@ -1,15 +1,17 @@
-//! What all threads of a store share, how a step's messages go out, and how one ask is served.
+//! What all threads of a store share, how a step's messages go out, and how one ask is served; called by workers and clients.
 ghost use Rattle.std.specs.Prelude.{◌≡◌, ◌<◌, ◌≤◌, IfErr, OnOk, length};
+ghost use Rattle.craq_calls.specs.Refused.{CanRefuse};
 
 use crate::carrying::carry_on;
 use crate::chain::Chain;
 use crate::gate::{Gate, Work};
-use crate::node::{Brought, Node};
+use crate::node::{Brought, RunningNode};
 use crate::replies::Replies;
-use crate::steps::{Asked, Served, refuse_asked, sent_by_node, take_own, take_queued};
-use craq_letters::{Addressee, Letterbox, Reply};
+use crate::steps::{QueuedAsk, SeatedNode, refuse_asked, sent_by_node, take_own, take_queued};
+use craq_calls::refusal_of_call;
+use craq_letters::{Addressee, Letterbox, Outcome};
 use craq_model::Ask;
-use craq_names::{ChainId, NodeName, Pass, Refusal};
+use craq_names::{ChainId, Copied, NodeName, Pass, Refusal};
 use craq_node::Core;
 use craq_seat::CallReceipt;
 use craq_sending::{Kind, Sent};
@@ -32,7 +34,7 @@ pub(crate) struct Return<'a> {
 }
 
 /// The reply in hand, or none where a letter will come.
-fn in_hand(reply: Option<Reply>) -> Result<Option<CallReceipt>, Refusal> {
+fn in_hand(reply: Option<Outcome>) -> Result<Option<CallReceipt>, Refusal> {
     match reply {
         None => Ok(None),
         Some(Ok(receipt)) => Ok(Some(receipt)),
@@ -90,8 +92,8 @@ impl<C: Core, G: Gate> Shared<C, G> {
         &self,
         rt: &R,
         alloc: Global,
-        node: &Node<C>,
-        seated: &Served<C>,
+        node: &RunningNode<C>,
+        seated: &SeatedNode<C>,
         quiet: bool,
     ) {
         let sent = sent_by_node(alloc, seated.desk.cell());
@@ -103,9 +105,9 @@ impl<C: Core, G: Gate> Shared<C, G> {
         &self,
         rt: &R,
         alloc: Global,
-        node: &Node<C>,
-        seated: &mut Served<C>,
-        asked: Asked,
+        node: &RunningNode<C>,
+        seated: &mut SeatedNode<C>,
+        asked: QueuedAsk,
         replies: &mut Replies,
         quiet: bool,
     ) {
@@ -117,7 +119,13 @@ impl<C: Core, G: Gate> Shared<C, G> {
     }
 
     /// A piece of a node's ask work: the step of one ask that was queued.
-    pub(crate) fn serve<R: Wait>(&self, rt: &R, alloc: Global, node: &Node<C>, asked: Asked) {
+    pub(crate) fn serve<R: Wait>(
+        &self,
+        rt: &R,
+        alloc: Global,
+        node: &RunningNode<C>,
+        asked: QueuedAsk,
+    ) {
         let count = node.next_piece();
         self.gate.before(node.name, Work::Asks, count);
         let mut replies = Replies::new(alloc);
@@ -134,14 +142,14 @@ impl<C: Core, G: Gate> Shared<C, G> {
         &self,
         rt: &R,
         alloc: Global,
-        node: &Node<C>,
-        seated: &mut Served<C>,
+        node: &RunningNode<C>,
+        seated: &mut SeatedNode<C>,
         ask: Ask,
         pass: Pass,
         back: Return<'_>,
         replies: &mut Replies,
         quiet: bool,
-    ) -> Option<Reply> {
+    ) -> Option<Outcome> {
         if node.is_closed() {
             drop(ask);
             return Some(Err(Refusal::Closed));
@@ -167,12 +175,12 @@ impl<C: Core, G: Gate> Shared<C, G> {
         &self,
         rt: &R,
         alloc: Global,
-        node: &Node<C>,
+        node: &RunningNode<C>,
         ask: Ask,
         pass: Pass,
         back: Return<'_>,
         quiet: bool,
-    ) -> Option<Reply> {
+    ) -> Option<Outcome> {
         let count = node.next_piece();
         self.gate.before(node.name, Work::Asks, count);
         let mut replies = Replies::new(alloc);
@@ -195,31 +203,46 @@ impl<C: Core, G: Gate> Shared<C, G> {
         reply
     }
 
-    /// Asks a node: the receipt of the call, or none where a letter will come.
+    /// Asks a node of this chain: the receipt of the call, or none where a letter will come. What is refused otherwise than such
+    /// an ask may be refused is `Closed`.
     pub(crate) fn submit<R: Wait>(
         &self,
         rt: &R,
         alloc: Global,
+        chain: &Chain<C>,
+        name: &NodeName,
+        ask: &Ask,
+        pass: Pass,
+        back: Return<'_>,
+        few: bool,
+    ) -> Result<Option<CallReceipt>, Refusal>
+        ensures { IfErr result (λ e. CanRefuse ask.now e) }
+    {
+        let asked = ask.copied(alloc)?;
+        match self.submit_own(rt, alloc, chain, name, asked, pass, back, few) {
+            Ok(found) => Ok(found),
+            Err(refusal) => Err(refusal_of_call(ask, refusal)),
+        }
+    }
+
+    /// The same with an ask of its own, in the way that the store's gate wants.
+    fn submit_own<R: Wait>(
+        &self,
+        rt: &R,
+        alloc: Global,
+        chain: &Chain<C>,
         name: &NodeName,
         ask: Ask,
         pass: Pass,
         back: Return<'_>,
         few: bool,
     ) -> Result<Option<CallReceipt>, Refusal> {
-        match self.chain(name.chain) {
-            Err(refusal) => {
-                drop(ask);
-                Err(refusal)
-            }
-            Ok(chain) => {
-                if self.gate.carried() {
-                    self.submit_carried(rt, alloc, chain, name, ask, pass, back, few)
-                } else if self.gate.in_place() {
-                    in_hand(self.serve_at(rt, alloc, chain, name, ask, pass, back, false))
-                } else {
-                    queue(rt, chain, name, ask, pass, back)
-                }
-            }
+        if self.gate.carried() {
+            self.submit_carried(rt, alloc, chain, name, ask, pass, back, few)
+        } else if self.gate.in_place() {
+            in_hand(self.serve_at(rt, alloc, chain, name, ask, pass, back, false))
+        } else {
+            queue(rt, chain, name, ask, pass, back)
         }
     }
 
@@ -261,7 +284,7 @@ impl<C: Core, G: Gate> Shared<C, G> {
         pass: Pass,
         back: Return<'_>,
         quiet: bool,
-    ) -> Option<Reply> {
+    ) -> Option<Outcome> {
         match chain.node(rt, name.node) {
             Err(refusal) => {
                 drop(ask);
@@ -287,7 +310,7 @@ fn queue<R: Wait, C: Core>(
             Err(Refusal::Memory)
         }
         Ok(caller) => {
-            chain.enqueue(rt, name.node, Asked { ask, pass, caller })?;
+            chain.enqueue(rt, name.node, QueuedAsk { ask, pass, caller })?;
             Ok(None)
         }
     }

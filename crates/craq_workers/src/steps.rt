@@ -1,4 +1,5 @@
 //! A step of a node whose seat is locked: an ask's or another event's, with its replies; and the messages of the last step.
+//! Called by `shared`, `work` and `store`, under the lock.
 ghost use Rattle.std.specs.Prelude.{◌≡◌, ◌⊎◌, [], None, IfSome};
 ghost use Rattle.std.specs.Option.{option_copied};
 ghost use Rattle.craq_node.specs.Represented.{CanArrive};
@@ -8,7 +9,7 @@ ghost use Rattle.craq_seat.specs.Numbered.{CanBeSent, numbered_from};
 ghost use Rattle.craq_sending.specs.Sent.{AreSentAs};
 
 use crate::replies::{Replies, take_caller};
-use craq_letters::{Addressee, Letterbox, Reply};
+use craq_letters::{Addressee, Letterbox, Outcome};
 use craq_model::{Ask, Event, Out, Step};
 use craq_names::{Pass, Refusal, Ticket};
 use craq_node::Core;
@@ -19,11 +20,11 @@ use std::mem;
 use std::sync::{Arc, Wait};
 
 /// A desk and its callers, each of whom waits for a letter.
-pub(crate) type Served<C> = Seated<C, Addressee>;
+pub(crate) type SeatedNode<C> = Seated<C, Addressee>;
 
 /// An ask on its way to a node: the pass that its caller shows, and where the caller waits.
 #[derive(Drop)]
-pub(crate) struct Asked {
+pub(crate) struct QueuedAsk {
     pub ask: Ask,
     pub pass: Pass,
     pub caller: Addressee,
@@ -33,7 +34,7 @@ pub(crate) struct Asked {
 #[derive(Drop)]
 struct Taken {
     ticket: Option<Ticket>,
-    reply: Option<Reply>,
+    reply: Option<Outcome>,
 }
 
 /// What a step sends, under its receipt. Without memory it is lost.
@@ -88,7 +89,7 @@ fn answer<R: Wait>(
     receipts: Vec<CallReceipt>,
     ticket: Option<Ticket>,
     replies: &mut Replies,
-) -> Option<Reply> {
+) -> Option<Outcome> {
     let mut own = None;
     for receipt in receipts {
         if ticket == Some(receipt.ticket()) {
@@ -125,11 +126,11 @@ fn give_up_step<R: Wait>(
 /// After a step: the callers that it answers have their replies. The reply of this ticket is given.
 fn finish<R: Wait, C: Core>(
     rt: &R,
-    seated: &mut Served<C>,
+    seated: &mut SeatedNode<C>,
     calls: Result<Vec<CallReceipt>, AllocError>,
     ticket: Option<Ticket>,
     replies: &mut Replies,
-) -> Option<Reply> {
+) -> Option<Outcome> {
     match calls {
         Ok(receipts) => answer(rt, &mut seated.callers, receipts, ticket, replies),
         Err(_) => {
@@ -145,7 +146,7 @@ fn finish<R: Wait, C: Core>(
 pub(crate) fn take_event<R: Wait, C: Core>(
     rt: &R,
     alloc: Global,
-    seated: &mut Served<C>,
+    seated: &mut SeatedNode<C>,
     event: Event,
     replies: &mut Replies,
 ) -> bool
@@ -165,7 +166,7 @@ pub(crate) fn take_event<R: Wait, C: Core>(
 fn take_ask<R: Wait, C: Core>(
     rt: &R,
     alloc: Global,
-    seated: &mut Served<C>,
+    seated: &mut SeatedNode<C>,
     ask: Ask,
     pass: Pass,
     replies: &mut Replies,
@@ -189,11 +190,11 @@ fn take_ask<R: Wait, C: Core>(
 pub(crate) fn take_queued<R: Wait, C: Core>(
     rt: &R,
     alloc: Global,
-    seated: &mut Served<C>,
-    asked: Asked,
+    seated: &mut SeatedNode<C>,
+    asked: QueuedAsk,
     replies: &mut Replies,
 ) -> bool {
-    let Asked { ask, pass, caller } = asked;
+    let QueuedAsk { ask, pass, caller } = asked;
     match take_ask(rt, alloc, seated, ask, pass, replies) {
         Err(refusal) => {
             replies.add(rt, caller, Err(refusal));
@@ -207,8 +208,8 @@ pub(crate) fn take_queued<R: Wait, C: Core>(
 }
 
 /// An ask that was queued is refused, since the store is closed.
-pub(crate) fn refuse_asked<R: Wait>(rt: &R, asked: Asked, replies: &mut Replies) {
-    let Asked {
+pub(crate) fn refuse_asked<R: Wait>(rt: &R, asked: QueuedAsk, replies: &mut Replies) {
+    let QueuedAsk {
         ask,
         pass: _,
         caller,
@@ -220,7 +221,7 @@ pub(crate) fn refuse_asked<R: Wait>(rt: &R, asked: Asked, replies: &mut Replies)
 /// The caller of an ask that was taken is told, where there is a reply, or waits.
 fn settle<R: Wait, C: Core>(
     rt: &R,
-    seated: &mut Served<C>,
+    seated: &mut SeatedNode<C>,
     caller: Addressee,
     taken: Taken,
     replies: &mut Replies,
@@ -235,7 +236,7 @@ fn settle<R: Wait, C: Core>(
 /// The caller waits under this ticket.
 fn wait_at<R: Wait, C: Core>(
     rt: &R,
-    seated: &mut Served<C>,
+    seated: &mut SeatedNode<C>,
     caller: Addressee,
     ticket: Option<Ticket>,
     replies: &mut Replies,
@@ -256,13 +257,13 @@ fn wait_at<R: Wait, C: Core>(
 pub(crate) fn take_own<R: Wait, C: Core>(
     rt: &R,
     alloc: Global,
-    seated: &mut Served<C>,
+    seated: &mut SeatedNode<C>,
     ask: Ask,
     pass: Pass,
     letters: &Arc<Letterbox>,
     token: usize,
     replies: &mut Replies,
-) -> (bool, Option<Reply>) {
+) -> (bool, Option<Outcome>) {
     match take_ask(rt, alloc, seated, ask, pass, replies) {
         Err(refusal) => (false, Some(Err(refusal))),
         Ok(taken) => {
@@ -281,12 +282,12 @@ pub(crate) fn take_own<R: Wait, C: Core>(
 /// The caller's letter will come, under this ticket. Where there is no room for it, that is the reply.
 fn expect_letter<R: Wait, C: Core>(
     rt: &R,
-    seated: &mut Served<C>,
+    seated: &mut SeatedNode<C>,
     ticket: Option<Ticket>,
     letters: &Arc<Letterbox>,
     token: usize,
     replies: &mut Replies,
-) -> Option<Reply> {
+) -> Option<Outcome> {
     match Addressee::expect(rt, letters, token) {
         Err(_) => Some(Err(Refusal::Memory)),
         Ok(caller) => {
@@ -302,6 +303,9 @@ fn last_ticket(step: Option<&Step>) -> Option<Ticket> {
 }
 
 /// All callers that wait, who then wait no more.
-pub(crate) fn dismiss<C: Core>(alloc: Global, seated: &mut Served<C>) -> Vec<Caller<Addressee>> {
+pub(crate) fn dismiss<C: Core>(
+    alloc: Global,
+    seated: &mut SeatedNode<C>,
+) -> Vec<Caller<Addressee>> {
     mem::replace(&mut seated.callers, Vec::new(alloc))
 }

@@ -1,13 +1,13 @@
-//! What each thread of a store does, from its start to its end.
+//! What each thread of a store does, from its start to its end; called in the threads that `store` makes.
 ghost use Rattle.craq_node.specs.Represented.{CanArrive};
 
 use crate::carrying::carry;
 use crate::chain::Chain;
 use crate::gate::{Gate, Work};
-use crate::node::{Node, Waiting};
+use crate::node::{RunningNode, Waiting};
 use crate::replies::Replies;
 use crate::shared::Shared;
-use crate::steps::{Served, sent_by_book, take_event};
+use crate::steps::{SeatedNode, sent_by_book, take_event};
 use bytes::Bytes;
 use craq_model::Event;
 use craq_names::{ChainId, NodeId, NodeName, Pass};
@@ -23,9 +23,9 @@ use std::sync::{Arc, Wait};
 #[derive(Drop)]
 pub(crate) enum Worker<C: Core> {
     /// Takes the asks of a node.
-    Asks(Arc<Node<C>>),
+    Asks(Arc<RunningNode<C>>),
     /// Takes what arrives at a node, and its ticks.
-    Links(Arc<Node<C>>),
+    Links(Arc<RunningNode<C>>),
     /// Takes what waits at the nodes of a chain, in turns.
     Carrier(ChainId),
     /// Takes the ticks of a chain's master.
@@ -54,7 +54,7 @@ fn take_asks<R: Wait, C: Core, G: Gate>(
     rt: &R,
     alloc: Global,
     shared: &Shared<C, G>,
-    node: &Node<C>,
+    node: &RunningNode<C>,
 ) {
     for _ in rt.forever() {
         let Ok(asked) = node.queues.asks.recv(rt) else {
@@ -68,7 +68,7 @@ fn take_links<R: Wait, C: Core, G: Gate>(
     rt: &R,
     alloc: Global,
     shared: &Shared<C, G>,
-    node: &Node<C>,
+    node: &RunningNode<C>,
 ) {
     let mut count = 0u64;
     for _ in rt.forever() {
@@ -87,7 +87,7 @@ fn deliver<R: Wait, C: Core, G: Gate>(
     rt: &R,
     alloc: Global,
     shared: &Shared<C, G>,
-    node: &Node<C>,
+    node: &RunningNode<C>,
     waiting: Waiting,
     count: u64,
 ) {
@@ -113,8 +113,8 @@ pub(crate) fn take_brought<R: Wait, C: Core, G: Gate>(
     rt: &R,
     alloc: Global,
     shared: &Shared<C, G>,
-    node: &Node<C>,
-    seated: &mut Served<C>,
+    node: &RunningNode<C>,
+    seated: &mut SeatedNode<C>,
     waiting: Waiting,
     replies: &mut Replies,
     quiet: bool,
@@ -149,8 +149,8 @@ fn hear<R: Wait, C: Core, G: Gate>(
     rt: &R,
     alloc: Global,
     shared: &Shared<C, G>,
-    node: &Node<C>,
-    seated: &mut Served<C>,
+    node: &RunningNode<C>,
+    seated: &mut SeatedNode<C>,
     bytes: Bytes,
     replies: &mut Replies,
     quiet: bool,
@@ -166,8 +166,8 @@ fn step<R: Wait, C: Core, G: Gate>(
     rt: &R,
     alloc: Global,
     shared: &Shared<C, G>,
-    node: &Node<C>,
-    seated: &mut Served<C>,
+    node: &RunningNode<C>,
+    seated: &mut SeatedNode<C>,
     event: Event,
     replies: &mut Replies,
     quiet: bool,

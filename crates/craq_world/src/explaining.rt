@@ -1,4 +1,4 @@
-//! `explain_run`: the explanation of any run, valid by the theorem.
+//! `explain_run`: the explanation of any run, valid by the theorem; for tests, which explain audited runs with it.
 ghost use Rattle.std.specs.Prelude.{◌≡◌, ℕ, IfOk};
 ghost use Rattle.craq_runs.specs.Explain.{explain};
 ghost use Rattle.craq_runs.specs.Runs.{IsRun, IsRunOf};

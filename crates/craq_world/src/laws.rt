@@ -1,4 +1,4 @@
-//! Laws of worlds: chains do not touch one another.
+//! Laws of worlds: chains do not touch one another; no code calls them, they are stated for readers.
 ghost use Rattle.std.specs.Prelude.{◌≡◌, ℕ, List, Some, slice_get};
 ghost use Rattle.craq_chain.specs.Chained.{Chained, opened};
 ghost use Rattle.craq_world.specs.Apart.{Execution, HadMemory, chain_after, chosen_in, given_to, taken_by};

@@ -1,4 +1,4 @@
-//! `World`, the primary object of the crate: 1 to 64 chains, with the promise in the contracts of its calls.
+//! `World`, the primary object of the crate: 1 to 64 chains, with the promise in the contracts of its calls; for tests.
 ghost use Rattle.std.specs.Prelude.{◌≡◌, ◌≢◌, ◌≤◌, ◌<◌, ◌+◌, ◌⊎◌, ◌↔◌, ℕ, Some, None, Err, IfOk, IfErr, IsTrue, OnOk, OnErr, length, slice_get};
 ghost use Rattle.std.specs.List.{AllByRecursion};
 ghost use Rattle.craq_model.specs.Members.{IsMembership};

@@ -1,4 +1,4 @@
-//! A node that joined, and gathers a state that comes in parts.
+//! A node that joined, and gathers a state that comes in parts; called by `craq_node`.
 ghost use Rattle.std.specs.Prelude.{◌≡◌, ◌==◌, ◌+◌, ◌++◌, length, T, true, false, is_some, List, ℕ, All, IfOk, IsOk, IsSome};
 ghost use Rattle.std.specs.List.{list_all};
 ghost use Rattle.std.specs.Ordering.{nat_cmp};

@@ -1,4 +1,4 @@
-//! The update rules of a node: each call plans what changes and what is sent, and changes nothing.
+//! The update rules of a node: each call plans what changes and what is sent, and changes nothing; called by `craq_node`.
 //! Code that runs in the program.
 #![tactic(auto)]
 

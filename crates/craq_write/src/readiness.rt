@@ -1,4 +1,5 @@
-//! A node that joined: entries, states and floors that reach it until it is ready.
+//! A node that joined: entries, states and floors that reach it until it is ready; called by `craq_node`, `deliveries` and
+//! `gathering`.
 ghost use Rattle.std.specs.Prelude.{◌≡◌, ◌≤◌, ◌+◌, ◌==◌, ◌++◌, [], length, Some, true, false, if◌then◌else◌, OnOk, IfOk, IsOk, IsSome};
 ghost use Rattle.craq_model.specs.Deliveries.{copy_turn, floor_turn, with_copy};
 ghost use Rattle.craq_model.specs.Plain.{length_of, with_entries};

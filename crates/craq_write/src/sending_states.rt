@@ -1,4 +1,4 @@
-//! A state as it is sent: whole, or in parts. Its items are moved into the messages, not copied.
+//! A state as it is sent: whole, or in parts. Its items are moved into the messages, not copied. Called by `deliveries`.
 ghost use Rattle.std.specs.Prelude.{◌≡◌, ◌<◌, ◌++◌, map, take, drop, IfOk, IfErr, OnOk, MatchOption};
 ghost use Rattle.craq_names.specs.Limits.{greatest_count};
 ghost use Rattle.craq_model.specs.declared.message.Body.TheVariants.{Part as part_body};
@@ -9,20 +9,17 @@ ghost use Rattle.craq_write.specs.Sent.{CannotSend};
 
 use craq_commands::State;
 use craq_history::outs::{Sender, message};
-use craq_model::{Body, Out, StatePart};
+use craq_model::{Body, Out, PART_LIMIT, StatePart};
 use craq_names::{Items, NodeId, Refusal, Seq};
 use std::alloc::{AllocError, Global};
 use std::collections::VecDeque;
-
-/// How many items of a state a message holds at most.
-const PART_LENGTH: usize = 64;
 
 /// How many parts a state has, where 32 bits count them.
 fn part_count_of(state: &State) -> Option<u32>
     ensures { MatchOption result (greatest_count < part_count state.now) (λ count. count ≡ part_count state.now) }
 {
     let items = state.objects.len() as u128 + state.kept.len() as u128;
-    let count = items.div_ceil(PART_LENGTH as u128);
+    let count = items.div_ceil(PART_LIMIT as u128);
     if count > u32::MAX as u128 {
         return None;
     }
@@ -56,7 +53,7 @@ fn cut_into_parts(
     let objects_in_all = objects.len();
     let mut parts = VecDeque::new(alloc);
     for place in (0..count).rev() {
-        let from = place as usize * PART_LENGTH;
+        let from = place as usize * PART_LIMIT;
         let last_objects = take_from(&mut objects, from, alloc)?;
         let last_kept = take_from(&mut kept, from.saturating_sub(objects_in_all), alloc)?;
         parts.push_front(StatePart {

@@ -1,4 +1,4 @@
-//! Settling in a membership, and what a node repeats in it.
+//! Settling in a membership, and what a node repeats in it; called by `craq_node`.
 ghost use Rattle.std.specs.Prelude.{◌≡◌, ◌&&◌, ◌==◌, ◌++◌, true, false, Some, OnOk, OnErr, IfOk, IsOk, IsSome};
 ghost use Rattle.craq_model.specs.Deliveries.{config_turn};
 ghost use Rattle.craq_model.specs.Members.{last_of};

@@ -1,4 +1,4 @@
-//! `plan_update`: the rule of an update that is asked, at the head.
+//! `plan_update`: the rule of an update that is asked, at the head; called by `craq_node`.
 ghost use Rattle.std.specs.Prelude.{◌≡◌, ◌<◌, ◌+◌, ◌-◌, ◌^◌, ◌∷◌, [], true, false, Some, None, ◌||◌, if◌then◌else◌, not, nat_le, IfOk};
 ghost use Rattle.craq_commands.specs.SingleCopy.{said};
 ghost use Rattle.craq_model.specs.Asks.{reply_turn, update_turn, new_update_turn, committed_if_last, is_full};

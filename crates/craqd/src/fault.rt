@@ -1,4 +1,5 @@
-//! Why `craqd` ends or serves nothing, with the text and the status of each reason.
+//! Why `craqd` ends or serves nothing, with the text and the status of each reason; for `main`, `serving`, `plans`, `audits`
+//! and `closing`.
 use craq_line::{BAD_INPUT, report_memory};
 use craq_names::Refusal;
 use std::alloc::{AllocError, AllocFailed};

@@ -1,4 +1,4 @@
-//! The program: `craqd [OPTION ..] PLAN ADDRESS`.
+//! The program that runs and serves the store of a plan, which `./serve` starts too: `craqd [OPTION ..] PLAN ADDRESS`.
 #![tactic(auto)]
 
 mod audits;

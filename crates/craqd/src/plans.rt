@@ -1,4 +1,4 @@
-//! The plan of a file.
+//! The plan of a file; called by `serving`.
 ghost use Rattle.std.specs.Prelude.{IfOk};
 ghost use Rattle.craq_place.specs.Plan.{IsPlan};
 

@@ -64,6 +64,10 @@ for_memory node pass ask e = e ≡ Memory
 abbrev pub or_memory : Refusing → Refusing
 or_memory refuses node pass ask e = (e ≡ Memory) ⊎ refuses node pass ask e
 
+-- for want of memory too, where this holds
+abbrev pub or_memory_where : Type 0 → Refusing → Refusing
+or_memory_where lacks refuses node pass ask e = ((e ≡ Memory) × lacks) ⊎ refuses node pass ask e
+
 -- which refusals can come in the place of a reply: of a call one with which it may be refused; of a status want of memory alone
 abbrev pub CanRefuse : Refusing → ClientMessage → Refusal → Type 0
 CanRefuse refuses (messages.Update node pass update) e = refuses (name_of node (asks.Update update)) pass (asks.Update update) e

@@ -1,8 +1,10 @@
 //! What a caller learns of its call: the answer, once the receipt that it was told is known to be of that call, and its
-//! pass after the answer.
+//! pass after the answer; or with what it is refused.
 //! Code that runs in the programs.
 #![tactic(auto)]
 
 mod answering;
+mod refusing;
 
 pub use answering::{answer_of_call, pass_after};
+pub use refusing::refusal_of_call;

@@ -11,7 +11,7 @@ use craq_door::{Callee, Question};
 use craq_frames::Text;
 use craq_letters::Letterbox;
 use craq_model::{Answer, Ask};
-use craq_names::{Copied, NodeName, Pass, Refusal};
+use craq_names::{NodeName, Pass, Refusal};
 use craq_node::Core;
 use craq_seat::CallReceipt;
 use craq_workers::{Gate, Store};
@@ -102,11 +102,6 @@ where
         if !self.passes.takes(*pass) {
             return Err(Refusal::Exhausted);
         }
-        let node = NodeName {
-            chain: node.chain,
-            node: node.node,
-        };
-        let ask = ask.copied(self.alloc)?;
         let found = self
             .store
             .submit(&self.rt, node, ask, *pass, letters, token, few)?;

@@ -1,5 +1,6 @@
 //! What all threads of a store share, how a step's messages go out, and how one ask is served; called by workers and clients.
 ghost use Rattle.std.specs.Prelude.{◌≡◌, ◌<◌, ◌≤◌, IfErr, OnOk, length};
+ghost use Rattle.craq_calls.specs.Refused.{CanRefuse};
 
 use crate::carrying::carry_on;
 use crate::chain::Chain;
@@ -7,9 +8,10 @@ use crate::gate::{Gate, Work};
 use crate::node::{Brought, RunningNode};
 use crate::replies::Replies;
 use crate::steps::{QueuedAsk, SeatedNode, refuse_asked, sent_by_node, take_own, take_queued};
+use craq_calls::refusal_of_call;
 use craq_letters::{Addressee, Letterbox, Reply};
 use craq_model::Ask;
-use craq_names::{ChainId, NodeName, Pass, Refusal};
+use craq_names::{ChainId, Copied, NodeName, Pass, Refusal};
 use craq_node::Core;
 use craq_seat::CallReceipt;
 use craq_sending::{Kind, Sent};
@@ -201,31 +203,46 @@ impl<C: Core, G: Gate> Shared<C, G> {
         reply
     }
 
-    /// Asks a node: the receipt of the call, or none where a letter will come.
+    /// Asks a node of this chain: the receipt of the call, or none where a letter will come. What is refused otherwise than such
+    /// an ask may be refused is `Closed`.
     pub(crate) fn submit<R: Wait>(
         &self,
         rt: &R,
         alloc: Global,
+        chain: &Chain<C>,
+        name: &NodeName,
+        ask: &Ask,
+        pass: Pass,
+        back: Return<'_>,
+        few: bool,
+    ) -> Result<Option<CallReceipt>, Refusal>
+        ensures { IfErr result (λ e. CanRefuse ask.now e) }
+    {
+        let asked = ask.copied(alloc)?;
+        match self.submit_own(rt, alloc, chain, name, asked, pass, back, few) {
+            Ok(found) => Ok(found),
+            Err(refusal) => Err(refusal_of_call(ask, refusal)),
+        }
+    }
+
+    /// The same with an ask of its own, in the way that the store's gate wants.
+    fn submit_own<R: Wait>(
+        &self,
+        rt: &R,
+        alloc: Global,
+        chain: &Chain<C>,
         name: &NodeName,
         ask: Ask,
         pass: Pass,
         back: Return<'_>,
         few: bool,
     ) -> Result<Option<CallReceipt>, Refusal> {
-        match self.chain(name.chain) {
-            Err(refusal) => {
-                drop(ask);
-                Err(refusal)
-            }
-            Ok(chain) => {
-                if self.gate.carried() {
-                    self.submit_carried(rt, alloc, chain, name, ask, pass, back, few)
-                } else if self.gate.in_place() {
-                    in_hand(self.serve_at(rt, alloc, chain, name, ask, pass, back, false))
-                } else {
-                    queue(rt, chain, name, ask, pass, back)
-                }
-            }
+        if self.gate.carried() {
+            self.submit_carried(rt, alloc, chain, name, ask, pass, back, few)
+        } else if self.gate.in_place() {
+            in_hand(self.serve_at(rt, alloc, chain, name, ask, pass, back, false))
+        } else {
+            queue(rt, chain, name, ask, pass, back)
         }
     }
 

@@ -1,6 +1,7 @@
 //! `Store`, the primary object of the crate: it starts, stops, removes, joins and closes; for whoever runs a store.
-ghost use Rattle.std.specs.Prelude.{◌≡◌, ◌≤◌, IfErr, IfOk, OnOk, map, string_bytes};
+ghost use Rattle.std.specs.Prelude.{◌≡◌, ◌≤◌, ◌↔◌, Err, IfErr, IfOk, OnOk, length, map, string_bytes};
 ghost use Rattle.craq_place.specs.Plan.{IsPlan};
+ghost use Rattle.craq_workers.specs.Clients.{RefusesAsk};
 
 use crate::chain::{Chain, refuse_queued};
 use crate::client::Client;
@@ -134,9 +135,9 @@ impl<C: Core, G: Gate> Store<C, G> {
         self.form.journal
     }
 
-    /// A client with this pass. It fails for want of memory alone.
+    /// A client of the store's chains, with this pass. It fails for want of memory alone.
     pub fn client(&self, pass: Pass) -> Result<Client<C, G>, AllocError>
-        ensures { IfOk result (λ c. c ≡ pass) }
+        ensures { IfOk result (λ c. c ≡ record { chains = length self.now.names; pass = pass }) }
     {
         Ok(Client::new(self.alloc, Arc::try_clone(&self.shared)?, pass))
     }
@@ -147,20 +148,24 @@ impl<C: Core, G: Gate> Store<C, G> {
     /// made it (`craq_calls::answer_of_call` tells whether it is the call's own). `few` tells that the caller has few asks at
     /// hand, and may take their steps itself and carry them on.
     ///
-    /// Refused, and then no letter comes: as `Client::call` is.
+    /// Refused, and then no letter comes: as `Client::call` is, `UnknownChain` exactly where the store has no such chain.
     pub fn submit<R: Wait>(
         &self,
         rt: &R,
-        node: NodeName,
-        ask: Ask,
+        node: &NodeName,
+        ask: &Ask,
         pass: Pass,
         letters: &Arc<Letterbox>,
         token: usize,
         few: bool,
-    ) -> Result<Option<CallReceipt>, Refusal> {
+    ) -> Result<Option<CallReceipt>, Refusal>
+        ensures unknown { (result ≡ Err Refusal.UnknownChain) ↔ (length self.now.names ≤ node.now.chain) }
+        ensures refused { IfErr result (λ e. RefusesAsk (length self.now.names) node.now ask.now e) }
+    {
+        let chain = self.shared.chain(node.chain)?;
         let back = Return { letters, token };
         self.shared
-            .submit(rt, self.alloc, &node, ask, pass, back, few)
+            .submit(rt, self.alloc, chain, node, ask, pass, back, few)
     }
 
     /// Each chain's master, and each node that runs, is to send again what others may lack.

@@ -1,0 +1,17 @@
+-- What a contract sees of a client of a store that runs, and with what its calls may be refused.
+use Rattle.std.specs.Prelude.{◌≡◌, ◌<◌, ◌≤◌, ◌⊎◌, ℕ}
+use Rattle.craq_names.specs.declared.name.NodeName.{NodeName}
+use Rattle.craq_names.specs.declared.refusal.Refusal.{Refusal}
+use Rattle.craq_names.specs.declared.refusal.Refusal.TheVariants.{UnknownChain}
+use Rattle.craq_calls.specs.Refused.{CanRefuse}
+use Rattle.craq_model.specs.declared.ask.Ask.{Ask}
+
+-- how many chains the client's store has, by ids from 0, and the largest stamp that the client has seen
+pub record Asker : Type 0 where
+  pub chains : ℕ
+  pub pass : ℕ
+
+-- with what a store of so many chains may refuse an ask of a node: it has no such chain; or it has it, and such an ask may be
+-- refused so
+abbrev pub RefusesAsk : ℕ → NodeName → Ask → Refusal → Type 0
+RefusesAsk chains node ask e = ((e ≡ UnknownChain) × (chains ≤ node.chain)) ⊎ ((node.chain < chains) × CanRefuse ask e)

@@ -41,13 +41,13 @@ where
     C: Core + Send + 'static,
     G: Gate + Send + Sync + 'static,
 {
-    ghost use Rattle.std.specs.Prelude.{⊤};
+    ghost use Rattle.std.specs.Prelude.{length};
+    ghost use Rattle.craq_server.specs.Refusing.{RefusesServed};
     ghost use Rattle.craq_server.specs.Status.{TellsStatus};
 
     ghost tells = { λ crew text. TellsStatus crew.callee.store.now.names text };
 
-    // No contract says with what a store refuses a call.
-    ghost refuses = { λ crew node pass ask refusal. ⊤ };
+    ghost refuses = { λ crew node pass ask refusal. RefusesServed (length crew.callee.store.now.names) node ask refusal };
 
     fn call(&self, node: NodeName, pass: Pass, ask: Ask) -> Result<(Answer, CallReceipt), Refusal> {
         self.callee.call(node, pass, ask)

@@ -1,6 +1,7 @@
 //! `ServedStore`: a store that runs, as the door of a connection calls it; made by `accepting` and `crews`.
-ghost use Rattle.std.specs.Prelude.{⊤, IfOk};
+ghost use Rattle.std.specs.Prelude.{IfErr, IfOk, length};
 ghost use Rattle.craq_calls.specs.Calls.{IsCallOf};
+ghost use Rattle.craq_server.specs.Refusing.{RefusesServed};
 ghost use Rattle.craq_server.specs.Status.{TellsStatus};
 
 use crate::logging::Log;
@@ -40,8 +41,7 @@ where
 {
     ghost tells = { λ store text. TellsStatus store.store.now.names text };
 
-    // No contract says with what a store refuses a call.
-    ghost refuses = { λ store node pass ask refusal. ⊤ };
+    ghost refuses = { λ store node pass ask refusal. RefusesServed (length store.store.now.names) node ask refusal };
 
     fn call(&self, node: NodeName, pass: Pass, ask: Ask) -> Result<(Answer, CallReceipt), Refusal> {
         let called = self.ask(node, pass, ask);
@@ -65,7 +65,8 @@ where
     /// Asks a node, with this pass: the answer, and the receipt of the call. Refused as the store refuses the call, or
     /// (`Exhausted`) for the pass.
     fn ask(&self, node: NodeName, pass: Pass, ask: Ask) -> Result<(Answer, CallReceipt), Refusal>
-        ensures { IfOk result (λ r. IsCallOf node ask pass r.0 r.1) }
+        ensures called { IfOk result (λ r. IsCallOf node ask pass r.0 r.1) }
+        ensures refused { IfErr result (λ e. RefusesServed (length self.now.store.now.names) node ask e) }
     {
         if !self.passes.takes(pass) {
             drop(ask);
@@ -90,14 +91,17 @@ where
     }
 
     /// Makes a call without waiting: its receipt where it is in hand, or none, and then a letter with this token comes. A call
-    /// whose pass leaps too far is refused (`Exhausted`). `few` tells that the caller has few asks at hand.
+    /// whose pass leaps too far is refused (`Exhausted`), else as `Store::submit` is. `few` tells that the caller has few asks at
+    /// hand.
     pub(crate) fn submit(
         &self,
         question: &Question,
         letters: &Arc<Letterbox>,
         token: usize,
         few: bool,
-    ) -> Result<Option<CallReceipt>, Refusal> {
+    ) -> Result<Option<CallReceipt>, Refusal>
+        ensures { IfErr result (λ e. RefusesServed (length self.now.store.now.names) question.now.node question.now.ask e) }
+    {
         let Question { node, pass, ask } = question;
         if !self.passes.takes(*pass) {
             return Err(Refusal::Exhausted);

@@ -1,0 +1,11 @@
+-- With what a served store may refuse a call.
+use Rattle.std.specs.Prelude.{◌≡◌, ◌⊎◌, ℕ}
+use Rattle.craq_names.specs.declared.name.NodeName.{NodeName}
+use Rattle.craq_names.specs.declared.refusal.Refusal.{Refusal}
+use Rattle.craq_names.specs.declared.refusal.Refusal.TheVariants.{Exhausted, Memory}
+use Rattle.craq_model.specs.declared.ask.Ask.{Ask}
+use Rattle.craq_workers.specs.Clients.{RefusesAsk}
+
+-- the pass is too far above those that were told, or memory lacks; or as a store of so many chains may refuse the ask
+abbrev pub RefusesServed : ℕ → NodeName → Ask → Refusal → Type 0
+RefusesServed chains node ask e = (e ≡ Exhausted) ⊎ ((e ≡ Memory) ⊎ RefusesAsk chains node ask e)

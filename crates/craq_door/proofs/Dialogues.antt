@@ -1,5 +1,5 @@
 -- What was made due stays an answer to what came, step by step.
-use Rattle.std.proofs.Common.{◌≡◌, ℕ, List, [], ◌∷◌, ◌++◌, inl, inr, Option, None, Some, Result, Ok, Err, refl, sym, ap, ◌∙◌, append_assoc, subst}
+use Rattle.std.proofs.Common.{◌≡◌, ℕ, List, [], ◌∷◌, ◌++◌, Option, None, Some, Ok, Err, refl, sym, ap, ◌∙◌, append_assoc, subst}
 use Rattle.std.proofs.lemmas.List.{append-nil}
 use Rattle.craq_names.specs.declared.refusal.Refusal.{Refusal}
 use Rattle.craq_names.specs.declared.refusal.Refusal.TheVariants as refusals
@@ -7,12 +7,20 @@ use Rattle.craq_frames.specs.declared.ask.ClientMessage.{ClientMessage}
 use Rattle.craq_frames.specs.declared.answer.ClientReply.{ClientReply}
 use Rattle.craq_frames.specs.Frame.{frame}
 use Rattle.craq_front.specs.declared.conversation.Asking.{Asking}
+use Rattle.craq_front.specs.declared.conversation.Conversation.{Conversation}
 use Rattle.craq_front.specs.declared.conversation.Step.TheVariants.{Ask, Refused, Nothing}
 use Rattle.craq_front.specs.Serving.{Served, Session, idle, begun, neither}
 use Rattle.craq_front.specs.Steps.{Advances, Follows}
 use Rattle.craq_front.specs.Talk.{History, next_turn, UnderWay, Stands, between, within}
 use Rattle.craq_front.proofs.Answering.{cut_off}
 use Rattle.craq_front.proofs.Talks.{stands_asked, stands_received, stands_refused, stands_replied}
+use Rattle.craq_door.specs.declared.calls.DoorCalls.{DoorCalls}
+use Rattle.craq_door.specs.declared.dialogue.Phase.{Phase}
+use Rattle.craq_door.specs.declared.dialogue.Phase.TheVariants as phases
+use Rattle.craq_door.specs.declared.dialogue.Stepped.{Stepped}
+use Rattle.craq_door.specs.declared.dialogue.Stepped.TheVariants as steps
+use Rattle.craq_door.specs.declared.question.Question.{Question}
+use Rattle.craq_door.specs.Dialogues.{Continues, Found, KeepsRoom}
 
 -- the bytes that were written and those that are due, with more due
 more_due : (written old new due : List ℕ) → new ≡ old ++ due → (written ++ old) ++ due ≡ written ++ new
@@ -99,3 +107,16 @@ then_received read written o n i j more a b turns out input asking s =
 pub then_deaf : (read written o n i more : List ℕ) (a : Option Asking) (turns : History)
     → n ≡ o → Stands read (written ++ o) i a None turns → Session next_turn [] (read ++ more) (written ++ n) turns neither (Err refusals.Memory)
 then_deaf read written o n i more a turns out s = then_ended (read ++ more) written o n (i ++ more) a turns out (stands_received read (written ++ o) i more a None turns s)
+
+-- after a turn, and after a look for the next frame, no call is under way, so no room is needed
+pub continues_room : (p : Phase) (t u : Conversation) (calls : DoorCalls) → Continues p t u → KeepsRoom p calls
+continues_room p t u calls h = λ q is. absurd (subst (λ (x : Phase). Continues x t u) is h)
+
+not_found : (q : Question) (s : Stepped) (t u : Conversation) → Found (phases.Waits q) s t u → ⊥
+not_found q steps.Goes t u h = h
+not_found q steps.Calls t u h = h
+not_found q steps.Starved t u h = h
+not_found q steps.Stays t u h = h
+
+pub found_room : (p : Phase) (s : Stepped) (t u : Conversation) (calls : DoorCalls) → Found p s t u → KeepsRoom p calls
+found_room p s t u calls h = λ q is. absurd (not_found q s t u (subst (λ (x : Phase). Found x s t u) is h))

@@ -1,8 +1,8 @@
 -- What the halves of a turn come to.
-use Rattle.std.proofs.Common.{◌≡◌, ℕ, List, Result, Ok, Err, IfOk, IfErr, OnErr, refl, sym, subst}
+use Rattle.std.proofs.Common.{◌≡◌, ◌↔◌, ◌∙◌, ℕ, List, Result, Ok, Err, IfOk, IfErr, OnErr, inl, inr, refl, sym, ap, subst}
 use Rattle.std.proofs.lemmas.Result.{IfOk-weaker, IfErr-weaker}
 use Rattle.craq_names.specs.declared.refusal.Refusal.{Refusal}
-use Rattle.craq_names.specs.declared.refusal.Refusal.TheVariants.{Memory}
+use Rattle.craq_names.specs.declared.refusal.Refusal.TheVariants.{BadFrame, Closed, Memory}
 use Rattle.craq_model.specs.declared.ask.Answer.{Answer}
 use Rattle.craq_model.specs.declared.ask.Answer.TheVariants as answers
 use Rattle.craq_model.specs.declared.ask.Ask.{Ask}
@@ -11,7 +11,10 @@ use Rattle.craq_frames.specs.declared.ask.ClientMessage.{ClientMessage}
 use Rattle.craq_frames.specs.declared.ask.ClientMessage.TheVariants as messages
 use Rattle.craq_frames.specs.declared.answer.ClientReply.{ClientReply}
 use Rattle.craq_frames.specs.declared.answer.ClientReply.TheVariants as replies
+use Rattle.craq_front.specs.Door.{IsAllowed}
 use Rattle.craq_seat.specs.Calls.{Called}
+use Rattle.craq_door.specs.declared.question.Question.{Question}
+use Rattle.craq_door.specs.Halves.{CanComeBack, IsAnothers, RefusesCall}
 use Rattle.craq_door.specs.Turns.{message_of, reply_of, name_of, for_memory, Refusing, CanRefuse, IsAnswered, IsCalled, IsReplied, IsTold}
 use Rattle.craq_door.proofs.Turning.{told_turn, told_refusal, came_turn}
 
@@ -56,3 +59,42 @@ pub call_told : (tells : List ℕ → Type 0) (refuses : Refusing) (old : List C
 call_told tells refuses old node pass ask r told new ok err same t =
     let m = message_of node pass ask in
     came_turn tells refuses old old m r told new refl (IfOk-weaker r _ _ (λ reply is. called_replied tells old m reply new is) ok) (IfErr-weaker r _ _ (λ e is. refuses_call node pass ask refuses e is) err) same t
+
+-- Closed may be told, and is neither BadFrame nor the reply of a call
+closed_allowed : IsAllowed (replies.Refused Closed)
+closed_allowed = record { rules = tt; short = tt }
+
+frame_closed : replies.Refused BadFrame ≡ replies.Refused Closed → ⊥
+frame_closed e = cc
+
+called_closed : (old : List Called) (m : ClientMessage) (reply : ClientReply) (new : List Called) → IsCalled old m reply new → reply ≡ replies.Refused Closed → ⊥
+called_closed old m reply new h is = no_refusal _ h.0.answer Closed (sym is ∙ h.1.0.answered)
+
+ok_closed : (reply : ClientReply) (e : Refusal) → Ok reply ≡ Err e → ⊥
+ok_closed reply e is = cc
+
+pub err_closed : {T : Type 0} (r : Result T Refusal) (e : Refusal) → r ≡ Err e → r ≡ Err Closed → e ≡ Closed
+err_closed r e is closed = cc
+
+refused_closed : (e : Refusal) → replies.Refused e ≡ replies.Refused Closed → e ≡ Closed
+refused_closed e is = cc
+
+-- Closed is told exactly where a call that came back is refused so
+told_closed : (old : List Called) (m : ClientMessage) (r : Result ClientReply Refusal) (told : ClientReply) (new : List Called)
+    → IfOk r (λ reply. IsCalled old m reply new) → IsTold r told → (told ≡ replies.Refused Closed) ↔ (r ≡ Err Closed)
+told_closed old m (Ok reply) told new ok (inl t) = (λ is. absurd (called_closed old m reply new ok (sym t.1 ∙ is)), λ is. absurd (ok_closed reply Closed is))
+told_closed old m (Ok reply) told new ok (inr t) = (λ is. absurd (frame_closed (sym t.1 ∙ is)), λ is. absurd (ok_closed reply Closed is))
+told_closed old m (Err e) told new ok (inl t) = (λ is. ap Err (refused_closed e (sym t.1 ∙ is)), λ is. t.1 ∙ ap replies.Refused (err_closed (Err e) e refl is))
+told_closed old m (Err e) told new ok (inr t) =
+    (λ is. absurd (frame_closed (sym t.1 ∙ is)), λ is. absurd (t.0 (subst (λ (x : Refusal). IsAllowed (replies.Refused x)) (sym (err_closed (Err e) e refl is)) closed_allowed)))
+
+pub ends_closed : (old : List Called) (m : ClientMessage) (r : Result ClientReply Refusal) (told : ClientReply) (new : List Called) (P : Type 0)
+    → IfOk r (λ reply. IsCalled old m reply new) → IsTold r told → (r ≡ Err Closed) ↔ P → (told ≡ replies.Refused Closed) ↔ P
+ends_closed old m r told new P ok t same = let h = told_closed old m r told new ok t in (λ is. same.0 (h.0 is), λ p. h.1 (same.1 p))
+
+-- an answer that came back is refused as Closed exactly where it is another call's
+pub answered_refused : (q : Question) (c : Called) (outcome : Result Called Refusal) (e x : Refusal) (r : Result ClientReply Refusal)
+    → outcome ≡ Ok c → CanComeBack e → (e ≡ Closed → IsAnothers q c) → (IsAnothers q c → e ≡ Closed) → r ≡ Err x → x ≡ e → IfErr r (λ y. RefusesCall q outcome y)
+answered_refused q c outcome e x r came can only all is same =
+    subst (λ (s : Result ClientReply Refusal). IfErr s (λ y. RefusesCall q outcome y)) (sym (is ∙ ap Err same))
+    (subst (λ (o : Result Called Refusal). RefusesCall q o e) (sym came) (can, (only, all)))

@@ -1,12 +1,13 @@
 -- What a door tells of a turn is a turn.
-use Rattle.std.proofs.Common.{◌≡◌, ◌∙◌, ℕ, List, Ok, Err, Result, IfErr, IfOk, OnErr, inl, inr, refl, sym, subst}
+use Rattle.std.proofs.Common.{◌≡◌, ◌∙◌, ℕ, ◌≤◌, List, length, Ok, Err, Result, IfErr, IfOk, OnErr, inl, inr, refl, sym, subst}
+use Rattle.std.proofs.lemmas.Result.{IfErr-weaker}
 use Rattle.craq_names.specs.declared.refusal.Refusal.{Refusal}
 use Rattle.craq_frames.specs.declared.ask.ClientMessage.{ClientMessage}
 use Rattle.craq_frames.specs.declared.ask.ClientMessage.TheVariants as messages
 use Rattle.craq_frames.specs.declared.answer.ClientReply.{ClientReply}
 use Rattle.craq_frames.specs.declared.answer.ClientReply.TheVariants as replies
 use Rattle.craq_seat.specs.Calls.{Called}
-use Rattle.craq_door.specs.Turns.{Refusing, CanRefuse, IsAnswered, IsReplied, IsTold}
+use Rattle.craq_door.specs.Turns.{Refusing, or_memory_where, CanRefuse, IsAnswered, IsReplied, IsTold}
 
 -- a reply that is no refusal is a turn
 replied : (tells : List ℕ → Type 0) (refuses : Refusing) (old : List Called) (m : ClientMessage) (r : ClientReply) (new : List Called) → IsReplied tells old m r new → IsAnswered tells refuses old m r new
@@ -29,3 +30,18 @@ told_refusal tells refuses old m e told new can same (inr other) = subst (λ (x 
 pub came_turn : (tells : List ℕ → Type 0) (refuses : Refusing) (old begun : List Called) (m : ClientMessage) (outcome : Result ClientReply Refusal) (told : ClientReply) (new : List Called) → begun ≡ old → IfOk outcome (λ r. IsReplied tells begun m r new) → IfErr outcome (λ e. CanRefuse refuses m e) → OnErr outcome (new ≡ begun) → IsTold outcome told → IsAnswered tells refuses old m told new
 came_turn tells refuses old begun m (Ok r) told new at came can same is = told_turn tells refuses old m r told new (subst (λ (x : List Called). IsReplied tells x m r new) at came) is
 came_turn tells refuses old begun m (Err e) told new at came can same is = told_refusal tells refuses old m e told new can (same ∙ at) is
+
+-- where memory lacks in fewer cases
+lacks_too : (P Q : Type 0) (refuses : Refusing) (m : ClientMessage) (e : Refusal) → (P → Q) → CanRefuse (or_memory_where P refuses) m e → CanRefuse (or_memory_where Q refuses) m e
+lacks_too P Q refuses (messages.Update node pass update) e more (inl is) = inl (is.0, more is.1)
+lacks_too P Q refuses (messages.Update node pass update) e more (inr is) = inr is
+lacks_too P Q refuses (messages.Read node pass mode object) e more (inl is) = inl (is.0, more is.1)
+lacks_too P Q refuses (messages.Read node pass mode object) e more (inr is) = inr is
+lacks_too P Q refuses messages.Status e more is = is
+
+pub all_lacks_too : (P Q : Type 0) (refuses : Refusing) (m : ClientMessage) (r : Result ClientReply Refusal) → (P → Q) → IfErr r (λ e. CanRefuse (or_memory_where P refuses) m e) → IfErr r (λ e. CanRefuse (or_memory_where Q refuses) m e)
+all_lacks_too P Q refuses m r more h = IfErr-weaker r _ _ (λ e is. lacks_too P Q refuses m e more is) h
+
+-- a door that has no room as a turn has begun had none before
+pub begun_full : (a b : ℕ) (xs ys : List Called) → a ≡ b → xs ≡ ys → a ≤ length xs → b ≤ length ys
+begun_full a b xs ys at is h = subst (λ (x : ℕ). x ≤ length ys) at (subst (λ (x : List Called). a ≤ length x) is h)

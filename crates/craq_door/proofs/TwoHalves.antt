@@ -1,7 +1,8 @@
 -- A turn in two halves is a turn.
-use Rattle.std.proofs.Common.{◌≡◌, ℕ, Bool, List, Result, Ok, Err, inl, inr, sym, subst}
+use Rattle.std.proofs.Common.{◌≡◌, ◌∙◌, ℕ, Bool, List, Result, Ok, Err, inl, inr, sym, subst}
 use Rattle.craq_names.specs.declared.name.NodeName.{NodeName}
 use Rattle.craq_names.specs.declared.refusal.Refusal.{Refusal}
+use Rattle.craq_names.specs.declared.refusal.Refusal.TheVariants.{BadFrame, Closed}
 use Rattle.craq_model.specs.declared.ask.Ask.{Ask}
 use Rattle.craq_model.specs.declared.ask.Ask.TheVariants as asks
 use Rattle.craq_frames.specs.declared.ask.ClientMessage.{ClientMessage}
@@ -10,7 +11,7 @@ use Rattle.craq_frames.specs.declared.answer.ClientReply.TheVariants as replies
 use Rattle.craq_seat.specs.Calls.{Called}
 use Rattle.craq_door.specs.declared.question.Question.{Question}
 use Rattle.craq_door.specs.declared.question.Begun.TheVariants as begun
-use Rattle.craq_door.specs.Halves.{BeginsTurn, ComesBack, EndsTurn, RefusesCall, asked_by, tells_none}
+use Rattle.craq_door.specs.Halves.{BeginsTurn, CanComeBack, ComesBack, EndsTurn, IsAnothers, RefusesCall, asked_by, tells_none}
 use Rattle.craq_door.specs.Turns.{Refusing, CanRefuse, IsAnswered, IsHidden, IsRefused, IsReplied, IsTurn, kept, message_of, name_of, or_memory}
 
 -- where no status is told, it does not matter which texts may be
@@ -47,7 +48,7 @@ turn_too : (tells : List ℕ → Type 0) (s : Refusing) (keeps : Bool) (old mid 
 turn_too tells s keeps old mid new m q outcome reply more h ends =
     let r : Refusing = λ node pass ask e. RefusesCall q outcome e in
     let whole : IsAnswered tells s mid (asked_by q) reply new =
-    answered_too tells r s mid (asked_by q) new (refuses_too r s q.node.node q.pass q.ask more) reply ends in
+    answered_too tells r s mid (asked_by q) new (refuses_too r s q.node.node q.pass q.ask more) reply ends.answered in
     let at : IsAnswered tells s (kept keeps old) (asked_by q) reply new = subst (λ (x : List Called). IsAnswered tells s x (asked_by q) reply new) h.2 whole in
     subst (λ (x : ClientMessage). IsAnswered tells s (kept keeps old) x reply new) (sym h.0) at
 
@@ -55,14 +56,34 @@ pub halves_turn : (tells : List ℕ → Type 0) (keeps : Bool) (old mid new : Li
     → BeginsTurn tells keeps old m (begun.Calls q) mid → EndsTurn q outcome mid reply new → IsTurn tells (λ node pass ask e. RefusesCall q outcome e) keeps old m reply new
 halves_turn tells keeps old mid new m q outcome reply h ends = turn_too tells (λ node pass ask e. RefusesCall q outcome e) keeps old mid new m q outcome reply (λ e is. is) h ends
 
+-- an answer that is not told as Closed is refused for want of memory alone
+own_refused : (refuses : Refusing) (q : Question) (e : Refusal) → CanComeBack e → (e ≡ Closed → ⊥) → or_memory refuses (name_of q.node.node q.ask) q.pass q.ask e
+own_refused refuses q e (inl is) other = absurd (other is)
+own_refused refuses q e (inr is) other = inl is
+
 -- a call that came back as it may is refused as it may be, or for want of memory
 comes_refused : (refuses : Refusing) (q : Question) (outcome : Result Called Refusal) → q.node ≡ name_of q.node.node q.ask → ComesBack refuses q outcome
     → (e : Refusal) → RefusesCall q outcome e → or_memory refuses (name_of q.node.node q.ask) q.pass q.ask e
-comes_refused refuses q (Ok c) node back e (inl is) = inl is
-comes_refused refuses q (Ok c) node back e (inr other) = absurd (other.1 back)
+comes_refused refuses q (Ok c) node back e h = own_refused refuses q e h.0 (λ is. h.1.0 is back)
 comes_refused refuses q (Err refusal) node back e is =
     inr (subst (λ (x : NodeName). refuses x q.pass q.ask e) node (subst (λ (x : Refusal). refuses q.node q.pass q.ask x) (sym is) back))
 
 pub halves_door : (tells : List ℕ → Type 0) (refuses : Refusing) (keeps : Bool) (old mid new : List Called) (m : ClientMessage) (q : Question) (outcome : Result Called Refusal) (reply : ClientReply)
     → ComesBack refuses q outcome → BeginsTurn tells keeps old m (begun.Calls q) mid → EndsTurn q outcome mid reply new → IsTurn tells (or_memory refuses) keeps old m reply new
 halves_door tells refuses keeps old mid new m q outcome reply back h ends = turn_too tells (or_memory refuses) keeps old mid new m q outcome reply (comes_refused refuses q outcome h.1 back) h ends
+
+-- no receipt comes where Closed is told
+closed_frame : Closed ≡ BadFrame → ⊥
+closed_frame e = cc
+
+closed_same : (r : Refusing) (old : List Called) (m : ClientMessage) (new : List Called) → IsRefused tells_none r old m Closed new → new ≡ old
+closed_same r old m new (inl h) = h.1
+closed_same r old m new (inr h) = absurd (closed_frame h.0)
+
+pub halves_closed : (tells : List ℕ → Type 0) (keeps : Bool) (old mid new : List Called) (m : ClientMessage) (q : Question) (c : Called) (reply : ClientReply)
+    → IsAnothers q c → BeginsTurn tells keeps old m (begun.Calls q) mid → EndsTurn q (Ok c) mid reply new → (reply ≡ replies.Refused Closed) × (new ≡ kept keeps old)
+halves_closed tells keeps old mid new m q c reply other h ends =
+    let r : Refusing = λ node pass ask e. RefusesCall q (Ok c) e in
+    let is : reply ≡ replies.Refused Closed = ends.closed.1 other in
+    let at : IsRefused tells_none r mid (asked_by q) Closed new = subst (λ (x : ClientReply). IsAnswered tells_none r mid (asked_by q) x new) is ends.answered in
+    (is, closed_same r mid (asked_by q) new at ∙ h.2)

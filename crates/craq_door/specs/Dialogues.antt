@@ -18,8 +18,9 @@ use Rattle.craq_door.specs.declared.dialogue.Phase.TheVariants as phases
 use Rattle.craq_door.specs.declared.dialogue.Stepped.{Stepped}
 use Rattle.craq_door.specs.declared.dialogue.Stepped.TheVariants as steps
 use Rattle.craq_door.specs.declared.question.Question.{Question}
+use Rattle.craq_door.specs.declared.question.Begun.TheVariants.{Told, Calls}
 use Rattle.craq_door.specs.Turns.{kept, name_of, for_memory, IsTurn}
-use Rattle.craq_door.specs.Halves.{asked_by, EndsTurn}
+use Rattle.craq_door.specs.Halves.{asked_by, EndsTurn, HasRoom, MakesRoom}
 
 -- the refusal with which `serve` ends for the same reason
 abbrev pub refusal_for : Ending → Refusal
@@ -74,6 +75,10 @@ Continues (phases.Waits q) old new = ⊥
 Continues (phases.Over endings.TooLong) old new = ⊥
 Continues (phases.Over endings.Memory) old new = Ends endings.Memory old new
 
+-- while a call is under way there is room for its receipt
+abbrev pub KeepsRoom : Phase → DoorCalls → Type 0
+KeepsRoom phase calls = (q : Question) → phase ≡ phases.Waits q → HasRoom calls
+
 -- why it is over, if it is
 abbrev pub ending_of : Phase → Option Ending
 ending_of (phases.Over why) = Some why
@@ -88,9 +93,9 @@ IsUnderWay phase found = found ≡ None
 -- nothing is to be done
 abbrev pub Took : (List ℕ → Type 0) → Phase → Stepped → Phase → Conversation → Conversation → DoorCalls → DoorCalls → Type 0
 Took tells (phases.Asks m) steps.Goes q t u c d =
-    (reply : ClientReply) × HasOneMore (phases.Asks m) t q u m reply × IsTurn tells for_memory c.keeps c.receipts.items m reply d.receipts.items × Continues q t u
+    (reply : ClientReply) × HasOneMore (phases.Asks m) t q u m reply × IsTurn tells for_memory c.keeps c.receipts.items m reply d.receipts.items × MakesRoom c m (Told reply) d × Continues q t u
 Took tells (phases.Asks m) steps.Calls (phases.Waits x) t u c d =
-    (m ≡ asked_by x) × (x.node ≡ name_of x.node.node x.ask) × (d.receipts.items ≡ kept c.keeps c.receipts.items) × (u ≡ t)
+    (m ≡ asked_by x) × (x.node ≡ name_of x.node.node x.ask) × (d.receipts.items ≡ kept c.keeps c.receipts.items) × MakesRoom c m (Calls x) d × (u ≡ t)
 Took tells phases.Idle stepped q t u c d = Found q stepped t u × HasNoMore phases.Idle t q u × (d ≡ c)
 Took tells (phases.Waits x) steps.Stays q t u c d = (q ≡ phases.Waits x) × (u ≡ t) × (d ≡ c)
 Took tells (phases.Over why) steps.Stays q t u c d = (q ≡ phases.Over why) × (u ≡ t) × (d ≡ c)

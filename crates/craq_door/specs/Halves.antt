@@ -1,13 +1,15 @@
 -- The two halves of a turn whose call comes back later.
-use Rattle.std.specs.Prelude.{◌≡◌, ◌⊎◌, ℕ, Bool, List, Result, Ok, Err}
+use Rattle.std.specs.Prelude.{◌≡◌, ◌⊎◌, ◌↔◌, ◌<◌, ◌≤◌, ℕ, Bool, List, Result, Ok, Err, length, vec_len, vec_capacity}
 use Rattle.craq_names.specs.declared.refusal.Refusal.{Refusal}
 use Rattle.craq_names.specs.declared.refusal.Refusal.TheVariants.{Closed, Memory}
 use Rattle.craq_calls.specs.Calls.{IsCallOf}
 use Rattle.craq_frames.specs.declared.ask.ClientMessage.{ClientMessage}
 use Rattle.craq_frames.specs.declared.ask.ClientMessage.TheVariants as messages
 use Rattle.craq_frames.specs.declared.answer.ClientReply.{ClientReply}
+use Rattle.craq_frames.specs.declared.answer.ClientReply.TheVariants as replies
 use Rattle.craq_front.specs.Door.{IsAllowed}
 use Rattle.craq_seat.specs.Calls.{Called}
+use Rattle.craq_door.specs.declared.calls.DoorCalls.{DoorCalls}
 use Rattle.craq_door.specs.declared.question.Question.{Question}
 use Rattle.craq_door.specs.declared.question.Demand.{Demand}
 use Rattle.craq_door.specs.declared.question.Demand.TheVariants as demands
@@ -30,19 +32,51 @@ abbrev pub BeginsTurn : (List ℕ → Type 0) → Bool → List Called → Clien
 BeginsTurn tells keeps old message (begun.Told reply) new = IsTurn tells for_memory keeps old message reply new × IsAllowed reply
 BeginsTurn tells keeps old message (begun.Calls q) new = (message ≡ asked_by q) × (q.node ≡ name_of q.node.node q.ask) × (new ≡ kept keeps old)
 
--- why a call is refused that came back so: as it was refused; where it was answered for want of memory, or as Closed where the
--- receipt is another call's
+-- there is room for one receipt more
+abbrev pub HasRoom : DoorCalls → Type 0
+HasRoom calls = vec_len calls.receipts < vec_capacity calls.receipts
+
+-- the receipts take all the room that there is
+abbrev pub HasNoRoom : DoorCalls → Type 0
+HasNoRoom calls = vec_capacity calls.receipts ≤ length calls.receipts.items
+
+-- the receipts that a door still has as a turn begins take all the room that there is
+abbrev pub IsFull : DoorCalls → Type 0
+IsFull calls = vec_capacity calls.receipts ≤ length (kept calls.keeps calls.receipts.items)
+
+-- where a call is to be made there is room for its receipt; the turn of a call is over before it is made only where that room
+-- lacked
+abbrev pub MakesRoom : DoorCalls → ClientMessage → Begun → DoorCalls → Type 0
+MakesRoom old message (begun.Told reply) new = (message ≡ messages.Status) ⊎ IsFull old
+MakesRoom old message (begun.Calls q) new = HasRoom new
+
+-- the receipt is that of another call than the question's
+abbrev pub IsAnothers : Question → Called → Type 0
+IsAnothers q c = ¬ IsCallOf q.node q.ask q.pass c.answer c
+
+-- which refusals can come of an answer that came back: it is another call's, or there was no memory for a copy of it
+abbrev pub CanComeBack : Refusal → Type 0
+CanComeBack e = (e ≡ Closed) ⊎ (e ≡ Memory)
+
+-- why a call is refused that came back so: as it was refused; or where it was answered as one of two, as Closed exactly where
+-- the receipt is another call's
 abbrev pub RefusesCall : Question → Result Called Refusal → Refusal → Type 0
 RefusesCall q (Err refusal) e = e ≡ refusal
-RefusesCall q (Ok c) e = (e ≡ Memory) ⊎ ((e ≡ Closed) × (¬ IsCallOf q.node q.ask q.pass c.answer c))
+RefusesCall q (Ok c) e = CanComeBack e × ((e ≡ Closed) ↔ IsAnothers q c)
+
+-- a call that came back so is told as Closed: the receipt is another call's, or it was refused so
+abbrev pub IsClosed : Question → Result Called Refusal → Type 0
+IsClosed q (Err refusal) = refusal ≡ Closed
+IsClosed q (Ok c) = IsAnothers q c
 
 -- no status is told
 abbrev pub tells_none : List ℕ → Type 0
 tells_none text = ⊥
 
 -- the second half of a turn: told is the reply of the call that came back, or why it is refused
-abbrev pub EndsTurn : Question → Result Called Refusal → List Called → ClientReply → List Called → Type 0
-EndsTurn q outcome old told new = IsAnswered tells_none (λ node pass ask e. RefusesCall q outcome e) old (asked_by q) told new
+pub record EndsTurn (q : Question) (outcome : Result Called Refusal) (old : List Called) (told : ClientReply) (new : List Called) : Type 0 where
+  pub answered : IsAnswered tells_none (λ node pass ask e. RefusesCall q outcome e) old (asked_by q) told new
+  pub closed : (told ≡ replies.Refused Closed) ↔ IsClosed q outcome
 
 -- how a call comes back: with the receipt of just this call, or refused as it may be
 abbrev pub ComesBack : Refusing → Question → Result Called Refusal → Type 0

@@ -1,5 +1,5 @@
 -- What the door of a store answers.
-use Rattle.std.specs.Prelude.{◌≡◌, ◌⊎◌, ⊤, ℕ, Bool, if◌then◌else◌, List, [], ◌∷◌, ◌++◌, max, Result, Ok, Err}
+use Rattle.std.specs.Prelude.{◌≡◌, ◌⊎◌, ℕ, Bool, if◌then◌else◌, List, [], ◌∷◌, ◌++◌, max, Result, Ok, Err}
 use Rattle.craq_names.specs.declared.name.NodeName.{NodeName}
 use Rattle.craq_names.specs.declared.refusal.Refusal.{Refusal}
 use Rattle.craq_names.specs.declared.refusal.Refusal.TheVariants.{BadFrame, Memory}
@@ -63,6 +63,10 @@ for_memory node pass ask e = e ≡ Memory
 -- for want of memory too
 abbrev pub or_memory : Refusing → Refusing
 or_memory refuses node pass ask e = (e ≡ Memory) ⊎ refuses node pass ask e
+
+-- for want of memory too, where this holds
+abbrev pub or_memory_where : Type 0 → Refusing → Refusing
+or_memory_where lacks refuses node pass ask e = ((e ≡ Memory) × lacks) ⊎ refuses node pass ask e
 
 -- which refusals can come in the place of a reply: of a call one with which it may be refused; of a status want of memory alone
 abbrev pub CanRefuse : Refusing → ClientMessage → Refusal → Type 0

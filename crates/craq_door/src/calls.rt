@@ -1,5 +1,6 @@
 //! `DoorCalls`: the receipts of a door's calls, and the reply with the answer of one; for `door` and `question`.
-ghost use Rattle.std.specs.Prelude.{◌≡◌, ◌<◌, [], ◌∷◌, ◌++◌, vec_capacity, vec_len, OnOk};
+ghost use Rattle.std.specs.Prelude.{◌≡◌, ◌≤◌, [], ◌∷◌, ◌++◌, length, vec_capacity, OnOk, OnErr};
+ghost use Rattle.craq_door.specs.Halves.{HasNoRoom, HasRoom};
 ghost use Rattle.craq_door.specs.Turns.{IsReplyOf, kept, message_of, reply_of};
 
 use craq_calls::pass_after;
@@ -49,18 +50,20 @@ impl DoorCalls {
     pub fn begin(&mut self)
         ensures keeps { self.new.keeps ≡ self.old.keeps }
         ensures receipts { self.new.receipts.items ≡ kept self.old.keeps self.old.receipts.items }
+        ensures capacity { vec_capacity self.new.receipts ≡ vec_capacity self.old.receipts }
     {
         if !self.keeps {
             self.receipts.clear();
         }
     }
 
-    /// Makes room for the receipt of one more call. Refused where a growth is; the receipts stay as they are in either
-    /// case.
+    /// Makes room for the receipt of one more call. Refused where there is none and a growth is refused; the receipts stay as
+    /// they are in either case.
     pub fn make_room(&mut self) -> Result<(), AllocError>
         ensures keeps { self.new.keeps ≡ self.old.keeps }
         ensures receipts { self.new.receipts.items ≡ self.old.receipts.items }
-        ensures room { OnOk result (vec_len self.new.receipts < vec_capacity self.new.receipts) }
+        ensures room { OnOk result (HasRoom self.new) }
+        ensures full { OnErr result (HasNoRoom self.old) }
     {
         self.receipts.reserve(1)?;
         Ok(())
@@ -71,7 +74,7 @@ impl DoorCalls {
     /// memory.
     pub fn reply_to(&mut self, answer: Answer, receipt: CallReceipt) -> ClientReply
         requires answered { answer ≡ receipt.answer }
-        requires room { vec_len self.old.receipts < vec_capacity self.old.receipts }
+        requires room { HasRoom self.old }
         ensures keeps { self.new.keeps ≡ self.old.keeps }
         ensures reply { IsReplyOf (message_of receipt.call.asked.node receipt.call.pass receipt.call.ask) result receipt }
         ensures receipts { self.new.receipts.items ≡ self.old.receipts.items ++ receipt ∷ [] }

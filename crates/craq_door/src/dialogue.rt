@@ -1,6 +1,7 @@
 //! `Dialogue`: what serving one client comes to where its calls come back later; for a loop that serves many.
 ghost use Rattle.std.specs.Prelude.{◌≡◌, None};
 ghost use Rattle.craq_door.specs.declared.dialogue.Phase.TheVariants.{Idle};
+ghost use Rattle.craq_door.specs.Dialogues.{KeepsRoom};
 
 use crate::phases::{advance, answered};
 use crate::{Callee, DoorCalls, Question};
@@ -55,6 +56,7 @@ pub struct Dialogue {
     calls: DoorCalls,
     phase: Phase,
     ghost idle: { phase ≡ Idle → talk.asking ≡ None },
+    ghost room: { KeepsRoom phase calls },
 }
 
 impl Dialogue {

@@ -4,7 +4,8 @@ ghost use Rattle.craq_names.specs.declared.name.NodeName.{NodeName};
 ghost use Rattle.craq_names.specs.declared.refusal.Refusal.{Refusal};
 ghost use Rattle.craq_model.specs.declared.ask.Ask.{Ask};
 ghost use Rattle.craq_calls.specs.Calls.{IsCallOf};
-ghost use Rattle.craq_door.specs.Turns.{message_of, kept, name_of, or_memory, CanRefuse, IsCalled, IsReplied, IsTurn};
+ghost use Rattle.craq_door.specs.Turns.{message_of, name_of, or_memory_where, CanRefuse, IsCalled, IsReplied, IsTurn};
+ghost use Rattle.craq_door.specs.Halves.{HasNoRoom, IsFull};
 
 use crate::{DoorCalls, told};
 use craq_frames::{ClientMessage, ClientReply, Text};
@@ -56,7 +57,7 @@ impl<C: Callee> CallDoor<C> {
     /// Asks a node of the chain of the ask's first object, with this pass. The room for the call's receipt is made first.
     fn call(&mut self, node: NodeId, pass: Pass, ask: Ask) -> Result<ClientReply, Refusal>
         ensures called { IfOk result (λ reply. IsCalled self.old.calls.receipts.items (message_of node pass ask) reply self.new.calls.receipts.items) }
-        ensures refused { IfErr result (λ e. or_memory (C.refuses self.old.callee) (name_of node ask) pass ask e) }
+        ensures refused { IfErr result (λ e. or_memory_where (HasNoRoom self.old.calls) (C.refuses self.old.callee) (name_of node ask) pass ask e) }
         ensures same { OnErr result (self.new.calls.receipts.items ≡ self.old.calls.receipts.items) }
         ensures keeps { self.new.calls.keeps ≡ self.old.calls.keeps }
         ensures callee { self.new.callee ≡ self.old.callee }
@@ -73,7 +74,7 @@ impl<C: Callee> CallDoor<C> {
     /// What a message comes to.
     fn reply(&mut self, message: ClientMessage) -> Result<ClientReply, Refusal>
         ensures replied { IfOk result (λ reply. IsReplied (C.tells self.old.callee) self.old.calls.receipts.items message reply self.new.calls.receipts.items) }
-        ensures refused { IfErr result (λ e. CanRefuse (or_memory (C.refuses self.old.callee)) message e) }
+        ensures refused { IfErr result (λ e. CanRefuse (or_memory_where (HasNoRoom self.old.calls) (C.refuses self.old.callee)) message e) }
         ensures same { OnErr result (self.new.calls.receipts.items ≡ self.old.calls.receipts.items) }
         ensures keeps { self.new.calls.keeps ≡ self.old.calls.keeps }
         ensures callee { self.new.callee ≡ self.old.callee }
@@ -95,7 +96,7 @@ impl<C: Callee> CallDoor<C> {
 
 impl<C: Callee> Door for CallDoor<C> {
     ghost turn = { λ old message reply new.
-        IsTurn (C.tells old.callee) (or_memory (C.refuses old.callee)) old.calls.keeps old.calls.receipts.items message reply new.calls.receipts.items
+        IsTurn (C.tells old.callee) (or_memory_where (IsFull old.calls) (C.refuses old.callee)) old.calls.keeps old.calls.receipts.items message reply new.calls.receipts.items
         × (new.calls.keeps ≡ old.calls.keeps) × (new.callee ≡ old.callee) };
 
     fn ask(&mut self, message: ClientMessage) -> ClientReply {

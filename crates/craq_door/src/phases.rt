@@ -1,7 +1,7 @@
 //! What comes next in a dialogue, by its phase: a step, or the outcome of a call; for `dialogue`.
 ghost use Rattle.std.specs.Prelude.{◌≡◌, None};
 ghost use Rattle.craq_front.specs.Door.{IsAllowed};
-ghost use Rattle.craq_door.specs.Dialogues.{Answers, Continues, Found, HasNoMore, HasOneMore, Took};
+ghost use Rattle.craq_door.specs.Dialogues.{Answers, Continues, Found, HasNoMore, HasOneMore, KeepsRoom, Took};
 ghost use Rattle.craq_frames.specs.declared.ask.ClientMessage.{ClientMessage};
 
 use crate::dialogue::{Ending, Phase, Stepped};
@@ -58,6 +58,7 @@ fn begin<C: Callee>(
     ensures took { Took (C.tells callee.now) (Phase.Asks message) result.1 result.0 talk.old talk.new calls.old calls.new }
     ensures keeps { calls.new.keeps ≡ calls.old.keeps }
     ensures idle { result.0 ≡ Phase.Idle → talk.new.asking ≡ None }
+    ensures room { KeepsRoom result.0 calls.new }
 {
     match begin_turn(callee, calls, message) {
         Begun::Told(reply) => (next_phase(alloc, talk, reply), Stepped::Goes),
@@ -73,10 +74,12 @@ pub(crate) fn advance<C: Callee>(
     calls: &mut DoorCalls,
     phase: Phase,
 ) -> (Phase, Stepped)
-    requires { phase ≡ Phase.Idle → talk.old.asking ≡ None }
+    requires idle { phase ≡ Phase.Idle → talk.old.asking ≡ None }
+    requires room { KeepsRoom phase calls.old }
     ensures took { Took (C.tells callee.now) phase result.1 result.0 talk.old talk.new calls.old calls.new }
     ensures keeps { calls.new.keeps ≡ calls.old.keeps }
     ensures idle { result.0 ≡ Phase.Idle → talk.new.asking ≡ None }
+    ensures room { KeepsRoom result.0 calls.new }
 {
     match phase {
         Phase::Idle => find(alloc, talk),
@@ -94,10 +97,12 @@ pub(crate) fn answered(
     phase: Phase,
     outcome: Result<CallReceipt, Refusal>,
 ) -> Phase
-    requires { phase ≡ Phase.Idle → talk.old.asking ≡ None }
+    requires idle { phase ≡ Phase.Idle → talk.old.asking ≡ None }
+    requires room { KeepsRoom phase calls.old }
     ensures answers { Answers phase outcome result talk.old talk.new calls.old calls.new }
     ensures keeps { calls.new.keeps ≡ calls.old.keeps }
     ensures idle { result ≡ Phase.Idle → talk.new.asking ≡ None }
+    ensures room { KeepsRoom result calls.new }
 {
     match phase {
         Phase::Waits(question) => {

@@ -1,9 +1,9 @@
 //! The two halves of a turn whose call comes back later: what a message asks of a store, and its reply once the call came back;
 //! called by `phases`.
-ghost use Rattle.std.specs.Prelude.{◌≡◌, ℕ, List, IfErr, IfOk, OnErr};
+ghost use Rattle.std.specs.Prelude.{◌≡◌, ◌↔◌, ℕ, List, Err, IfErr, IfOk, OnErr};
 ghost use Rattle.craq_front.specs.Door.{IsAllowed};
 ghost use Rattle.craq_door.specs.Turns.{IsCalled, name_of};
-ghost use Rattle.craq_door.specs.Halves.{Asks, BeginsTurn, EndsTurn, RefusesCall, asked_by};
+ghost use Rattle.craq_door.specs.Halves.{Asks, BeginsTurn, EndsTurn, HasRoom, IsClosed, MakesRoom, RefusesCall, asked_by};
 
 use crate::{Callee, DoorCalls, told};
 use craq_calls::answer_of_call;
@@ -76,12 +76,13 @@ fn status_of<C: Callee>(callee: &C) -> Result<ClientReply, Refusal>
     Ok(ClientReply::Status(callee.status()?))
 }
 
-/// Begins a turn: a status is told at once. For a call the room for its receipt is made; where that is refused,
-/// `Refused(Memory)` is told.
+/// Begins a turn: a status is told at once. For a call the room for its receipt is made, and is there when the call comes back;
+/// where there was none and a growth is refused, `Refused(Memory)` is told, and the call is not made.
 #[tactic(auto, using(crate::proofs::Halves::status_told, crate::proofs::Halves::memory_told))]
 pub fn begin_turn<C: Callee>(callee: &C, calls: &mut DoorCalls, message: ClientMessage) -> Begun
     ensures begun { BeginsTurn (C.tells callee.now) calls.old.keeps calls.old.receipts.items message result calls.new.receipts.items }
     ensures keeps { calls.new.keeps ≡ calls.old.keeps }
+    ensures room { MakesRoom calls.old message result calls.new }
 {
     calls.begin();
     match demand_of(message) {
@@ -100,27 +101,30 @@ fn reply_of_call(
     question: &Question,
     outcome: Result<CallReceipt, Refusal>,
 ) -> Result<ClientReply, Refusal>
+    requires { HasRoom calls.old }
     ensures called { IfOk result (λ reply. IsCalled calls.old.receipts.items (asked_by question.now) reply calls.new.receipts.items) }
     ensures refused { IfErr result (λ e. RefusesCall question.now outcome e) }
+    ensures closed { (result ≡ Err Refusal.Closed) ↔ IsClosed question.now outcome }
     ensures same { OnErr result (calls.new.receipts.items ≡ calls.old.receipts.items) }
     ensures keeps { calls.new.keeps ≡ calls.old.keeps }
 {
     let receipt = outcome?;
-    calls.make_room()?;
     let Question { node, pass, ask } = question;
     let answer = answer_of_call(alloc, &receipt, node, ask, *pass)?;
     Ok(calls.reply_to(answer, receipt))
 }
 
-/// Ends the turn of the message that asked for this call: the call's reply, or its refusal as it came back. Where it was
-/// answered, it is `Refused(Memory)` where a growth was refused, and `Refused(Closed)` only if the receipt is another call's.
-/// What no door may tell is `Refused(BadFrame)`. Where it is refused, the receipts stay as they are.
+/// Ends the turn of the message that asked for this call, with the room that `begin_turn` made: the call's reply, or its
+/// refusal as it came back. Where it was answered, it is `Refused(Closed)` exactly where the receipt is another call's, and
+/// `Refused(Memory)` only where there was no memory for a copy of the answer. What no door may tell is `Refused(BadFrame)`.
+/// Where it is refused, the receipts stay as they are.
 pub fn end_turn(
     alloc: Global,
     calls: &mut DoorCalls,
     question: &Question,
     outcome: Result<CallReceipt, Refusal>,
 ) -> ClientReply
+    requires { HasRoom calls.old }
     ensures ends { EndsTurn question.now outcome calls.old.receipts.items result calls.new.receipts.items }
     ensures allowed { IsAllowed result }
     ensures keeps { calls.new.keeps ≡ calls.old.keeps }

@@ -2,7 +2,14 @@ use Rattle.std.proofs.Common.{sym, subst}
 use Rattle.craq_door.specs.declared.dialogue.Phase.{Phase}
 use Rattle.craq_door.specs.Dialogues.{Answers}
 use Rattle.craq_door.specs.Halves.{asked_by}
+use Rattle.craq_door.proofs.Dialogues.{continues_room}
 use Rattle.craq_door.proofs.phases.answered.Goals as goal
+
+pub end_turn-reply-requires : goal.end_turn-reply-requires
+end_turn-reply-requires c = c.requires.room c.in-Waits.question c.in-Waits.is
+
+pub returns-in-Waits-clause-room : goal.returns-in-Waits-clause-room
+returns-in-Waits-clause-room c = continues_room c.next_phase.result c.args.talk.now c.next_phase.new.talk c.end_turn-reply.new.calls c.next_phase.ensures.continues
 
 pub returns-in-Waits-clause-answers : goal.returns-in-Waits-clause-answers
 returns-in-Waits-clause-answers c =

@@ -9,7 +9,7 @@ LIST = "tools/quick/words.txt"
 PAGE = "docs/develop/ARCHITECTURE.md"
 CRATE = re.compile(r"\bcraq_[a-z_]*[a-z]\b")
 # Crates that stand elsewhere than under crates/, and what is no crate.
-OTHER_NAMES = re.compile(r"craq_\w*bench|craq_soak")
+OTHER_NAMES = re.compile(r"craq_\w*bench|craq_soak|craq_served")
 
 
 def files():

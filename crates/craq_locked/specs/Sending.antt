@@ -1,24 +1,28 @@
 -- What a step of a cell sent.
-use Rattle.std.specs.Prelude.{◌≡◌, ◌≤◌, ⊤, List, [], ◌++◌, Option, Some, None, Result, Ok, Err}
+use Rattle.std.specs.Prelude.{◌≡◌, ◌≤◌, ⊤, List, ◌++◌, Option, Some, None, Result, Ok, Err}
 use Rattle.craq_names.specs.declared.refusal.Refusal.{Refusal}
 use Rattle.craq_names.specs.declared.refusal.Refusal.TheVariants as refusals
 use Rattle.craq_model.specs.declared.message.LinkMessage.{LinkMessage}
-use Rattle.craq_model.specs.declared.step.Step.{Step}
 use Rattle.craq_runs.specs.Chain.{sent_in}
 use Rattle.craq_seat.specs.declared.journal.BookEvent.{BookEvent}
 use Rattle.craq_seat.specs.declared.journal.BookEvent.TheVariants.{Join, Remove, Tick}
 use Rattle.craq_seat.specs.declared.journal.Receipt.{Receipt}
 use Rattle.craq_seat.specs.Numbered.{numbered_from}
+use Rattle.craq_locked.specs.declared.stepping.CellStep.{CellStep}
 
--- the messages of a step, if there was one, each named by the step's receipt
-abbrev pub sent_of : Receipt → Option Step → List LinkMessage
-sent_of receipt None = []
-sent_of receipt (Some step) = numbered_from 0 receipt (sent_in step.outs)
+-- the messages of a step that a cell took, each named by the step's receipt
+abbrev pub sent_of : CellStep → List LinkMessage
+sent_of taken = numbered_from 0 taken.receipt (sent_in taken.step.outs)
 
--- the messages that were sent before and after a move: those of one step more, each named by the step's receipt; none more where
--- no cell took it or it was refused; and for want of memory perhaps some more
-abbrev pub HasSent : List LinkMessage → List LinkMessage → Result (Option Receipt) Refusal → Type 0
-HasSent old new (Ok (Some receipt)) = (step : Option Step) × (new ≡ old ++ sent_of receipt step)
+-- the receipt of a step that was taken, or its refusal
+abbrev pub receipt_in : Result CellStep Refusal → Result Receipt Refusal
+receipt_in (Ok taken) = Ok taken.receipt
+receipt_in (Err e) = Err e
+
+-- the messages that were sent before and after a move: all those of the step that was taken besides; none more where no cell took
+-- it or it was refused; and for want of memory perhaps some more
+abbrev pub HasSent : List LinkMessage → List LinkMessage → Result (Option CellStep) Refusal → Type 0
+HasSent old new (Ok (Some taken)) = new ≡ old ++ sent_of taken
 HasSent old new (Ok None) = new ≡ old
 HasSent old new (Err refusals.Memory) = (more : List LinkMessage) × (new ≡ old ++ more)
 HasSent old new (Err refusal) = new ≡ old

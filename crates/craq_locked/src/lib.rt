@@ -3,8 +3,10 @@
 //! sent. Code that runs in the program.
 #![tactic(auto)]
 
+mod copying;
 mod locked_chain;
 mod posted;
 mod stepping;
 
 pub use locked_chain::LockedChain;
+pub use stepping::CellStep;

@@ -1,13 +1,13 @@
 //! `LockedChain`: the cells of a chain, each under its lock; for `craq_play`.
-ghost use Rattle.std.specs.Prelude.{◌≡◌, ◌⊎◌, ◌↔◌, ◌++◌, ◌∷◌, [], Err, IfErr, IfOk, IfSome, None, Ok, OnErr, OnOk};
+ghost use Rattle.std.specs.Prelude.{◌≡◌, ◌≤◌, ◌⊎◌, ◌↔◌, ◌++◌, ◌∷◌, [], Err, IfErr, IfOk, IfSome, None, Ok, OnErr, OnOk};
 ghost use Rattle.std.specs.Option.{option_copied};
 ghost use Rattle.craq_model.specs.Members.{IsMembership};
 ghost use Rattle.craq_node.specs.Represented.{CanArrive, CanOpen};
 ghost use Rattle.craq_locked.specs.Named.{HasNoCell, HasNoNode, cell_of, ids_after, ids_in, ids_of, seated_at};
-ghost use Rattle.craq_locked.specs.Sending.{HasSent, NamesNode};
+ghost use Rattle.craq_locked.specs.Sending.{HasSent, NamesNode, sent_of};
 
 use crate::posted::Posted;
-use crate::stepping::{step_book, step_node};
+use crate::stepping::{CellStep, step_book, step_node};
 use craq_model::{Config, Event};
 use craq_names::{ChainId, Copied, NodeId, NodeName, Pass, Refusal, Stamp};
 use craq_node::Core;
@@ -21,7 +21,7 @@ use std::sync::{Mutex, Wait};
 /// that takes it. It keeps the messages that its cells sent, by number, and the receipts of its nodes' stops.
 ///
 /// A contract sees the ids of its nodes with their seats, and the messages that were sent. A lock tells a proof nothing of
-/// what it holds, so no contract here says which step a cell took: whoever needs to know compares it with a step that is
+/// what it holds, so no contract here says which cell took a step: whoever needs to know compares the step with one that is
 /// known.
 #[derive(Drop)]
 pub struct LockedChain<C: Core> {
@@ -115,7 +115,7 @@ impl<C: Core> LockedChain<C> {
         })
     }
 
-    /// The master's cell, under its lock: the chain has one book.
+    /// The master's cell, under its lock: the one lock of a book that the chain has. It takes no memory.
     pub fn book(&self) -> &Mutex<BookCell> {
         &self.book
     }
@@ -128,8 +128,8 @@ impl<C: Core> LockedChain<C> {
     }
 
     /// One move, taken on the cell of the node or of the master that it concerns, under that one lock, with this pass: the
-    /// receipt of the step, or none where no cell can take the move. Those are a message that was not sent, a node that
-    /// the chain never had, and the removal of one that runs.
+    /// step and its receipt, or none where no cell can take the move. Those are a message that was not sent, a node that
+    /// the chain never had, and the removal of one that runs. The messages of the step, and no others, are sent with it.
     ///
     /// A delivered message is the one that the sending cell's `numbered` gave; a removal shows the receipt of the node's
     /// switch and that of the step in which it stopped. A node that joins has a cell from then on, opened at the stamp of
@@ -145,8 +145,8 @@ impl<C: Core> LockedChain<C> {
         chosen: &Move,
         pass: Pass,
         calls: &mut Vec<CallReceipt>,
-    ) -> Result<Option<Receipt>, Refusal>
-        ensures cell { IfOk result (λ r. IfSome r (λ receipt. cell_of self.old.sent chosen.now ≡ Some receipt.node)) }
+    ) -> Result<Option<CellStep>, Refusal>
+        ensures cell { IfOk result (λ r. IfSome r (λ taken. cell_of self.old.sent chosen.now ≡ Some taken.receipt.node)) }
         ensures none { result ≡ Ok None → HasNoCell self.old chosen.now }
         ensures sent { HasSent self.old.sent self.new.sent result }
         ensures ids { OnOk result (ids_of self.new ≡ ids_after (ids_of self.old) chosen.now) }
@@ -160,8 +160,8 @@ impl<C: Core> LockedChain<C> {
             }
             Move::Deliver(number) => self.deliver(rt, alloc, *number, pass, calls),
             Move::Tick(node) if node.get() == 0 => {
-                let receipt = self.at_book(rt, alloc, BookEvent::Tick, pass)?;
-                Ok(Some(receipt))
+                let taken = self.at_book(rt, alloc, BookEvent::Tick, pass)?;
+                Ok(Some(taken))
             }
             Move::Tick(node) => self.at_node(rt, alloc, *node, Event::Tick, pass, calls),
             Move::Stop(node) => self.stop(rt, alloc, *node, pass, calls),
@@ -179,9 +179,9 @@ impl<C: Core> LockedChain<C> {
         event: Event,
         pass: Pass,
         calls: &mut Vec<CallReceipt>,
-    ) -> Result<Option<Receipt>, Refusal>
+    ) -> Result<Option<CellStep>, Refusal>
         requires { CanArrive event }
-        ensures cell { IfOk result (λ r. IfSome r (λ receipt. receipt.node ≡ id)) }
+        ensures cell { IfOk result (λ r. IfSome r (λ taken. taken.receipt.node ≡ id)) }
         ensures none { result ≡ Ok None → HasNoNode self.old.seats id }
         ensures sent { HasSent self.old.sent self.new.sent result }
         ensures seats { self.new.seats ≡ self.old.seats }
@@ -197,8 +197,8 @@ impl<C: Core> LockedChain<C> {
             drop(event);
             return Err(Refusal::WrongNode);
         }
-        let receipt = step_node(alloc, desk, event, pass, &mut self.posted, calls)?;
-        Ok(Some(receipt))
+        let taken = step_node(alloc, desk, event, pass, &mut self.posted, calls)?;
+        Ok(Some(taken))
     }
 
     /// A step of the master, under its lock.
@@ -208,10 +208,10 @@ impl<C: Core> LockedChain<C> {
         alloc: Global,
         event: BookEvent,
         pass: Pass,
-    ) -> Result<Receipt, Refusal>
+    ) -> Result<CellStep, Refusal>
         ensures joins { OnOk result (NamesNode event) }
-        ensures cell { IfOk result (λ receipt. receipt.node ≡ 0) }
-        ensures ok { IfOk result (λ receipt. HasSent self.old.sent self.new.sent (Ok (Some receipt))) }
+        ensures cell { IfOk result (λ taken. taken.receipt.node ≡ 0) }
+        ensures ok { IfOk result (λ taken. self.new.sent ≡ self.old.sent ++ sent_of taken) }
         ensures err { OnErr result (self.new.sent ≡ self.old.sent) }
         ensures seats { self.new.seats ≡ self.old.seats }
         ensures chain { self.new.chain ≡ self.old.chain }
@@ -220,8 +220,8 @@ impl<C: Core> LockedChain<C> {
         if book.opening().name.node.get() != 0 {
             return Err(Refusal::WrongNode);
         }
-        let receipt = step_book(alloc, &mut book, event, pass, &mut self.posted)?;
-        Ok(receipt)
+        let taken = step_book(alloc, &mut book, event, pass, &mut self.posted)?;
+        Ok(taken)
     }
 
     /// The message of this number arrives at its receiver. None where it was not sent.
@@ -232,8 +232,8 @@ impl<C: Core> LockedChain<C> {
         number: u64,
         pass: Pass,
         calls: &mut Vec<CallReceipt>,
-    ) -> Result<Option<Receipt>, Refusal>
-        ensures cell { IfOk result (λ r. IfSome r (λ receipt. cell_of self.old.sent (Move.Deliver number) ≡ Some receipt.node)) }
+    ) -> Result<Option<CellStep>, Refusal>
+        ensures cell { IfOk result (λ r. IfSome r (λ taken. cell_of self.old.sent (Move.Deliver number) ≡ Some taken.receipt.node)) }
         ensures none { result ≡ Ok None → HasNoCell self.old (Move.Deliver number) }
         ensures sent { HasSent self.old.sent self.new.sent result }
         ensures seats { self.new.seats ≡ self.old.seats }
@@ -265,8 +265,8 @@ impl<C: Core> LockedChain<C> {
         id: NodeId,
         pass: Pass,
         calls: &mut Vec<CallReceipt>,
-    ) -> Result<Option<Receipt>, Refusal>
-        ensures cell { IfOk result (λ r. IfSome r (λ receipt. receipt.node ≡ id)) }
+    ) -> Result<Option<CellStep>, Refusal>
+        ensures cell { IfOk result (λ r. IfSome r (λ taken. taken.receipt.node ≡ id)) }
         ensures none { result ≡ Ok None → HasNoNode self.old.seats id }
         ensures sent { HasSent self.old.sent self.new.sent result }
         ensures seats { self.new.seats ≡ self.old.seats }
@@ -274,10 +274,13 @@ impl<C: Core> LockedChain<C> {
     {
         match self.at_node(rt, alloc, id, Event::Stop, pass, calls)? {
             None => Ok(None),
-            Some(receipt) => {
-                self.keep_stop(&receipt)?;
-                Ok(Some(receipt))
-            }
+            Some(taken) => match self.keep_stop(&taken.receipt) {
+                Err(_) => {
+                    drop(taken);
+                    Err(Refusal::Memory)
+                }
+                Ok(()) => Ok(Some(taken)),
+            },
         }
     }
 
@@ -300,8 +303,8 @@ impl<C: Core> LockedChain<C> {
         alloc: Global,
         id: NodeId,
         pass: Pass,
-    ) -> Result<Option<Receipt>, Refusal>
-        ensures cell { IfOk result (λ r. IfSome r (λ receipt. receipt.node ≡ 0)) }
+    ) -> Result<Option<CellStep>, Refusal>
+        ensures cell { IfOk result (λ r. IfSome r (λ taken. taken.receipt.node ≡ 0)) }
         ensures sent { HasSent self.old.sent self.new.sent result }
         ensures seats { self.new.seats ≡ self.old.seats }
         ensures chain { self.new.chain ≡ self.old.chain }
@@ -309,10 +312,29 @@ impl<C: Core> LockedChain<C> {
         match self.removal_of(rt, id) {
             None => Ok(None),
             Some(event) => {
-                let receipt = self.at_book(rt, alloc, event, pass)?;
-                Ok(Some(receipt))
+                let taken = self.at_book(rt, alloc, event, pass)?;
+                Ok(Some(taken))
             }
         }
+    }
+
+    /// A node that the master's step of this receipt joined gets the last seat, its cell opened at the stamp of the step. It
+    /// fails for want of memory alone (`Memory`).
+    fn add_seat(&mut self, alloc: Global, id: NodeId, joined: &Receipt) -> Result<(), Refusal>
+        requires { 1 ≤ id }
+        ensures ids { OnOk result (ids_of self.new ≡ ids_of self.old ++ id ∷ []) }
+        ensures same { OnErr result (ids_of self.new ≡ ids_of self.old) }
+        ensures err { IfErr result (λ e. e ≡ Refusal.Memory) }
+        ensures sent { self.new.sent ≡ self.old.sent }
+        ensures chain { self.new.chain ≡ self.old.chain }
+    {
+        let name = NodeName {
+            chain: self.chain,
+            node: id,
+        };
+        let seat = seat_of(alloc, name, None, self.journal, joined.stamp)?;
+        self.seats.push((id, seat))?;
+        Ok(())
     }
 
     /// The master adds a node, whose cell is opened at the stamp of the join.
@@ -322,21 +344,21 @@ impl<C: Core> LockedChain<C> {
         alloc: Global,
         id: NodeId,
         pass: Pass,
-    ) -> Result<Option<Receipt>, Refusal>
-        ensures cell { IfOk result (λ r. IfSome r (λ receipt. receipt.node ≡ 0)) }
+    ) -> Result<Option<CellStep>, Refusal>
+        ensures cell { IfOk result (λ r. IfSome r (λ taken. taken.receipt.node ≡ 0)) }
         ensures some { result ≡ Ok None → ⊥ }
         ensures sent { HasSent self.old.sent self.new.sent result }
         ensures ids { OnOk result (ids_of self.new ≡ ids_of self.old ++ id ∷ []) }
         ensures same { OnErr result (ids_of self.new ≡ ids_of self.old) }
         ensures chain { self.new.chain ≡ self.old.chain }
     {
-        let receipt = self.at_book(rt, alloc, BookEvent::Join(id), pass)?;
-        let name = NodeName {
-            chain: self.chain,
-            node: id,
-        };
-        let seat = seat_of(alloc, name, None, self.journal, receipt.stamp)?;
-        self.seats.push((id, seat))?;
-        Ok(Some(receipt))
+        let taken = self.at_book(rt, alloc, BookEvent::Join(id), pass)?;
+        match self.add_seat(alloc, id, &taken.receipt) {
+            Err(refusal) => {
+                drop(taken);
+                Err(refusal)
+            }
+            Ok(()) => Ok(Some(taken)),
+        }
     }
 }

@@ -1,29 +1,27 @@
 //! One step of a cell whose lock is held, and its messages; called by `LockedChain::take`.
-ghost use Rattle.std.specs.Prelude.{◌≡◌, ◌++◌, ◌⊎◌, Err, IfOk, IfSome, OnErr, OnOk};
-ghost use Rattle.std.specs.Option.{option_copied};
+ghost use Rattle.std.specs.Prelude.{◌≡◌, ◌++◌, ◌⊎◌, Err, IfOk, OnErr, OnOk, Some};
 ghost use Rattle.craq_model.specs.Plain.{Plain};
 ghost use Rattle.craq_node.specs.Represented.{CanArrive};
-ghost use Rattle.craq_seat.specs.Cells.{receipt_of, with_inside};
+ghost use Rattle.craq_runs.specs.Chain.{sent_in};
+ghost use Rattle.craq_seat.specs.Cells.{with_inside};
 ghost use Rattle.craq_seat.specs.Kept.{IsKept};
-ghost use Rattle.craq_seat.specs.Numbered.{CanBeSent};
+ghost use Rattle.craq_seat.specs.Numbered.{CanBeSent, numbered_from};
 ghost use Rattle.craq_seat.specs.Taken.{TakesEvent, TakesTurn};
-ghost use Rattle.craq_locked.specs.Sending.{NamesNode, sent_of};
+ghost use Rattle.craq_locked.specs.Sending.{NamesNode, receipt_in, sent_of};
 
+use crate::copying::copy_of;
 use crate::posted::Posted;
 use craq_model::{Event, Step};
 use craq_names::{Pass, Refusal};
 use craq_node::Core;
-use craq_seat::{BookCell, BookEvent, CallReceipt, Cell, Desk, Receipt, numbered};
+use craq_seat::{BookCell, BookEvent, CallReceipt, Desk, Receipt, numbered};
 use std::alloc::{AllocError, Global};
 
-/// What names the last step of a cell.
-fn last_receipt<C: Core>(cell: &Cell<C>) -> Receipt
-    ensures { result ≡ receipt_of cell.now }
-{
-    Receipt {
-        node: cell.opening().name.node,
-        stamp: cell.stamp(),
-    }
+/// A step that a cell took, and the receipt that names it.
+#[derive(Debug, Drop)]
+pub struct CellStep {
+    pub receipt: Receipt,
+    pub step: Step,
 }
 
 /// A cell keeps what its type says. It does nothing.
@@ -34,19 +32,44 @@ fn keeps_type<C: Core>(desk: &Desk<C>)
 }
 
 /// Adds the messages of a step, each named by the step's receipt, to those that were sent. Without memory nothing is added.
-fn post(
+fn post_messages(
     alloc: Global,
-    step: Option<&Step>,
+    step: &Step,
     receipt: &Receipt,
     posted: &mut Posted,
 ) -> Result<(), AllocError>
-    requires { IfSome (option_copied step) (λ s. CanBeSent receipt.now s.outs) }
-    ensures ok { OnOk result (posted.new ≡ posted.old ++ sent_of receipt.now (option_copied step.entry)) }
+    requires { CanBeSent receipt.now step.now.outs }
+    ensures ok { OnOk result (posted.new ≡ posted.old ++ numbered_from 0 receipt.now (sent_in step.now.outs)) }
     ensures err { OnErr result (posted.new ≡ posted.old) }
 {
-    match step {
-        None => Ok(()),
-        Some(step) => posted.add(numbered(alloc, step, *receipt)?),
+    let messages = numbered(alloc, step, *receipt)?;
+    posted.add(messages)
+}
+
+/// Adds the messages of a step, each named by the step's receipt, to those that were sent, and gives the step back, in memory
+/// of its own. Without memory nothing is added.
+fn post(
+    alloc: Global,
+    step: &Step,
+    receipt: &Receipt,
+    posted: &mut Posted,
+) -> Result<CellStep, AllocError>
+    requires { CanBeSent receipt.now step.now.outs }
+    ensures receipt { IfOk result (λ taken. taken.receipt ≡ receipt.now) }
+    ensures step { IfOk result (λ taken. taken.step ≡ step.now) }
+    ensures sent { IfOk result (λ taken. posted.new ≡ posted.old ++ sent_of taken) }
+    ensures err { OnErr result (posted.new ≡ posted.old) }
+{
+    let copy = copy_of(alloc, step)?;
+    match post_messages(alloc, step, receipt, posted) {
+        Err(error) => {
+            drop(copy);
+            Err(error)
+        }
+        Ok(()) => Ok(CellStep {
+            receipt: *receipt,
+            step: copy,
+        }),
     }
 }
 
@@ -62,12 +85,13 @@ pub fn step_node<C: Core>(
     pass: Pass,
     posted: &mut Posted,
     calls: &mut Vec<CallReceipt>,
-) -> Result<Receipt, Refusal>
+) -> Result<CellStep, Refusal>
     requires { CanArrive event }
-    ensures step { (p : Plain) → C.represents desk.old.cell.inside p → (result ≡ Err Refusal.Memory) ⊎ TakesEvent C.represents desk.new.cell (with_inside desk.old.cell p) event pass result }
-    ensures sent { IfOk result (λ receipt. posted.new ≡ posted.old ++ sent_of receipt desk.new.cell.last) }
+    ensures step { (p : Plain) → C.represents desk.old.cell.inside p → (result ≡ Err Refusal.Memory) ⊎ TakesEvent C.represents desk.new.cell (with_inside desk.old.cell p) event pass (receipt_in result) }
+    ensures last { IfOk result (λ taken. desk.new.cell.last ≡ Some taken.step) }
+    ensures sent { IfOk result (λ taken. posted.new ≡ posted.old ++ sent_of taken) }
     ensures same { OnErr result (posted.new ≡ posted.old) }
-    ensures named { IfOk result (λ receipt. receipt.node ≡ desk.old.cell.opening.name.node) }
+    ensures named { IfOk result (λ taken. taken.receipt.node ≡ desk.old.cell.opening.name.node) }
 {
     keeps_type(desk);
     let (receipt, made) = desk.take(alloc, event, pass)?;
@@ -75,9 +99,9 @@ pub fn step_node<C: Core>(
         Err(_) => Err(Refusal::Memory),
         Ok(mut made) => {
             calls.append(&mut made)?;
-            let last = last_receipt(desk.cell());
-            post(alloc, desk.cell().last(), &last, posted)?;
-            Ok(receipt)
+            let step = desk.cell().last().unwrap();
+            let taken = post(alloc, step, &receipt, posted)?;
+            Ok(taken)
         }
     }
 }
@@ -89,14 +113,16 @@ pub fn step_book(
     event: BookEvent,
     pass: Pass,
     posted: &mut Posted,
-) -> Result<Receipt, Refusal>
-    ensures step { (result ≡ Err Refusal.Memory) ⊎ TakesTurn book.old book.new event pass result }
-    ensures sent { IfOk result (λ receipt. posted.new ≡ posted.old ++ sent_of receipt book.new.last) }
+) -> Result<CellStep, Refusal>
+    ensures step { (result ≡ Err Refusal.Memory) ⊎ TakesTurn book.old book.new event pass (receipt_in result) }
+    ensures last { IfOk result (λ taken. book.new.last ≡ Some taken.step) }
+    ensures sent { IfOk result (λ taken. posted.new ≡ posted.old ++ sent_of taken) }
     ensures same { OnErr result (posted.new ≡ posted.old) }
     ensures joins { OnOk result (NamesNode event) }
-    ensures named { IfOk result (λ receipt. receipt.node ≡ book.old.opening.name.node) }
+    ensures named { IfOk result (λ taken. taken.receipt.node ≡ book.old.opening.name.node) }
 {
     let receipt = book.take(alloc, event, pass)?;
-    post(alloc, book.last(), &receipt, posted)?;
-    Ok(receipt)
+    let step = book.last().unwrap();
+    let taken = post(alloc, step, &receipt, posted)?;
+    Ok(taken)
 }

@@ -25,16 +25,11 @@ pub fn opened<C: Core>(
     LockedChain::open(alloc, ChainId::new(0), members.as_slice(), journal)
 }
 
-/// Prints the node and the stamp of a receipt, if there is one.
-fn print_receipt(text: &mut String, receipt: Option<Receipt>) -> Result<(), AllocError> {
-    match receipt {
-        None => Ok(()),
-        Some(receipt) => {
-            let node = receipt.node.get();
-            let stamp = receipt.stamp.get();
-            writeln!(text, "{node}@{stamp}")
-        }
-    }
+/// Prints the node and the stamp of a receipt.
+fn print_receipt(text: &mut String, receipt: Receipt) -> Result<(), AllocError> {
+    let node = receipt.node.get();
+    let stamp = receipt.stamp.get();
+    writeln!(text, "{node}@{stamp}")
 }
 
 /// Takes the moves of scripts, each with the stamp of the pass that its moves show, and prints the receipts of the steps. The
@@ -50,7 +45,9 @@ pub fn take_all<C: Core, R: AllocGlobal + Wait>(
     for (shown, script) in moves {
         let pass = Pass::of(Stamp::new(*shown));
         for chosen in &moves_of(alloc, script)? {
-            print_receipt(text, cells.take(rt, alloc, chosen, pass, calls)?)?;
+            if let Some(taken) = cells.take(rt, alloc, chosen, pass, calls)? {
+                print_receipt(text, taken.receipt)?;
+            }
         }
     }
     Ok(())
@@ -77,9 +74,9 @@ fn stop_and_tick<C: Core>(
     text: &mut String,
 ) -> Result<(), Refusal> {
     let stopped = cell.take(alloc, Event::Stop, Pass::start())?;
-    print_receipt(text, Some(stopped))?;
+    print_receipt(text, stopped)?;
     match cell.take(alloc, Event::Tick, Pass::start()) {
-        Ok(receipt) => print_receipt(text, Some(receipt))?,
+        Ok(receipt) => print_receipt(text, receipt)?,
         Err(refusal) => print_refusal(text, &refusal)?,
     }
     Ok(())

@@ -6,7 +6,7 @@ ghost use Rattle.craq_model.specs.Spelled.{IsSpelled};
 use crate::cells::{deliver_at, opened};
 use crate::moves::moves_of;
 use craq_list::ListCore;
-use craq_locked::LockedChain;
+use craq_locked::{CellStep, LockedChain};
 use craq_model::{LinkMessage, Out, Why};
 use craq_names::{NodeId, Pass, Refusal, Same};
 use craq_node::Core;
@@ -60,6 +60,11 @@ const LATELY: usize = 12;
 /// What became of a move or of a message that nobody sent: the receipt of the step, none where no cell could take it, or the
 /// refusal.
 type Taken = Result<Option<Receipt>, Refusal>;
+
+/// What became of a move, without the step itself.
+fn receipt_in(done: Result<Option<CellStep>, Refusal>) -> Taken {
+    Ok(done?.map(|taken| taken.receipt))
+}
 
 /// A number below the bound, by lot.
 fn below(dice: &mut Pcg32, bound: u32) -> u32
@@ -192,7 +197,8 @@ fn play<C: Core, R: AllocGlobal + Wait>(
     let mut dice = Pcg32::new(1, 1);
     let mut calls = Vec::new(rt.alloc());
     for chosen in moves {
-        taken.push(cells.take(rt, rt.alloc(), chosen, Pass::start(), &mut calls))?;
+        let done = cells.take(rt, rt.alloc(), chosen, Pass::start(), &mut calls);
+        taken.push(receipt_in(done))?;
         deliver_spoiled(rt, cells, &mut dice, taken)?;
     }
     Ok(calls.len())

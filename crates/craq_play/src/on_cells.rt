@@ -12,73 +12,45 @@ use crate::moving::move_of;
 use crate::playing::{first_ids, opened, print_explanation};
 use crate::printing::print_step;
 use craq_chain::ChainCore;
-use craq_locked::LockedChain;
+use craq_locked::{CellStep, LockedChain};
 use craq_model::Step;
 use craq_names::{ChainId, NodeId, Pass, Refusal, Same};
 use craq_node::Core;
 use craq_runs::{Move, Run};
 use craq_script::{Line, Script};
-use craq_seat::Receipt;
 use craq_words::print_refusal;
 use std::alloc::{AllocError, Global};
 use std::sync::Wait;
 
-/// What the locked cells did with a move: the receipt of a step, none where no cell can take it, or a refusal.
-type OnCells = Result<Option<Receipt>, Refusal>;
+/// What the locked cells did with a move: a step and its receipt, none where no cell can take it, or a refusal.
+type OnCells = Result<Option<CellStep>, Refusal>;
 
 /// Prints a cell's step, at this node, after so many messages were sent, where it is the wanted one. `Differs` where it is
-/// another, or there is none.
+/// another.
 fn print_same(
     text: &mut String,
     node: NodeId,
     sent: u64,
-    step: Option<&Step>,
+    step: &Step,
     wanted: &Step,
 ) -> Result<(), PlayFault>
     ensures text { OnOk result (string_bytes text.new ≡ string_bytes text.old ++ step_text node sent wanted.now) }
     ensures err { IfErr result EndsPlay }
 {
-    match step {
-        Some(step) if step.is_same(wanted) => Ok(print_step(text, node, sent, step)?),
-        _ => Err(PlayFault::Differs),
+    if !step.is_same(wanted) {
+        return Err(PlayFault::Differs);
     }
-}
-
-/// Prints the last step of the cell of this node, 0 the master, after so many messages were sent, where it is the wanted
-/// one. `Differs` where it is not.
-fn print_cells_step<C: Core, R: Wait>(
-    rt: &R,
-    text: &mut String,
-    node: NodeId,
-    sent: u64,
-    cells: &LockedChain<C>,
-    wanted: &Step,
-) -> Result<(), PlayFault>
-    ensures text { OnOk result (string_bytes text.new ≡ string_bytes text.old ++ step_text node sent wanted.now) }
-    ensures err { IfErr result EndsPlay }
-{
-    if node.get() == 0 {
-        let book = cells.book().lock(rt);
-        return print_same(text, node, sent, book.last(), wanted);
-    }
-    match cells.seat(node) {
-        None => Err(PlayFault::Differs),
-        Some((_, seat)) => {
-            let seated = seat.lock(rt);
-            print_same(text, node, sent, seated.desk.cell().last(), wanted)
-        }
-    }
+    print_step(text, node, sent, step)?;
+    Ok(())
 }
 
 /// Prints what the cells did with a move that the chain took as the last of its run, at this node, after so many messages
 /// were sent. `Differs` where the cells did otherwise.
-fn print_taken<C: Core, R: Wait>(
-    rt: &R,
+fn print_taken(
     text: &mut String,
     node: NodeId,
     sent: u64,
-    cells: &LockedChain<C>,
-    done: OnCells,
+    done: &OnCells,
     run: &Run,
 ) -> Result<(), PlayFault>
     ensures text { (before : List Taken) (t : Taken) → run.now.moves ≡ before ++ t ∷ [] → OnOk result (string_bytes text.new ≡ string_bytes text.old ++ step_text node sent t.step) }
@@ -88,8 +60,8 @@ fn print_taken<C: Core, R: Wait>(
         return Err(PlayFault::Differs);
     };
     match done {
-        Ok(Some(receipt)) if receipt.node == node => {
-            print_cells_step(rt, text, node, sent, cells, &taken.step)
+        Ok(Some(done)) if done.receipt.node == node => {
+            print_same(text, node, sent, &done.step, &taken.step)
         }
         _ => Err(PlayFault::Differs),
     }
@@ -97,7 +69,7 @@ fn print_taken<C: Core, R: Wait>(
 
 /// Prints the refusal of a move by the chain, where the cells refused it so or none of them could take it. `Differs` where
 /// they did otherwise.
-fn print_refused(text: &mut String, done: OnCells, refusal: Refusal) -> Result<(), PlayFault>
+fn print_refused(text: &mut String, done: &OnCells, refusal: Refusal) -> Result<(), PlayFault>
     ensures text { OnOk result (string_bytes text.new ≡ string_bytes text.old ++ refusal_text refusal) }
     ensures err { IfErr result EndsPlay }
 {
@@ -142,9 +114,9 @@ fn play_move<C: Core, R: Wait>(
         return Err(PlayFault::Refused(Refusal::Memory));
     }
     match chain.take(alloc, chosen) {
-        Ok(_) => print_taken(rt, text, node, sent, cells, done, chain.run()),
+        Ok(_) => print_taken(text, node, sent, &done, chain.run()),
         Err(Refusal::Memory) => Err(PlayFault::Refused(Refusal::Memory)),
-        Err(refusal) => print_refused(text, done, refusal),
+        Err(refusal) => print_refused(text, &done, refusal),
     }
 }
 

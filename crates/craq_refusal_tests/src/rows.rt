@@ -77,8 +77,8 @@ impl Row {
         let mut calls = Vec::new(alloc);
         let mut pass = Pass::start();
         for chosen in &self.moves {
-            if let Ok(Some(receipt)) = cells.take(rt, alloc, chosen, pass, &mut calls) {
-                pass = Pass::of(receipt.stamp);
+            if let Ok(Some(taken)) = cells.take(rt, alloc, chosen, pass, &mut calls) {
+                pass = Pass::of(taken.receipt.stamp);
             }
         }
         Ok((cells, calls))

@@ -2,10 +2,7 @@ use Rattle.std.proofs.lemmas.Result.{err_from_is_err_and}
 use Rattle.craq_locked.proofs.Sent.{unsent}
 use Rattle.craq_locked.proofs.locked_chain.LockedChain.at_node.Goals as goal
 
-pub returns-in_err-receipt-clause-sent : goal.returns-in_err-receipt-clause-sent
-returns-in_err-receipt-clause-sent g c =
+pub returns-in_err-taken-clause-sent : goal.returns-in_err-taken-clause-sent
+returns-in_err-taken-clause-sent g c =
     let p = err_from_is_err_and c.from_residual.result c.from_residual.ensures.1 in
-    rw (← c.self.view_is) (unsent c.self.inside.posted c.step_node.new.posted c.from_residual.result p.0 p.1 c.in_err-receipt.ensures.same)
-
-pub returns-clause-sent : goal.returns-clause-sent
-returns-clause-sent g c = rw (← c.self.view_is) (c.step_node.new.desk.cell.last, c.in_ok-receipt.ensures.sent)
+    rw (← c.self.view_is) (unsent c.self.inside.posted c.step_node.new.posted c.from_residual.result p.0 p.1 c.in_err-taken.ensures.same)

@@ -1,5 +1,9 @@
 //! A connection of a thread that serves many: its socket and its `Dialogue`, and what goes between them; called by `crowd`.
+ghost use Rattle.std.specs.Prelude.{◌≡◌, ◌≤◌, true, length, take, IsTrue};
+ghost use Rattle.craq_door.specs.declared.dialogue.Phase.TheVariants.{Idle};
+
 use crate::host::{Arrival, Host};
+use crate::socket::Socket;
 use craq_door::{Dialogue, Stepped};
 use craq_letters::Outcome;
 use mio::event::Event;
@@ -7,7 +11,7 @@ use mio::unix::SourceFd;
 use mio::{Interest, Registry, Token};
 use std::alloc::Global;
 use std::io;
-use std::io::{ErrorKind, Read, Write};
+use std::io::ErrorKind;
 use std::net::TcpStream;
 use std::os::fd::AsRawFd;
 use std::sync::Arc;
@@ -28,8 +32,8 @@ struct Readiness {
 
 /// A connection of a thread that serves many.
 #[derive(Drop)]
-pub(crate) struct Connection {
-    stream: Arc<TcpStream>,
+pub(crate) struct Connection<S> {
+    stream: S,
     dialogue: Dialogue,
     place: usize,
     receipts: usize,
@@ -44,7 +48,7 @@ pub(crate) struct Connection {
     over: bool,
 }
 
-impl Connection {
+impl Connection<Arc<TcpStream>> {
     /// A connection that came, of which readiness is told under this token.
     pub(crate) fn open(
         alloc: Global,
@@ -80,6 +84,28 @@ impl Connection {
         })
     }
 
+    /// The connection ends, and is given back to its host.
+    pub(crate) fn close<H: Host>(self, registry: &Registry, host: &H) {
+        let _ = registry.deregister(&mut SourceFd(&self.stream.as_raw_fd()));
+        let Connection {
+            stream,
+            dialogue,
+            place,
+            receipts,
+            readiness: _,
+            heard: _,
+            busy: _,
+            more: _,
+            over: _,
+        } = self;
+        drop(stream);
+        host.ended(place, receipts, dialogue.into_receipts());
+    }
+}
+
+impl<S: Socket> Connection<S> {
+    ghost use Rattle.craq_ready.specs.Belonging.{CameBack, Gives, Hears, Reads, Writes};
+
     /// What is told of the connection's readiness.
     pub(crate) fn notice(&mut self, event: &Event) {
         if event.is_readable() || event.is_read_closed() || event.is_error() {
@@ -112,7 +138,9 @@ impl Connection {
     }
 
     /// From now on it has something to do; whether it had not before.
-    pub(crate) fn is_newly_busy(&mut self) -> bool {
+    pub(crate) fn is_newly_busy(&mut self) -> bool
+        ensures { self.new ≡ record self.old { busy = true } }
+    {
         let is_new = !self.busy;
         self.busy = true;
         is_new
@@ -135,56 +163,116 @@ impl Connection {
         }
     }
 
-    /// Reads once, where nothing is asked and nothing is due.
-    pub(crate) fn read(&mut self, chunk: &mut [u8], now: u64) {
-        if self.over
-            || self.more
-            || !self.readiness.readable
-            || !self.dialogue.listens()
-            || !self.dialogue.due().is_empty()
-        {
-            return;
-        }
-        match (&*self.stream).read(chunk) {
-            Ok(0) => self.over = true,
-            Ok(count) => {
-                if count < chunk.len() && !self.readiness.closing {
-                    self.readiness.readable = false;
-                }
-                self.more = true;
-                self.heard = now;
-                // Where memory lacks the dialogue is over, as `give` sees.
-                let _ = self.dialogue.receive(&chunk[..count]);
-            }
-            Err(error) => match error.kind() {
-                ErrorKind::WouldBlock => self.readiness.readable = false,
-                ErrorKind::Interrupted => {}
-                _ => self.over = true,
-            },
+    /// Whether a read is worth a try: nothing is asked and nothing is due.
+    fn may_read(&self) -> bool
+        ensures { IsTrue result → self.now.dialogue.phase ≡ Idle }
+    {
+        !self.over
+            && !self.more
+            && self.readiness.readable
+            && self.dialogue.due().is_empty()
+            && self.dialogue.listens()
+    }
+
+    /// These bytes came. They go to the dialogue.
+    fn hear(&mut self, bytes: &[u8], now: u64)
+        requires { self.old.dialogue.phase ≡ Idle }
+        ensures hears { Hears bytes.now self.old.dialogue self.new.dialogue }
+        ensures stream { self.new.stream ≡ self.old.stream }
+    {
+        self.more = true;
+        self.heard = now;
+        // Where memory lacks the dialogue is over, as `give` sees.
+        let _ = self.dialogue.receive(bytes);
+    }
+
+    /// So many bytes came where there was room for so many: where there was more room, no more are there.
+    fn is_drained(&self, count: usize, room: usize) -> bool {
+        count < room && !self.readiness.closing
+    }
+
+    /// A read failed so.
+    fn read_failed(&mut self, error: ErrorKind)
+        ensures dialogue { self.new.dialogue ≡ self.old.dialogue }
+        ensures stream { self.new.stream ≡ self.old.stream }
+    {
+        match error {
+            ErrorKind::WouldBlock => self.readiness.readable = false,
+            ErrorKind::Interrupted => {}
+            _ => self.over = true,
         }
     }
 
-    /// Writes once what is due.
-    fn write(&mut self, now: u64) {
+    /// Reads once. What came goes to the dialogue.
+    #[tactic(auto, using(crate::proofs::Belonging::nothing_read))]
+    fn take(&mut self, chunk: &mut [u8], now: u64)
+        requires { self.old.dialogue.phase ≡ Idle }
+        ensures reads { Reads (S.remaining self.old.stream) (S.remaining self.new.stream) self.old.dialogue self.new.dialogue }
+        ensures contents { S.contents self.new.stream ≡ S.contents self.old.stream }
+    {
+        match self.stream.take(chunk) {
+            Ok(0) => self.over = true,
+            Ok(count) => {
+                self.readiness.readable = !self.is_drained(count, chunk.len());
+                self.hear(&chunk[..count], now);
+            }
+            Err(error) => self.read_failed(error.kind()),
+        }
+    }
+
+    /// Reads once, where nothing is asked and nothing is due. What its socket gave, and no other byte, goes to its dialogue.
+    pub(crate) fn read(&mut self, chunk: &mut [u8], now: u64)
+        ensures reads { Reads (S.remaining self.old.stream) (S.remaining self.new.stream) self.old.dialogue self.new.dialogue }
+        ensures contents { S.contents self.new.stream ≡ S.contents self.old.stream }
+    {
+        if self.may_read() {
+            self.take(chunk, now);
+        }
+    }
+
+    /// A write failed so.
+    fn write_failed(&mut self, error: ErrorKind)
+        ensures dialogue { self.new.dialogue ≡ self.old.dialogue }
+        ensures stream { self.new.stream ≡ self.old.stream }
+    {
+        match error {
+            ErrorKind::WouldBlock => self.readiness.writable = false,
+            ErrorKind::Interrupted => {}
+            _ => self.over = true,
+        }
+    }
+
+    /// So many of the bytes that are due were taken.
+    fn given(&mut self, count: usize, now: u64)
+        requires { count ≤ length self.old.dialogue.talk.buffers.output.items }
+        ensures gives { Gives (take count self.old.dialogue.talk.buffers.output.items) self.old.dialogue self.new.dialogue }
+        ensures stream { self.new.stream ≡ self.old.stream }
+    {
+        self.heard = now;
+        self.dialogue.wrote(count);
+    }
+
+    /// Writes once what is due. What its socket took, and no other byte, is then written for its dialogue.
+    #[tactic(auto, using(crate::proofs::Belonging::nothing_written))]
+    fn write(&mut self, now: u64)
+        ensures writes { Writes (S.contents self.old.stream) (S.contents self.new.stream) self.old.dialogue self.new.dialogue }
+        ensures remaining { S.remaining self.new.stream ≡ S.remaining self.old.stream }
+    {
         if self.over || !self.readiness.writable || self.dialogue.due().is_empty() {
             return;
         }
-        match (&*self.stream).write(self.dialogue.due()) {
+        match self.stream.put(self.dialogue.due()) {
             Ok(0) => self.over = true,
-            Ok(count) => {
-                self.heard = now;
-                self.dialogue.wrote(count);
-            }
-            Err(error) => match error.kind() {
-                ErrorKind::WouldBlock => self.readiness.writable = false,
-                ErrorKind::Interrupted => {}
-                _ => self.over = true,
-            },
+            Ok(count) => self.given(count, now),
+            Err(error) => self.write_failed(error.kind()),
         }
     }
 
     /// The call that is under way came back.
-    pub(crate) fn answer<H: Host>(&mut self, alloc: Global, host: &H, outcome: Outcome) {
+    pub(crate) fn answer<H: Host>(&mut self, alloc: Global, host: &H, outcome: Outcome)
+        ensures told { CameBack outcome self.old.dialogue self.new.dialogue }
+        ensures stream { self.new.stream ≡ self.old.stream }
+    {
         if let Err(refusal) = &outcome {
             host.refused(self.place, *refusal);
         }
@@ -192,7 +280,9 @@ impl Connection {
     }
 
     /// The call that is under way is submitted.
-    fn submit<H: Host>(&mut self, alloc: Global, host: &H, token: usize, few: bool) {
+    fn submit<H: Host>(&mut self, alloc: Global, host: &H, token: usize, few: bool)
+        ensures stream { self.new.stream ≡ self.old.stream }
+    {
         let Some(question) = self.dialogue.question() else {
             return;
         };
@@ -205,8 +295,10 @@ impl Connection {
 
     /// Takes the steps of the dialogue, as far as its bytes and replies are there. What comes of them is then due. `few`
     /// tells that few connections have something to do just now.
-    pub(crate) fn advance<H: Host>(&mut self, alloc: Global, host: &H, token: usize, few: bool) {
-        for _ in 0..MOST_STEPS {
+    pub(crate) fn advance<H: Host>(&mut self, alloc: Global, host: &H, token: usize, few: bool)
+        ensures stream { self.new.stream ≡ self.old.stream }
+    {
+        for _step in 0..MOST_STEPS {
             if self.over {
                 break;
             }
@@ -223,28 +315,13 @@ impl Connection {
     }
 
     /// Writes what is due. It is over where that was the last.
-    pub(crate) fn give(&mut self, now: u64) {
+    pub(crate) fn give(&mut self, now: u64)
+        ensures writes { Writes (S.contents self.old.stream) (S.contents self.new.stream) self.old.dialogue self.new.dialogue }
+        ensures remaining { S.remaining self.new.stream ≡ S.remaining self.old.stream }
+    {
         self.write(now);
         if self.dialogue.ending().is_some() && self.dialogue.due().is_empty() {
             self.over = true;
         }
-    }
-
-    /// The connection ends, and is given back to its host.
-    pub(crate) fn close<H: Host>(self, registry: &Registry, host: &H) {
-        let _ = registry.deregister(&mut SourceFd(&self.stream.as_raw_fd()));
-        let Connection {
-            stream,
-            dialogue,
-            place,
-            receipts,
-            readiness: _,
-            heard: _,
-            busy: _,
-            more: _,
-            over: _,
-        } = self;
-        drop(stream);
-        host.ended(place, receipts, dialogue.into_receipts());
     }
 }

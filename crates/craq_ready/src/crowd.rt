@@ -1,5 +1,8 @@
 //! `Crowd`: the connections of a thread and the loop over them, for the thread that serves them: it takes what came, steps each
 //! connection that has something to do, and sleeps where none has.
+ghost use Rattle.std.specs.Prelude.{◌≡◌};
+ghost use Rattle.craq_ready.specs.Belonging.{Delivers, OthersStay, StaysVacant, Wakes};
+
 use crate::connection::Connection;
 use crate::host::{Arrival, Host};
 use craq_letters::{Letter, Outcome};
@@ -8,8 +11,8 @@ use mio::{Poll, Registry, Token, Waker};
 use slab::Slab;
 use std::alloc::{AllocError, Global};
 use std::mem;
-use std::net::Net;
-use std::sync::Wait;
+use std::net::{Net, TcpStream};
+use std::sync::{Arc, Wait};
 use std::time::Duration;
 
 /// The token under which a thread is woken.
@@ -31,7 +34,7 @@ const MOST_LOOKS: u32 = 200;
 #[derive(Drop)]
 struct Members {
     alloc: Global,
-    connections: Slab<Connection>,
+    connections: Slab<Connection<Arc<TcpStream>>>,
     /// The connections that have something to do, each once.
     busy: Vec<usize>,
     /// Those of them that have something left to do after their turn.
@@ -70,7 +73,11 @@ impl Members {
     }
 
     /// A connection has something to do.
-    fn wake(&mut self, token: usize) {
+    fn wake(&mut self, token: usize)
+        ensures wakes { Wakes self.old.connections self.new.connections token }
+        ensures vacant { StaysVacant self.old.connections self.new.connections token }
+        ensures others { OthersStay self.old.connections self.new.connections token }
+    {
         self.looks = 0;
         if let Some(connection) = self.connections.get_mut(token) {
             // There is room for the token of each connection.
@@ -128,11 +135,16 @@ impl Members {
         }
     }
 
-    /// A connection's call came back.
-    fn deliver<H: Host>(&mut self, host: &H, token: usize, reply: Outcome) {
-        if let Some(connection) = self.connections.get_mut(token) {
-            connection.answer(self.alloc, host, reply);
-        }
+    /// A connection's call came back. Its dialogue is told, and no other connection changes; where it has gone nothing does.
+    fn deliver<H: Host>(&mut self, host: &H, token: usize, reply: Outcome)
+        ensures told { Delivers self.old.connections self.new.connections token reply }
+        ensures vacant { StaysVacant self.old.connections self.new.connections token }
+        ensures others { OthersStay self.old.connections self.new.connections token }
+    {
+        let Some(addressee) = self.connections.get_mut(token) else {
+            return;
+        };
+        addressee.answer(self.alloc, host, reply);
         self.wake(token);
     }
 

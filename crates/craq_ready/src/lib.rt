@@ -6,6 +6,7 @@
 mod connection;
 mod crowd;
 mod host;
+mod socket;
 
 pub use crowd::Crowd;
 pub use host::{Arrival, Host};

@@ -1,0 +1,8 @@
+use Rattle.std.proofs.Common.{sym}
+use Rattle.craq_ready.proofs.Belonging.{delivered}
+use Rattle.craq_ready.proofs.crowd.Members.deliver.Goals as goal
+
+pub returns-clause-told : goal.returns-clause-told
+returns-clause-told g c =
+    delivered c.args.self.now.connections c.wake.new.self.connections c.args.token c.in-Some.addressee.now c.answer.new.self c.args.reply
+    (sym c.in-Some.ensures.value) c.answer.ensures.told c.answer.ensures.stream c.wake.ensures.wakes

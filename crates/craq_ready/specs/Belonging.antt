@@ -1,0 +1,53 @@
+-- Which bytes and which letters belong to which connection.
+use Rattle.std.specs.Prelude.{◌≡◌, ◌≢◌, ℕ, true, List, ◌++◌, Option, None, Some, Result}
+use Rattle.std.specs.Io.KnownBytes.{Appends, Consumes}
+use Rattle.slab.specs.Slab.{Slab, get}
+use Rattle.craq_names.specs.declared.refusal.Refusal.{Refusal}
+use Rattle.craq_front.specs.Talk.{History}
+use Rattle.craq_seat.specs.Calls.{Called}
+use Rattle.craq_door.specs.Dialogues.{Answers, Holds}
+use Rattle.craq_door.specs.declared.dialogue.Dialogue.{Dialogue}
+use Rattle.craq_ready.specs.declared.connection.Connection.{Connection}
+
+-- just these bytes came to the dialogue, behind those before; what is due and its calls are as they were
+pub record Hears (came : List ℕ) (old new : Dialogue) : Type 0 where
+  pub heard : (read written : List ℕ) (turns : History) → Holds old.phase old.talk read written turns → Holds new.phase new.talk (read ++ came) written turns
+  pub due : new.talk.buffers.output.items ≡ old.talk.buffers.output.items
+  pub calls : new.calls ≡ old.calls
+
+-- just these bytes, the first that were due, are written as far as the dialogue knows; its phase and its calls are as they were
+pub record Gives (went : List ℕ) (old new : Dialogue) : Type 0 where
+  pub given : (read written : List ℕ) (turns : History) → Holds old.phase old.talk read written turns → Holds new.phase new.talk read (written ++ went) turns
+  pub due : old.talk.buffers.output.items ≡ went ++ new.talk.buffers.output.items
+  pub phase : new.phase ≡ old.phase
+  pub calls : new.calls ≡ old.calls
+
+-- what a socket gave, in order and whole, is what the dialogue was given
+abbrev pub Reads : Option (List ℕ) → Option (List ℕ) → Dialogue → Dialogue → Type 0
+Reads before after old new = (came : List ℕ) × Consumes before after came × Hears came old new
+
+-- what a socket took, in order and whole, is what was due and what the dialogue was told is written
+abbrev pub Writes : Option (List ℕ) → Option (List ℕ) → Dialogue → Dialogue → Type 0
+Writes before after old new = (went : List ℕ) × Appends before after went × Gives went old new
+
+-- the call of the dialogue came back so
+abbrev pub CameBack : Result Called Refusal → Dialogue → Dialogue → Type 0
+CameBack outcome old new = Answers old.phase outcome new.phase old.talk new.talk old.calls new.calls
+
+-- under this token, the dialogue of the connection is told that its call came back so; its socket is as it was
+abbrev pub Delivers : {S : Type 0} → Slab (Connection S) → Slab (Connection S) → ℕ → Result Called Refusal → Type 0
+Delivers {S} old new token outcome =
+    (c : Connection S) → get old token ≡ Some c
+    → (d : Connection S) × (get new token ≡ Some d) × CameBack outcome c.dialogue d.dialogue × (d.stream ≡ c.stream)
+
+-- under this token, the connection has something to do from now on
+abbrev pub Wakes : {S : Type 0} → Slab (Connection S) → Slab (Connection S) → ℕ → Type 0
+Wakes {S} old new token = (c : Connection S) → get old token ≡ Some c → get new token ≡ Some (record c { busy = true })
+
+-- where no connection is under this token, none is afterwards
+abbrev pub StaysVacant : {S : Type 0} → Slab (Connection S) → Slab (Connection S) → ℕ → Type 0
+StaysVacant old new token = get old token ≡ None → get new token ≡ None
+
+-- each connection under another token is as it was
+abbrev pub OthersStay : {S : Type 0} → Slab (Connection S) → Slab (Connection S) → ℕ → Type 0
+OthersStay old new token = (other : ℕ) → other ≢ token → get new other ≡ get old other

@@ -1,5 +1,6 @@
 pub mod Cuts
 pub mod Frames
+pub mod Fronts
 pub mod Payloads
 pub mod Tests
 pub mod Typed

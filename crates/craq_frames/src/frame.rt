@@ -1,11 +1,13 @@
 //! Frames: a payload behind its length, cut off the front of bytes and written at the end; called by `craq_front` and
 //! `craq_server`.
-ghost use Rattle.std.specs.Prelude.{◌≡◌, ◌≢◌, ◌<◌, ◌≤◌, ◌^◌, ◌⊎◌, ◌↔◌, ℕ, List, ◌++◌, length, All, Ok, Err, None, IsTrue, IfSome, IfOk, IfErr, OnOk, OnErr};
+ghost use Rattle.std.specs.Prelude.{◌≡◌, ◌≢◌, ◌<◌, ◌≤◌, ◌+◌, ◌^◌, ◌⊎◌, ◌↔◌, ℕ, List, ◌++◌, length, take, drop, All, Ok, Err, None, IsTrue, IfSome, IfOk, IfErr, OnOk, OnErr};
 ghost use Rattle.std.specs.IoError.{error_kind};
 ghost use Rattle.std.specs.declared.io.ErrorKind.TheVariants.{OutOfMemory};
 ghost use Rattle.tokio_util.specs.Codec.LengthDelimited.{codec_layout, cut_frame, frame as cut_off, overflows, too_big, IsAtHead};
 ghost use Rattle.craq_frames.specs.Frame.{frame, frame_layout, payload_limit, BeginsTooLong, IsPartial};
 ghost use Rattle.craq_frames.specs.Reading.{is_partial};
+ghost use Rattle.std.specs.Int.{w32};
+ghost use Rattle.craq_codec.specs.NumberSpelling.{number};
 
 use bytes::{Bytes, BytesMut};
 use craq_codec::read_u32;
@@ -87,6 +89,39 @@ pub fn cut_off_frame(buffer: &mut BytesMut) -> Result<Option<BytesMut>, Refusal>
             } else {
                 Err(Refusal::FrameTooLong)
             }
+        }
+    }
+}
+
+/// Puts a number of 4 bytes over those from `at` on.
+#[tactic(auto, unfolding(craq_codec::specs::NumberSpelling::number))]
+pub(crate) fn set_u32(bytes: &mut [u8], at: usize, n: u32)
+    requires { at + 4 ≤ length bytes.old }
+    ensures { bytes.new ≡ take at bytes.old ++ (number w32 n ++ drop (at + 4) bytes.old) }
+{
+    bytes[at..at + 4].copy_from_slice(&n.to_be_bytes());
+}
+
+/// The payload whose frame stands at the front. `Ok(None)` exactly where there is less than a frame; `FrameTooLong` exactly where
+/// a length above 1,048,576 stands at the front. It takes no memory.
+pub fn payload_in_front(bytes: &[u8]) -> Result<Option<&[u8]>, Refusal>
+    ensures whole { IfOk result (λ found. IfSome found (λ payload. (rest : List ℕ) × (length payload.now ≤ payload_limit)
+        × (bytes.now ≡ frame payload.now ++ rest))) }
+    ensures part { result ≡ Ok None → IsPartial bytes.now }
+    ensures long { result ≡ Err Refusal.FrameTooLong → BeginsTooLong bytes.now }
+    ensures err { IfErr result (λ e. e ≡ Refusal.FrameTooLong) }
+{
+    match read_u32(bytes) {
+        Err(_) => Ok(None),
+        Ok((len, rest)) => {
+            let len = len as usize;
+            if len > MAX_PAYLOAD {
+                return Err(Refusal::FrameTooLong);
+            }
+            if rest.len() < len {
+                return Ok(None);
+            }
+            Ok(Some(&rest[..len]))
         }
     }
 }

@@ -13,7 +13,9 @@ mod versions;
 
 pub use answer::ClientReply;
 pub use ask::ClientMessage;
-pub use frame::{MAX_PAYLOAD, cut_off_frame, cuts_frames, frame_codec, write_frame};
+pub use frame::{
+    MAX_PAYLOAD, cut_off_frame, cuts_frames, frame_codec, payload_in_front, write_frame,
+};
 pub use laws::{asks_with_spellings, replies_with_spellings};
 pub use text::Text;
 pub use versions::{Answered, MOST_MESSAGES, Payload, PayloadVersion};

@@ -1,9 +1,11 @@
 //! Payloads of versions 1 and 2, those of several messages among them: `Payload` and `Answered`; for the conversation
 //! of `craq_front`, which takes both versions, and for `craq_server`.
-ghost use Rattle.std.specs.Prelude.{◌≡◌, ◌≤◌, ◌⊎◌, ◌++◌, length, Err, IfOk, IfErr, OnOk};
+ghost use Rattle.std.specs.Prelude.{◌≡◌, ◌≤◌, ◌+◌, ◌⊎◌, ℕ, List, ◌++◌, length, take, drop, Err, IfOk, IfErr, OnOk, OnErr};
+ghost use Rattle.std.specs.Io.{StartsWith};
 ghost use Rattle.std.specs.List.{AllByRecursion, list_all};
 ghost use Rattle.craq_codec.specs.NumberReading.{Gives};
 ghost use Rattle.craq_codec.specs.PartSpelling.{counted};
+ghost use Rattle.craq_frames.specs.Frame.{frame, payload_limit};
 ghost use Rattle.std.specs.Int.{w8};
 ghost use Rattle.craq_frames.specs.Versions.{version_number, many_limit, AreFew, payload_spelling, PayloadFits, SpellsPayload, IsPayload, answered_spelling, AnsweredFits, IsAnswered, SpellsAnswered};
 ghost use Rattle.craq_frames.specs.Reading.{few_at, payload_body_at, answered_body_at, versioned_at};
@@ -11,9 +13,10 @@ ghost use Rattle.craq_frames.specs.Tests.{is_answer, is_answered};
 
 use crate::answer::{read_answer_body, test_answer};
 use crate::ask::read_ask_body;
+use crate::frame::set_u32;
 use crate::{ClientMessage, ClientReply, USUAL_SIZE};
 use bytes::{Bytes, BytesMut};
-use craq_codec::{Part, Unread, read_parts, read_u8, write_short_list, write_u8};
+use craq_codec::{Part, Unread, read_parts, read_u8, write_short_list, write_u8, write_u32};
 use craq_names::{Items, Refusal};
 use std::alloc::{AllocError, Global};
 
@@ -188,6 +191,7 @@ fn write_answered(out: &mut BytesMut, answered: &Answered) -> Result<(), AllocEr
     requires { IsAnswered answered.now }
     ensures fits { OnOk result (AnsweredFits answered.now) }
     ensures spelled { OnOk result (out.new.items ≡ out.old.items ++ answered_spelling answered.now) }
+    ensures appends { OnErr result (StartsWith out.new.items out.old.items) }
 {
     match answered {
         Answered::One(version, reply) => {
@@ -200,6 +204,22 @@ fn write_answered(out: &mut BytesMut, answered: &Answered) -> Result<(), AllocEr
             write_short_list(out, replies.as_slice())
         }
     }
+}
+
+/// Writes the frame of what a client gets at the end, its length behind its payload.
+fn append_answered(out: &mut BytesMut, answered: &Answered) -> Result<(), AllocError>
+    requires rules { IsAnswered answered.now }
+    requires few { (payload : List ℕ) → SpellsAnswered answered.now payload → length payload ≤ payload_limit }
+    ensures ok { OnOk result ((payload : List ℕ) × (out.new.items ≡ out.old.items ++ frame payload) × SpellsAnswered answered.now payload) }
+    ensures appends { OnErr result (StartsWith out.new.items out.old.items) }
+{
+    let start = out.len();
+    write_u32(out, 0)?;
+    let first = out.len();
+    write_answered(out, answered)?;
+    let len = (out.len() - first) as u32;
+    set_u32(out.as_mut_slice(), start, len);
+    Ok(())
 }
 
 /// Whether each of the replies keeps the rules of replies.
@@ -250,6 +270,23 @@ impl Payload {
 }
 
 impl Answered {
+    /// Writes the frame of the payload at the end. Each reply has to be one that can be spelled, several have to be from 1 to 8,
+    /// and the payload has to be within the limit. It fails for want of memory alone, and the bytes are then as before.
+    pub fn write_frame(&self, out: &mut BytesMut) -> Result<(), AllocError>
+        requires rules { IsAnswered self.now }
+        requires few { (payload : List ℕ) → SpellsAnswered self.now payload → length payload ≤ payload_limit }
+        ensures ok { OnOk result ((payload : List ℕ) × (out.new.items ≡ out.old.items ++ frame payload) × SpellsAnswered self.now payload) }
+        ensures same { OnErr result (out.new.items ≡ out.old.items) }
+    {
+        out.reserve(USUAL_SIZE)?;
+        let start = out.len();
+        let written = append_answered(out, self);
+        if written.is_err() {
+            out.truncate(start);
+        }
+        written
+    }
+
     /// The bytes of the payload. Each reply has to be one that can be spelled, and several have to be from 1 to 8.
     /// It fails for want of memory alone.
     pub fn encode(&self, alloc: Global) -> Result<Bytes, AllocError>

@@ -1,7 +1,8 @@
 -- How long payloads are.
-use Rattle.std.proofs.Common.{◌≡◌, ◌↔◌, ℕ, ◌+◌, ◌*◌, ◌≤◌, ◌<◌, ◌^◌, List, [], ◌∷◌, ◌++◌, length, ap, arith, length-append}
+use Rattle.std.proofs.Common.{◌≡◌, ◌↔◌, ℕ, ◌+◌, ◌*◌, ◌≤◌, ◌<◌, ◌^◌, List, [], ◌∷◌, ◌++◌, length, drop, ap, ◌∙◌, arith, length-append}
 use Rattle.std.specs.Int.{w8, w16, w32, w64}
 use Rattle.std.specs.List.{flat_map, AllByRecursion}
+use Rattle.std.proofs.lemmas.List.{drop_at}
 use Rattle.std.proofs.lemmas.List.Concat.{flat_map-cons}
 use Rattle.craq_names.specs.Refused.{number_of, detail_of}
 use Rattle.craq_names.specs.declared.refusal.Refusal.{Refusal}
@@ -17,9 +18,9 @@ use Rattle.craq_frames.specs.declared.answer.ClientReply.TheVariants as answers
 use Rattle.craq_frames.specs.declared.versions.PayloadVersion.{PayloadVersion}
 use Rattle.craq_frames.specs.declared.versions.Answered.{Answered}
 use Rattle.craq_frames.specs.declared.versions.Answered.TheVariants as replies
-use Rattle.craq_frames.specs.Frame.{payload_limit}
+use Rattle.craq_frames.specs.Frame.{frame, payload_limit}
 use Rattle.craq_frames.specs.Payload.{answer, AnswerFits, IsAnswer, answer_spelling, payload_version}
-use Rattle.craq_frames.specs.Versions.{version_number, many_answers, AreFew, answered_spelling, AnsweredFits}
+use Rattle.craq_frames.specs.Versions.{version_number, many_answers, AreFew, answered_spelling, AnsweredFits, SpellsAnswered}
 use Rattle.craq_front.specs.Door.{reply_limit, IsShort, IsAllowed}
 use Rattle.craq_front.specs.Serving.{refused, told}
 
@@ -110,6 +111,19 @@ many_few rs f a =
 pub answered_few : (a : Answered) → AnsweredFits a → AllByRecursion IsAllowed (told a) → length (answered_spelling a) ≤ payload_limit
 answered_few (replies.One version r) f a = one_few version r f a.0
 answered_few (replies.Many rs) f a = many_few rs f a
+
+pub payload_few : (a : Answered) (payload : List ℕ) → AllByRecursion IsAllowed (told a) → SpellsAnswered a payload → length payload ≤ payload_limit
+payload_few a payload h s = omega (arith, ap length s.spelling, answered_few a s.fits h)
+
+-- a frame in front, and what is behind it
+frame_len : (payload : List ℕ) → length (frame payload) ≡ length payload + 4
+frame_len payload = omega (arith, length-append (number w32 (length payload)) payload, len32 (length payload))
+
+pub whole_frame : (bytes payload rest : List ℕ) → bytes ≡ frame payload ++ rest → length payload + 4 ≤ length bytes
+whole_frame bytes payload rest e = omega (arith, ap length e, length-append (frame payload) rest, frame_len payload)
+
+pub behind_frame : (bytes payload rest : List ℕ) → bytes ≡ frame payload ++ rest → drop (length payload + 4) bytes ≡ rest
+behind_frame bytes payload rest e = ap (drop (length payload + 4)) e ∙ drop_at (frame payload) rest (length payload + 4) (frame_len payload)
 
 pub refused_len : (why : Refusal) → length (answered_spelling (refused why)) ≡ 11
 unfolding answered_spelling answer

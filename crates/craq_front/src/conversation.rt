@@ -8,7 +8,10 @@ ghost use Rattle.craq_front.specs.Steps.{Advances, Follows};
 use crate::buffers::{Buffers, MOST_DUE};
 use crate::replying::{make_due, refuse};
 use crate::several::{Replied, Several};
-use craq_frames::{Answered, ClientMessage, ClientReply, Payload, PayloadVersion, cut_off_frame};
+use bytes::BytesMut;
+use craq_frames::{
+    Answered, ClientMessage, ClientReply, Payload, PayloadVersion, payload_in_front,
+};
 use craq_names::Refusal;
 use std::alloc::{AllocError, Global};
 
@@ -38,6 +41,36 @@ pub enum Step {
 pub struct Conversation {
     pub(crate) buffers: Buffers,
     pub(crate) asking: Option<Asking>,
+}
+
+/// A payload that came: its first message is asked, or its refusal is due.
+fn open(
+    alloc: Global,
+    output: &mut BytesMut,
+    asking: &mut Option<Asking>,
+    payload: &[u8],
+) -> Result<Step, Refusal>
+    requires few { length payload.now ≤ payload_limit }
+    requires idle { asking.old ≡ None }
+    ensures { (due : List ℕ) × (output.new.items ≡ output.old.items ++ due)
+        × ((rest : List ℕ) → Advances (frame payload.now ++ rest) rest due asking.new result) }
+{
+    match Payload::decode(alloc, payload) {
+        Ok(Payload::One(version, message)) => {
+            *asking = Some(Asking::One(version));
+            Ok(Step::Ask(message))
+        }
+        Ok(Payload::Many(messages)) => {
+            let (message, several) = Several::begin(alloc, messages);
+            *asking = Some(Asking::Many(several));
+            Ok(Step::Ask(message))
+        }
+        Err(Refusal::BadFrame) => {
+            refuse(output, Refusal::BadFrame)?;
+            Ok(Step::Refused)
+        }
+        Err(_) => Err(Refusal::Memory),
+    }
 }
 
 impl Conversation {
@@ -101,31 +134,6 @@ impl Conversation {
         self.buffers.output.advance(count);
     }
 
-    /// A payload that came: its first message is asked, or its refusal is due.
-    fn open(&mut self, alloc: Global, payload: &[u8]) -> Result<Step, Refusal>
-        requires few { length payload.now ≤ payload_limit }
-        requires idle { self.old.asking ≡ None }
-        ensures { (due : List ℕ) × (self.new.buffers.output.items ≡ self.old.buffers.output.items ++ due)
-            × Advances (frame payload.now ++ self.old.buffers.input.items) self.new.buffers.input.items due self.new.asking result }
-    {
-        match Payload::decode(alloc, payload) {
-            Ok(Payload::One(version, message)) => {
-                self.asking = Some(Asking::One(version));
-                Ok(Step::Ask(message))
-            }
-            Ok(Payload::Many(messages)) => {
-                let (message, several) = Several::begin(alloc, messages);
-                self.asking = Some(Asking::Many(several));
-                Ok(Step::Ask(message))
-            }
-            Err(Refusal::BadFrame) => {
-                refuse(alloc, &mut self.buffers.output, Refusal::BadFrame)?;
-                Ok(Step::Refused)
-            }
-            Err(_) => Err(Refusal::Memory),
-        }
-    }
-
     /// What comes next, where no message is asked: the frame in front is cut off, and its first message is asked or its
     /// refusal is due.
     ///
@@ -137,14 +145,19 @@ impl Conversation {
         ensures { (due : List ℕ) × (self.new.buffers.output.items ≡ self.old.buffers.output.items ++ due)
             × Advances self.old.buffers.input.items self.new.buffers.input.items due self.new.asking result }
     {
-        match cut_off_frame(&mut self.buffers.input) {
-            Ok(Some(payload)) => self.open(alloc, payload.as_slice()),
+        let Buffers { input, output } = &mut self.buffers;
+        match payload_in_front(input.as_slice()) {
+            Ok(Some(payload)) => {
+                let size = payload.len() + 4;
+                let step = open(alloc, output, &mut self.asking, payload);
+                input.advance(size);
+                step
+            }
             Ok(None) => Ok(Step::Nothing),
-            Err(Refusal::FrameTooLong) => {
-                refuse(alloc, &mut self.buffers.output, Refusal::FrameTooLong)?;
+            Err(_) => {
+                refuse(output, Refusal::FrameTooLong)?;
                 Err(Refusal::FrameTooLong)
             }
-            Err(_) => Err(Refusal::Memory),
         }
     }
 
@@ -153,7 +166,7 @@ impl Conversation {
     /// nothing happens. `Memory` where a growth was refused: nothing more is due then, and the conversation is over.
     pub fn reply(
         &mut self,
-        alloc: Global,
+        _alloc: Global,
         reply: ClientReply,
     ) -> Result<Option<ClientMessage>, Refusal>
         requires { IsAllowed reply }
@@ -164,21 +177,16 @@ impl Conversation {
         match self.asking.take() {
             None => Ok(None),
             Some(Asking::One(version)) => {
-                make_due(
-                    alloc,
-                    &mut self.buffers.output,
-                    Answered::One(version, reply),
-                )?;
+                make_due(&mut self.buffers.output, Answered::One(version, reply))?;
                 Ok(None)
             }
-            Some(Asking::Many(several)) => self.reply_of_several(alloc, several, reply),
+            Some(Asking::Many(several)) => self.reply_of_several(several, reply),
         }
     }
 
     /// The same among several messages.
     fn reply_of_several(
         &mut self,
-        alloc: Global,
         several: Several,
         reply: ClientReply,
     ) -> Result<Option<ClientMessage>, Refusal>
@@ -194,7 +202,7 @@ impl Conversation {
                 Ok(Some(message))
             }
             Ok(Replied::All(replies)) => {
-                make_due(alloc, &mut self.buffers.output, Answered::Many(replies))?;
+                make_due(&mut self.buffers.output, Answered::Many(replies))?;
                 Ok(None)
             }
             Err(_) => Err(Refusal::Memory),

@@ -4,15 +4,20 @@
 //!     ./load craq 127.0.0.1:7000 reads-one 50 2
 //!     ./load redis 127.0.0.1:6379 puts 50 2 100
 //!     ./load craq 127.0.0.1:7000 many 50 2 16 4
+//!     ./load craq 127.0.0.1:7000 puts 50 2 16 1 2
 //!
 //! The servers are `craq`, `redis`, `memcached` (its text protocol) and `etcd` (its JSON gateway). Behind the seconds stand the
-//! bytes of a value, 16 where nothing is said, and how many chains the connections are spread over, 1 where nothing is said.
+//! bytes of a value, 16 where nothing is said, how many chains the connections are spread over, 1 where nothing is said, and how
+//! many threads have all the connections between them, each waiting by `poll` for those that were answered; where nothing is said,
+//! or 0, each connection has a thread.
 //!
 //! It prints the number of replies, replies a second, and the median and the 99th percentile of the times from a request to its
 //! reply, in microseconds. `many` counts eight puts that are sent together as one request.
 
+use std::ffi::{c_int, c_short, c_ulong};
 use std::io::{Error, ErrorKind, Read, Result, Write};
 use std::net::TcpStream;
+use std::os::fd::AsRawFd;
 use std::sync::Barrier;
 use std::time::{Duration, Instant};
 use std::{env, process, thread};
@@ -277,20 +282,67 @@ impl Asks for Etcd {
     }
 }
 
-/// One request and its reply.
-fn exchange(stream: &mut TcpStream, asks: &mut dyn Asks, kind: Kind, out: &mut Vec<u8>, reply: &mut [u8]) -> Result<()> {
-    out.clear();
-    asks.request(kind, out);
-    stream.write_all(out)?;
-    let mut got = 0;
-    loop {
-        match stream.read(&mut reply[got..])? {
+/// What the C library's `poll` is told of a connection, and tells: std links that library, and has no call of its own for it.
+#[repr(C)]
+struct Polled {
+    fd: c_int,
+    wanted: c_short,
+    found: c_short,
+}
+
+unsafe extern "C" {
+    fn poll(all: *mut Polled, count: c_ulong, milliseconds: c_int) -> c_int;
+}
+
+/// `poll` finds that there is something to read. One whose descriptor is `NOT_POLLED` is left out.
+const READABLE: c_short = 1;
+const NOT_POLLED: c_int = -1;
+/// So many milliseconds without a reply on any of its connections end a thread.
+const SILENCE: c_int = 10_000;
+
+/// A connection with at most one request under way.
+struct Connection {
+    stream: TcpStream,
+    asks: Box<dyn Asks>,
+    kind: Kind,
+    out: Vec<u8>,
+    reply: Vec<u8>,
+    got: usize,
+}
+
+impl Connection {
+    fn open(address: &str, asks: Box<dyn Asks>) -> Result<Connection> {
+        let stream = connect(address)?;
+        Ok(Connection { stream, asks, kind: Kind::Read, out: Vec::new(), reply: vec![0; 16384], got: 0 })
+    }
+
+    /// Sends the next request.
+    fn ask(&mut self, kind: Kind) -> Result<()> {
+        (self.kind, self.got) = (kind, 0);
+        self.out.clear();
+        self.asks.request(kind, &mut self.out);
+        self.stream.write_all(&self.out)
+    }
+
+    /// Reads once; whether the reply is whole now.
+    fn hears(&mut self) -> Result<bool> {
+        match self.stream.read(&mut self.reply[self.got..])? {
             0 => return Err(ErrorKind::UnexpectedEof.into()),
-            more => got += more,
+            more => self.got += more,
         }
-        if asks.size(kind, &reply[..got]).is_some_and(|size| got >= size) {
-            return asks.take(kind, &reply[..got]);
+        let begun = &self.reply[..self.got];
+        let is_whole = self.asks.size(self.kind, begun).is_some_and(|size| self.got >= size);
+        if is_whole {
+            self.asks.take(self.kind, begun)?;
         }
+        Ok(is_whole)
+    }
+
+    /// One request and its reply.
+    fn exchange(&mut self, kind: Kind) -> Result<()> {
+        self.ask(kind)?;
+        while !self.hears()? {}
+        Ok(())
     }
 }
 
@@ -310,6 +362,8 @@ struct Load {
     span: Duration,
     size: usize,
     chains: usize,
+    /// The threads that have all the connections between them; 0: each connection has one.
+    threads: usize,
 }
 
 impl Load {
@@ -329,45 +383,89 @@ impl Load {
 
     /// Each object is written once, before anything is measured.
     fn prepare(&self) -> Result<()> {
-        let (mut stream, puts) = (connect(&self.address)?, Load { mix: Mix::Puts, ..self.clone() });
+        let puts = Load { mix: Mix::Puts, ..self.clone() };
         for at in 0..self.connections {
-            let mut asks = puts.asks_of(at, (self.connections + at) as u64);
-            exchange(&mut stream, &mut *asks, Kind::Put, &mut Vec::new(), &mut [0; 16384])?;
+            let asks = puts.asks_of(at, (self.connections + at) as u64);
+            Connection::open(&self.address, asks)?.exchange(Kind::Put)?;
         }
         Ok(())
     }
 
-    /// The times of a connection's exchanges, until the span is over.
-    fn times(&self, stream: &mut TcpStream, asks: &mut dyn Asks) -> Result<Vec<Duration>> {
-        let (began, mut out, mut times) = (Instant::now(), Vec::new(), Vec::with_capacity(1 << 18));
-        let mut reply = vec![0; 16384];
+    /// The connections of a thread: each `step`th from this one on.
+    fn open_from(&self, first: usize, step: usize) -> Result<Vec<Connection>> {
+        (first..self.connections).step_by(step).map(|at| Connection::open(&self.address, self.asks_of(at, at as u64))).collect()
+    }
+
+    /// The times of one connection's exchanges, until the span is over.
+    fn times_of_one(&self, one: &mut Connection) -> Result<Vec<Duration>> {
+        let (began, mut times) = (Instant::now(), Vec::with_capacity(1 << 18));
         loop {
             let before = began.elapsed();
             if before >= self.span {
                 return Ok(times);
             }
-            exchange(stream, asks, self.mix.kind(times.len()), &mut out, &mut reply)?;
+            one.exchange(self.mix.kind(times.len()))?;
             times.push(began.elapsed() - before);
         }
     }
 
+    /// The times of the exchanges of several connections, each of which asks again as soon as it is seen to be answered, until the
+    /// span is over.
+    fn times_of_several(&self, several: &mut [Connection]) -> Result<Vec<Duration>> {
+        let (began, mut times) = (Instant::now(), Vec::with_capacity(1 << 20));
+        let mut polled: Vec<_> = several.iter().map(|it| Polled { fd: it.stream.as_raw_fd(), wanted: READABLE, found: 0 }).collect();
+        let mut asked = vec![Duration::ZERO; several.len()];
+        let mut sent = 0;
+        for it in several.iter_mut() {
+            it.ask(self.mix.kind(sent))?;
+            sent += 1;
+        }
+        while sent > times.len() {
+            // SAFETY: `polled` has so many members, and nobody else has them while they are polled.
+            match unsafe { poll(polled.as_mut_ptr(), polled.len() as c_ulong, SILENCE) } {
+                0 => return Err(ErrorKind::TimedOut.into()),
+                found if found < 0 => return Err(Error::last_os_error()),
+                _ => {}
+            }
+            for (at, it) in several.iter_mut().enumerate() {
+                if polled[at].found == 0 || !it.hears()? {
+                    continue;
+                }
+                let now = began.elapsed();
+                times.push(now - asked[at]);
+                if now < self.span {
+                    asked[at] = now;
+                    it.ask(self.mix.kind(sent))?;
+                    sent += 1;
+                } else {
+                    polled[at].fd = NOT_POLLED;
+                }
+            }
+        }
+        Ok(times)
+    }
+
     /// The times of all exchanges.
     fn all_times(&self) -> Result<Vec<Duration>> {
-        let begin = Barrier::new(self.connections);
+        let threads = if self.threads == 0 { self.connections } else { self.threads.min(self.connections) };
+        let begin = Barrier::new(threads);
         thread::scope(|scope| {
-            let threads: Vec<_> = (0..self.connections)
-                .map(|at| {
+            let threads: Vec<_> = (0..threads)
+                .map(|first| {
                     let begin = &begin;
                     scope.spawn(move || {
-                        let made = connect(&self.address);
+                        let made = self.open_from(first, threads);
                         begin.wait();
-                        self.times(&mut made?, &mut *self.asks_of(at, at as u64))
+                        match made?.as_mut_slice() {
+                            [one] => self.times_of_one(one),
+                            several => self.times_of_several(several),
+                        }
                     })
                 })
                 .collect();
             let mut all = Vec::new();
             for it in threads {
-                all.extend(it.join().expect("a connection's thread")?);
+                all.extend(it.join().expect("a thread of connections")?);
             }
             Ok(all)
         })
@@ -401,13 +499,14 @@ fn load_of(words: &[String]) -> Option<Load> {
         span: Duration::try_from_secs_f64(seconds.parse().ok()?).ok()?,
         size: number(0, 16)?,
         chains: number(1, 1).filter(|it| *it > 0)?,
+        threads: number(2, 0)?,
     })
 }
 
 fn main() {
     let words: Vec<String> = env::args().skip(1).collect();
     let Some(load) = load_of(&words) else {
-        eprintln!("load craq|redis|memcached|etcd ADDRESS reads-one|reads-all|puts|tenth|many CONNECTIONS SECONDS [SIZE [CHAINS]]");
+        eprintln!("load craq|redis|memcached|etcd ADDRESS reads-one|reads-all|puts|tenth|many CONNECTIONS SECONDS [SIZE [CHAINS [THREADS]]]");
         process::exit(2);
     };
     if let Err(fault) = load.run() {

@@ -2,7 +2,8 @@
 """Measures a server beside redis, in one run.
 
     benchmarks/server/measure.py CRAQD [--redis REDIS_SERVER] [--threads 2,3] [--connections 50,1,200] [--mixes puts,reads-one]
-        [--beside memcached,etcd] [--size N] [--chains N] [--rounds N] [--seconds N] [--journal]
+        [--beside memcached,etcd] [--size N] [--chains N] [--rounds N] [--seconds N] [--load-threads N]
+        [--journal]
 
 CRAQD is the program as ./build made it, REDIS_SERVER `redis-server` where it is not named. The load client, load.rs, is built by
 `rustc -O`. Each figure is of a fresh server; the rounds are taken in turn, and of each the median is printed. The first
@@ -91,7 +92,7 @@ def measured(load, kind, start, mix, connections, options):
         server, port = start(options, folder)
         try:
             # Of another name than the others is craqd, with its threads.
-            words = [load, kind if kind in OTHERS else "craq", f"127.0.0.1:{port}", mix, str(connections), str(options.seconds), str(options.size), str(options.chains)]
+            words = [load, kind if kind in OTHERS else "craq", f"127.0.0.1:{port}", mix, str(connections), str(options.seconds), str(options.size), str(options.chains), str(options.load_threads)]
             found = [float(it) for it in subprocess.run(words, check=True, capture_output=True, text=True).stdout.split()]
             with open(f"/proc/{server.pid}/stat", encoding="ascii") as it:
                 spent = sum(map(int, it.read().rpartition(")")[2].split()[11:13])) * 10_000
@@ -151,6 +152,7 @@ def main():
     reads.add_argument("--beside", type=words_of, default=[], help="further servers: memcached,etcd")
     reads.add_argument("--size", type=int, default=16, help="bytes of a value")
     reads.add_argument("--chains", type=int, default=1, help="chains that the connections are spread over")
+    reads.add_argument("--load-threads", type=int, default=0, help="threads of the load client; 0: one a connection")
     options = reads.parse_args()
     with tempfile.TemporaryDirectory() as folder:
         load = os.path.join(folder, "load")
@@ -170,7 +172,8 @@ def main():
     all_time, idle, steal = (late - early for early, late in zip(before, after))
     busy = f"idle {idle / all_time:.0%}, steal {steal / all_time:.0%}, load average {os.getloadavg()[0]:.1f}, {os.cpu_count()} processors"
     values = f"values of {options.size} bytes, {options.chains} chain{'s' if options.chains > 1 else ''}"
-    print(f"{day}: {options.seconds:g} s, {options.rounds} rounds, {values}, {busy}\n")
+    client = f", a load client of {options.load_threads} threads" if options.load_threads else ""
+    print(f"{day}: {options.seconds:g} s, {options.rounds} rounds, {values}{client}, {busy}\n")
     for row in rows(options, servers, found):
         print(row)
 

@@ -11,7 +11,7 @@ use Rattle.craq_frames.specs.declared.answer.ClientReply.TheVariants as replies
 use Rattle.craq_seat.specs.Calls.{Called}
 use Rattle.craq_door.specs.declared.question.Question.{Question}
 use Rattle.craq_door.specs.declared.question.Begun.TheVariants as begun
-use Rattle.craq_door.specs.Halves.{BeginsTurn, CanComeBack, ComesBack, EndsTurn, IsAnothers, RefusesCall, asked_by, tells_none}
+use Rattle.craq_door.specs.Halves.{BeginsTurn, CanComeBack, ComesBack, EndsTurn, IsAnothers, IsRefusable, RefusesCall, asked_by, tells_none}
 use Rattle.craq_door.specs.Turns.{Refusing, CanRefuse, IsAnswered, IsHidden, IsRefused, IsReplied, IsTurn, kept, message_of, name_of, or_memory}
 
 -- where no status is told, it does not matter which texts may be
@@ -71,6 +71,12 @@ comes_refused refuses q (Err refusal) node back e is =
 pub halves_door : (tells : List ℕ → Type 0) (refuses : Refusing) (keeps : Bool) (old mid new : List Called) (m : ClientMessage) (q : Question) (outcome : Result Called Refusal) (reply : ClientReply)
     → ComesBack refuses q outcome → BeginsTurn tells keeps old m (begun.Calls q) mid → EndsTurn q outcome mid reply new → IsTurn tells (or_memory refuses) keeps old m reply new
 halves_door tells refuses keeps old mid new m q outcome reply back h ends = turn_too tells (or_memory refuses) keeps old mid new m q outcome reply (comes_refused refuses q outcome h.1 back) h ends
+
+-- a call whose callee may refuse it with all that it can be refused with
+pub halves_refusable : (tells : List ℕ → Type 0) (refuses : Refusing) (keeps : Bool) (old mid new : List Called) (m : ClientMessage) (q : Question) (outcome : Result Called Refusal) (reply : ClientReply)
+    → IsRefusable refuses q outcome → BeginsTurn tells keeps old m (begun.Calls q) mid → EndsTurn q outcome mid reply new → IsTurn tells refuses keeps old m reply new
+halves_refusable tells refuses keeps old mid new m q outcome reply may h ends =
+    turn_too tells refuses keeps old mid new m q outcome reply (λ e is. subst (λ (x : NodeName). refuses x q.pass q.ask e) h.1 (may e is)) h ends
 
 -- no receipt comes where Closed is told
 closed_frame : Closed ≡ BadFrame → ⊥

@@ -82,3 +82,7 @@ pub record EndsTurn (q : Question) (outcome : Result Called Refusal) (old : List
 abbrev pub ComesBack : Refusing → Question → Result Called Refusal → Type 0
 ComesBack refuses q (Ok c) = IsCallOf q.node q.ask q.pass c.answer c
 ComesBack refuses q (Err e) = refuses q.node q.pass q.ask e
+
+-- with whatever a call is refused that came back so, it may be refused
+abbrev pub IsRefusable : Refusing → Question → Result Called Refusal → Type 0
+IsRefusable refuses q outcome = (e : Refusal) → RefusesCall q outcome e → refuses q.node q.pass q.ask e

@@ -8,7 +8,7 @@ ghost use Rattle.craq_frames.specs.declared.answer.ClientReply.TheVariants.{Refu
 ghost use Rattle.craq_seat.specs.Calls.{Called};
 ghost use Rattle.craq_door.specs.declared.question.Question.{Question};
 ghost use Rattle.craq_door.specs.declared.question.Begun.TheVariants.{Calls};
-ghost use Rattle.craq_door.specs.Halves.{BeginsTurn, ComesBack, EndsTurn, IsAnothers, RefusesCall};
+ghost use Rattle.craq_door.specs.Halves.{BeginsTurn, ComesBack, EndsTurn, IsAnothers, IsRefusable, RefusesCall};
 ghost use Rattle.craq_door.specs.Turns.{IsTurn, kept, or_memory};
 
 use crate::Callee;
@@ -16,8 +16,9 @@ use crate::Callee;
 /// Laws: a message whose call was made after the first half of its turn, and has its reply from the second half, had a turn.
 /// Whatever the call comes back with, the refusals that can come are those of the second half. Where it comes back with its
 /// own receipt, or refused as the callee may refuse it, the turn is one of a door that refuses as the callee does, or for want
-/// of memory. Where it comes back with another call's receipt, `Refused(Closed)` is told, and no receipt came. It has no body:
-/// the contract is the law.
+/// of memory. Where the callee may refuse it with all that the second half can, the turn is one of a door that refuses as the
+/// callee does, whatever receipt came. Where it comes back with another call's receipt, `Refused(Closed)` is told, and no receipt
+/// came. It has no body: the contract is the law.
 pub fn halves_are_a_turn<C: Callee>(callee: &C)
     ensures turn { (keeps : Bool) (old mid new : List Called) (m : ClientMessage) (q : Question) (outcome : Result Called Refusal) (reply : ClientReply)
         → BeginsTurn (C.tells callee.now) keeps old m (Calls q) mid → EndsTurn q outcome mid reply new
@@ -26,6 +27,10 @@ pub fn halves_are_a_turn<C: Callee>(callee: &C)
         → ComesBack (C.refuses callee.now) q outcome
         → BeginsTurn (C.tells callee.now) keeps old m (Calls q) mid → EndsTurn q outcome mid reply new
         → IsTurn (C.tells callee.now) (or_memory (C.refuses callee.now)) keeps old m reply new }
+    ensures refusable { (keeps : Bool) (old mid new : List Called) (m : ClientMessage) (q : Question) (outcome : Result Called Refusal) (reply : ClientReply)
+        → IsRefusable (C.refuses callee.now) q outcome
+        → BeginsTurn (C.tells callee.now) keeps old m (Calls q) mid → EndsTurn q outcome mid reply new
+        → IsTurn (C.tells callee.now) (C.refuses callee.now) keeps old m reply new }
     ensures or_closed { (keeps : Bool) (old mid new : List Called) (m : ClientMessage) (q : Question) (another : Called) (reply : ClientReply)
         → IsAnothers q another
         → BeginsTurn (C.tells callee.now) keeps old m (Calls q) mid → EndsTurn q (Ok another) mid reply new

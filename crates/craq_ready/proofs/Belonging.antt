@@ -1,5 +1,5 @@
 -- What belongs to a connection, where nothing was read or written, and in a slab.
-use Rattle.std.proofs.Common.{◌≡◌, ℕ, true, List, [], ◌++◌, Option, Some, None, Result, sym, refl, subst, ◌∙◌}
+use Rattle.std.proofs.Common.{◌≡◌, ℕ, true, List, [], Option, Some, None, Result, sym, refl, subst, ◌∙◌}
 use Rattle.std.specs.Io.KnownBytes.{Appends, Consumes}
 use Rattle.std.proofs.lemmas.List.{append-nil}
 use Rattle.craq_door.specs.Dialogues.{Holds}
@@ -9,7 +9,7 @@ use Rattle.craq_seat.specs.Calls.{Called}
 use Rattle.slab.specs.Slab.{Slab, get, with_value}
 use Rattle.slab.proofs.SlabLemmas.{Updates-with_value}
 use Rattle.craq_ready.specs.declared.connection.Connection.{Connection}
-use Rattle.craq_ready.specs.Belonging.{Hears, Gives, Reads, Writes, CameBack, Wakes, Delivers}
+use Rattle.craq_ready.specs.Belonging.{CameByLetter, Delivers, Reads, Wakes, Writes}
 
 none_came : (a b : Option (List ℕ)) → b ≡ a → Consumes a b []
 none_came None b e = tt
@@ -45,9 +45,9 @@ nothing_written a b d e same is = rw is (
 )
 
 -- the connection under the token is told, and then has something to do
-pub delivered : {S : Type 0} (s t : Slab (Connection S)) (token : ℕ) (c d : Connection S) (outcome : Result Called Refusal)
-    → get s token ≡ Some c → CameBack outcome c.dialogue d.dialogue → d.stream ≡ c.stream → Wakes (with_value s token d) t token → Delivers s t token outcome
-delivered s t token c d outcome was told same wakes c' here =
+pub delivered : {S : Type 0} (s t : Slab (Connection S)) (token : ℕ) (c d : Connection S) (reply : Result Called Refusal)
+    → get s token ≡ Some c → CameByLetter reply c.dialogue d.dialogue → d.stream ≡ c.stream → Wakes (with_value s token d) t token → Delivers s t token reply
+delivered s t token c d reply was told same wakes c' here =
     let e : c' ≡ c = cc in
     let is : get (with_value s token d) token ≡ Some d = (Updates-with_value s token d (rw was refl)).changed in
     rw e (record d { busy = true }, wakes d is, told, same)

@@ -8,6 +8,7 @@ use Rattle.craq_seat.specs.Calls.{Called}
 use Rattle.craq_door.specs.Dialogues.{Answers, Holds}
 use Rattle.craq_door.specs.declared.dialogue.Dialogue.{Dialogue}
 use Rattle.craq_ready.specs.declared.connection.Connection.{Connection}
+use Rattle.craq_ready.specs.Letters.{IsOutcome}
 
 -- just these bytes came to the dialogue, behind those before; what is due and its calls are as they were
 pub record Hears (came : List ℕ) (old new : Dialogue) : Type 0 where
@@ -34,11 +35,15 @@ Writes before after old new = (went : List ℕ) × Appends before after went × 
 abbrev pub CameBack : Result Called Refusal → Dialogue → Dialogue → Type 0
 CameBack outcome old new = Answers old.phase outcome new.phase old.talk new.talk old.calls new.calls
 
--- under this token, the dialogue of the connection is told that its call came back so; its socket is as it was
+-- the call of the dialogue came back by a letter that says this
+abbrev pub CameByLetter : Result Called Refusal → Dialogue → Dialogue → Type 0
+CameByLetter reply old new = (outcome : Result Called Refusal) × IsOutcome old.phase reply outcome × CameBack outcome old new
+
+-- under this token, the dialogue of the connection is told that its call came back by this letter; its socket is as it was
 abbrev pub Delivers : {S : Type 0} → Slab (Connection S) → Slab (Connection S) → ℕ → Result Called Refusal → Type 0
-Delivers {S} old new token outcome =
+Delivers {S} old new token reply =
     (c : Connection S) → get old token ≡ Some c
-    → (d : Connection S) × (get new token ≡ Some d) × CameBack outcome c.dialogue d.dialogue × (d.stream ≡ c.stream)
+    → (d : Connection S) × (get new token ≡ Some d) × CameByLetter reply c.dialogue d.dialogue × (d.stream ≡ c.stream)
 
 -- under this token, the connection has something to do from now on
 abbrev pub Wakes : {S : Type 0} → Slab (Connection S) → Slab (Connection S) → ℕ → Type 0

@@ -1,9 +1,11 @@
 //! A connection of a thread that serves many: its socket and its `Dialogue`, and what goes between them; called by `crowd`.
 ghost use Rattle.std.specs.Prelude.{◌≡◌, ◌≤◌, true, length, take, IsTrue};
-ghost use Rattle.craq_door.specs.declared.dialogue.Phase.TheVariants.{Idle};
+ghost use Rattle.craq_door.specs.declared.dialogue.Phase.TheVariants.{Idle, Waits};
+ghost use Rattle.craq_door.specs.declared.question.Question.{Question};
 
 use crate::host::{Arrival, Host};
 use crate::socket::Socket;
+use craq_calls::refusal_of_call;
 use craq_door::{Dialogue, Stepped};
 use craq_letters::Outcome;
 use mio::event::Event;
@@ -104,7 +106,9 @@ impl Connection<Arc<TcpStream>> {
 }
 
 impl<S: Socket> Connection<S> {
-    ghost use Rattle.craq_ready.specs.Belonging.{CameBack, Gives, Hears, Reads, Writes};
+    ghost use Rattle.craq_ready.specs.Advancing.{AsksHost, TakesSteps};
+    ghost use Rattle.craq_ready.specs.Belonging.{CameBack, CameByLetter, Gives, Hears, Reads, Writes};
+    ghost use Rattle.craq_ready.specs.Letters.{IsOutcome};
 
     /// What is told of the connection's readiness.
     pub(crate) fn notice(&mut self, event: &Event) {
@@ -221,7 +225,9 @@ impl<S: Socket> Connection<S> {
     }
 
     /// Reads once, where nothing is asked and nothing is due. What its socket gave, and no other byte, goes to its dialogue.
+    /// Where its call is under way nothing is read, and its dialogue is as it was.
     pub(crate) fn read(&mut self, chunk: &mut [u8], now: u64)
+        ensures waits { (q : Question) → self.old.dialogue.phase ≡ Waits q → self.new.dialogue ≡ self.old.dialogue }
         ensures reads { Reads (S.remaining self.old.stream) (S.remaining self.new.stream) self.old.dialogue self.new.dialogue }
         ensures contents { S.contents self.new.stream ≡ S.contents self.old.stream }
     {
@@ -269,7 +275,7 @@ impl<S: Socket> Connection<S> {
     }
 
     /// The call that is under way came back.
-    pub(crate) fn answer<H: Host>(&mut self, alloc: Global, host: &H, outcome: Outcome)
+    fn answer<H: Host>(&mut self, alloc: Global, host: &H, outcome: Outcome)
         ensures told { CameBack outcome self.old.dialogue self.new.dialogue }
         ensures stream { self.new.stream ≡ self.old.stream }
     {
@@ -279,8 +285,33 @@ impl<S: Socket> Connection<S> {
         self.dialogue.answer(alloc, outcome);
     }
 
+    /// How the call that is under way came back whose letter says this. A refusal that such an ask cannot have is another call's,
+    /// and is `Closed`.
+    fn outcome_of(&self, reply: Outcome) -> Outcome
+        ensures { IsOutcome self.now.dialogue.phase reply result }
+    {
+        let Some(question) = self.dialogue.question() else {
+            return reply;
+        };
+        match reply {
+            Ok(receipt) => Ok(receipt),
+            Err(refusal) => Err(refusal_of_call(&question.ask, refusal)),
+        }
+    }
+
+    /// The call that is under way came back by a letter that says this.
+    pub(crate) fn take_reply<H: Host>(&mut self, alloc: Global, host: &H, reply: Outcome)
+        ensures told { CameByLetter reply self.old.dialogue self.new.dialogue }
+        ensures stream { self.new.stream ≡ self.old.stream }
+    {
+        let outcome = self.outcome_of(reply);
+        self.answer(alloc, host, outcome);
+    }
+
     /// The call that is under way is submitted.
+    #[tactic(auto, using(crate::proofs::Advancing::none_asked, crate::proofs::Advancing::asked_and_waits, crate::proofs::Advancing::asked_and_answered, crate::proofs::Advancing::asked_and_refused))]
     fn submit<H: Host>(&mut self, alloc: Global, host: &H, token: usize, few: bool)
+        ensures asked { AsksHost (H.refuses host.now) self.old.dialogue.phase self.old.dialogue self.new.dialogue }
         ensures stream { self.new.stream ≡ self.old.stream }
     {
         let Some(question) = self.dialogue.question() else {
@@ -295,7 +326,9 @@ impl<S: Socket> Connection<S> {
 
     /// Takes the steps of the dialogue, as far as its bytes and replies are there. What comes of them is then due. `few`
     /// tells that few connections have something to do just now.
+    #[tactic(auto, using(crate::proofs::Advancing::none_taken, crate::proofs::Advancing::went, crate::proofs::Advancing::starved, crate::proofs::Advancing::stayed, crate::proofs::Advancing::called))]
     pub(crate) fn advance<H: Host>(&mut self, alloc: Global, host: &H, token: usize, few: bool)
+        ensures steps { TakesSteps (H.tells host.now) (H.refuses host.now) self.old.dialogue self.new.dialogue }
         ensures stream { self.new.stream ≡ self.old.stream }
     {
         for _step in 0..MOST_STEPS {

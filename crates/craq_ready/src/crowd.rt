@@ -144,7 +144,7 @@ impl Members {
         let Some(addressee) = self.connections.get_mut(token) else {
             return;
         };
-        addressee.answer(self.alloc, host, reply);
+        addressee.take_reply(self.alloc, host, reply);
         self.wake(token);
     }
 

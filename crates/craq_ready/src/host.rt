@@ -1,5 +1,8 @@
 //! `Host`: what a thread of connections reaches, a store that is asked without waiting, and where its connections come from; the
 //! server of a store is one.
+ghost use Rattle.std.specs.Prelude.{IfErr, IfOk};
+ghost use Rattle.craq_ready.specs.Letters.{MayHaveAny};
+
 use craq_door::{Callee, Question};
 use craq_letters::Letter;
 use craq_names::Refusal;
@@ -22,12 +25,17 @@ pub trait Host: Callee {
     /// Makes the call of a question. `Some`: its receipt. `None`: a letter with this token will come, and no other call may
     /// have that token until then. Refused as the store refuses the call, and then no letter comes. `few` tells that few
     /// connections have something to do just now.
+    ///
+    /// What is refused is refused as this host may refuse the call, and a call that is not may be refused with whatever an ask
+    /// of its kind may be refused with.
     fn submit(
         &self,
         question: &Question,
         token: usize,
         few: bool,
-    ) -> Result<Option<CallReceipt>, Refusal>;
+    ) -> Result<Option<CallReceipt>, Refusal>
+        ensures refused { IfErr result (λ e. Self.refuses self.now question.now.node question.now.pass question.now.ask e) }
+        ensures asked { IfOk result (λ _. MayHaveAny (Self.refuses self.now) question.now) };
 
     /// The letters that have come go to the end of these.
     fn take_letters(&self, into: &mut Vec<Letter>);

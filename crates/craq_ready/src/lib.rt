@@ -6,7 +6,9 @@
 mod connection;
 mod crowd;
 mod host;
+mod laws;
 mod socket;
 
 pub use crowd::Crowd;
 pub use host::{Arrival, Host};
+pub use laws::letters_refuse_as_hosts_may;

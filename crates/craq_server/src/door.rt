@@ -1,5 +1,5 @@
 //! `ServedStore`: a store that runs, as the door of a connection calls it; made by `accepting` and `crews`.
-ghost use Rattle.std.specs.Prelude.{IfErr, IfOk, length};
+ghost use Rattle.std.specs.Prelude.{◌<◌, IfErr, IfOk, length};
 ghost use Rattle.craq_calls.specs.Calls.{IsCallOf};
 ghost use Rattle.craq_server.specs.Refusing.{RefusesServed};
 ghost use Rattle.craq_server.specs.Status.{TellsStatus};
@@ -100,7 +100,8 @@ where
         token: usize,
         few: bool,
     ) -> Result<Option<CallReceipt>, Refusal>
-        ensures { IfErr result (λ e. RefusesServed (length self.now.store.now.names) question.now.node question.now.ask e) }
+        ensures refused { IfErr result (λ e. RefusesServed (length self.now.store.now.names) question.now.node question.now.ask e) }
+        ensures known { IfOk result (λ _. question.now.node.chain < length self.now.store.now.names) }
     {
         let Question { node, pass, ask } = question;
         if !self.passes.takes(*pass) {

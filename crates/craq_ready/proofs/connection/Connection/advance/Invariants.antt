@@ -1,5 +1,8 @@
 use Rattle.std.proofs.Common.{◌≡◌}
+use Rattle.craq_ready.specs.Advancing.{TakesSteps}
 use Rattle.craq_ready.proofs.connection.Connection.advance.Given as goal
 
 abbrev pub invariant-loop-step : goal.invariant-loop-step
-invariant-loop-step g l = l.self.stream ≡ l.fn.self.stream
+invariant-loop-step g l =
+    (l.self.stream ≡ l.fn.self.stream)
+    × TakesSteps (g.H.Callee.tells l.fn.host) (g.H.Callee.refuses l.fn.host) l.fn.self.dialogue l.self.dialogue

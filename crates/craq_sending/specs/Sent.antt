@@ -25,6 +25,17 @@ kind_of (bodies.Floor count) = kinds.Other
 kind_of (bodies.Part p) = kinds.Other
 kind_of (bodies.Batch es) = kinds.Other
 
+-- an out that sends an acknowledgement
+abbrev pub Acknowledges : Out → Type 0
+Acknowledges (outs.Send to m) = kind_of m.body ≡ kinds.Ack
+Acknowledges (outs.Answer ticket answer) = ⊥
+
+-- the outs of a step that only acknowledges: there is one, and it sends an acknowledgement
+abbrev pub OnlyAcknowledges : List Out → Type 0
+OnlyAcknowledges [] = ⊥
+OnlyAcknowledges (o ∷ []) = Acknowledges o
+OnlyAcknowledges (o ∷ p ∷ os) = ⊥
+
 -- the bytes are those of the message, and go to its receiver
 pub record IsSentAs (s : Sent) (m : LinkMessage) : Type 0 where
   pub to : s.to ≡ m.receiver

@@ -3,10 +3,9 @@
 use crate::chain::Chain;
 use crate::gate::{Gate, Work};
 use crate::node::RunningNode;
-use crate::replies::Replies;
 use crate::shared::Shared;
 use crate::steps::SeatedNode;
-use crate::work::take_brought;
+use crate::turn::Turn;
 use craq_names::{ChainId, Refusal};
 use craq_node::Core;
 use std::alloc::Global;
@@ -18,45 +17,24 @@ const BATCH: u32 = 16;
 /// The most rounds that a caller carries its own step on.
 const ROUNDS: u32 = 3;
 
-/// Takes what waits at a node, under its lock: messages first, then asks.
+/// Takes what waits at a node, in a turn of it: messages first, then asks.
 fn take_waiting<R: Wait, C: Core, G: Gate>(
     rt: &R,
-    alloc: Global,
-    shared: &Shared<C, G>,
     node: &RunningNode<C>,
-    seated: &mut SeatedNode<C>,
-    replies: &mut Replies,
-    quiet: bool,
+    turn: &mut Turn<'_, C, G>,
 ) {
     for _ in 0..BATCH {
         let Ok(waiting) = node.queues.links.try_recv(rt) else {
             break;
         };
-        take_brought(rt, alloc, shared, node, seated, waiting, replies, quiet);
+        turn.take_brought(rt, waiting);
     }
     for _ in 0..BATCH {
         let Ok(asked) = node.queues.asks.try_recv(rt) else {
             break;
         };
-        shared.take_asked(rt, alloc, node, seated, asked, replies, quiet);
+        turn.take_asked(rt, asked);
     }
-}
-
-/// A turn of a node whose lock is held, and is let go.
-fn turn<R: Wait, C: Core, G: Gate>(
-    rt: &R,
-    alloc: Global,
-    shared: &Shared<C, G>,
-    node: &RunningNode<C>,
-    mut seated: MutexGuard<'_, SeatedNode<C>>,
-    count: u64,
-    quiet: bool,
-) {
-    let mut replies = Replies::new(alloc);
-    shared.gate.within(node.name, Work::Asks, count);
-    take_waiting(rt, alloc, shared, node, &mut seated, &mut replies, quiet);
-    drop(seated);
-    replies.tell(rt);
 }
 
 /// What a visitor does at a node whose lock another thread has.
@@ -94,7 +72,10 @@ fn visit<R: Wait, C: Core, G: Gate>(
     let count = node.next_piece();
     shared.gate.before(node.name, Work::Asks, count);
     if let Some(seated) = seat_of(rt, node, manner) {
-        turn(rt, alloc, shared, node, seated, count, true);
+        let mut turn = Turn::begin(alloc, shared, node, seated, true);
+        shared.gate.within(node.name, Work::Asks, count);
+        take_waiting(rt, node, &mut turn);
+        turn.end(rt);
     }
     shared.gate.after(node.name, Work::Asks, count);
     true

@@ -16,6 +16,7 @@ mod replies;
 mod shared;
 mod steps;
 mod store;
+mod turn;
 mod work;
 
 pub use client::Client;

@@ -6,8 +6,8 @@ use crate::carrying::carry_on;
 use crate::chain::Chain;
 use crate::gate::{Gate, Work};
 use crate::node::{Brought, RunningNode};
-use crate::replies::Replies;
-use crate::steps::{QueuedAsk, SeatedNode, refuse_asked, sent_by_node, take_own, take_queued};
+use crate::steps::QueuedAsk;
+use crate::turn::Turn;
 use craq_calls::refusal_of_call;
 use craq_letters::{Addressee, Letterbox, Outcome};
 use craq_model::Ask;
@@ -54,23 +54,24 @@ impl<C: Core, G: Gate> Shared<C, G> {
         }
     }
 
-    /// Sends messages, in order. One that the gate does not carry is lost. Who carries the chain's nodes is told, unless the
-    /// sender carries them on itself (`quiet`).
+    /// Sends messages, in order.
     pub(crate) fn post<R: Wait>(&self, rt: &R, from: &NodeName, sent: Vec<Sent>, quiet: bool) {
-        let Ok(chain) = self.chain(from.chain) else {
-            return;
-        };
         for message in sent {
-            self.send(rt, chain, from, message, quiet);
+            self.send(rt, from, message, quiet);
         }
     }
 
-    /// Sends a message, or loses it.
-    fn send<R: Wait>(&self, rt: &R, chain: &Chain<C>, from: &NodeName, message: Sent, quiet: bool) {
+    /// Sends a message. One that the gate does not carry is lost. Who carries the chain's nodes is told, unless the sender
+    /// carries them on itself (`quiet`).
+    pub(crate) fn send<R: Wait>(&self, rt: &R, from: &NodeName, message: Sent, quiet: bool) {
         let Sent { to, kind, bytes } = message;
         let name = NodeName {
             chain: from.chain,
             node: to,
+        };
+        let Ok(chain) = self.chain(from.chain) else {
+            drop(bytes);
+            return;
         };
         if !self.gate.carries(*from, name) {
             drop(bytes);
@@ -87,37 +88,6 @@ impl<C: Core, G: Gate> Shared<C, G> {
         }
     }
 
-    /// Sends what the last step of a node sends, whose lock is held: so messages go out in the order of the steps.
-    pub(crate) fn post_step<R: Wait>(
-        &self,
-        rt: &R,
-        alloc: Global,
-        node: &RunningNode<C>,
-        seated: &SeatedNode<C>,
-        quiet: bool,
-    ) {
-        let sent = sent_by_node(alloc, seated.desk.cell());
-        self.post(rt, &node.name, sent, quiet);
-    }
-
-    /// The step of a queued ask, under its node's lock. A node that is closed takes none, since nobody would answer it.
-    pub(crate) fn take_asked<R: Wait>(
-        &self,
-        rt: &R,
-        alloc: Global,
-        node: &RunningNode<C>,
-        seated: &mut SeatedNode<C>,
-        asked: QueuedAsk,
-        replies: &mut Replies,
-        quiet: bool,
-    ) {
-        if node.is_closed() {
-            refuse_asked(rt, asked, replies);
-        } else if take_queued(rt, alloc, seated, asked, replies) {
-            self.post_step(rt, alloc, node, seated, quiet);
-        }
-    }
-
     /// A piece of a node's ask work: the step of one ask that was queued.
     pub(crate) fn serve<R: Wait>(
         &self,
@@ -128,46 +98,11 @@ impl<C: Core, G: Gate> Shared<C, G> {
     ) {
         let count = node.next_piece();
         self.gate.before(node.name, Work::Asks, count);
-        let mut replies = Replies::new(alloc);
-        let mut seated = node.seat.lock(rt);
+        let mut turn = Turn::begin(alloc, self, node, node.seat.lock(rt), false);
         self.gate.within(node.name, Work::Asks, count);
-        self.take_asked(rt, alloc, node, &mut seated, asked, &mut replies, false);
-        drop(seated);
-        replies.tell(rt);
+        turn.take_asked(rt, asked);
+        turn.end(rt);
         self.gate.after(node.name, Work::Asks, count);
-    }
-
-    /// The step of an ask under its node's lock, taken by the caller.
-    fn take_here<R: Wait>(
-        &self,
-        rt: &R,
-        alloc: Global,
-        node: &RunningNode<C>,
-        seated: &mut SeatedNode<C>,
-        ask: Ask,
-        pass: Pass,
-        back: Return<'_>,
-        replies: &mut Replies,
-        quiet: bool,
-    ) -> Option<Outcome> {
-        if node.is_closed() {
-            drop(ask);
-            return Some(Err(Refusal::Closed));
-        }
-        let (taken, reply) = take_own(
-            rt,
-            alloc,
-            seated,
-            ask,
-            pass,
-            back.letters,
-            back.token,
-            replies,
-        );
-        if taken {
-            self.post_step(rt, alloc, node, seated, quiet);
-        }
-        reply
     }
 
     /// A piece of a node's ask work that the caller takes itself: the step of its ask.
@@ -183,22 +118,10 @@ impl<C: Core, G: Gate> Shared<C, G> {
     ) -> Option<Outcome> {
         let count = node.next_piece();
         self.gate.before(node.name, Work::Asks, count);
-        let mut replies = Replies::new(alloc);
-        let mut seated = node.seat.lock(rt);
+        let mut turn = Turn::begin(alloc, self, node, node.seat.lock(rt), quiet);
         self.gate.within(node.name, Work::Asks, count);
-        let reply = self.take_here(
-            rt,
-            alloc,
-            node,
-            &mut seated,
-            ask,
-            pass,
-            back,
-            &mut replies,
-            quiet,
-        );
-        drop(seated);
-        replies.tell(rt);
+        let reply = turn.take_own(rt, ask, pass, back);
+        turn.end(rt);
         self.gate.after(node.name, Work::Asks, count);
         reply
     }

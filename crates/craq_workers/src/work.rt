@@ -1,20 +1,16 @@
 //! What each thread of a store does, from its start to its end; called in the threads that `store` makes.
-ghost use Rattle.craq_node.specs.Represented.{CanArrive};
 
 use crate::carrying::carry;
 use crate::chain::Chain;
 use crate::gate::{Gate, Work};
 use crate::node::{RunningNode, Waiting};
-use crate::replies::Replies;
 use crate::shared::Shared;
-use crate::steps::{SeatedNode, sent_by_book, take_event};
-use bytes::Bytes;
-use craq_model::Event;
+use crate::steps::sent_by_book;
+use crate::turn::Turn;
 use craq_names::{ChainId, NodeId, NodeName, Pass};
 use craq_node::Core;
 use craq_seat::BookEvent;
 use craq_sending::Sent;
-use craq_wire::decode;
 use crossbeam_channel::{Receiver, Sender};
 use std::alloc::Global;
 use std::sync::{Arc, Wait};
@@ -91,92 +87,10 @@ fn deliver<R: Wait, C: Core, G: Gate>(
     waiting: Waiting,
     count: u64,
 ) {
-    let mut replies = Replies::new(alloc);
-    let mut seated = node.seat.lock(rt);
+    let mut turn = Turn::begin(alloc, shared, node, node.seat.lock(rt), false);
     shared.gate.within(node.name, Work::Deliveries, count);
-    take_brought(
-        rt,
-        alloc,
-        shared,
-        node,
-        &mut seated,
-        waiting,
-        &mut replies,
-        false,
-    );
-    drop(seated);
-    replies.tell(rt);
-}
-
-/// The step of a node on what was brought, under its lock. Bytes that no memory is left to decode are a lost message.
-pub(crate) fn take_brought<R: Wait, C: Core, G: Gate>(
-    rt: &R,
-    alloc: Global,
-    shared: &Shared<C, G>,
-    node: &RunningNode<C>,
-    seated: &mut SeatedNode<C>,
-    waiting: Waiting,
-    replies: &mut Replies,
-    quiet: bool,
-) {
-    match waiting {
-        Waiting::Tick => {
-            node.tick_taken();
-            step(rt, alloc, shared, node, seated, Event::Tick, replies, quiet);
-        }
-        Waiting::Message(bytes) => {
-            hear(rt, alloc, shared, node, seated, bytes, replies, quiet);
-        }
-        Waiting::Ack => {
-            // One that comes from now on waits anew.
-            node.ack.open();
-            if let Some(bytes) = node.ack.take(rt) {
-                hear(rt, alloc, shared, node, seated, bytes, replies, quiet);
-            }
-        }
-        Waiting::Blank => {
-            if let Some(bytes) = node.blank.take(rt) {
-                hear(rt, alloc, shared, node, seated, bytes, replies, quiet);
-            }
-            // What its sender said while it was answered is answered by that.
-            node.blank.open();
-        }
-    }
-}
-
-/// The step of a node on a message.
-fn hear<R: Wait, C: Core, G: Gate>(
-    rt: &R,
-    alloc: Global,
-    shared: &Shared<C, G>,
-    node: &RunningNode<C>,
-    seated: &mut SeatedNode<C>,
-    bytes: Bytes,
-    replies: &mut Replies,
-    quiet: bool,
-) {
-    if let Ok(message) = decode(alloc, bytes.as_slice()) {
-        let event = Event::Deliver(message);
-        step(rt, alloc, shared, node, seated, event, replies, quiet);
-    }
-}
-
-/// One step of a node under its lock, and what it sends.
-fn step<R: Wait, C: Core, G: Gate>(
-    rt: &R,
-    alloc: Global,
-    shared: &Shared<C, G>,
-    node: &RunningNode<C>,
-    seated: &mut SeatedNode<C>,
-    event: Event,
-    replies: &mut Replies,
-    quiet: bool,
-)
-    requires { CanArrive event }
-{
-    if take_event(rt, alloc, seated, event, replies) {
-        shared.post_step(rt, alloc, node, seated, quiet);
-    }
+    turn.take_brought(rt, waiting);
+    turn.end(rt);
 }
 
 fn take_ticks<R: Wait, C: Core, G: Gate>(

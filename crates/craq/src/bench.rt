@@ -16,6 +16,10 @@ use std::time::{Clock, Duration};
 /// The value of each put, of 16 bytes.
 const PUT_VALUE: &str = "0123456789abcdef";
 
+/// The headings of the table, over the columns of `print_tally`.
+const HEADINGS: &str =
+    "request        answered   a second  refused   50% us   95% us   99% us   all us";
+
 /// What came of a load.
 #[derive(Drop)]
 struct Outcome {
@@ -102,12 +106,39 @@ fn microseconds(from: Duration, to: Duration) -> u64 {
     }
 }
 
-/// Counts a reply that took so long.
-fn count(tally: &mut Tally, reply: &ClientReply, microseconds: u64) {
-    match reply {
-        ClientReply::Refused(_) => tally.refuse(),
-        _ => tally.answer(microseconds),
+/// Counts a reply that took so long, or a refusal.
+fn count(tally: &mut Tally, is_refused: bool, microseconds: u64) {
+    if is_refused {
+        tally.refuse()
+    } else {
+        tally.answer(microseconds)
     }
+}
+
+/// The message of the connection's put of this number, or that of a read where there is none.
+fn message_of(
+    alloc: Global,
+    caller: &Caller<'_>,
+    put: Option<u64>,
+) -> Result<ClientMessage, Fault> {
+    match put {
+        Some(number) => put_message(alloc, caller, number),
+        None => read_message(alloc, caller),
+    }
+}
+
+/// Asks what a message says over a connection. Whether that is refused, and the connection.
+fn ask_over(
+    alloc: Global,
+    stream: TcpStream,
+    message: ClientMessage,
+) -> Result<(bool, TcpStream), Fault> {
+    let asked = exchange_over(alloc, stream, &message);
+    drop(message);
+    let (reply, stream) = asked?;
+    let is_refused = matches!(&reply, ClientReply::Refused(_));
+    drop(reply);
+    Ok((is_refused, stream))
 }
 
 /// One request after another over a connection, until the load is over.
@@ -128,17 +159,15 @@ where
             break;
         }
         let is_read = is_read(number, caller.load.reads);
-        let message = if is_read {
-            read_message(rt.alloc(), caller)?
-        } else {
+        if !is_read {
             put = put.saturating_add(1);
-            put_message(rt.alloc(), caller, put)?
-        };
-        let (reply, back) = exchange_over(rt.alloc(), stream, &message)?;
+        }
+        let message = message_of(rt.alloc(), caller, if is_read { None } else { Some(put) })?;
+        let (is_refused, back) = ask_over(rt.alloc(), stream, message)?;
         stream = back;
         let ended = now(rt)?;
         let tally = if is_read { &mut *reads } else { &mut *puts };
-        count(tally, &reply, microseconds(began, ended));
+        count(tally, is_refused, microseconds(began, ended));
         began = ended;
     }
     Ok(())
@@ -189,11 +218,7 @@ fn print_tally<R: Print>(rt: &R, name: &str, tally: &Tally, seconds: u64) -> Res
 
 /// Prints what came of a load.
 fn print_outcome<R: Print>(rt: &R, reads: &Tally, puts: &Tally, seconds: u64) -> Result<(), Fault> {
-    let printed = println!(rt;
-        "{:<12} {:>10} {:>10} {:>8} {:>8} {:>8} {:>8} {:>8}",
-        "request", "answered", "a second", "refused", "50% us", "95% us", "99% us", "all us"
-    );
-    if let Err(error) = printed {
+    if let Err(error) = println!(rt; "{HEADINGS}") {
         return Err(Fault::CannotPrint(error));
     }
     print_tally(rt, "strong read", reads, seconds)?;

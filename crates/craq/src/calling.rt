@@ -128,6 +128,14 @@ where
     }
 }
 
+/// Why an exchange gave no reply.
+fn fault_of(refusal: Refusal) -> Fault {
+    match refusal {
+        Refusal::Memory => Fault::Memory,
+        _ => Fault::Connection,
+    }
+}
+
 /// Sends a message over a connection, and gives the reply with the connection.
 pub fn exchange_over(
     alloc: Global,
@@ -137,8 +145,10 @@ pub fn exchange_over(
     let mut stream = Stream::new(stream);
     match exchange(alloc, &mut stream, message) {
         Ok(reply) => Ok((reply, stream.into_inner())),
-        Err(Refusal::Memory) => Err(Fault::Memory),
-        Err(_) => Err(Fault::Connection),
+        Err(refusal) => {
+            drop(stream);
+            Err(fault_of(refusal))
+        }
     }
 }
 
@@ -160,8 +170,9 @@ where
 {
     match message_in(rt.alloc(), asker.node, asker.pass, request) {
         Ok(message) => {
-            let reply = reply_to(rt, asker.address, &message)?;
-            Ok(shown_of(rt.alloc(), reply, asker.pass)?)
+            let replied = reply_to(rt, asker.address, &message);
+            drop(message);
+            Ok(shown_of(rt.alloc(), replied?, asker.pass)?)
         }
         Err(Refusal::Memory) => Err(Fault::Memory),
         Err(refusal) => Ok(refused(rt.alloc(), &refusal)?),

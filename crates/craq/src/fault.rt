@@ -1,6 +1,6 @@
-//! Why `craq` ends without an answer, with the text and the status of each reason; for `main`, `calling`, `shell`, `watch` and
-//! `bench`.
-use craq_line::{CANNOT_PRINT, report_memory, report_words};
+//! Why `craq` ends without an answer once its command line was read, with the text and the status of each reason; for `main`,
+//! `calling`, `shell`, `watch` and `bench`.
+use craq_line::{CANNOT_PRINT, report_memory};
 use std::alloc::AllocError;
 use std::io;
 
@@ -11,10 +11,8 @@ pub const REFUSED: u8 = 3;
 const NO_CONNECTION: u8 = 4;
 
 /// Why nothing is answered.
-#[derive(Debug, Drop)]
+#[derive(Clone, Copy, Debug)]
 pub enum Fault {
-    /// The words of the command line ask for nothing, or for help.
-    Line(craq_line::Fault),
     /// A growth was refused.
     Memory,
     /// There is no connection, or it broke.
@@ -25,31 +23,16 @@ pub enum Fault {
     CannotPrint(io::Error),
 }
 
-impl From<craq_line::Fault> for Fault {
-    fn from(fault: craq_line::Fault) -> Fault {
-        Fault::Line(fault)
-    }
-}
-
 impl From<AllocError> for Fault {
     fn from(_error: AllocError) -> Fault {
         Fault::Memory
     }
 }
 
-/// Tells what is wrong with the words of the command line, or prints the help that they ask for. Gives the status.
-fn report_line<R: Print + Eprint>(rt: &R, fault: &craq_line::Fault) -> io::Result<u8> {
-    match fault {
-        craq_line::Fault::Words(error) => report_words(rt, error, REFUSED),
-        craq_line::Fault::Memory => report_memory(rt, REFUSED),
-    }
-}
-
 impl Fault {
     /// Tells what was wrong, and gives the status.
-    pub fn report<R: Print + Eprint>(self, rt: &R) -> io::Result<u8> {
+    pub fn report<R: Eprint>(self, rt: &R) -> io::Result<u8> {
         match self {
-            Fault::Line(fault) => report_line(rt, &fault),
             Fault::Memory => report_memory(rt, REFUSED),
             Fault::Connection => {
                 eprintln!(rt; "connection")?;

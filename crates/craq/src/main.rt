@@ -9,8 +9,10 @@ mod shell;
 mod tally;
 mod watch;
 
-use calling::{Asker, shown_for};
-use craq_line::{CallLine, Request, Task, report_failure, report_no_text, words_of};
+use calling::{Asker, Shown, shown_for};
+use craq_line::{
+    CallLine, Request, Task, report_failure, report_memory, report_no_text, report_words, words_of,
+};
 use fault::{Fault, REFUSED};
 use std::env::Env;
 use std::io;
@@ -34,6 +36,11 @@ where
     R: AllocGlobal + Print + Net<Listener = TcpListener, Stream = TcpStream>,
 {
     let shown = shown_for(rt, asker, request)?;
+    print_shown(rt, &shown)
+}
+
+/// Prints an answer with its pass on a line of its own, or a refusal. Gives the status.
+fn print_shown<R: Print>(rt: &R, shown: &Shown) -> Result<u8, Fault> {
     let text = shown.text.as_str();
     let (printed, status) = match shown.pass {
         Some(pass) => {
@@ -48,13 +55,12 @@ where
     }
 }
 
-/// Does what the words of a command line ask for. Gives the status.
-fn run_words<'a, R>(rt: R, terminals: Terminals, words: &'a [&'a str]) -> Result<u8, Fault>
+/// Does what a command line asks for. Gives the status.
+fn run_line<R>(rt: R, terminals: Terminals, line: &CallLine<'_>) -> Result<u8, Fault>
 where
     R: AllocGlobal + Input + Print + Eprint + Clock + Threads + Wait,
     R: Net<Listener = TcpListener, Stream = TcpStream> + Copy + Drop + Send + Sync + 'static,
 {
-    let line = CallLine::read(rt.alloc(), words)?;
     let asker = Asker {
         address: line.address,
         node: line.node,
@@ -68,15 +74,35 @@ where
     }
 }
 
-/// Does what these words of a command line ask for, and tells what was wrong. Gives the status.
-fn report<'a, R>(rt: R, terminals: Terminals, words: &'a [&'a str]) -> io::Result<u8>
+/// Does what a command line asks for, and tells what was wrong. Gives the status.
+fn run_and_report<R>(rt: R, terminals: Terminals, line: &CallLine<'_>) -> io::Result<u8>
 where
     R: AllocGlobal + Input + Print + Eprint + Clock + Threads + Wait,
     R: Net<Listener = TcpListener, Stream = TcpStream> + Copy + Drop + Send + Sync + 'static,
 {
-    match run_words(rt, terminals, words) {
+    match run_line(rt, terminals, line) {
         Ok(status) => Ok(status),
         Err(fault) => fault.report(&rt),
+    }
+}
+
+/// Tells what is wrong with the words of a command line, or prints the help that they ask for. Gives the status.
+fn report_unread<R: Print + Eprint>(rt: &R, fault: &craq_line::Fault) -> io::Result<u8> {
+    match fault {
+        craq_line::Fault::Words(error) => report_words(rt, error, REFUSED),
+        craq_line::Fault::Memory => report_memory(rt, REFUSED),
+    }
+}
+
+/// Does what these words of a command line ask for, and tells what was wrong. Gives the status.
+fn run_words<'a, R>(rt: R, terminals: Terminals, words: &'a [&'a str]) -> io::Result<u8>
+where
+    R: AllocGlobal + Input + Print + Eprint + Clock + Threads + Wait,
+    R: Net<Listener = TcpListener, Stream = TcpStream> + Copy + Drop + Send + Sync + 'static,
+{
+    match CallLine::read(rt.alloc(), words) {
+        Ok(line) => run_and_report(rt, terminals, &line),
+        Err(fault) => report_unread(&rt, &fault),
     }
 }
 
@@ -90,7 +116,7 @@ where
     for word in words {
         texts.push(word.as_str())?;
     }
-    report(rt, terminals, texts.as_slice())
+    run_words(rt, terminals, texts.as_slice())
 }
 
 /// Does what the command line asks for, where its words are text. Gives the status.

@@ -1,8 +1,8 @@
 //! `craq shell`: a prompt that asks one command after another, and shows each the passes of those before; called by `main`.
-use crate::calling::{Asker, shown_for};
+use crate::calling::{Asker, Shown, shown_for};
 use crate::fault::Fault;
 use crate::session::Session;
-use craq_line::{BadWord, Unread, VERSION, request_of};
+use craq_line::{BadWord, Request, Unread, VERSION, request_of};
 use craq_names::NodeId;
 use craq_script::{GREATEST_NODE, number_up_to};
 use std::alloc::{AllocError, Global};
@@ -85,22 +85,31 @@ fn ask<R>(rt: &R, session: &mut Session<'_>, words: &[&str]) -> Result<(), Fault
 where
     R: AllocGlobal + Print + Eprint + Net<Listener = TcpListener, Stream = TcpStream>,
 {
-    let asker = session.asker();
-    let request = match request_of(rt.alloc(), asker.node, words) {
-        Ok(request) => request,
-        Err(Unread::Memory) => return Err(Fault::Memory),
-        Err(Unread::Bad(bad)) => return print_bad(rt, &bad, words),
-    };
-    match shown_for(rt, &asker, &request) {
-        Ok(shown) => {
-            if let Some(pass) = shown.pass {
-                session.note_pass(pass);
-            }
-            print_text(rt, shown.text.as_str())
-        }
+    match request_of(rt.alloc(), session.asker().node, words) {
+        Ok(request) => ask_for(rt, session, &request),
+        Err(Unread::Memory) => Err(Fault::Memory),
+        Err(Unread::Bad(bad)) => print_bad(rt, &bad, words),
+    }
+}
+
+/// Asks, and prints the answer, or that there is no connection.
+fn ask_for<R>(rt: &R, session: &mut Session<'_>, request: &Request) -> Result<(), Fault>
+where
+    R: AllocGlobal + Print + Eprint + Net<Listener = TcpListener, Stream = TcpStream>,
+{
+    match shown_for(rt, &session.asker(), request) {
+        Ok(shown) => print_shown(rt, session, &shown),
         Err(Fault::Connection) => print_wrong(rt, "connection"),
         Err(fault) => Err(fault),
     }
+}
+
+/// Prints an answer, and shows its pass from now on.
+fn print_shown<R: Print>(rt: &R, session: &mut Session<'_>, shown: &Shown) -> Result<(), Fault> {
+    if let Some(pass) = shown.pass {
+        session.note_pass(pass);
+    }
+    print_text(rt, shown.text.as_str())
 }
 
 /// Prints which word of a line is not what is expected.
@@ -243,17 +252,29 @@ where
         greet(rt, asker)?;
     }
     let mut session = Session::new(rt.alloc(), asker);
+    let taken = take_lines(rt, &mut session, at_terminal);
+    drop(session);
+    taken?;
+    Ok(0)
+}
+
+/// Takes lines until one ends the prompt or there are no more.
+fn take_lines<R>(rt: &R, session: &mut Session<'_>, at_terminal: bool) -> Result<(), Fault>
+where
+    R: AllocGlobal + Input + Print + Eprint + Net<Listener = TcpListener, Stream = TcpStream>,
+{
     for _ in 0..u64::MAX {
         if at_terminal {
             print_text(rt, "craq> ")?;
         }
         let Some(entered) = next_line(rt)? else {
-            print_text(rt, if at_terminal { "\n" } else { "" })?;
-            break;
+            return print_text(rt, if at_terminal { "\n" } else { "" });
         };
-        if run_entered(rt, &mut session, entered.as_str())? {
+        let run = run_entered(rt, session, entered.as_str());
+        drop(entered);
+        if run? {
             break;
         }
     }
-    Ok(0)
+    Ok(())
 }

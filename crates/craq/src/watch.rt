@@ -29,6 +29,15 @@ fn print_line<R: Print>(rt: &R, line: &str) -> Result<(), Fault> {
     }
 }
 
+/// Prints a status that is another than the last one.
+fn print_change<R: Print>(rt: &R, last: &str, next: &str) -> Result<(), Fault> {
+    if next == last {
+        Ok(())
+    } else {
+        print_line(rt, next)
+    }
+}
+
 /// Whether so many seconds are over; never where there is no number.
 fn is_over<R: Clock>(rt: &R, began: &Instant, seconds: Option<u64>) -> Result<bool, Fault> {
     let Some(seconds) = seconds else {
@@ -57,10 +66,8 @@ where
         }
         thread::sleep(rt, Duration::from_millis(PAUSE_MILLISECONDS));
         let next = status(rt, address)?;
-        if next.as_str() != last.as_str() {
-            print_line(rt, next.as_str())?;
-            last = next;
-        }
+        print_change(rt, last.as_str(), next.as_str())?;
+        last = next;
     }
     Ok(0)
 }

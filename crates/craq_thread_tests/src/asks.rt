@@ -44,11 +44,12 @@ const WRITTEN: &[u8] = b"a";
 
 /// A put of `a`, by a client of this id under this number.
 pub fn put_of(alloc: Global, id: u64, number: u64, key: &[u8]) -> Result<Ask, Refusal> {
+    let number = RequestNo::new(number)?;
     let object = object(alloc, key)?;
     let value = Value::new(alloc, WRITTEN)?;
     Ok(Ask::Update(Update {
         client: ClientId::new(id),
-        number: RequestNo::new(number)?,
+        number,
         command: Command::Put { object, value },
     }))
 }

@@ -23,8 +23,13 @@ pub fn confirm<R: Wait>(rt: &R, store: &Tested, receipts: &[CallReceipt]) -> Res
 
 /// A put at node 1.
 fn put_once<R: Wait>(rt: &R, mut asker: Asker) -> Result<Asker, Refusal> {
-    asker.put(rt, 1)?;
-    Ok(asker)
+    match asker.put(rt, 1) {
+        Ok(()) => Ok(asker),
+        Err(refusal) => {
+            drop(asker);
+            Err(refusal)
+        }
+    }
 }
 
 /// A put at node 1, on a thread of its own.
@@ -81,8 +86,13 @@ where
 /// A read at node 3 by another client.
 fn read_meanwhile<R: Wait>(rt: &R, host: HostRuntime, store: &Tested) -> Result<Asker, Refusal> {
     let mut asker = Asker::new(host.alloc(), store, 2)?;
-    asker.read(rt, 3)?;
-    Ok(asker)
+    match asker.read(rt, 3) {
+        Ok(()) => Ok(asker),
+        Err(refusal) => {
+            drop(asker);
+            Err(refusal)
+        }
+    }
 }
 
 /// The put wrote version 1, and a read at node 2 with its pass finds it. Nothing was found before it, while it was held, and an

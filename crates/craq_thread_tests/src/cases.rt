@@ -1,17 +1,15 @@
 //! Each case on a store of its own, which is closed in the end; called by `judge`.
 use crate::asker::Asker;
-use crate::asks::plan;
 use crate::calls::{free, overlap, read_back, stop, taking};
 use crate::case::Case;
 use crate::case_gate::{CaseGate, Signs};
 use crate::changes::changes;
 use crate::fault::{Fact, Fault, expect_refusal};
 use crate::form::Form;
-use crate::gate::{TestGate, Tested};
+use crate::gate::{TestGate, Tested, start_store};
 use crate::members::{expect_threads, members};
 use crate::waits::ALONE;
 use craq_names::Refusal;
-use craq_workers::Store;
 use std::sync::{Arc, Wait};
 use std::thread::Threads;
 
@@ -49,16 +47,14 @@ fn start<R>(
 where
     R: Threads + Wait + Copy + Send + 'static,
 {
+    let signs = Arc::try_clone(signs)?;
     let gate = TestGate::Case(CaseGate {
         clock: host,
         case,
         form,
-        signs: Arc::try_clone(signs)?,
+        signs,
     });
-    let plan = plan(host.alloc())?;
-    let started = Store::start(rt, host.alloc(), &plan, gate, case.has_journals());
-    drop(plan);
-    Ok(started?)
+    Ok(start_store(rt, host.alloc(), gate, case.has_journals())?)
 }
 
 /// A call of a store that was closed is to answer that it is, and no thread of it is to be left.

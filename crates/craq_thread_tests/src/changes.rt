@@ -185,21 +185,21 @@ where
     }
 }
 
-/// All clients begin to ask.
-fn start_askers<R>(
+/// All clients begin to ask, while members change. How many puts waited as the tail did.
+fn ask_and_change<R>(
     rt: R,
     host: HostRuntime,
     store: &Tested,
     course: &Arc<Course>,
-) -> Result<Vec<JoinHandle<Asker>>, Refusal>
+    callers: &mut Vec<JoinHandle<Asker>>,
+) -> Result<u64, Refusal>
 where
     R: Threads + Wait + Copy + Send + 'static,
 {
-    let mut callers = Vec::new(host.alloc());
     for id in 1..=CLIENTS {
         callers.push(start_asker(rt, host, store, course, id)?)?;
     }
-    Ok(callers)
+    change_members(rt, host, store, course)
 }
 
 /// Waits for the clients, and takes the receipts of all their calls.
@@ -245,8 +245,8 @@ fn ask_all<R>(
 where
     R: Threads + Wait + Copy + Send + 'static,
 {
-    let callers = start_askers(rt, host, store, course)?;
-    match change_members(rt, host, store, course) {
+    let mut callers = Vec::new(host.alloc());
+    match ask_and_change(rt, host, store, course, &mut callers) {
         Ok(waiting) => {
             join_all(&rt, callers, receipts)?;
             Ok(waiting)

@@ -19,32 +19,39 @@ where
     exchange(rt.alloc(), &mut stream, message)
 }
 
-/// Prints what a client was answered. Gives the pass to show from then on.
-fn print_reply<R: Print>(rt: &R, reply: &ClientReply) -> io::Result<Pass> {
+/// Prints what a client's put did.
+fn print_put<R: Print>(rt: &R, reply: &Reply) -> io::Result<()> {
     match reply {
-        ClientReply::Update { pass, reply } => {
-            match reply {
-                Reply::Written(version) => println!(rt; "put: written {}", version.get())?,
-                _ => println!(rt; "put: not written")?,
-            }
-            Ok(*pass)
+        Reply::Written(version) => println!(rt; "put: written {}", version.get()),
+        _ => println!(rt; "put: not written"),
+    }
+}
+
+/// Prints what a client was answered.
+fn print_reply<R: Print>(rt: &R, reply: &ClientReply) -> io::Result<()> {
+    match reply {
+        ClientReply::Update { reply, .. } => print_put(rt, reply),
+        ClientReply::Read { version, value, .. } => {
+            println!(rt; "read: version {} {:?}", version.get(), value.as_slice())
         }
-        ClientReply::Read {
-            pass,
-            version,
-            value,
-        } => {
-            println!(rt; "read: version {} {:?}", version.get(), value.as_slice())?;
-            Ok(*pass)
-        }
-        ClientReply::Status(text) => {
-            println!(rt; "status: {}", text.as_str())?;
-            Ok(Pass::start())
-        }
-        ClientReply::Refused(refusal) => {
-            println!(rt; "refused {}", refusal.number())?;
-            Ok(Pass::start())
-        }
+        ClientReply::Status(text) => println!(rt; "status: {}", text.as_str()),
+        ClientReply::Refused(refusal) => println!(rt; "refused {}", refusal.number()),
+    }
+}
+
+/// The pass to show after a reply.
+fn pass_after(reply: &ClientReply) -> Pass {
+    match reply {
+        ClientReply::Update { pass, .. } | ClientReply::Read { pass, .. } => *pass,
+        _ => Pass::start(),
+    }
+}
+
+/// Prints what a client was answered. Gives the pass to show from then on.
+fn print_and_pass<R: Print>(rt: &R, reply: &ClientReply) -> Result<Pass, Refusal> {
+    match print_reply(rt, reply) {
+        Ok(()) => Ok(pass_after(reply)),
+        Err(_) => Err(Refusal::Io),
     }
 }
 
@@ -54,10 +61,25 @@ where
     R: AllocGlobal + Print + Net<Listener = TcpListener, Stream = TcpStream>,
 {
     let reply = ask(rt, address, message)?;
-    match print_reply(rt, &reply) {
-        Ok(pass) => Ok(pass),
-        Err(_) => Err(Refusal::Io),
-    }
+    print_and_pass(rt, &reply)
+}
+
+/// The put of the first client. Gives its pass.
+fn ask_put<R>(rt: &R, address: SocketAddr) -> Result<Pass, Refusal>
+where
+    R: AllocGlobal + Print + Net<Listener = TcpListener, Stream = TcpStream>,
+{
+    let put = put(rt.alloc())?;
+    ask_and_print(rt, address, &put)
+}
+
+/// The read of the second client, with this pass.
+fn ask_read<R>(rt: &R, address: SocketAddr, pass: Pass) -> Result<Pass, Refusal>
+where
+    R: AllocGlobal + Print + Net<Listener = TcpListener, Stream = TcpStream>,
+{
+    let read = read(rt.alloc(), pass)?;
+    ask_and_print(rt, address, &read)
 }
 
 /// The three clients, one after another: a put at node 1, a strong read at node 3 with the put's pass, and a status.
@@ -65,8 +87,8 @@ pub fn ask_all<R>(rt: &R, address: SocketAddr) -> Result<(), Refusal>
 where
     R: AllocGlobal + Print + Net<Listener = TcpListener, Stream = TcpStream>,
 {
-    let pass = ask_and_print(rt, address, &put(rt.alloc())?)?;
-    ask_and_print(rt, address, &read(rt.alloc(), pass)?)?;
+    let pass = ask_put(rt, address)?;
+    ask_read(rt, address, pass)?;
     ask_and_print(rt, address, &ClientMessage::Status)?;
     Ok(())
 }

@@ -1,9 +1,14 @@
-//! The gate of a store that is tested: that of a case, that of a trial, or an open one; made by `cases`, `trials` and `server`.
+//! The gate of a store that is tested: that of a case, that of a trial, or an open one; and the start of a store with one.
+//! Called by `cases`, `trials` and `server`.
+use crate::asks::plan;
 use crate::case_gate::CaseGate;
 use crate::trial_gate::TrialGate;
 use craq_list::ListCore;
-use craq_names::NodeName;
+use craq_names::{NodeName, Refusal};
 use craq_workers::{Gate, OpenGate, Store, Work};
+use std::alloc::Global;
+use std::sync::Wait;
+use std::thread::Threads;
 
 /// A gate.
 #[derive(Drop)]
@@ -15,6 +20,22 @@ pub enum TestGate {
 
 /// The stores that are tested: their nodes forget settled entries, as those of a server do.
 pub type Tested = Store<ListCore, TestGate>;
+
+/// A store of the plan of each store, with this gate, and with journals or without.
+pub fn start_store<R>(
+    rt: R,
+    alloc: Global,
+    gate: TestGate,
+    journals: bool,
+) -> Result<Tested, Refusal>
+where
+    R: Threads + Wait + Copy + Send + 'static,
+{
+    let plan = plan(alloc)?;
+    let started = Store::start(rt, alloc, &plan, gate, journals);
+    drop(plan);
+    started
+}
 
 impl Gate for TestGate {
     fn before(&self, node: NodeName, work: Work, count: u64) {

@@ -50,17 +50,27 @@ fn sizes(rt: HostRuntime) -> io::Result<Sizes> {
     let mut sizes = Sizes::usual();
     let mut place: u64 = 0;
     for word in env::args(&rt)? {
-        if let Ok(size) = word.as_str().parse::<u64>() {
-            match place {
-                1 => sizes.turns = size,
-                2 => sizes.closes = size,
-                3 => sizes.calls = size,
-                _ => (),
-            }
-        }
+        sizes.take(place, word.as_str());
         place = place.saturating_add(1);
     }
     Ok(sizes)
+}
+
+/// Tries a test, and tells by its words, and by its number if it has one, how it ended. Whether the others can be tried.
+fn try_one<R>(rt: R, host: HostRuntime, test: Test, text: &str, form: Form) -> io::Result<bool>
+where
+    R: Threads + Wait + Copy + Send + 'static,
+{
+    let ended = judge(rt, host, test, form);
+    match test {
+        Test::Case(_) => print!(host; "{text}: ")?,
+        Test::Trial(trial) => {
+            let number = trial.number();
+            print!(host; "{text} {number}: ")?;
+        }
+    }
+    tell(host, &ended)?;
+    Ok(!matches!(ended, Err(Fault::Late)))
 }
 
 /// Tries all cases. Whether the trials can be tried.
@@ -68,27 +78,12 @@ fn try_cases<R>(rt: R, host: HostRuntime, form: Form) -> io::Result<bool>
 where
     R: Threads + Wait + Copy + Send + 'static,
 {
-    for (case, text) in CASES {
-        let ended = judge(rt, host, Test::Case(case), form);
-        print!(host; "{text}: ")?;
-        tell(host, &ended)?;
-        if matches!(&ended, Err(Fault::Late)) {
+    for (case, text) in &CASES {
+        if !try_one(rt, host, Test::Case(*case), *text, form)? {
             return Ok(false);
         }
     }
     Ok(true)
-}
-
-/// Tries a trial, and tells by its words and its number how it ended. Whether the others can be tried.
-fn try_one<R>(rt: R, host: HostRuntime, trial: Trial, text: &str, form: Form) -> io::Result<bool>
-where
-    R: Threads + Wait + Copy + Send + 'static,
-{
-    let ended = judge(rt, host, Test::Trial(trial), form);
-    let number = trial.number();
-    print!(host; "{text} {number}: ")?;
-    tell(host, &ended)?;
-    Ok(!matches!(ended, Err(Fault::Late)))
 }
 
 /// Tries all trials. Whether a store in another form can be tried.
@@ -97,29 +92,41 @@ where
     R: Threads + Wait + Copy + Send + 'static,
 {
     for piece in 0..=LAST_PIECE {
-        if !try_one(rt, host, Trial::Stop(piece), STOP, form)? {
+        if !try_one(rt, host, Test::Trial(Trial::Stop(piece)), STOP, form)? {
             return Ok(false);
         }
     }
-    for (trial, text) in sizes.others() {
-        if !try_one(rt, host, trial, text, form)? {
+    for (trial, text) in &sizes.others() {
+        if !try_one(rt, host, Test::Trial(*trial), *text, form)? {
             return Ok(false);
         }
     }
     Ok(true)
 }
 
+/// Tries all cases and trials of a store in a form. Whether a store in another form can be tried.
+fn try_all_in<R>(rt: R, host: HostRuntime, form: Form, sizes: Sizes) -> io::Result<bool>
+where
+    R: Threads + Wait + Copy + Send + 'static,
+{
+    if try_cases(rt, host, form)? {
+        try_trials(rt, host, form, sizes)
+    } else {
+        Ok(false)
+    }
+}
+
 fn main(rt: HostRuntime) -> io::Result<()> {
     let sizes = sizes(rt)?;
-    for (form, words) in FORMS {
+    for (form, words) in &FORMS {
         println!(rt; "{words}")?;
-        if !try_cases(rt, rt, form)? || !try_trials(rt, rt, form, sizes)? {
+        if !try_all_in(rt, rt, *form, sizes)? {
             return Ok(());
         }
     }
-    for (manner, words) in MANNERS {
+    for (manner, words) in &MANNERS {
         println!(rt; "{words}")?;
-        if let Err(refusal) = serve_clients(rt, manner) {
+        if let Err(refusal) = serve_clients(rt, *manner) {
             println!(rt; "refused: {refusal}")?;
         }
     }

@@ -1,15 +1,15 @@
 //! The store, its server and its ticks, each on a thread, beside the clients; in the end its audit. It is served in each
 //! manner; called by `main`.
-use crate::asks::{chain, plan};
+use crate::asks::chain;
 use crate::client::ask_all;
-use crate::gate::{TestGate, Tested};
+use crate::gate::{TestGate, Tested, start_store};
 use craq_audit::Audit;
 use craq_names::Refusal;
 use craq_seat::CallReceipt;
 use craq_server::{Connections, Crowds, Log, Served, Serving, accept, accept_by_threads};
-use craq_workers::{OpenGate, Store};
+use craq_workers::OpenGate;
 use std::alloc::{AllocError, Global};
-use std::net::{Net, TcpListener, TcpStream};
+use std::net::{Net, SocketAddr, TcpListener, TcpStream};
 use std::sync::Wait;
 use std::sync::atomic::{AtomicBool, Ordering};
 use std::thread;
@@ -99,11 +99,39 @@ where
     accept_by_threads(rt, alloc, store, listener, SERVING, connections, crowds)
 }
 
-/// The clients ask, while the store is ticked and served, each on a thread of its own. Gives what came of serving.
+/// The clients ask once the connections are served.
+fn ask_once_served<R>(rt: &R, connections: &Connections, address: SocketAddr) -> Result<(), Refusal>
+where
+    R: AllocGlobal + Print + Wait + Net<Listener = TcpListener, Stream = TcpStream>,
+{
+    if connections.wait_for_begin(rt) {
+        ask_all(rt, address)
+    } else {
+        Err(Refusal::Memory)
+    }
+}
+
+/// What came of serving, where the clients could ask.
+fn served_and_asked(
+    served: Result<Served, AllocError>,
+    asked: Result<(), Refusal>,
+) -> Result<Served, Refusal> {
+    match asked {
+        Ok(()) => Ok(served?),
+        Err(refusal) => {
+            drop(served);
+            Err(refusal)
+        }
+    }
+}
+
+/// The clients ask at the address of the listener, while the store is ticked and served, each on a thread of its own. Gives
+/// what came of serving.
 fn ask_served<R>(
     rt: R,
     store: &Tested,
     listener: &TcpListener,
+    address: SocketAddr,
     connections: &Connections,
     crowds: Option<Crowds>,
 ) -> Result<Served, Refusal>
@@ -111,9 +139,6 @@ where
     R: AllocGlobal + Print + Eprint + Clock + Threads + Wait + Copy + Drop + Send + Sync + 'static,
     R: Net<Listener = TcpListener, Stream = TcpStream>,
 {
-    let Ok(address) = listener.local_addr() else {
-        return Err(Refusal::Io);
-    };
     let over = AtomicBool::new(false);
     let ending = &over;
     thread::scope(thread::scope_env(), &rt, |scope| {
@@ -125,15 +150,10 @@ where
             ending.store(true, Ordering::SeqCst);
             return Err(Refusal::Memory);
         };
-        let asked = if connections.wait_for_begin(&rt) {
-            ask_all(&rt, address)
-        } else {
-            Err(Refusal::Memory)
-        };
+        let asked = ask_once_served(&rt, connections, address);
         let served = serving.join(&rt);
         ending.store(true, Ordering::SeqCst);
-        asked?;
-        Ok(served?)
+        served_and_asked(served, asked)
     })
 }
 
@@ -146,15 +166,8 @@ fn joined(alloc: Global, parts: Vec<Vec<CallReceipt>>) -> Result<Vec<CallReceipt
     Ok(all)
 }
 
-/// Prints what the audit of the chain finds with the receipts of all connections.
-fn print_audit<R>(rt: &R, store: &Tested, served: Served) -> Result<(), Refusal>
-where
-    R: AllocGlobal + Print + Wait,
-{
-    let Served { receipts, lacked } = served;
-    let receipts = joined(rt.alloc(), receipts)?;
-    let count = receipts.len();
-    let audit = store.audit(rt, chain(), receipts.as_slice())?;
+/// Prints what an audit with the receipts of so many calls found, and whether any were lacked.
+fn print_found<R: Print>(rt: &R, audit: &Audit, count: usize, lacked: bool) -> Result<(), Refusal> {
     let printed = match audit {
         Audit::Merged(_) => println!(rt; "audit: merged, {count} calls; lacked {lacked}"),
         Audit::NoSender(..) => println!(rt; "audit: no sender"),
@@ -166,6 +179,36 @@ where
     }
 }
 
+/// Prints what the audit of the chain finds with the receipts of all connections.
+fn print_audit<R>(rt: &R, store: &Tested, served: Served) -> Result<(), Refusal>
+where
+    R: AllocGlobal + Print + Wait,
+{
+    let Served { receipts, lacked } = served;
+    let receipts = joined(rt.alloc(), receipts)?;
+    let audit = store.audit(rt, chain(), receipts.as_slice())?;
+    print_found(rt, &audit, receipts.len(), lacked)
+}
+
+/// Serves the clients at this listener in this manner. Gives what came of serving.
+fn serve_at<R>(
+    rt: R,
+    store: &Tested,
+    manner: Manner,
+    listener: &TcpListener,
+) -> Result<Served, Refusal>
+where
+    R: AllocGlobal + Print + Eprint + Clock + Threads + Wait + Copy + Drop + Send + Sync + 'static,
+    R: Net<Listener = TcpListener, Stream = TcpStream>,
+{
+    let Ok(address) = listener.local_addr() else {
+        return Err(Refusal::Io);
+    };
+    let connections = Connections::new(rt.alloc(), SERVING.connections)?;
+    let crowds = manner.crowds(&rt)?;
+    ask_served(rt, store, listener, address, &connections, crowds)
+}
+
 /// Serves the clients at any free port of the loopback, and audits the store.
 fn serve_store<R>(rt: R, store: &Tested, manner: Manner) -> Result<(), Refusal>
 where
@@ -175,9 +218,7 @@ where
     let Ok(listener) = TcpListener::bind(&rt, "127.0.0.1:0") else {
         return Err(Refusal::Io);
     };
-    let connections = Connections::new(rt.alloc(), SERVING.connections)?;
-    let crowds = manner.crowds(&rt)?;
-    let served = ask_served(rt, store, &listener, &connections, crowds)?;
+    let served = serve_at(rt, store, manner, &listener)?;
     print_audit(&rt, store, served)
 }
 
@@ -187,9 +228,8 @@ where
     R: AllocGlobal + Print + Eprint + Clock + Threads + Wait + Copy + Drop + Send + Sync + 'static,
     R: Net<Listener = TcpListener, Stream = TcpStream>,
 {
-    let plan = plan(rt.alloc())?;
     let gate = TestGate::Open(manner.gate());
-    let store = Store::start(rt, rt.alloc(), &plan, gate, true)?;
+    let store = start_store(rt, rt.alloc(), gate, true)?;
     let served = serve_store(rt, &store, manner);
     store.close(&rt);
     served

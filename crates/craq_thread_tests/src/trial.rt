@@ -83,6 +83,19 @@ impl Sizes {
         }
     }
 
+    /// Takes the size that the word at this place of a command line spells, if one does.
+    pub fn take(&mut self, place: u64, word: &str) {
+        let Ok(size) = word.parse::<u64>() else {
+            return;
+        };
+        match place {
+            1 => self.turns = size,
+            2 => self.closes = size,
+            3 => self.calls = size,
+            _ => (),
+        }
+    }
+
     /// The trials after those in which node 2 stops, each in words.
     pub fn others(self) -> [(Trial, &'static str); 7] {
         [

@@ -1,43 +1,44 @@
 //! Each trial on stores of its own, which are closed in the end; called by `judge`.
-use crate::asks::plan;
 use crate::course::Course;
 use crate::driving::{Callers, Ground};
 use crate::fault::{Fact, Fault, expect};
 use crate::form::Form;
-use crate::gate::{TestGate, Tested};
+use crate::gate::{TestGate, Tested, start_store};
 use crate::trial::Trial;
 use crate::trial_gate::TrialGate;
 use crate::waits::{ALONE, comes_to};
-use craq_names::Refusal;
-use craq_workers::Store;
 use std::sync::atomic::Ordering;
 use std::sync::{Arc, Wait};
 use std::thread::Threads;
 
-/// A store with this gate.
-fn store<R>(rt: R, host: HostRuntime, gate: TestGate) -> Result<Tested, Refusal>
+/// A store for a trial of this course.
+fn store<R>(
+    rt: R,
+    host: HostRuntime,
+    trial: Trial,
+    form: Form,
+    course: &Arc<Course>,
+) -> Result<Tested, Fault>
 where
     R: Threads + Wait + Copy + Send + 'static,
 {
-    let plan = plan(host.alloc())?;
-    let started = Store::start(rt, host.alloc(), &plan, gate, true);
-    drop(plan);
-    started
+    let course = Arc::try_clone(course)?;
+    let gate = TestGate::Trial(TrialGate {
+        clock: host,
+        form,
+        trial,
+        course,
+    });
+    Ok(start_store(rt, host.alloc(), gate, true)?)
 }
 
-/// A store for a trial.
+/// A store for a trial, and its course.
 fn start<R>(rt: R, host: HostRuntime, trial: Trial, form: Form) -> Result<Ground, Fault>
 where
     R: Threads + Wait + Copy + Send + 'static,
 {
     let course = Arc::new(host.alloc(), Course::new(host.alloc()))?;
-    let gate = TestGate::Trial(TrialGate {
-        clock: host,
-        form,
-        trial,
-        course: Arc::try_clone(&course)?,
-    });
-    let store = store(rt, host, gate)?;
+    let store = store(rt, host, trial, form, &course)?;
     Ok(Ground {
         host,
         store,

@@ -1,5 +1,5 @@
 -- Encoded messages on their way to nodes.
-use Rattle.std.specs.Prelude.{◌≡◌, ◌<◌, ◌^◌, ◌++◌, ⊤, ℕ, List, [], ◌∷◌, length}
+use Rattle.std.specs.Prelude.{◌≡◌, ◌<◌, ◌≤◌, ◌^◌, ◌++◌, ⊤, ℕ, List, [], ◌∷◌, length}
 use Rattle.craq_model.specs.declared.message.Body.{Body}
 use Rattle.craq_model.specs.declared.message.Body.TheVariants as bodies
 use Rattle.craq_model.specs.declared.message.LinkMessage.{LinkMessage}
@@ -15,7 +15,7 @@ use Rattle.craq_sending.specs.declared.sending.Sent.{Sent}
 
 abbrev pub kind_of : Body → Kind
 kind_of (bodies.Config members) = kinds.Other
-kind_of (bodies.Entry e) = kinds.Other
+kind_of (bodies.Entry e) = kinds.Entry
 kind_of (bodies.Ack position) = kinds.Ack
 kind_of (bodies.Query ticket k) = kinds.Other
 kind_of (bodies.VersionIs ticket version) = kinds.Other
@@ -25,16 +25,35 @@ kind_of (bodies.Floor count) = kinds.Other
 kind_of (bodies.Part p) = kinds.Other
 kind_of (bodies.Batch es) = kinds.Other
 
--- an out that sends an acknowledgement
-abbrev pub Acknowledges : Out → Type 0
-Acknowledges (outs.Send to m) = kind_of m.body ≡ kinds.Ack
-Acknowledges (outs.Answer ticket answer) = ⊥
+-- an out that sends a message of this kind
+abbrev pub Sends : Kind → Out → Type 0
+Sends kind (outs.Send to m) = kind_of m.body ≡ kind
+Sends kind (outs.Answer ticket answer) = ⊥
 
--- the outs of a step that only acknowledges: there is one, and it sends an acknowledgement
-abbrev pub OnlyAcknowledges : List Out → Type 0
-OnlyAcknowledges [] = ⊥
-OnlyAcknowledges (o ∷ []) = Acknowledges o
-OnlyAcknowledges (o ∷ p ∷ os) = ⊥
+-- the outs of a step that does one thing: it sends a message of this kind
+abbrev pub OnlySends : Kind → List Out → Type 0
+OnlySends kind [] = ⊥
+OnlySends kind (o ∷ []) = Sends kind o
+OnlySends kind (o ∷ p ∷ os) = ⊥
+
+-- the position up to which a message acknowledges all entries; 0 of one that acknowledges none
+abbrev pub acknowledged : Body → ℕ
+acknowledged (bodies.Config members) = 0
+acknowledged (bodies.Entry e) = 0
+acknowledged (bodies.Ack position) = position
+acknowledged (bodies.Query ticket k) = 0
+acknowledged (bodies.VersionIs ticket version) = 0
+acknowledged (bodies.Blank count) = 0
+acknowledged (bodies.Copy position s) = 0
+acknowledged (bodies.Floor count) = 0
+acknowledged (bodies.Part p) = 0
+acknowledged (bodies.Batch es) = 0
+
+-- an acknowledgement makes another one needless: it goes to the same node under the same membership, and acknowledges as much
+pub record MakesNeedless (later earlier : LinkMessage) : Type 0 where
+  pub receiver : later.receiver ≡ earlier.receiver
+  pub epoch : later.epoch ≡ earlier.epoch
+  pub as_much : acknowledged earlier.body ≤ acknowledged later.body
 
 -- the bytes are those of the message, and go to its receiver
 pub record IsSentAs (s : Sent) (m : LinkMessage) : Type 0 where

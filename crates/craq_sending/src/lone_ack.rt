@@ -5,34 +5,37 @@ ghost use Rattle.craq_runs.specs.Chain.{sent_in};
 ghost use Rattle.craq_model.specs.Spelled.{IsSpelled};
 ghost use Rattle.craq_seat.specs.Numbered.{CanBeSent, named, numbered_from};
 ghost use Rattle.craq_sending.specs.declared.sending.Kind.TheVariants as kinds;
-ghost use Rattle.craq_sending.specs.Sent.{Acknowledges, CanAdd, IsSentAs, OnlyAcknowledges, kind_of};
+ghost use Rattle.craq_sending.specs.Sent.{CanAdd, IsSentAs, MakesNeedless, OnlySends, Sends, kind_of};
 
 use crate::{Kind, Sent};
 use craq_model::{Body, LinkMessage, Out, Step};
-use craq_names::NodeId;
+use craq_names::{ChainId, Epoch, NodeId, Seq, Stamp};
 use craq_seat::Receipt;
 use craq_wire::encode;
 use std::alloc::{AllocError, Global};
 use std::marker::Model;
 
-/// An acknowledgement that is all that a step does, under the step's receipt. A contract sees the message.
-#[derive(Drop)]
+/// An acknowledgement that is all that a step does, under the step's receipt. A contract sees the message. It has no drop: whoever
+/// has one encodes it, or lets it give way to one that makes it needless.
 pub struct LoneAck {
-    message: LinkMessage,
+    chain: ChainId,
+    sender: NodeId,
+    receiver: NodeId,
+    stamp: Stamp,
+    epoch: Epoch,
+    position: Seq,
 }
 
 impl Model for LoneAck {
-    ghost use Rattle.std.specs.Prelude.{◌≡◌};
+    ghost use Rattle.craq_model.specs.declared.message.Body.TheVariants as bodies;
     ghost use Rattle.craq_model.specs.declared.message.LinkMessage.{LinkMessage};
     ghost use Rattle.craq_model.specs.Spelled.{IsSpelled};
-    ghost use Rattle.craq_sending.specs.declared.sending.Kind.TheVariants as kinds;
-    ghost use Rattle.craq_sending.specs.Sent.{kind_of};
 
     ghost Value = { LinkMessage };
 
-    ghost view = { λ a. a.message };
+    ghost view = { λ a. record { chain = a.chain; sender = a.sender; receiver = a.receiver; stamp = a.stamp; index = 0; epoch = a.epoch; body = bodies.Ack a.position } };
 
-    ghost invariant = { λ a. IsSpelled a.message × (kind_of a.message.body ≡ kinds.Ack) };
+    ghost invariant = { λ a. IsSpelled (record { chain = a.chain; sender = a.sender; receiver = a.receiver; stamp = a.stamp; index = 0; epoch = a.epoch; body = bodies.Ack a.position }) };
 }
 
 /// A message under this receipt as the first of its step, if it is an acknowledgement.
@@ -43,15 +46,12 @@ fn ack_under(message: &LinkMessage, receipt: Receipt) -> Option<LoneAck>
 {
     match &message.body {
         Body::Ack(position) => Some(LoneAck {
-            message: LinkMessage {
-                chain: message.chain,
-                sender: receipt.node,
-                receiver: message.receiver,
-                stamp: receipt.stamp,
-                index: 0,
-                epoch: message.epoch,
-                body: Body::Ack(*position),
-            },
+            chain: message.chain,
+            sender: receipt.node,
+            receiver: message.receiver,
+            stamp: receipt.stamp,
+            epoch: message.epoch,
+            position: *position,
         }),
         _ => None,
     }
@@ -61,8 +61,8 @@ fn ack_under(message: &LinkMessage, receipt: Receipt) -> Option<LoneAck>
 #[tactic(auto, unfolding(craq_runs::specs::Chain::sent_in))]
 fn ack_in(out: &Out, receipt: Receipt) -> Option<LoneAck>
     requires { CanAdd receipt 0 out.now }
-    ensures some { IfSome result (λ ack. Acknowledges out.now × (numbered_from 0 receipt (sent_in (out.now ∷ [])) ≡ ack ∷ [])) }
-    ensures none { IsNone result → ¬ (Acknowledges out.now) }
+    ensures some { IfSome result (λ ack. Sends kinds.Ack out.now × (numbered_from 0 receipt (sent_in (out.now ∷ [])) ≡ ack ∷ [])) }
+    ensures none { IsNone result → ¬ (Sends kinds.Ack out.now) }
 {
     match out {
         Out::Send { message, .. } => ack_under(message, receipt),
@@ -75,8 +75,8 @@ impl LoneAck {
     /// no memory.
     pub fn of(step: &Step, receipt: Receipt) -> Option<Self>
         requires { CanBeSent receipt step.now.outs }
-        ensures some { IfSome result (λ ack. OnlyAcknowledges step.now.outs × (numbered_from 0 receipt (sent_in step.now.outs) ≡ ack ∷ [])) }
-        ensures none { IsNone result → ¬ (OnlyAcknowledges step.now.outs) }
+        ensures some { IfSome result (λ ack. OnlySends kinds.Ack step.now.outs × (numbered_from 0 receipt (sent_in step.now.outs) ≡ ack ∷ [])) }
+        ensures none { IsNone result → ¬ (OnlySends kinds.Ack step.now.outs) }
     {
         match step.outs.as_slice() {
             [out] => ack_in(out, receipt),
@@ -84,21 +84,51 @@ impl LoneAck {
         }
     }
 
-    /// The node that it goes to.
-    pub fn receiver(&self) -> NodeId
-        ensures { result ≡ self.now.receiver }
+    /// Gives way to another, where that makes it needless; else it is still there. It takes no memory.
+    pub fn give_way(self, later: &LoneAck) -> Option<Self>
+        ensures gone { IsNone result → MakesNeedless later.now self }
+        ensures stays { IfSome result (λ ack. (ack ≡ self) × ¬ (MakesNeedless later.now self)) }
     {
-        self.message.receiver
+        let as_much = self.position <= later.position;
+        if as_much && later.receiver == self.receiver && later.epoch == self.epoch {
+            let LoneAck {
+                chain: _,
+                sender: _,
+                receiver: _,
+                stamp: _,
+                epoch: _,
+                position: _,
+            } = self;
+            return None;
+        }
+        Some(self)
     }
 
     /// The acknowledgement as bytes. It fails for want of memory alone.
-    pub fn encode(&self, alloc: Global) -> Result<Sent, AllocError>
-        ensures { IfOk result (λ sent. IsSentAs sent self.now) }
+    pub fn encode(self, alloc: Global) -> Result<Sent, AllocError>
+        ensures { IfOk result (λ sent. IsSentAs sent self) }
     {
+        let LoneAck {
+            chain,
+            sender,
+            receiver,
+            stamp,
+            epoch,
+            position,
+        } = self;
+        let message = LinkMessage {
+            chain,
+            sender,
+            receiver,
+            stamp,
+            index: 0,
+            epoch,
+            body: Body::Ack(position),
+        };
         Ok(Sent {
-            to: self.message.receiver,
+            to: receiver,
             kind: Kind::Ack,
-            bytes: encode(alloc, &self.message)?,
+            bytes: encode(alloc, &message)?,
         })
     }
 }

@@ -1,10 +1,10 @@
-//! The one call of the crate: the messages of a step as bytes; called by the steps of `craq_workers`.
-ghost use Rattle.std.specs.Prelude.{◌≡◌, ◌≤◌, ◌^◌, length, IfOk, OnOk};
+//! The messages of a step as bytes, and whether it does nothing but send one; called by the steps of `craq_workers`.
+ghost use Rattle.std.specs.Prelude.{◌≡◌, ◌≤◌, ◌↔◌, ◌^◌, length, IfOk, IsTrue, OnOk};
 ghost use Rattle.std.specs.List.{AllByRecursion};
 ghost use Rattle.craq_runs.specs.Chain.{sent_in};
 ghost use Rattle.craq_seat.specs.Numbered.{CanBeSent, named, numbered_from};
 ghost use Rattle.craq_model.specs.Spelled.{IsSpelled};
-ghost use Rattle.craq_sending.specs.Sent.{Adds, AreSentAs, CanAdd, IsSentAs, kind_of};
+ghost use Rattle.craq_sending.specs.Sent.{Adds, AreSentAs, CanAdd, IsSentAs, OnlySends, kind_of};
 
 use bytes::Bytes;
 use craq_model::{Body, LinkMessage, Out, Step};
@@ -16,6 +16,8 @@ use std::alloc::{AllocError, Global};
 /// What a link makes a difference of.
 #[derive(Clone, Copy, Debug, PartialEq, Eq)]
 pub enum Kind {
+    /// One entry, which a tick of its sender brings too.
+    Entry,
     /// An acknowledgement, which a later one makes needless.
     Ack,
     /// The word of a node that is not ready, which it says again.
@@ -37,9 +39,20 @@ fn kind_said(body: &Body) -> Kind
     ensures { result ≡ kind_of body.now }
 {
     match body {
+        Body::Entry(_) => Kind::Entry,
         Body::Ack(_) => Kind::Ack,
         Body::Blank(_) => Kind::Blank,
         _ => Kind::Other,
+    }
+}
+
+/// Whether all that a step does is to send one message, of this kind. It takes no memory.
+pub fn only_sends(step: &Step, kind: Kind) -> bool
+    ensures { IsTrue result ↔ OnlySends kind step.now.outs }
+{
+    match step.outs.as_slice() {
+        [Out::Send { message, .. }] => kind_said(&message.body) == kind,
+        _ => false,
     }
 }
 

@@ -1,4 +1,4 @@
--- What a turn of a node owes.
+-- What a turn of a node owes, and which entries it holds back.
 use Rattle.std.specs.Prelude.{◌≡◌, Option, [], ◌∷◌, IfSome, IsSome}
 use Rattle.craq_model.specs.declared.ask.Event.{Event}
 use Rattle.craq_model.specs.declared.message.LinkMessage.{LinkMessage}
@@ -6,12 +6,31 @@ use Rattle.craq_model.specs.declared.step.Step.{Step}
 use Rattle.craq_runs.specs.Chain.{sent_in}
 use Rattle.craq_seat.specs.Cells.{Celled, receipt_of}
 use Rattle.craq_seat.specs.Numbered.{numbered_from}
-use Rattle.craq_sending.specs.Sent.{OnlyAcknowledges}
+use Rattle.craq_sending.specs.declared.sending.Kind.TheVariants as kinds
+use Rattle.craq_sending.specs.Sent.{OnlySends}
+use Rattle.craq_workers.specs.declared.unsent.Unsent.{Unsent}
+use Rattle.craq_workers.specs.declared.unsent.Unsent.TheVariants as unsent
 
 -- if all that a cell's last step does is to acknowledge, that acknowledgement is owed
 abbrev pub OwesLast : {C : Type 0} → Celled C Event → Option LinkMessage → Type 0
-OwesLast cell owed = IfSome cell.last (λ (s : Step). OnlyAcknowledges s.outs → IsSome owed × IfSome owed (λ (ack : LinkMessage). numbered_from 0 (receipt_of cell) (sent_in s.outs) ≡ ack ∷ []))
+OwesLast cell owed = IfSome cell.last (λ (s : Step). OnlySends kinds.Ack s.outs → IsSome owed × IfSome owed (λ (ack : LinkMessage). numbered_from 0 (receipt_of cell) (sent_in s.outs) ≡ ack ∷ []))
 
 -- if the step sends nothing, what was owed is owed
 abbrev pub OwesStill : {C : Type 0} → Celled C Event → Option LinkMessage → Option LinkMessage → Type 0
 OwesStill cell old new = IfSome cell.last (λ (s : Step). sent_in s.outs ≡ [] → new ≡ old)
+
+-- what is held back after one entry more
+abbrev pub with_entry : Unsent → Unsent
+with_entry unsent.Nothing = unsent.Last
+with_entry unsent.Last = unsent.Several
+with_entry unsent.Several = unsent.Several
+
+-- what is held back after a step that sends its messages itself: the entry held back is no longer that of the last step
+abbrev pub after_another : Unsent → Unsent
+after_another unsent.Nothing = unsent.Nothing
+after_another unsent.Last = unsent.Several
+after_another unsent.Several = unsent.Several
+
+-- the entry of a cell's last step is held back if to send it is all that the step does, and what was held back still is
+abbrev pub HoldsBack : {C : Type 0} → Celled C Event → Unsent → Unsent → Type 0
+HoldsBack cell old new = IfSome cell.last (λ (s : Step). (OnlySends kinds.Entry s.outs → new ≡ with_entry old) × (¬ (OnlySends kinds.Entry s.outs) → new ≡ after_another old))

@@ -17,6 +17,7 @@ mod shared;
 mod steps;
 mod store;
 mod turn;
+mod unsent;
 mod work;
 
 pub use client::Client;

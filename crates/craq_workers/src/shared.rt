@@ -80,7 +80,7 @@ impl<C: Core, G: Gate> Shared<C, G> {
         let brought = match kind {
             Kind::Ack => Brought::Ack(bytes),
             Kind::Blank => Brought::Blank(bytes),
-            Kind::Other => Brought::Message(bytes),
+            Kind::Entry | Kind::Other => Brought::Message(bytes),
         };
         chain.bring(rt, to, brought);
         if !quiet {

@@ -1,12 +1,13 @@
 //! A step of a node whose seat is locked: an ask's or another event's, with its replies; and the messages of the last step.
 //! Called by `shared`, `work` and `store`, under the lock.
-ghost use Rattle.std.specs.Prelude.{◌≡◌, ◌∷◌, ◌⊎◌, [], None, IfSome, IsNone};
+ghost use Rattle.std.specs.Prelude.{◌≡◌, ◌∷◌, ◌⊎◌, ◌↔◌, [], None, IfSome, IsNone, IsTrue};
 ghost use Rattle.std.specs.Option.{option_copied};
 ghost use Rattle.craq_node.specs.Represented.{CanArrive};
 ghost use Rattle.craq_runs.specs.Chain.{sent_in};
 ghost use Rattle.craq_seat.specs.Cells.{receipt_of};
 ghost use Rattle.craq_seat.specs.Numbered.{CanBeSent, numbered_from};
-ghost use Rattle.craq_sending.specs.Sent.{AreSentAs, OnlyAcknowledges};
+ghost use Rattle.craq_sending.specs.declared.sending.Kind.TheVariants as kinds;
+ghost use Rattle.craq_sending.specs.Sent.{AreSentAs, OnlySends};
 
 use crate::replies::{Replies, take_caller};
 use craq_letters::{Addressee, Letterbox, Outcome};
@@ -14,7 +15,7 @@ use craq_model::{Ask, Event, Out, Step};
 use craq_names::{Pass, Refusal, Ticket};
 use craq_node::Core;
 use craq_seat::{BookCell, CallReceipt, Caller, Cell, Receipt, Seated};
-use craq_sending::{LoneAck, Sent, encode_sent};
+use craq_sending::{Kind, LoneAck, Sent, encode_sent, only_sends};
 use std::alloc::{AllocError, AllocFailed, Global};
 use std::mem;
 use std::sync::{Arc, Wait};
@@ -72,11 +73,21 @@ pub(crate) fn sent_by_node<C: Core>(alloc: Global, cell: &Cell<C>) -> Vec<Sent>
 
 /// The acknowledgement that is all that a node's last step does; none where it does anything else.
 pub(crate) fn lone_ack_of<C: Core>(cell: &Cell<C>) -> Option<LoneAck>
-    ensures only { IfSome result (λ ack. IfSome cell.now.last (λ s. OnlyAcknowledges s.outs × (numbered_from 0 (receipt_of cell.now) (sent_in s.outs) ≡ ack ∷ []))) }
-    ensures other { IsNone result → IfSome cell.now.last (λ s. ¬ (OnlyAcknowledges s.outs)) }
+    ensures only { IfSome result (λ ack. IfSome cell.now.last (λ s. OnlySends kinds.Ack s.outs × (numbered_from 0 (receipt_of cell.now) (sent_in s.outs) ≡ ack ∷ []))) }
+    ensures other { IsNone result → IfSome cell.now.last (λ s. ¬ (OnlySends kinds.Ack s.outs)) }
     ensures none { cell.now.last ≡ None → IsNone result }
 {
     LoneAck::of(cell.last()?, last_receipt(cell))
+}
+
+/// Whether all that a node's last step does is to send an entry.
+pub(crate) fn only_sends_entry<C: Core>(cell: &Cell<C>) -> bool
+    ensures { IfSome cell.now.last (λ s. IsTrue result ↔ OnlySends kinds.Entry s.outs) }
+{
+    match cell.last() {
+        Some(step) => only_sends(step, Kind::Entry),
+        None => false,
+    }
 }
 
 /// What a master's last step sends, likewise.

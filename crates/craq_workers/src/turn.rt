@@ -3,42 +3,71 @@
 ghost use Rattle.std.specs.Prelude.{◌≡◌, None, Some};
 ghost use Rattle.craq_held.specs.Held.{cell_in};
 ghost use Rattle.craq_node.specs.Represented.{CanArrive};
-ghost use Rattle.craq_workers.specs.Turns.{OwesLast, OwesStill};
+ghost use Rattle.craq_workers.specs.declared.unsent.Unsent.TheVariants as unsent;
+ghost use Rattle.craq_workers.specs.Turns.{HoldsBack, OwesLast, OwesStill};
 
 use crate::gate::Gate;
 use crate::node::{RunningNode, Waiting};
 use crate::replies::Replies;
 use crate::shared::{Return, Shared};
 use crate::steps::{
-    QueuedAsk, SeatedNode, lone_ack_of, refuse_asked, sent_by_node, take_event, take_own,
-    take_queued,
+    QueuedAsk, SeatedNode, lone_ack_of, only_sends_entry, refuse_asked, sent_by_node, take_event,
+    take_own, take_queued,
 };
+use crate::unsent::Unsent;
 use bytes::Bytes;
 use craq_letters::Outcome;
 use craq_model::{Ask, Event};
 use craq_names::{Pass, Refusal};
 use craq_node::Core;
-use craq_sending::LoneAck;
+use craq_sending::{LoneAck, Sent};
 use craq_wire::decode;
 use std::alloc::Global;
+use std::mem;
 use std::sync::{MutexGuard, Wait};
 
-/// A turn of a node, whose lock it holds. What a step sends goes out at once, but an acknowledgement alone is owed: it goes out before
-/// anything else of the node does, and at the latest before the lock is let go; or not at all, where one of a later step takes its
-/// place, which says what it said. A turn has no drop: `end` alone ends it, so none ends that owes something.
-pub(crate) struct Turn<'a, C: Core, G: Gate> {
+/// The way out of a node, for what its turn sends.
+#[derive(Drop)]
+struct Exit<'a, C: Core, G: Gate> {
     alloc: Global,
     shared: &'a Shared<C, G>,
     node: &'a RunningNode<C>,
-    seated: MutexGuard<'a, SeatedNode<C>>,
-    replies: Replies,
     /// Who takes the turn carries what it sends on itself.
     quiet: bool,
+}
+
+impl<'a, C: Core, G: Gate> Exit<'a, C, G> {
+    /// Messages go out, in order.
+    fn post<R: Wait>(&self, rt: &R, sent: Vec<Sent>) {
+        self.shared.post(rt, &self.node.name, sent, self.quiet);
+    }
+
+    /// An acknowledgement goes out. Without memory it is lost.
+    fn acknowledge<R: Wait>(&self, rt: &R, ack: LoneAck) {
+        if let Ok(sent) = ack.encode(self.alloc) {
+            self.shared.send(rt, &self.node.name, sent, self.quiet);
+        }
+    }
+}
+
+/// A turn of a node, whose lock it holds. What a step sends goes out at once, but for two kinds of steps.
+///
+/// An acknowledgement alone is owed: it goes out before anything else of the node does, and at the latest before the lock is let
+/// go; or not at all, where one of a later step makes it needless. An entry alone is held back until the turn ends: it goes out then
+/// as its step sends it. Several are lost, as on a link, and a tick of the node brings its successor all that it has not
+/// acknowledged, in batches.
+///
+/// A turn has no drop: `end` alone ends it, so none ends that owes something or holds something back.
+pub(crate) struct Turn<'a, C: Core, G: Gate> {
+    exit: Exit<'a, C, G>,
+    seated: MutexGuard<'a, SeatedNode<C>>,
+    replies: Replies,
     owed: Option<LoneAck>,
+    unsent: Unsent,
 }
 
 impl<'a, C: Core, G: Gate> Turn<'a, C, G> {
-    /// A turn of a node whose lock is this, which owes nothing yet. It takes no memory.
+    /// A turn of a node whose lock is this, which owes nothing yet and holds nothing back. It takes no memory.
     pub(crate) fn begin(
         alloc: Global,
         shared: &'a Shared<C, G>,
@@ -46,64 +75,99 @@ impl<'a, C: Core, G: Gate> Turn<'a, C, G> {
         seated: MutexGuard<'a, SeatedNode<C>>,
         quiet: bool,
     ) -> Self
-        ensures { result.owed ≡ None }
+        ensures owed { result.owed ≡ None }
+        ensures unsent { result.unsent ≡ unsent.Nothing }
     {
         Turn {
-            alloc,
-            shared,
-            node,
+            exit: Exit {
+                alloc,
+                shared,
+                node,
+                quiet,
+            },
             seated,
             replies: Replies::new(alloc),
-            quiet,
             owed: None,
+            unsent: Unsent::Nothing,
         }
     }
 
-    /// What is owed goes out, the lock is let go, and then callers are told.
+    /// What is held back goes out, and what is owed; the lock is let go, and then callers are told.
     pub(crate) fn end<R: Wait>(self, rt: &R) {
         let mut turn = self;
-        turn.pay(rt);
+        turn.bring(rt);
+        turn.let_go(rt);
+    }
+
+    /// What is owed goes out, the lock is let go, and then callers are told.
+    fn let_go<R: Wait>(self, rt: &R)
+        requires { self.unsent ≡ unsent.Nothing }
+    {
         let Turn {
-            alloc: _,
-            shared: _,
-            node: _,
+            exit,
             seated,
             replies,
-            quiet: _,
-            owed: _,
-        } = turn;
+            owed,
+            unsent: _,
+        } = self;
+        if let Some(ack) = owed {
+            exit.acknowledge(rt, ack);
+        }
         drop(seated);
         replies.tell(rt);
+    }
+
+    /// What is held back goes out: the entry of the last step as that sends it, and more by a tick of the node. Without memory for
+    /// the tick they wait for the next one, as what a link loses does.
+    fn bring<R: Wait>(&mut self, rt: &R)
+        ensures { self.new.unsent ≡ unsent.Nothing }
+    {
+        let unsent = mem::replace(&mut self.unsent, Unsent::Nothing);
+        match unsent {
+            Unsent::Nothing => (),
+            Unsent::Last => self.send_step(rt),
+            Unsent::Several => {
+                if take_event(
+                    rt,
+                    self.exit.alloc,
+                    &mut self.seated,
+                    Event::Tick,
+                    &mut self.replies,
+                ) {
+                    self.send_step(rt);
+                }
+            }
+        }
     }
 
     /// The step on what was brought. Bytes that no memory is left to decode are a lost message.
     pub(crate) fn take_brought<R: Wait>(&mut self, rt: &R, waiting: Waiting) {
         match waiting {
             Waiting::Tick => {
-                self.node.tick_taken();
+                self.exit.node.tick_taken();
                 self.step(rt, Event::Tick);
             }
             Waiting::Message(bytes) => self.hear(rt, bytes),
             Waiting::Ack => {
                 // One that comes from now on waits anew.
-                self.node.ack.open();
-                if let Some(bytes) = self.node.ack.take(rt) {
+                self.exit.node.ack.open();
+                if let Some(bytes) = self.exit.node.ack.take(rt) {
                     self.hear(rt, bytes);
                 }
             }
             Waiting::Blank => {
-                if let Some(bytes) = self.node.blank.take(rt) {
+                if let Some(bytes) = self.exit.node.blank.take(rt) {
                     self.hear(rt, bytes);
                 }
                 // What its sender said while it was answered is answered by that.
-                self.node.blank.open();
+                self.exit.node.blank.open();
             }
         }
     }
 
     /// The step on a message.
     fn hear<R: Wait>(&mut self, rt: &R, bytes: Bytes) {
-        if let Ok(message) = decode(self.alloc, bytes.as_slice()) {
+        if let Ok(message) = decode(self.exit.alloc, bytes.as_slice()) {
             self.step(rt, Event::Deliver(message));
         }
     }
@@ -112,16 +176,28 @@ impl<'a, C: Core, G: Gate> Turn<'a, C, G> {
     fn step<R: Wait>(&mut self, rt: &R, event: Event)
         requires { CanArrive event }
     {
-        if take_event(rt, self.alloc, &mut self.seated, event, &mut self.replies) {
+        if take_event(
+            rt,
+            self.exit.alloc,
+            &mut self.seated,
+            event,
+            &mut self.replies,
+        ) {
             self.post_step(rt);
         }
     }
 
     /// The step of a queued ask. A node that is closed takes none, since nobody would answer it.
     pub(crate) fn take_asked<R: Wait>(&mut self, rt: &R, asked: QueuedAsk) {
-        if self.node.is_closed() {
+        if self.exit.node.is_closed() {
             refuse_asked(rt, asked, &mut self.replies);
-        } else if take_queued(rt, self.alloc, &mut self.seated, asked, &mut self.replies) {
+        } else if take_queued(
+            rt,
+            self.exit.alloc,
+            &mut self.seated,
+            asked,
+            &mut self.replies,
+        ) {
             self.post_step(rt);
         }
     }
@@ -134,13 +210,13 @@ impl<'a, C: Core, G: Gate> Turn<'a, C, G> {
         pass: Pass,
         back: Return<'_>,
     ) -> Option<Outcome> {
-        if self.node.is_closed() {
+        if self.exit.node.is_closed() {
             drop(ask);
             return Some(Err(Refusal::Closed));
         }
         let (taken, reply) = take_own(
             rt,
-            self.alloc,
+            self.exit.alloc,
             &mut self.seated,
             ask,
             pass,
@@ -154,48 +230,57 @@ impl<'a, C: Core, G: Gate> Turn<'a, C, G> {
         reply
     }
 
-    /// What the node's last step sends goes out, after what is owed, or is owed. So messages go out in the order of the steps.
+    /// What the node's last step sends goes out, after what is owed; or is owed, or held back.
     fn post_step<R: Wait>(&mut self, rt: &R)
         ensures last { OwesLast (cell_in self.old.seated) self.new.owed }
         ensures still { OwesStill (cell_in self.old.seated) self.old.owed self.new.owed }
+        ensures holds { HoldsBack (cell_in self.old.seated) self.old.unsent self.new.unsent }
     {
+        let unsent = self.unsent;
         let cell = self.seated.desk.cell();
-        if let Some(ack) = lone_ack_of(cell) {
-            self.owe(rt, ack);
+        if only_sends_entry(cell) {
+            self.unsent = unsent.with_entry();
             return;
         }
-        let sent = sent_by_node(self.alloc, cell);
-        if !sent.is_empty() {
-            self.pay(rt);
-            self.shared.post(rt, &self.node.name, sent, self.quiet);
+        match lone_ack_of(cell) {
+            Some(ack) => self.owe(rt, ack),
+            None => self.send_step(rt),
         }
+        self.unsent = unsent.after_another();
     }
 
-    /// An acknowledgement is owed in place of the one before, if that was owed to the same node; else that one goes out.
+    /// All that the node's last step sends goes out, after what is owed. So messages go out in the order of the steps.
+    fn send_step<R: Wait>(&mut self, rt: &R)
+        ensures still { OwesStill (cell_in self.old.seated) self.old.owed self.new.owed }
+        ensures same { self.new.unsent ≡ self.old.unsent }
+    {
+        let sent = sent_by_node(self.exit.alloc, self.seated.desk.cell());
+        if sent.is_empty() {
+            return;
+        }
+        if let Some(ack) = self.owed.take() {
+            self.exit.acknowledge(rt, ack);
+        }
+        self.exit.post(rt, sent);
+    }
+
+    /// An acknowledgement is owed in place of the one before, if there was one.
     fn owe<R: Wait>(&mut self, rt: &R, ack: LoneAck)
         ensures { self.new.owed ≡ Some ack }
     {
-        let to = ack.receiver();
         if let Some(before) = self.owed.replace(ack) {
-            if before.receiver() != to {
-                self.send(rt, &before);
-            }
+            self.follow(rt, before);
         }
     }
 
-    /// What is owed goes out.
-    fn pay<R: Wait>(&mut self, rt: &R)
-        ensures { self.new.owed ≡ None }
-    {
-        if let Some(ack) = self.owed.take() {
-            self.send(rt, &ack);
-        }
-    }
-
-    /// An acknowledgement goes out. Without memory it is lost.
-    fn send<R: Wait>(&self, rt: &R, ack: &LoneAck) {
-        if let Ok(sent) = ack.encode(self.alloc) {
-            self.shared.send(rt, &self.node.name, sent, self.quiet);
+    /// What was owed before goes out, unless what is owed now makes it needless.
+    fn follow<R: Wait>(&self, rt: &R, before: LoneAck) {
+        let needed = match &self.owed {
+            Some(ack) => before.give_way(ack),
+            None => Some(before),
+        };
+        if let Some(ack) = needed {
+            self.exit.acknowledge(rt, ack);
         }
     }
 }

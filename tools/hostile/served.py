@@ -23,8 +23,9 @@ import soak
 from asked import example
 
 CHAINS, PROCESSES, ATONCE = 8, 3, 4
-# How many seconds clients ask, how often they lose a reply, and how many numbers of updates back they ask again.
-SECONDS, LOST, KEPT = 20, 0.02, 4
+# Clients ask until so many asks are answered, for so many seconds at most. How often they lose a reply, and how many numbers of updates back
+# they ask again.
+ANSWERED, MOST_SECONDS, LOST, KEPT = 100_000, 900, 0.02, 4
 # How long a stopped member stays, in seconds, at most, and how many changes of members each way of serving has to make in a second.
 STAYS, DUE = 0.05, 2
 
@@ -112,8 +113,8 @@ class Asker:
         self.passes[chain] = max(self.passes[chain], self.client.came)
 
 
-def asking(at, address, newest, passes, over, given):
-    """A process: its clients ask by turns until it is over, and it gives what they saw."""
+def asking(at, address, newest, passes, answered, over, given):
+    """A process: its clients ask by turns until it is over, and it gives what they saw; meanwhile all see how many asks were answered."""
     seen, again = soak.Seen(CHAINS), 0
     try:
         draw = random.Random(at)
@@ -121,6 +122,7 @@ def asking(at, address, newest, passes, over, given):
         while not over.is_set() and not seen.faults:
             for it in askers:
                 it.asks()
+            answered[at] = sum(seen.answered)
         again = sum(it.client.again for it in askers)
         for it in askers:
             it.client.close()
@@ -129,10 +131,11 @@ def asking(at, address, newest, passes, over, given):
     given.put((seen, again))
 
 
-def changed(checks, store, until, given):
-    """Members change until that time, or until clients found something wrong; gives how often, by chain."""
+def changed(checks, store, answered, given):
+    """Members change until enough asks were answered, or clients found something wrong, or time is up; gives how often, by chain."""
     draw, changes, client = random.Random(7), [0] * CHAINS, changing.Insistent(store.address, 1 + PROCESSES * ATONCE)
-    while time.monotonic() < until and given.empty() and store.runs():
+    until = time.monotonic() + MOST_SECONDS
+    while sum(answered) < ANSWERED and time.monotonic() < until and given.empty() and store.runs():
         chain, place = draw.randrange(CHAINS), draw.randrange(3)
         checks.same("what comes of a stop", store.stops(chain, place), "done")
         time.sleep(draw.random() * STAYS)
@@ -165,11 +168,13 @@ def serves(checks, program):
     store = changing.Changing(program, CHAINS, journals=True)
     try:
         newest, passes = (multiprocessing.Array("Q", CHAINS, lock=False) for _ in range(2))
-        given, over = multiprocessing.Queue(), multiprocessing.Event()
-        some = [multiprocessing.Process(target=asking, args=(at, store.address, newest, passes, over, given), daemon=True) for at in range(PROCESSES)]
+        answered, given, over = multiprocessing.Array("Q", PROCESSES, lock=False), multiprocessing.Queue(), multiprocessing.Event()
+        some = [multiprocessing.Process(target=asking, args=(at, store.address, newest, passes, answered, over, given), daemon=True) for at in range(PROCESSES)]
         for it in some:
             it.start()
-        changes = changed(checks, store, time.monotonic() + SECONDS, given)
+        began = time.monotonic()
+        changes = changed(checks, store, answered, given)
+        seconds = time.monotonic() - began
         over.set()
         found = [given.get(timeout=changing.PATIENCE * 3) for _ in some]
         for it in some:
@@ -177,17 +182,17 @@ def serves(checks, program):
         seen = [it for it, _ in found]
         soak.looked_at(checks, seen)
         merged = ends(checks, store, seen, changes)
-        return told(checks, seen, sum(changes), sum(it for _, it in found), merged)
+        return told(checks, seen, seconds, sum(changes), sum(it for _, it in found), merged)
     finally:
         store.kill()
 
 
-def told(checks, seen, changes, again, merged):
+def told(checks, seen, seconds, changes, again, merged):
     """What was tried, in words; enough of it was."""
     answered, lost, repeated = sum(sum(it.answered) for it in seen), sum(it.lost for it in seen), sum(it.repeated for it in seen)
-    checks.that(changes >= DUE * SECONDS and min(answered, lost, repeated, again) > 0,
+    checks.that(answered >= ANSWERED and changes >= DUE * seconds and min(lost, repeated, again) > 0,
                 f"members change {changes} times, {answered} asks are answered, {lost} replies lost, {repeated} updates repeated, {again} asked again")
-    return (f"{answered} asks answered and {again} asked again in {SECONDS} s while {changes} members stopped, were removed and others joined, "
+    return (f"{answered} asks answered and {again} asked again in {seconds:.0f} s while {changes} members stopped, were removed and others joined, "
             f"{lost} replies lost, {repeated} updates repeated, {merged} audits merged")
 
 

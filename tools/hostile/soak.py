@@ -2,7 +2,7 @@
 random scripts are played.
 
 Most of the time, where `rt` is there to build them, programs without proofs run stores of 64 chains, one after another (stores.py): first
-with checks of addresses and of lost memory, then optimized. They lose messages, let some come late, stop nodes, take them out and have
+with checks of addresses and of lost memory, then optimized. They lose messages, let some come twice or late, stop nodes, take them out and have
 others join. Their clients look at what the clients below look at, each chain is audited with every receipt, and the memory of the process
 is back after the stores. The run of a chain in which something is wrong is kept as a file that `craq_lab play` reads. What building
 takes is told, and does not count as time of the soak.

@@ -35,7 +35,7 @@ MORE = 600
 LEAKS, GIVES_BACK = {"ASAN_OPTIONS": "detect_leaks=1"}, {"GLIBC_TUNABLES": "glibc.malloc.tcache_count=0"}
 # Of how many stores one after another the least memory after each counts, and how many MiB more the last may have than the first.
 TURN, GROWTH = 3, 24
-COUNTED = "answered refused repeated stops joins lost late merged".split()
+COUNTED = "answered refused repeated stops joins lost twice late merged".split()
 Store = collections.namedtuple("Store", ["seed", *COUNTED, "kib", "threads"])
 TOLD = re.compile(r"store (\d+): " + ", ".join(rf"(\d+) {it}" for it in COUNTED) + r"; (\d+) KiB, (\d+) threads")
 
@@ -84,7 +84,7 @@ def soaked(checks, program, seconds, seed, file, length, env):
     for it in found:
         checks.same(f"threads that are left after store {it.seed}", it.threads, 1)
         checks.same(f"chains of store {it.seed} whose audit is merged", it.merged, CHAINS)
-        checks.that(min(it.answered, it.repeated, it.stops, it.joins, it.lost) > 0, f"store {it.seed} did nothing: {it}")
+        checks.that(min(it.answered, it.repeated, it.stops, it.joins, it.lost, it.twice) > 0, f"store {it.seed} did nothing: {it}")
     return found
 
 
@@ -97,7 +97,7 @@ def in_words(found):
     """What was done with some stores."""
     counts = counted(found)
     return (f"{len(found)} stores, {counts['answered']} calls answered, {counts['refused']} refused, {counts['repeated']} updates repeated, "
-            f"{counts['stops']} stops, {counts['joins']} joins, {counts['lost']} messages lost, {counts['late']} pieces of work late, "
+            f"{counts['stops']} stops, {counts['joins']} joins, {counts['lost']} messages lost, {counts['twice']} that came twice, {counts['late']} pieces of work late, "
             f"{counts['merged']} audits merged, {min((it.kib for it in found), default=0) // 1024} to {max((it.kib for it in found), default=0) // 1024} MiB after a store")
 
 

@@ -49,8 +49,11 @@ acknowledged (bodies.Floor count) = 0
 acknowledged (bodies.Part p) = 0
 acknowledged (bodies.Batch es) = 0
 
--- an acknowledgement makes another one needless: it goes to the same node under the same membership, and acknowledges as much
+-- an acknowledgement makes another one needless: it is of the same chain, between the same two nodes, under the same membership, and
+-- acknowledges as much
 pub record MakesNeedless (later earlier : LinkMessage) : Type 0 where
+  pub chain : later.chain ≡ earlier.chain
+  pub sender : later.sender ≡ earlier.sender
   pub receiver : later.receiver ≡ earlier.receiver
   pub epoch : later.epoch ≡ earlier.epoch
   pub as_much : acknowledged earlier.body ≤ acknowledged later.body

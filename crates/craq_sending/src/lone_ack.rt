@@ -89,8 +89,9 @@ impl LoneAck {
         ensures gone { IsNone result → MakesNeedless later.now self }
         ensures stays { IfSome result (λ ack. (ack ≡ self) × ¬ (MakesNeedless later.now self)) }
     {
-        let as_much = self.position <= later.position;
-        if as_much && later.receiver == self.receiver && later.epoch == self.epoch {
+        let between_same = later.sender == self.sender && later.receiver == self.receiver;
+        let under_same = later.chain == self.chain && later.epoch == self.epoch;
+        if between_same && under_same && self.position <= later.position {
             let LoneAck {
                 chain: _,
                 sender: _,

@@ -54,7 +54,7 @@ pub(crate) struct Server<'a, R, C: Core, G: Gate> {
     /// The passes that were told on all connections.
     pub(crate) passes: Passes,
     /// The receipts of each connection that has ended, by order of connection; none of those that have not.
-    pub(crate) receipts: Mutex<Vec<Vec<CallReceipt>>>,
+    receipts: Mutex<Vec<Vec<CallReceipt>>>,
 }
 
 /// A stream whose reads and writes end it after so many seconds; 0 where they wait.
@@ -118,11 +118,51 @@ where
         Ok(receipts.len().saturating_sub(1))
     }
 
-    /// The receipts of a connection that has ended go to their place, where they are kept.
-    fn put_receipts(&self, receipts: usize, calls: Vec<CallReceipt>) {
+    /// A new connection has a place from now on, where there is one; else it is turned away. It ends at once where there is no
+    /// memory.
+    pub(crate) fn admit(
+        &self,
+        stream: TcpStream,
+    ) -> Result<Option<(Arc<TcpStream>, usize)>, AllocError> {
+        let stream = Arc::new(self.alloc, stream)?;
+        let shared = Arc::try_clone(&stream)?;
+        let Some(place) = self.connections.enter(&self.rt, shared) else {
+            self.serving.log.turned_away(&self.rt, &stream);
+            let _ = turn_away(self.alloc, &mut &*stream);
+            return Ok(None);
+        };
+        self.serving.log.begun(&self.rt, place, &stream);
+        Ok(Some((stream, place)))
+    }
+
+    /// After a connection was admitted. Where nobody could begin to serve it its place is free again; where the server is to end
+    /// meanwhile it is ended too.
+    pub(crate) fn after_admission(
+        &self,
+        place: usize,
+        begun: Result<(), AllocError>,
+    ) -> Result<(), AllocError> {
+        if begun.is_err() {
+            self.leave(place);
+        } else if self.connections.is_ending(&self.rt) {
+            self.connections.end(&self.rt);
+        }
+        begun
+    }
+
+    /// A connection is over, and its place is free.
+    fn leave(&self, place: usize) {
+        self.serving.log.ended(&self.rt, place);
+        self.connections.leave(&self.rt, place);
+    }
+
+    /// A connection that was served has ended: the receipts of its calls go to their place, where they are kept, and its own place is
+    /// free.
+    pub(crate) fn ended(&self, place: usize, receipts: usize, calls: Vec<CallReceipt>) {
         if let Some(kept) = self.receipts.lock(&self.rt).get_mut(receipts) {
             *kept = calls;
         }
+        self.leave(place);
     }
 
     /// The store, as the door of the connection of a place calls it, and what is told of the calls that it refuses.
@@ -153,9 +193,7 @@ where
     /// Serves a connection to its end. Its receipts are then at their place, where they are kept, and its own place is free.
     fn attend(&self, stream: Arc<TcpStream>, place: usize, receipts: usize) {
         let calls = self.serve_client(&stream, place);
-        self.put_receipts(receipts, calls);
-        self.serving.log.ended(&self.rt, place);
-        self.connections.leave(&self.rt, place);
+        self.ended(place, receipts, calls);
         drop(stream);
     }
 
@@ -174,22 +212,11 @@ where
 
     /// A connection is served where there is a place; else it is turned away. It ends at once where there is no memory.
     fn take_in<'s, E>(&'s self, scope: &Scope<'s, E>, stream: TcpStream) -> Result<(), AllocError> {
-        let stream = Arc::new(self.alloc, stream)?;
-        let shared = Arc::try_clone(&stream)?;
-        let Some(place) = self.connections.enter(&self.rt, shared) else {
-            self.serving.log.turned_away(&self.rt, &stream);
-            let _ = turn_away(self.alloc, &mut &*stream);
+        let Some((stream, place)) = self.admit(stream)? else {
             return Ok(());
         };
-        self.serving.log.begun(&self.rt, place, &stream);
         let begun = self.begin(scope, stream, place);
-        if begun.is_err() {
-            self.serving.log.ended(&self.rt, place);
-            self.connections.leave(&self.rt, place);
-        } else if self.connections.is_ending(&self.rt) {
-            self.connections.end(&self.rt);
-        }
-        begun
+        self.after_admission(place, begun)
     }
 
     /// Takes in so many connections, or without end where that is 0, until the server is to end. Tells whether some

@@ -3,7 +3,6 @@ use crate::accepting::{Served, Server, Serving};
 use crate::connections::Connections;
 use crate::door::ServedStore;
 use crate::logging::Log;
-use crate::turning::turn_away;
 use craq_door::{Callee, Question};
 use craq_frames::Text;
 use craq_letters::{Letter, Letterbox};
@@ -109,11 +108,7 @@ where
     }
 
     fn ended(&self, place: usize, receipts: usize, calls: Vec<CallReceipt>) {
-        if let Some(kept) = self.server.receipts.lock(&self.server.rt).get_mut(receipts) {
-            *kept = calls;
-        }
-        self.server.serving.log.ended(&self.server.rt, place);
-        self.server.connections.leave(&self.server.rt, place);
+        self.server.ended(place, receipts, calls);
     }
 }
 
@@ -153,24 +148,11 @@ where
     /// A connection is handed to the thread where there is a place; else it is turned away. It ends at once where there is
     /// no memory.
     fn take_in(&self, stream: TcpStream) -> Result<(), AllocError> {
-        let connections = self.server.connections;
-        let log = self.server.serving.log;
-        let stream = Arc::new(self.server.alloc, stream)?;
-        let shared = Arc::try_clone(&stream)?;
-        let Some(place) = connections.enter(&self.server.rt, shared) else {
-            log.turned_away(&self.server.rt, &stream);
-            let _ = turn_away(self.server.alloc, &mut &*stream);
+        let Some((stream, place)) = self.server.admit(stream)? else {
             return Ok(());
         };
-        log.begun(&self.server.rt, place, &stream);
         let handed = self.hand(stream, place);
-        if handed.is_err() {
-            log.ended(&self.server.rt, place);
-            connections.leave(&self.server.rt, place);
-        } else if connections.is_ending(&self.server.rt) {
-            connections.end(&self.server.rt);
-        }
-        handed
+        self.server.after_admission(place, handed)
     }
 
     /// No more connections are handed to the thread.

@@ -70,6 +70,13 @@ impl Gate for TestGate {
         }
     }
 
+    fn repeats(&self, from: NodeName, to: NodeName) -> bool {
+        match self {
+            TestGate::Trial(gate) => gate.repeats(from, to),
+            TestGate::Case(_) | TestGate::Open(_) => false,
+        }
+    }
+
     fn in_place(&self) -> bool {
         match self {
             TestGate::Case(gate) => gate.in_place(),

@@ -1,4 +1,4 @@
-//! The gate of a trial, which holds node 2 up, loses messages and slows them; made by `trials`, asked through `gate`.
+//! The gate of a trial, which holds node 2 up, loses messages, repeats them and slows them; made by `trials`, asked through `gate`.
 use crate::course::Course;
 use crate::form::Form;
 use crate::trial::{Place, Trial};
@@ -17,6 +17,9 @@ const SLOW: u64 = 50;
 const THIRD: u64 = 3;
 
 const HUNDREDTH: u64 = 100;
+
+/// Of how many messages one comes twice, while some are lost.
+const TENTH: u64 = 10;
 
 /// The number of a message, spread as if by chance.
 fn spread(number: u64) -> u64 {
@@ -76,6 +79,16 @@ impl Gate for TrialGate {
                 true
             }
             _ => true,
+        }
+    }
+
+    fn repeats(&self, _from: NodeName, _to: NodeName) -> bool {
+        let number = self.course.sent.load(Ordering::SeqCst);
+        match self.trial {
+            Trial::Losses(_) => !self.course.calm.load(Ordering::SeqCst)
+                && spread(number) % TENTH == 0,
+            Trial::Changes(_) => spread(number) % TENTH == 0,
+            _ => false,
         }
     }
 

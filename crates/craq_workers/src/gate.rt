@@ -27,6 +27,11 @@ pub trait Gate: Drop {
     /// Whether a message goes over the link from one node, or the master, to another. Where it does not it is lost.
     fn carries(&self, from: NodeName, to: NodeName) -> bool;
 
+    /// Whether a message that goes over the link from one node, or the master, to another comes twice.
+    fn repeats(&self, _from: NodeName, _to: NodeName) -> bool {
+        false
+    }
+
     /// Whether a caller takes the step of its ask itself, in the place of the node's ask worker. Where it does not, every
     /// ask goes through that worker. Where one thread carries a chain it is not looked at.
     fn in_place(&self) -> bool {

@@ -7,6 +7,7 @@ use craq_letters::Addressee;
 use craq_names::NodeName;
 use craq_node::Core;
 use craq_seat::{Cell, Desk, Receipt, Seat};
+use craq_sending::Kind;
 use crossbeam_channel::{Receiver, Sender};
 use std::alloc::Global;
 use std::sync::atomic::{AtomicBool, AtomicU64, Ordering};
@@ -23,6 +24,17 @@ pub(crate) enum Brought {
     Blank(Bytes),
     /// The node is to send again what its neighbours may lack.
     Tick,
+}
+
+impl Brought {
+    /// An encoded message of this kind.
+    pub(crate) fn of(kind: Kind, bytes: Bytes) -> Self {
+        match kind {
+            Kind::Ack => Brought::Ack(bytes),
+            Kind::Blank => Brought::Blank(bytes),
+            Kind::Entry | Kind::Other => Brought::Message(bytes),
+        }
+    }
 }
 
 /// What waits for the worker of a node's deliveries.

@@ -14,7 +14,7 @@ use craq_model::Ask;
 use craq_names::{ChainId, Copied, NodeName, Pass, Refusal};
 use craq_node::Core;
 use craq_seat::CallReceipt;
-use craq_sending::{Kind, Sent};
+use craq_sending::Sent;
 use std::alloc::Global;
 use std::sync::{Arc, Wait};
 
@@ -61,8 +61,8 @@ impl<C: Core, G: Gate> Shared<C, G> {
         }
     }
 
-    /// Sends a message. One that the gate does not carry is lost. Who carries the chain's nodes is told, unless the sender
-    /// carries them on itself (`quiet`).
+    /// Sends a message. One that the gate does not carry is lost, and one that it repeats comes twice, while memory is there.
+    /// Who carries the chain's nodes is told, unless the sender carries them on itself (`quiet`).
     pub(crate) fn send<R: Wait>(&self, rt: &R, from: &NodeName, message: Sent, quiet: bool) {
         let Sent { to, kind, bytes } = message;
         let name = NodeName {
@@ -77,12 +77,12 @@ impl<C: Core, G: Gate> Shared<C, G> {
             drop(bytes);
             return;
         }
-        let brought = match kind {
-            Kind::Ack => Brought::Ack(bytes),
-            Kind::Blank => Brought::Blank(bytes),
-            Kind::Entry | Kind::Other => Brought::Message(bytes),
-        };
-        chain.bring(rt, to, brought);
+        if self.gate.repeats(*from, name) {
+            if let Ok(again) = bytes.clone() {
+                chain.bring(rt, to, Brought::of(kind, again));
+            }
+        }
+        chain.bring(rt, to, Brought::of(kind, bytes));
         if !quiet {
             chain.bell.ring();
         }

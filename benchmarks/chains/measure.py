@@ -23,7 +23,7 @@ def script(moves, per_put):
         put += 1
         key = f'k{put % KEYS}'
         lines += [f'put 1 1 {put} {key} value', f'read 1 strong {key}']
-        # 1: the entry to node 2; 2 and 3: the question to the tail and its word; 4 to 6: the entry and two acknowledgements
+        # 1: the entry to node 2; 2 and 3: the query to the tail and its word; 4 to 6: the entry and two acknowledgements
         lines += [f'deliver {sent + n}' for n in (2, 3, 1, 4, 5, 6)]
         sent += 6
         modes = ('strong', 'eventual', 'bounded:2')

@@ -4,7 +4,8 @@
   measure.py PROGRAM      PROGRAM as crates/craq_lab/out/craq_lab
 
 Plays runs of 1,000 to 100,000 moves on three nodes: without a last line `explain`, with it, and drawn with choices of 0, which
-plays the same lines, then explains the run and checks the explanation. Prints the processor's time of each part.
+plays the same lines, then explains the run and checks the explanation. Prints the processor's time of each part. On a terminal a
+line on standard error tells how far it is.
 """
 import resource
 import subprocess
@@ -22,7 +23,7 @@ def script(moves, per_put):
         put += 1
         key = f'k{put % KEYS}'
         lines += [f'put 1 1 {put} {key} value', f'read 1 strong {key}']
-        # 1: the entry to node 2; 2 and 3: the question to the tail and its word; 4 to 6: the entry and two acknowledgements
+        # 1: the entry to node 2; 2 and 3: the query to the tail and its word; 4 to 6: the entry and two acknowledgements
         lines += [f'deliver {sent + n}' for n in (2, 3, 1, 4, 5, 6)]
         sent += 6
         modes = ('strong', 'eventual', 'bounded:2')
@@ -47,10 +48,18 @@ def checked(program, lines):
         return seconds([program, 'draw', file.name, ','.join('0' for _ in lines)])
 
 
+def tell(text):
+    """Tells on standard error how far it is, if that is a terminal."""
+    if sys.stderr.isatty():
+        sys.stderr.write(f'\r{text:40}\r')
+        sys.stderr.flush()
+
+
 def main():
     program = sys.argv[1]
     for per_put, counts in ((100, (1000, 10000, 50000, 100000)), (20, (1000, 10000, 50000, 100000)), (8, (1000, 10000))):
         for moves in counts:
+            tell(f'{moves} moves, one put in {per_put}')
             lines = script(moves, per_put)
             play = seconds([program, 'play'], lines)
             both = seconds([program, 'play'], lines + ['explain'])

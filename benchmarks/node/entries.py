@@ -6,7 +6,8 @@
 PROGRAM is a built craq_lab. The chain has one node (`--core plain`). For each number of entries a script makes that many
 puts, of as many objects, and then asks reads of one object (50,000, or 5,000 where there are 10,000 entries) or
 1,000 puts of it; the time of the same script without those asks is taken away. The puts make entries too. Times are of the processor; each script is played three times and
-the least time counts. What is measured includes reading the line and printing the answer."""
+the least time counts. What is measured includes reading the line and printing the answer. On a terminal a line on standard
+error tells how far it is."""
 
 import resource
 import subprocess
@@ -35,16 +36,26 @@ def played(program, lines):
         return min(times)
 
 
+def tell(text):
+    """Tells on standard error how far it is, if that is a terminal."""
+    if sys.stderr.isatty():
+        sys.stderr.write(f"\r{text:40}\r")
+        sys.stderr.flush()
+
+
 def main():
     if len(sys.argv) != 2:
         sys.exit(__doc__)
     program = sys.argv[1]
     print("entries  reads a second  puts a second")
     for entries in (1, 100, 10000):
+        tell(f"{entries} entries")
         filled = [f"put 1 1 {n} k{n} a" for n in range(1, entries + 1)]
         base = played(program, filled)
         asked = 5000 if entries > 1000 else 50000
+        tell(f"{entries} entries, reads")
         reads = played(program, filled + ["read 1 strong k1"] * asked) - base
+        tell(f"{entries} entries, puts")
         puts = played(program, filled + [f"put 1 1 {entries + n} k1 a" for n in range(1, PUTS + 1)]) - base
         print(f"{entries:7}  {asked / max(reads, 1e-6):14.0f}  {PUTS / max(puts, 1e-6):13.0f}")
 

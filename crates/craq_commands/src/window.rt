@@ -145,7 +145,7 @@ pub fn look_in(replies: &[Kept], number: RequestNo) -> Said<'_>
 }
 
 /// Keeps the reply to a new number among those of a window; a ninth drops that of the smallest number.
-/// Where memory is refused the window stays; where it has room for one more it isn't.
+/// If memory is refused, the window stays as it was; it is refused only where there is no room for one more.
 #[tactic(auto, unfolding(crate::specs::Kept::keep))]
 pub fn keep_in(replies: &mut Vec<Kept>, number: RequestNo, reply: Reply) -> Result<(), AllocError>
     ensures ok { OnOk result (replies.new.items ≡ keep replies.old.items number reply) }

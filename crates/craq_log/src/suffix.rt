@@ -75,8 +75,8 @@ impl Suffix {
         self.entries.reserve(additional)
     }
 
-    /// One more entry, at the next position. Where memory is refused the entries stay; where there is room
-    /// it isn't.
+    /// One more entry, at the next position. If memory is refused, the entries stay as they were; it is refused only where
+    /// there is no room.
     pub fn append(&mut self, entry: Entry) -> Result<(), AllocError>
         requires { entry.position ≡ length_of self.old + 1 }
         ensures base { self.new.base ≡ self.old.base }

@@ -5,8 +5,8 @@ ghost use Rattle.std.specs.FinMap.Entries.{put};
 use std::alloc::AllocError;
 use std::cmp::Ordering;
 
-/// Puts a value at its key into a list by rising key, in place of the one that is there. Where memory
-/// is refused the list stays; where it has room for one more it isn't.
+/// Puts a value at its key into a list by rising key, in place of the one that is there. If memory is refused, the list stays
+/// as it was; it is refused only where there is no room for one more.
 pub fn put_at<K: Ord + Drop, V: Drop>(
     items: &mut Vec<(K, V)>,
     key: K,

@@ -100,8 +100,8 @@ impl ReplyTable {
         reserve_in(self.alloc, &mut self.places, client.get())
     }
 
-    /// Keeps the reply to a new number of a client; a ninth drops that to its smallest number. Where memory
-    /// is refused what is kept stays; where there is room for the client it isn't.
+    /// Keeps the reply to a new number of a client; a ninth drops that to its smallest number. If memory is refused, what is
+    /// kept stays as it was; it is refused only where there is no room for the client.
     pub fn keep(
         &mut self,
         client: ClientId,

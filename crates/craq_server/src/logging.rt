@@ -13,7 +13,7 @@ pub enum Log {
     Lines,
 }
 
-/// Tells which connection has a place from now on; from nowhere where that is over already.
+/// Tells which connection has a place from now on, and of which peer; it says `nowhere` if that has already gone.
 fn tell_begun<R: Eprint>(rt: &R, place: usize, stream: &TcpStream) {
     let _ = match stream.peer_addr() {
         Ok(peer) => eprintln!(rt; "connection {place} from {peer}"),

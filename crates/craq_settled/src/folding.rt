@@ -85,7 +85,8 @@ fn are_rewrites(writes: &[Write]) -> bool
 }
 
 /// Makes sure that the first of some entries can be folded without memory: there is room for its reply, and it is listed
-/// or writes objects that have versions. Where memory is refused what is seen stays; where both are so already it isn't.
+/// or writes objects that have versions. If memory is refused, what is seen stays as it was; it is refused only where one of
+/// the two did not hold before.
 fn make_room(
     table: &mut ObjectTable<Place>,
     replies: &mut ReplyTable,
@@ -128,8 +129,8 @@ fn later(position: Seq, other: Seq) -> Seq
     }
 }
 
-/// Folds the first of some entries, and takes it out. Where memory is refused the entries stay; where there is room for its
-/// reply, and it is listed or writes objects that have versions, it isn't.
+/// Folds the first of some entries, and takes it out. If memory is refused, the entries stay as they were; it is refused only
+/// where there is no room for its reply, or where it is not listed and writes an object that has no versions.
 fn fold_first(
     alloc: Global,
     table: &mut ObjectTable<Place>,

@@ -23,7 +23,7 @@ use std::alloc::AllocError;
 pub const MOST_UNLISTED: u64 = 4;
 
 /// One more version of an object, the next, which is written there. It looks the object up once, or twice where it is new.
-/// Where memory is refused the versions stay; where there is room it isn't.
+/// If memory is refused, the versions stay as they were; it is refused only where there is no room.
 fn push_version(
     table: &mut ObjectTable<Place>,
     key: &Key,
@@ -77,8 +77,8 @@ fn unlist(table: &mut ObjectTable<Place>, writes: &[Write])
     }
 }
 
-/// Says in the table where an entry writes each object, of which it writes the next version. Where memory is refused the
-/// versions stay; where there is room for them it isn't.
+/// Says in the table where an entry writes each object, of which it writes the next version. If memory is refused, the
+/// versions stay as they were; it is refused only where there is no room for them.
 pub fn list_writes(
     table: &mut ObjectTable<Place>,
     position: Seq,
@@ -105,7 +105,7 @@ pub fn list_writes(
 }
 
 /// Says in the table where the next entry writes each object, and keeps the position up to which all entries are listed.
-/// Where memory is refused the versions stay; where there is room for them it isn't.
+/// If memory is refused, the versions stay as they were; it is refused only where there is no room for them.
 pub fn list_next(
     table: &mut ObjectTable<Place>,
     entries: &Suffix,

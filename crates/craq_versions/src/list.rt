@@ -166,8 +166,8 @@ impl<V: Drop> VersionList<V> {
         self.items.reserve(additional)
     }
 
-    /// One more version, the next, with what is held of it. Where memory is refused the versions stay; where there is room
-    /// it isn't.
+    /// One more version, the next, with what is held of it. If memory is refused, the versions stay as they were; it is
+    /// refused only where there is no room.
     pub fn push(&mut self, version: Version, held: V) -> Result<(), AllocError>
         requires { CanPush self.old.versions version }
         ensures ok { OnOk result (self.new.versions ≡ self.old.versions ++ (version, held) ∷ []) }

@@ -60,7 +60,7 @@ impl<V: Drop> ObjectTable<V> {
     }
 
     /// One more version of the key, the next, with what is held of it. It looks the key up once, or twice where the key is
-    /// new. Where memory is refused the versions stay; where there is room it isn't.
+    /// new. If memory is refused, the versions stay as they were; it is refused only where there is no room.
     pub fn push(&mut self, key: &Key, version: Version, held: V) -> Result<(), AllocError>
         requires { CanPush (held_at self.old key.now).versions version }
         ensures ok { OnOk result (self.new.objects ≡ put_key self.old.objects key.now (pushed (held_at self.old key.now) version held)) }

@@ -8,13 +8,14 @@ use crate::gate::{Gate, Work};
 use crate::node::{Brought, RunningNode};
 use crate::steps::QueuedAsk;
 use crate::turn::Turn;
+use bytes::Bytes;
 use craq_calls::refusal_of_call;
 use craq_letters::{Addressee, Letterbox, Outcome};
 use craq_model::Ask;
-use craq_names::{ChainId, Copied, NodeName, Pass, Refusal};
+use craq_names::{ChainId, Copied, NodeId, NodeName, Pass, Refusal};
 use craq_node::Core;
 use craq_seat::CallReceipt;
-use craq_sending::Sent;
+use craq_sending::{Kind, Sent};
 use std::alloc::Global;
 use std::sync::{Arc, Wait};
 
@@ -42,6 +43,30 @@ fn in_hand(reply: Option<Outcome>) -> Result<Option<CallReceipt>, Refusal> {
     }
 }
 
+/// The node of this id in the chain of another.
+fn beside(other: &NodeName, id: NodeId) -> NodeName {
+    NodeName {
+        chain: other.chain,
+        node: id,
+    }
+}
+
+/// A message comes to a node of a chain, or comes twice, while memory is there.
+fn bring<R: Wait, C: Core>(
+    rt: &R,
+    chain: &Chain<C>,
+    to: NodeId,
+    kind: Kind,
+    bytes: Bytes,
+    twice: bool,
+) {
+    let again = if twice { bytes.clone().ok() } else { None };
+    if let Some(again) = again {
+        chain.bring(rt, to, Brought::of(kind, again));
+    }
+    chain.bring(rt, to, Brought::of(kind, bytes));
+}
+
 impl<C: Core, G: Gate> Shared<C, G> {
     /// The chain of this id, or `UnknownChain`.
     pub(crate) fn chain(&self, id: ChainId) -> Result<&Chain<C>, Refusal>
@@ -65,24 +90,16 @@ impl<C: Core, G: Gate> Shared<C, G> {
     /// Who carries the chain's nodes is told, unless the sender carries them on itself (`quiet`).
     pub(crate) fn send<R: Wait>(&self, rt: &R, from: &NodeName, message: Sent, quiet: bool) {
         let Sent { to, kind, bytes } = message;
-        let name = NodeName {
-            chain: from.chain,
-            node: to,
-        };
         let Ok(chain) = self.chain(from.chain) else {
             drop(bytes);
             return;
         };
-        if !self.gate.carries(*from, name) {
+        if !self.gate.carries(*from, beside(from, to)) {
             drop(bytes);
             return;
         }
-        if self.gate.repeats(*from, name) {
-            if let Ok(again) = bytes.clone() {
-                chain.bring(rt, to, Brought::of(kind, again));
-            }
-        }
-        chain.bring(rt, to, Brought::of(kind, bytes));
+        let twice = self.gate.repeats(*from, beside(from, to));
+        bring(rt, chain, to, kind, bytes, twice);
         if !quiet {
             chain.bell.ring();
         }

@@ -8,7 +8,7 @@
      REFUSE_WITHIN=A-B,A-B..  an ask for memory counts only while one of these calls runs in its thread: the addresses, in
                         hexadecimal, from A up to B of the program's file, as `nm` has them. A call that was inlined has none
      REFUSE_CALL=NAME   an ask for memory, or for a thread, counts only in a thread that wrote `begin NAME` to its standard error, until it
-                        writes `end NAME` there: craq_refusal_tests does. Such marks, of any name, are not passed on
+                        writes `end NAME` there: craq_node_tests does. Such marks, of any name, are not passed on
      REFUSE_TOLD=FILE   a line `refused` is added to FILE at each refusal, and one with the counts where a call of REFUSE_CALL ends, and
                         where the program ends by `exit`, as craq_lab does and craqd does not
 

@@ -1,13 +1,14 @@
 """Each ask for memory, and each thread, refused in turn in the calls of the library that may run out of them.
 
-craq_refusal_tests plays a script by calls, marks where each call begins and ends, and makes a call that is refused memory once more.
+craq_node_tests plays a script by calls, marks where each call begins and ends, and makes a call that is refused memory once more.
 The library refusals.c refuses the Nth ask for memory within the calls of one name alone, from the first to the first run that meets no
 refusal. The program then prints what it prints with ample memory, and says that the call was refused; so a call that tries again by
 itself, and one that takes its step all the same, is found. Two calls need not say so: see FOLDS and POSTS. What it prints with ample
 memory has the answers, and the explanation, that the stored script says.
 
-A start that is refused leaves as many threads as there were, a join the membership and the threads: the program looks at both. A stop,
-and a message that is ignored, ask for no memory in the step of a node: the scripts have as many of them as the steps that are looked at.
+A store starts with as many nodes as the script, with threads of their own and with one that carries the chain. A start that is refused
+leaves as many threads as there were, a join the membership and the threads: the program looks at both. A stop, and a message that is
+ignored, ask for no memory in the step of a node: the scripts have as many of them as the steps that are looked at.
 """
 import json
 import re
@@ -18,15 +19,24 @@ import playing
 from refused import Library, told_under
 
 WAYS = {"worlds": ("World::take", "World::explain"), "runs": ("World::run",), "steps": ("Core::step",), "desks": ("Desk::take",),
-        "audits": ("audit",), "decodes": ("decode",), "serves": ("serve",), "stores": ("Store::start", "Store::join")}
+        "audits": ("audit",), "decodes": ("decode",), "serves": ("serve",), "stores": ("Store::start", "Store::join"),
+        "carried": ("Store::start", "Store::join")}
 QUIET = "Core::step, quiet"
 # A node that forgets settled entries keeps them for the moment where it has no memory to fold them: the step is made.
 FOLDS = ("World::take", "World::run", "Core::step", "Desk::take")
 # A message that the master has no memory to send is lost, and sent again on a tick: the join is made, and all that it asks for afterwards
 # is for such messages.
 POSTS = ("Store::join",)
+# So many members a chain has at most.
+FULL = 8
 # A call that the program tells, and its last answer.
 CALL = re.compile(r"call CallReceipt .*?id: (\d+).*?Ticket \{ ticket: (\d+) \}.* answer: (?:Update\()?(\w+)(.*)")
+
+
+def asks(words, limit):
+    """Whether a join asks for this: it is refused right away where the chain is full, and makes no thread where one carries the chain."""
+    way, _, nodes, _ = words
+    return int(nodes) < FULL and (limit == "memory" or way != "carried")
 
 
 def is_after_its_step(found, ample, call):
@@ -117,6 +127,8 @@ class Tried:
                 self.checks.that(fits(found, ample, call, words[1], limit, told.refused), f"{of_all} refused: {differing(found, ample)}")
                 self.silent += told.refused and not found.errors
             if call in POSTS:
+                self.checks.same(f"{what}: whether {call} asks for {limit}", count > 0, asks(words, limit))
+            if call in POSTS and count:
                 self.lost_last(f"{what}, {call}", count, [(at, bool(found.errors)) for at, (found, told) in zip(numbers, runs) if told.refused])
             of[call] = of.get(call, 0) + count
         return ample

@@ -43,11 +43,15 @@ def stray(checks):
 
 
 def modules(checks, name):
-    """The root file names each module beside it."""
-    top = repository.path("crates", name, "src")
-    found = {it.removesuffix(".rt") for it in os.listdir(top) if it.endswith(".rt")} - {"lib", "main"}
-    named = {*re.findall(r"(?m)^\s*(?:pub(?:\(crate\))? )?mod (\w+);", repository.text_of("crates", name, root_of(name)))}
-    checks.same(f"modules of crates/{name}/src that {root_of(name)} does not name", sorted(found - named), [])
+    """The root file names each module beside it, and a module those in the folder of its name."""
+    top = repository.path("crates", name)
+    for folder, _, files in os.walk(f"{top}/src"):
+        is_top = folder == f"{top}/src"
+        root = root_of(name) if is_top else f"{os.path.relpath(folder, top)}.rt"
+        found = {it.removesuffix(".rt") for it in files if it.endswith(".rt")} - ({"lib", "main"} if is_top else set())
+        text = repository.text_of(top, root) if os.path.isfile(f"{top}/{root}") else ""
+        named = {*re.findall(r"(?m)^\s*(?:pub(?:\(crate\))? )?mod (\w+);", text)}
+        checks.same(f"modules of crates/{name}/{os.path.relpath(folder, top)} that {root} does not name", sorted(found - named), [])
 
 
 def listed(checks, name, part):

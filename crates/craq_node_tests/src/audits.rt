@@ -1,4 +1,5 @@
-//! Audits of cells: those whose journals merge into one run, with its explanation, and those that no run fits; run by `main`.
+//! Audits of cells: those whose journals merge into one run, with its explanation, and those that no run fits; run by `main`,
+//! and for `refused`.
 use crate::cells::{deliver_at, opened, take_all};
 use crate::moves::print_explanation;
 use craq_audit::{Audit, audit};
@@ -408,7 +409,7 @@ fn happen<C: Core, R: AllocGlobal + Wait>(
 }
 
 /// The cells whose locks are held.
-fn cells_in<'a, 'b, C: Core>(
+pub fn cells_in<'a, 'b, C: Core>(
     alloc: Global,
     held: &'a [MutexGuard<'b, Seated<C>>],
 ) -> Result<Vec<&'a Cell<C>>, AllocError> {

@@ -1,5 +1,5 @@
 //! Locked cells of a chain, and steps on them beside those of scripts: at the last stamp, and in two threads; run by `main`, and
-//! for `audits` and `spoiled`.
+//! for `audits`, `spoiled` and `refused`.
 ghost use Rattle.craq_model.specs.Spelled.{IsSpelled};
 
 use crate::moves::{members, moves_of};

@@ -1,7 +1,9 @@
 //! Facts of nodes, of chains with what explains their runs, of worlds, and of locked cells: each public call that may run
 //! out of memory is made with ample memory. Random scripts on both cores, in which messages arrive that nobody sent. Each
-//! fact is printed with what was seen of it.
-//! Run by `./test` and `tools/quick/run`, which compare what it prints with the file `stdout`.
+//! fact is printed with what was seen of it. In the end a script that is played by calls which may be refused memory
+//! (`refused`), here with ample memory; by words a script is played so, and nothing else is done.
+//! Run by `./test` and `tools/quick/run`, which compare what it prints without words with the file `stdout`; with words by
+//! `./hostile`, and by `./test` after the gate.
 #![tactic(auto)]
 
 mod audits;
@@ -9,6 +11,7 @@ mod cells;
 mod chains;
 mod moves;
 mod nodes;
+mod refused;
 mod spoiled;
 mod worlds;
 
@@ -16,10 +19,10 @@ use craq_list::ListCore;
 use craq_names::Refusal;
 use craq_node::Core;
 use craq_play::PlainCore;
-use std::io;
 use std::rt::Files;
 use std::sync::Wait;
 use std::thread::Threads;
+use std::{env, io};
 
 /// Tells a fact and the lines of what was seen of it, all on one line.
 fn tell_lines<R: Print>(rt: &R, fact: &str, seen: &str) -> io::Result<()> {
@@ -98,17 +101,47 @@ fn tell_spoiled<R: AllocGlobal + Files + Print + Wait>(rt: &R) -> io::Result<()>
     Ok(())
 }
 
-fn main(rt: HostRuntime) -> io::Result<()> {
+/// Tells all facts, and plays a script by calls.
+fn tell_all<R>(rt: R, host: HostRuntime) -> io::Result<()>
+where
+    R: AllocGlobal + Files + Print + Threads + Wait + Copy + Send + Sync + 'static,
+{
     tell(
-        &rt,
+        &host,
         "a read of a value that was never put is refused",
-        &chains::told_of_values(rt.alloc()),
+        &chains::told_of_values(host.alloc()),
     )?;
-    println!(rt; "over nodes that keep every entry:")?;
-    tell_core::<PlainCore, _>(&rt)?;
-    println!(rt; "over nodes that forget settled entries:")?;
-    tell_core::<ListCore, _>(&rt)?;
-    tell_forgetting(&rt)?;
+    println!(host; "over nodes that keep every entry:")?;
+    tell_core::<PlainCore, _>(&host)?;
+    println!(host; "over nodes that forget settled entries:")?;
+    tell_core::<ListCore, _>(&host)?;
+    tell_forgetting(&host)?;
     tell_cells(&rt)?;
-    tell_spoiled(&rt)
+    tell_spoiled(&rt)?;
+    refused::play(
+        rt,
+        host,
+        "all",
+        "list",
+        3,
+        "put-then-read-everywhere.script",
+    )
+}
+
+/// The words that the program is given, its own name among them.
+fn words_of(rt: HostRuntime) -> io::Result<Vec<String>> {
+    let mut words = Vec::new(rt.alloc());
+    for word in env::args(&rt)? {
+        words.push(word)?;
+    }
+    Ok(words)
+}
+
+fn main(rt: HostRuntime) -> io::Result<()> {
+    let words = words_of(rt)?;
+    if words.len() > 1 {
+        refused::play_asked(rt, rt, words.as_slice())
+    } else {
+        tell_all(rt, rt)
+    }
 }

@@ -1,4 +1,4 @@
-//! Moves, told as the lines of a script, and how explanations are printed; for all other modules but `main`.
+//! Moves, told as the lines of a script, and how explanations are printed; for all other modules but `main` and `refused`.
 use craq_names::{ChainId, Items, NodeId, Refusal};
 use craq_play::{Script, explanation_text, move_of, read_of, update_of};
 use craq_runs::{Explanation, Move};

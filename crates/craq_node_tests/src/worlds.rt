@@ -1,4 +1,4 @@
-//! Worlds of two chains, over any core; run by `main`.
+//! Worlds of two chains, over any core; run by `main`, and for `refused`.
 use crate::moves::{members, moves_of, print_explanation};
 use craq_names::{ChainId, Refusal};
 use craq_node::Core;
@@ -136,8 +136,8 @@ pub static SCENES: [Scene; 6] = [
     },
 ];
 
-/// Chains of so many equal lists of members.
-fn opened<C: Core>(alloc: Global, count: usize, ids: &[u32]) -> Result<World<C>, Refusal> {
+/// A world of chains, of so many equal lists of members.
+pub fn opened<C: Core>(alloc: Global, count: usize, ids: &[u32]) -> Result<World<C>, Refusal> {
     let mut lists = Vec::new(alloc);
     for _ in 0..count {
         lists.push(members(alloc, ids)?)?;

@@ -1,9 +1,10 @@
-//! A store that starts with a script's members, is asked what the script asks, and takes one more node in; called by `ways`.
+//! A store that starts with a script's members, is asked what the script asks, and takes one more node in where the chain is
+//! not full; called by `ways`.
 ghost use Rattle.std.specs.Prelude.{IfOk};
 ghost use Rattle.craq_place.specs.Plan.{IsPlan};
 
-use crate::rows::{MOST_NODES, Row, chain};
-use crate::teller::{Call, TRIES, Teller};
+use super::rows::{MOST_NODES, Row, chain};
+use super::teller::{Call, TRIES, Teller};
 use craq_model::{Answer, Ask};
 use craq_names::{Copied, NodeId, NodeName, Pass, Refusal};
 use craq_node::Core;
@@ -16,10 +17,17 @@ use std::thread::Threads;
 use std::time::Duration;
 use std::{fs, thread};
 
-/// The plans of a chain of one node and of three.
-const ALONE: &str = "[[chain]]\nname = \"a\"\nnodes = [1]\n";
-
-const THREE: &str = "[[chain]]\nname = \"a\"\nnodes = [1, 2, 3]\n";
+/// The plans of a chain of 1 to 8 nodes.
+const PLANS: [&str; 8] = [
+    "[[chain]]\nname = \"a\"\nnodes = [1]\n",
+    "[[chain]]\nname = \"a\"\nnodes = [1, 2]\n",
+    "[[chain]]\nname = \"a\"\nnodes = [1, 2, 3]\n",
+    "[[chain]]\nname = \"a\"\nnodes = [1, 2, 3, 4]\n",
+    "[[chain]]\nname = \"a\"\nnodes = [1, 2, 3, 4, 5]\n",
+    "[[chain]]\nname = \"a\"\nnodes = [1, 2, 3, 4, 5, 6]\n",
+    "[[chain]]\nname = \"a\"\nnodes = [1, 2, 3, 4, 5, 6, 7]\n",
+    "[[chain]]\nname = \"a\"\nnodes = [1, 2, 3, 4, 5, 6, 7, 8]\n",
+];
 
 /// The most turns of a wait.
 const LIMIT: u32 = 1000;
@@ -53,28 +61,37 @@ fn comes_to(host: HostRuntime, wanted: u64) -> bool {
     false
 }
 
-/// The plan of a chain with the row's members.
+/// The plan of a chain with the row's members, of which it has 1 to 8.
 fn plan(alloc: Global, row: &Row) -> Result<Plan, Refusal>
     ensures { IfOk result IsPlan }
 {
-    Plan::read(alloc, if row.members.len() == 1 { ALONE } else { THREE })
+    match PLANS.get(row.ids.len().saturating_sub(1)) {
+        Some(text) => Plan::read(alloc, text),
+        None => Err(Refusal::BadConfig),
+    }
 }
 
-/// The store of a plan. A start that is refused leaves no thread.
-fn start<C, R>(rt: R, teller: Teller, row: &Row) -> Result<Store<C, OpenGate>, Refusal>
+/// The store of a plan, whose chain one thread carries, or each node has threads of its own. A start that is refused leaves no
+/// thread.
+fn start<C, R>(
+    rt: R,
+    teller: Teller,
+    plan: &Plan,
+    carried: bool,
+) -> Result<Store<C, OpenGate>, Refusal>
 where
     C: Core + Send + 'static,
     R: Threads + Wait + Copy + Send + 'static,
+    requires { IsPlan plan.now }
 {
     let before = threads(teller.host);
-    let plan = plan(teller.alloc, row)?;
     for _ in 0..TRIES {
         let gate = OpenGate {
             in_place: false,
-            carried: false,
+            carried,
         };
         teller.begin(Call::Start);
-        match Store::start(rt, teller.alloc, &plan, gate, true) {
+        match Store::start(rt, teller.alloc, plan, gate, true) {
             Ok(store) => {
                 let _ = teller.end(Call::Start, false);
                 return Ok(store);
@@ -102,13 +119,14 @@ where
     }
 }
 
-/// A node joins. A join that is refused leaves the membership as it was, and no thread of the node.
+/// A node joins, unless the chain is full. A join that is refused leaves the membership as it was, and no thread of the node.
+/// Whether it joined.
 fn join<C, R>(
     rt: R,
     teller: Teller,
     store: &Store<C, OpenGate>,
     node: NodeId,
-) -> Result<(), Refusal>
+) -> Result<bool, Refusal>
 where
     C: Core + Send + 'static,
     R: Threads + Wait + Copy + Send + 'static,
@@ -119,8 +137,12 @@ where
         teller.begin(Call::Join);
         let joined = store.join(rt, chain(), node);
         if teller.end(Call::Join, joined == Err(Refusal::Memory)) {
+            if joined == Err(Refusal::ChainFull) {
+                let _ = println!(teller.host; "the chain is full");
+                return Ok(false);
+            }
             joined?;
-            return Ok(());
+            return Ok(true);
         }
         if !comes_to(teller.host, before) || epoch(&rt, store)? != members {
             return Err(Refusal::NotStopped);
@@ -166,12 +188,38 @@ where
     let mut client = store.client(Pass::start())?;
     for _ in 0..LIMIT {
         let told = answer(rt, teller.alloc, &mut client, node, ask);
-        if !matches!(&told, Err(Refusal::NotReady)) {
+        let is_ready = !matches!(&told, Err(Refusal::NotReady));
+        if is_ready {
             let _ = println!(teller.host; "{told:?}");
+        }
+        drop(told);
+        if is_ready {
             break;
         }
         store.tick(rt);
         rest(teller.host);
+    }
+    Ok(())
+}
+
+/// What the store answers to the script's reads at this node.
+fn tell_reads<C, R>(
+    rt: &R,
+    teller: Teller,
+    row: &Row,
+    store: &Store<C, OpenGate>,
+    node: NodeId,
+) -> Result<(), AllocError>
+where
+    C: Core,
+    R: Wait,
+{
+    for chosen in &row.moves {
+        if let Move::Ask { ask, .. } = chosen {
+            if matches!(ask, Ask::Read { .. }) {
+                tell_when_ready(rt, teller, store, node, ask)?;
+            }
+        }
     }
     Ok(())
 }
@@ -188,27 +236,26 @@ where
         }
     }
     let joins = NodeId::new(MOST_NODES);
-    join(rt, teller, store, joins)?;
-    for chosen in &row.moves {
-        if let Move::Ask { ask, .. } = chosen {
-            if matches!(ask, Ask::Read { .. }) {
-                tell_when_ready(&rt, teller, store, joins, ask)?;
-            }
-        }
+    if join(rt, teller, store, joins)? {
+        tell_reads(&rt, teller, row, store, joins)?;
     }
     let members = epoch(&rt, store)?;
     let _ = println!(teller.host; "epoch {members}");
     Ok(())
 }
 
-/// What a store with the row's members answers while one more joins. No thread is left of it.
-pub fn play<C, R>(rt: R, teller: Teller, row: &Row) -> Result<(), Refusal>
+/// What a store with the row's members answers while one more joins, where one thread carries its chain or each node has threads
+/// of its own. No thread is left of it.
+pub fn play<C, R>(rt: R, teller: Teller, row: &Row, carried: bool) -> Result<(), Refusal>
 where
     C: Core + Send + 'static,
     R: Threads + Wait + Copy + Send + 'static,
 {
     let before = threads(teller.host);
-    let store: Store<C, OpenGate> = start(rt, teller, row)?;
+    let plan = plan(teller.alloc, row)?;
+    let started: Result<Store<C, OpenGate>, Refusal> = start(rt, teller, &plan, carried);
+    drop(plan);
+    let store = started?;
     let told = tell(rt, teller, row, &store);
     store.close(&rt);
     if comes_to(teller.host, before) {

@@ -1,7 +1,7 @@
-//! The ways in which a script is played by calls; called by `main`.
-use crate::rows::Row;
-use crate::teller::Teller;
-use crate::{audits, connections, messages, steps, stores, worlds};
+//! The ways in which a script is played by calls; called by `refused`.
+use super::rows::Row;
+use super::teller::Teller;
+use super::{audits, connections, messages, steps, stores, worlds};
 use craq_names::Refusal;
 use craq_node::Core;
 use std::sync::Wait;
@@ -26,10 +26,12 @@ pub enum Way {
     Serves,
     /// `Store::start` with the members, and `Store::join` of one more.
     Stores,
+    /// The same where one thread carries the chain.
+    Carried,
 }
 
 /// All ways, each with its word.
-pub const WAYS: [(Way, &str); 8] = [
+pub const WAYS: [(Way, &str); 9] = [
     (Way::Worlds, "worlds"),
     (Way::Runs, "runs"),
     (Way::Steps, "steps"),
@@ -38,6 +40,7 @@ pub const WAYS: [(Way, &str); 8] = [
     (Way::Decodes, "decodes"),
     (Way::Serves, "serves"),
     (Way::Stores, "stores"),
+    (Way::Carried, "carried"),
 ];
 
 /// Plays a script in one way, and prints what the calls answer.
@@ -60,6 +63,7 @@ where
             connections::play(teller, row);
             Ok(())
         }
-        Way::Stores => stores::play::<C, R>(rt, teller, row),
+        Way::Stores => stores::play::<C, R>(rt, teller, row, false),
+        Way::Carried => stores::play::<C, R>(rt, teller, row, true),
     }
 }

@@ -1,8 +1,8 @@
 //! A connection that brings a script's asks, served by a door that takes no memory; called by `ways` and `messages`.
 ghost use Rattle.std.specs.Prelude.{⊤};
 
-use crate::rows::Row;
-use crate::teller::{Call, TRIES, Teller};
+use super::rows::Row;
+use super::teller::{Call, TRIES, Teller};
 use bytes::BytesMut;
 use craq_commands::Reply;
 use craq_frames::{ClientMessage, ClientReply, write_frame};
@@ -61,12 +61,15 @@ impl Door for Answers {
     ghost turn = { λ old message reply new. ⊤ };
 
     fn ask(&mut self, message: ClientMessage) -> ClientReply {
-        match message {
-            ClientMessage::Update { .. } => ClientReply::Update {
+        let is_update = matches!(&message, ClientMessage::Update { .. });
+        drop(message);
+        if is_update {
+            ClientReply::Update {
                 pass: Pass::of(Stamp::new(9)),
                 reply: Reply::Written(Version::new(1)),
-            },
-            _ => ClientReply::Refused(Refusal::UnknownChain),
+            }
+        } else {
+            ClientReply::Refused(Refusal::UnknownChain)
         }
     }
 }

@@ -1,6 +1,7 @@
-//! A script with its nodes: what it asks of the one chain; read by `main`, played by each way.
+//! A script with its nodes: what it asks of the one chain; read by `refused`, played by each way.
+use crate::{cells, worlds};
 use craq_locked::LockedChain;
-use craq_names::{ChainId, Copied, Items, NodeId, Pass, Refusal};
+use craq_names::{ChainId, Copied, Pass, Refusal};
 use craq_node::Core;
 use craq_play::{Script, move_of};
 use craq_runs::Move;
@@ -17,35 +18,47 @@ pub fn chain() -> ChainId {
 /// The greatest id of a node that a script may have.
 pub const MOST_NODES: u32 = 32;
 
-/// The moves of a script, and the members of its chain before them, from 1 on, 1 the head.
+/// The moves of a script, and the ids of its chain's members before them, from 1 on, 1 the head.
 #[derive(Drop)]
 pub struct Row {
-    pub members: Items<NodeId>,
+    pub ids: Vec<u32>,
     pub moves: Vec<Move>,
 }
 
 /// The ids from 1 to the count.
-fn first_ids(alloc: Global, count: u32) -> Result<Items<NodeId>, AllocError> {
+fn first_ids(alloc: Global, count: u32) -> Result<Vec<u32>, AllocError> {
     let mut ids = Vec::new(alloc);
     for id in 1..=count {
-        ids.push(NodeId::new(id))?;
+        ids.push(id)?;
     }
-    Ok(Items::of(ids))
+    Ok(ids)
+}
+
+/// The moves that the script's lines ask for; lines that ask for none, or whose ask is refused before a chain has it, are left
+/// out, as is what finds no memory: it is then missing in what is printed.
+fn moves_in(alloc: Global, script: &Script) -> Vec<Move> {
+    let mut moves = Vec::new(alloc);
+    for line in script.lines.as_slice() {
+        if let Ok(Some(chosen)) = move_of(alloc, line) {
+            let _ = moves.push(chosen);
+        }
+    }
+    moves
 }
 
 impl Row {
-    /// The moves that the script's lines ask for; lines that ask for none, or whose ask is refused before a chain has it, are
-    /// left out, as is what finds no memory: it is then missing in what is printed.
+    /// A script on so many nodes.
     pub fn read(alloc: Global, nodes: u32, script: &[u8]) -> Result<Row, Refusal> {
-        let members = first_ids(alloc, nodes)?;
         let script = Script::read(alloc, script)?;
-        let mut moves = Vec::new(alloc);
-        for line in script.lines.as_slice() {
-            if let Ok(Some(chosen)) = move_of(alloc, line) {
-                let _ = moves.push(chosen);
+        let moves = moves_in(alloc, &script);
+        drop(script);
+        match first_ids(alloc, nodes) {
+            Ok(ids) => Ok(Row { ids, moves }),
+            Err(_) => {
+                drop(moves);
+                Err(Refusal::Memory)
             }
         }
-        Ok(Row { members, moves })
     }
 
     /// The moves, each of the one chain.
@@ -61,9 +74,7 @@ impl Row {
 
     /// A world of the row's chain, before any move.
     pub fn world<C: Core>(&self, alloc: Global) -> Result<World<C>, Refusal> {
-        let mut lists = Vec::new(alloc);
-        lists.push(self.members.copied(alloc)?)?;
-        World::open(alloc, lists.as_slice())
+        worlds::opened(alloc, 1, self.ids.as_slice())
     }
 
     /// Cells with journals after the moves, each of which shows the pass of the step before, and the receipts of the
@@ -73,7 +84,7 @@ impl Row {
         rt: &R,
         alloc: Global,
     ) -> Result<(LockedChain<C>, Vec<CallReceipt>), Refusal> {
-        let mut cells = LockedChain::open(alloc, chain(), self.members.as_slice(), true)?;
+        let mut cells = cells::opened(alloc, self.ids.as_slice(), true)?;
         let mut calls = Vec::new(alloc);
         let mut pass = Pass::start();
         for chosen in &self.moves {

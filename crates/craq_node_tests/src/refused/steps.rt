@@ -2,8 +2,8 @@
 ghost use Rattle.std.specs.Prelude.{IfOk, IsTrue};
 ghost use Rattle.craq_node.specs.Represented.{CanArrive, CanOpen};
 
-use crate::rows::{MOST_NODES, Row};
-use crate::teller::{Call, TRIES, Teller};
+use super::rows::{MOST_NODES, Row};
+use super::teller::{Call, TRIES, Teller};
 use craq_epochs::{is_among, is_membership};
 use craq_locked::LockedChain;
 use craq_model::{Event, Step};
@@ -119,10 +119,14 @@ fn take<C: Core>(teller: Teller, desk: &mut Desk<C>, record: &Record<Event>) {
         if let Ok(event) = arriving(teller.alloc, &record.event) {
             teller.begin(Call::DeskTake);
             let taken = desk.take(teller.alloc, event, record.pass);
-            if teller.end(Call::DeskTake, matches!(&taken, Err(Refusal::Memory))) {
+            let is_done = teller.end(Call::DeskTake, matches!(&taken, Err(Refusal::Memory)));
+            if is_done {
                 if let Ok((receipt, calls)) = &taken {
                     tell_taken(teller, receipt, calls);
                 }
+            }
+            drop(taken);
+            if is_done {
                 break;
             }
         }

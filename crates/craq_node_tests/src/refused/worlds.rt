@@ -1,6 +1,6 @@
 //! A world that takes the moves one by one or all at once, and is explained; called by `ways`.
-use crate::rows::{Row, chain};
-use crate::teller::{Call, TRIES, Teller};
+use super::rows::{Row, chain};
+use super::teller::{Call, TRIES, Teller};
 use craq_check::check;
 use craq_names::{ChainId, Copied, Refusal};
 use craq_node::Core;

@@ -1,7 +1,7 @@
 //! The messages between nodes and the asks of clients, read from their bytes; called by `ways`.
-use crate::connections::messages_of;
-use crate::rows::{Row, chain};
-use crate::teller::{Call, TRIES, Teller};
+use super::connections::messages_of;
+use super::rows::{Row, chain};
+use super::teller::{Call, TRIES, Teller};
 use craq_frames::ClientMessage;
 use craq_model::{Out, Step};
 use craq_names::Refusal;

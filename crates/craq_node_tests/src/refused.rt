@@ -1,0 +1,79 @@
+//! A script that is played by calls of the library, each of which may run out of memory: what is asked for is a way to play it,
+//! or `all`, a kind of nodes, how many there are, and the file of the script. It prints what the calls answer, and marks the
+//! beginning and the end of each of them on standard error, for a library that is loaded before the program and refuses them
+//! memory. A call that is refused memory is made once more. Called by `main`.
+mod audits;
+mod connections;
+mod messages;
+mod rows;
+mod steps;
+mod stores;
+mod teller;
+mod ways;
+mod worlds;
+
+use craq_list::ListCore;
+use craq_names::Refusal;
+use craq_play::PlainCore;
+use rows::Row;
+use std::sync::Wait;
+use std::thread::Threads;
+use std::{fs, io};
+use teller::Teller;
+use ways::WAYS;
+
+/// Plays a script on nodes of this kind, in the way of this word, or in all.
+fn play_on<R>(rt: R, teller: Teller, word: &str, kind: &str, row: &Row) -> Result<(), Refusal>
+where
+    R: Threads + Wait + Copy + Send + 'static,
+{
+    for (way, named) in WAYS {
+        if word == named || word == "all" {
+            let _ = println!(teller.host; "{named}");
+            match kind {
+                "plain" => ways::play::<PlainCore, R>(rt, teller, way, row)?,
+                _ => ways::play::<ListCore, R>(rt, teller, way, row)?,
+            }
+        }
+    }
+    Ok(())
+}
+
+/// Plays the script of a file in the way of this word, or in all, on so many nodes of this kind.
+pub fn play<R>(
+    rt: R,
+    host: HostRuntime,
+    word: &str,
+    kind: &str,
+    nodes: u32,
+    file: &str,
+) -> io::Result<()>
+where
+    R: Threads + Wait + Copy + Send + 'static,
+{
+    let teller = Teller {
+        host,
+        alloc: host.alloc(),
+    };
+    let script = fs::read(&host, file)?;
+    let told = match &Row::read(teller.alloc, nodes, script.as_slice()) {
+        Ok(row) => play_on(rt, teller, word, kind, row),
+        Err(refusal) => Err(*refusal),
+    };
+    match told {
+        Ok(()) => Ok(()),
+        Err(refusal) => println!(host; "refused: {refusal}"),
+    }
+}
+
+/// Plays a script as the words say that the program is given, its own name before them.
+pub fn play_asked<R>(rt: R, host: HostRuntime, words: &[String]) -> io::Result<()>
+where
+    R: Threads + Wait + Copy + Send + 'static,
+{
+    let [_, way, kind, nodes, file] = words else {
+        return println!(host; "the words are a way, a kind, a count of nodes and a script");
+    };
+    let count = nodes.as_str().parse::<u32>().unwrap_or(0);
+    play(rt, host, way.as_str(), kind.as_str(), count, file.as_str())
+}

@@ -1,15 +1,16 @@
 -- What belongs to a connection, where nothing was read or written, and in a slab.
-use Rattle.std.proofs.Common.{◌≡◌, ℕ, true, List, [], Option, Some, None, Result, sym, refl, subst, ◌∙◌}
+use Rattle.std.proofs.Common.{◌≡◌, ◌≤◌, ℕ, ◌+◌, length, arith, length-append, true, List, [], ◌∷◌, ◌++◌, Option, Some, None, Result, sym, refl, subst, ◌∙◌}
 use Rattle.std.specs.Io.KnownBytes.{Appends, Consumes}
-use Rattle.std.proofs.lemmas.List.{append-nil}
+use Rattle.std.proofs.lemmas.List.{append-nil, append_assoc}
 use Rattle.craq_door.specs.Dialogues.{Holds}
 use Rattle.craq_door.specs.declared.dialogue.Dialogue.{Dialogue}
 use Rattle.craq_names.specs.declared.refusal.Refusal.{Refusal}
 use Rattle.craq_seat.specs.Calls.{Called}
+use Rattle.craq_letters.specs.declared.pile.Letter.{Letter}
 use Rattle.slab.specs.Slab.{Slab, get, with_value}
 use Rattle.slab.proofs.SlabLemmas.{Updates-with_value}
 use Rattle.craq_ready.specs.declared.connection.Connection.{Connection}
-use Rattle.craq_ready.specs.Belonging.{CameByLetter, Delivers, Reads, Wakes, Writes}
+use Rattle.craq_ready.specs.Belonging.{CameByLetter, Delivers, DeliversAll, DeliversLetter, Reads, Wakes, Writes}
 
 none_came : (a b : Option (List ℕ)) → b ≡ a → Consumes a b []
 none_came None b e = tt
@@ -51,3 +52,39 @@ delivered s t token c d reply was told same wakes c' here =
     let e : c' ≡ c = cc in
     let is : get (with_value s token d) token ≡ Some d = (Updates-with_value s token d (rw was refl)).changed in
     rw e (record d { busy = true }, wakes d is, told, same)
+
+module _ {S : Type 0} where
+  -- of all letters these are left, and those behind them are delivered
+  abbrev pub AreLeft : List Letter → List Letter → Slab (Connection S) → Slab (Connection S) → Type 0
+  AreLeft all left old new = (done : List Letter) × (all ≡ left ++ done) × DeliversAll done old new
+
+  pub all_left : (all : List Letter) (s : Slab (Connection S)) → AreLeft all all s s
+  all_left all s = ([], sym (append-nil all), refl)
+
+  pub one_less : (all left rest : List Letter) (letter : Letter) (s t u : Slab (Connection S))
+      → AreLeft all left s t → left ≡ rest ++ letter ∷ [] → DeliversLetter letter t u → AreLeft all rest s u
+  one_less all left rest letter s t u before last delivers = (
+    letter ∷ before.0,
+    before.1 ∙ subst (λ (x : List Letter). left ++ before.0 ≡ x ++ before.0) last refl ∙ append_assoc rest (letter ∷ []) before.0,
+    (t, before.2, delivers),
+  )
+
+  pub none_left : (all left : List Letter) (s t : Slab (Connection S)) → AreLeft all left s t → left ≡ [] → DeliversAll all s t
+  none_left all left s t before none =
+      subst (λ (x : List Letter). DeliversAll x s t)
+      (sym (before.1 ∙ subst (λ (x : List Letter). left ++ before.0 ≡ x ++ before.0) none refl))
+      before.2
+
+-- as many letters as there were, one by one
+pub one_shorter : (left rest : List Letter) (letter : Letter) (index all : ℕ) → left ≡ rest ++ letter ∷ [] → length left + index ≡ all → length rest + (index + 1) ≡ all
+one_shorter left rest letter index all last long =
+    let is : length (rest ++ letter ∷ []) + index ≡ all = subst (λ (x : List Letter). length x + index ≡ all) last long in
+    omega (arith, length-append rest (letter ∷ []), is)
+
+pub none_long : (left : List Letter) (index all : ℕ) → length left + index ≡ all → all ≤ index → left ≡ []
+none_long [] index all long reached = refl
+none_long (letter ∷ rest) index all long reached = absurd (omega (arith, long, reached))
+
+-- the last letter that was left, behind those that are left now
+pub last_left : (left popped rest : List Letter) (letter : Letter) → left ≡ popped ++ letter ∷ [] → rest ≡ popped → left ≡ rest ++ letter ∷ []
+last_left left popped rest letter is same = is ∙ subst (λ (x : List Letter). popped ++ letter ∷ [] ≡ x ++ letter ∷ []) (sym same) refl

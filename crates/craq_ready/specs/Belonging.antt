@@ -1,10 +1,11 @@
 -- Which bytes and which letters belong to which connection.
-use Rattle.std.specs.Prelude.{◌≡◌, ◌≢◌, ℕ, true, List, ◌++◌, Option, None, Some, Result}
+use Rattle.std.specs.Prelude.{◌≡◌, ◌≢◌, ℕ, true, List, [], ◌∷◌, ◌++◌, Option, None, Some, Result}
 use Rattle.std.specs.Io.KnownBytes.{Appends, Consumes}
 use Rattle.slab.specs.Slab.{Slab, get}
 use Rattle.craq_names.specs.declared.refusal.Refusal.{Refusal}
 use Rattle.craq_front.specs.Talk.{History}
 use Rattle.craq_seat.specs.Calls.{Called}
+use Rattle.craq_letters.specs.declared.pile.Letter.{Letter}
 use Rattle.craq_door.specs.Dialogues.{Answers, Holds}
 use Rattle.craq_door.specs.declared.dialogue.Dialogue.{Dialogue}
 use Rattle.craq_ready.specs.declared.connection.Connection.{Connection}
@@ -56,3 +57,16 @@ StaysVacant old new token = get old token ≡ None → get new token ≡ None
 -- each connection under another token is as it was
 abbrev pub OthersStay : {S : Type 0} → Slab (Connection S) → Slab (Connection S) → ℕ → Type 0
 OthersStay old new token = (other : ℕ) → other ≢ token → get new other ≡ get old other
+
+-- the letter is delivered under its token; and no connection under another token changes
+abbrev pub DeliversLetter : {S : Type 0} → Letter → Slab (Connection S) → Slab (Connection S) → Type 0
+DeliversLetter letter old new = Delivers old new letter.token letter.reply × StaysVacant old new letter.token × OthersStay old new letter.token
+
+-- each of these letters is delivered, the last one first
+abbrev pub DeliversAll : {S : Type 0} → List Letter → Slab (Connection S) → Slab (Connection S) → Type 0
+DeliversAll [] old new = new ≡ old
+DeliversAll {S} (letter ∷ later) old new = (mid : Slab (Connection S)) × DeliversAll later old mid × DeliversLetter letter mid new
+
+-- the host brought letters, and each of them is delivered
+abbrev pub DeliversBrought : {S : Type 0} → (List Letter → Type 0) → Slab (Connection S) → Slab (Connection S) → Type 0
+DeliversBrought brings old new = (letters : List Letter) × brings letters × DeliversAll letters old new

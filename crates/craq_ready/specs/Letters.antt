@@ -1,5 +1,5 @@
--- How a call comes back by a letter, and with what it is then refused.
-use Rattle.std.specs.Prelude.{◌≡◌, Result, Err}
+-- How a call comes back, at once or by a letter, and with what it is then refused.
+use Rattle.std.specs.Prelude.{◌≡◌, Option, None, Some, Result, Ok, Err}
 use Rattle.craq_names.specs.declared.refusal.Refusal.{Refusal}
 use Rattle.craq_names.specs.declared.refusal.Refusal.TheVariants.{Closed}
 use Rattle.craq_model.specs.declared.ask.Ask.{Ask}
@@ -25,3 +25,13 @@ IsOutcome phase reply outcome = outcome ≡ reply
 -- a call may be refused with whatever an ask of its kind may be refused with
 abbrev pub MayHaveAny : Refusing → Question → Type 0
 MayHaveAny refuses q = (e : Refusal) → CanRefuse q.ask e → refuses q.node q.pass q.ask e
+
+-- which calls were asked, and what came of each at once
+abbrev pub Submitting : Type 1
+Submitting = Question → Option (Result Called Refusal) → Type 0
+
+-- what came at once of a call that was asked: its receipt, its refusal, or nothing, where a letter will come
+abbrev pub at_once : Result (Option Called) Refusal → Option (Result Called Refusal)
+at_once (Ok None) = None
+at_once (Ok (Some c)) = Some (Ok c)
+at_once (Err e) = Some (Err e)

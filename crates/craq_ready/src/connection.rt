@@ -308,10 +308,10 @@ impl<S: Socket> Connection<S> {
         self.answer(alloc, host, outcome);
     }
 
-    /// The call that is under way is submitted.
+    /// The call that is under way is submitted, under this token.
     #[tactic(auto, using(crate::proofs::Advancing::none_asked, crate::proofs::Advancing::asked_and_waits, crate::proofs::Advancing::asked_and_answered, crate::proofs::Advancing::asked_and_refused))]
     fn submit<H: Host>(&mut self, alloc: Global, host: &H, token: usize, few: bool)
-        ensures asked { AsksHost (H.refuses host.now) self.old.dialogue.phase self.old.dialogue self.new.dialogue }
+        ensures asked { AsksHost (H.refuses host.now) (H.submits host.now token) self.old.dialogue.phase self.old.dialogue self.new.dialogue }
         ensures stream { self.new.stream ≡ self.old.stream }
     {
         let Some(question) = self.dialogue.question() else {
@@ -324,11 +324,11 @@ impl<S: Socket> Connection<S> {
         }
     }
 
-    /// Takes the steps of the dialogue, as far as its bytes and replies are there. What comes of them is then due. `few`
-    /// tells that few connections have something to do just now.
+    /// Takes the steps of the dialogue, as far as its bytes and replies are there. Its calls are asked under this token. What comes
+    /// of the steps is then due. `few` tells that few connections have something to do just now.
     #[tactic(auto, using(crate::proofs::Advancing::none_taken, crate::proofs::Advancing::went, crate::proofs::Advancing::starved, crate::proofs::Advancing::stayed, crate::proofs::Advancing::called))]
     pub(crate) fn advance<H: Host>(&mut self, alloc: Global, host: &H, token: usize, few: bool)
-        ensures steps { TakesSteps (H.tells host.now) (H.refuses host.now) self.old.dialogue self.new.dialogue }
+        ensures steps { TakesSteps (H.tells host.now) (H.refuses host.now) (H.submits host.now token) self.old.dialogue self.new.dialogue }
         ensures stream { self.new.stream ≡ self.old.stream }
     {
         for _step in 0..MOST_STEPS {

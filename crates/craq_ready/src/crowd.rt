@@ -1,7 +1,8 @@
 //! `Crowd`: the connections of a thread and the loop over them, for the thread that serves them: it takes what came, steps each
 //! connection that has something to do, and sleeps where none has.
-ghost use Rattle.std.specs.Prelude.{◌≡◌};
-ghost use Rattle.craq_ready.specs.Belonging.{Delivers, OthersStay, StaysVacant, Wakes};
+ghost use Rattle.std.specs.Prelude.{◌≡◌, []};
+ghost use Rattle.craq_ready.specs.Advancing.{TakesStepsAt, EachTakesSteps};
+ghost use Rattle.craq_ready.specs.Belonging.{Delivers, DeliversAll, DeliversBrought, OthersStay, StaysVacant, Wakes};
 
 use crate::connection::Connection;
 use crate::host::{Arrival, Host};
@@ -29,6 +30,25 @@ const FEW: usize = 2;
 
 /// So often a thread of few connections looks again for something to do, before it sleeps: some 60 microseconds.
 const MOST_LOOKS: u32 = 200;
+
+/// The connection under a token takes the steps of its conversation. Its calls are asked under this token, and no other connection
+/// changes; where none is under the token nothing does.
+fn advance_at<H: Host>(
+    alloc: Global,
+    connections: &mut Slab<Connection<Arc<TcpStream>>>,
+    host: &H,
+    token: usize,
+    few: bool,
+)
+    ensures steps { TakesStepsAt (H.tells host.now) (H.refuses host.now) (H.submits host.now token) connections.old connections.new token }
+    ensures vacant { StaysVacant connections.old connections.new token }
+    ensures others { OthersStay connections.old connections.new token }
+{
+    let Some(connection) = connections.get_mut(token) else {
+        return;
+    };
+    connection.advance(alloc, host, token, few);
+}
 
 /// The connections of a thread.
 #[derive(Drop)]
@@ -74,6 +94,7 @@ impl Members {
 
     /// A connection has something to do.
     fn wake(&mut self, token: usize)
+        ensures letters { self.new.letters.items ≡ self.old.letters.items }
         ensures wakes { Wakes self.old.connections self.new.connections token }
         ensures vacant { StaysVacant self.old.connections self.new.connections token }
         ensures others { OthersStay self.old.connections self.new.connections token }
@@ -123,10 +144,21 @@ impl Members {
         }
     }
 
-    /// The letters that came are the outcomes of their connections' calls.
-    fn take_letters<H: Host>(&mut self, host: &H) {
+    /// The letters that came are the outcomes of their connections' calls. Each that the host brought is delivered.
+    fn take_letters<H: Host>(&mut self, host: &H)
+        ensures delivered { DeliversBrought (H.brings host.now self.old.letters.items) self.old.connections self.new.connections }
+        ensures none_left { self.new.letters.items ≡ [] }
+    {
         host.take_letters(&mut self.letters);
-        for _ in 0..self.letters.len() {
+        self.deliver_all(host);
+    }
+
+    /// Each letter that is there is delivered, the last one first, and none is left.
+    fn deliver_all<H: Host>(&mut self, host: &H)
+        ensures delivered { DeliversAll self.old.letters.items self.old.connections self.new.connections }
+        ensures none_left { self.new.letters.items ≡ [] }
+    {
+        for _letter in 0..self.letters.len() {
             let Some(letter) = self.letters.pop() else {
                 break;
             };
@@ -137,6 +169,7 @@ impl Members {
 
     /// A connection's call came back. Its dialogue is told, and no other connection changes; where it has gone nothing does.
     fn deliver<H: Host>(&mut self, host: &H, token: usize, reply: Outcome)
+        ensures letters { self.new.letters.items ≡ self.old.letters.items }
         ensures told { Delivers self.old.connections self.new.connections token reply }
         ensures vacant { StaysVacant self.old.connections self.new.connections token }
         ensures others { OthersStay self.old.connections self.new.connections token }
@@ -168,13 +201,13 @@ impl Members {
         }
     }
 
-    /// The busy connections take the steps of their conversations.
-    fn advance_all<H: Host>(&mut self, host: &H) {
+    /// The busy connections take the steps of their conversations, and each asks its calls under its own token.
+    fn advance_all<H: Host>(&mut self, host: &H)
+        ensures { EachTakesSteps (H.tells host.now) (H.refuses host.now) (H.submits host.now) self.old.connections self.new.connections }
+    {
         let few = self.busy.len() <= FEW;
         for token in self.busy.iter() {
-            if let Some(connection) = self.connections.get_mut(*token) {
-                connection.advance(self.alloc, host, *token, few);
-            }
+            advance_at(self.alloc, &mut self.connections, host, *token, few);
         }
     }
 

@@ -63,6 +63,12 @@ where
     C: Core + Send + 'static,
     G: Gate + Send + Sync + 'static,
 {
+    ghost use Rattle.std.specs.Prelude.{⊤};
+
+    ghost submits = { λ crew token question came. ⊤ };
+
+    ghost brings = { λ crew old new. ⊤ };
+
     fn submit(
         &self,
         question: &Question,

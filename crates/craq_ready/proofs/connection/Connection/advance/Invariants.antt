@@ -5,4 +5,4 @@ use Rattle.craq_ready.proofs.connection.Connection.advance.Given as goal
 abbrev pub invariant-loop-step : goal.invariant-loop-step
 invariant-loop-step g l =
     (l.self.stream ≡ l.fn.self.stream)
-    × TakesSteps (g.H.Callee.tells l.fn.host) (g.H.Callee.refuses l.fn.host) l.fn.self.dialogue l.self.dialogue
+    × TakesSteps (g.H.Callee.tells l.fn.host) (g.H.Callee.refuses l.fn.host) (g.H.Host.submits l.fn.host l.fn.token) l.fn.self.dialogue l.self.dialogue

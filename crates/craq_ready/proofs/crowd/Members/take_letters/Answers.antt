@@ -1,0 +1,4 @@
+use Rattle.craq_ready.proofs.crowd.Members.take_letters.Goals as goal
+
+pub returns-clause-delivered : goal.returns-clause-delivered
+returns-clause-delivered g c = (c.take_letters.new.into.items, c.take_letters.ensures, c.deliver_all.ensures.delivered)

@@ -24,7 +24,7 @@ fn audit<C: Core, R: Wait>(
             seats.push(seat.lock(rt))?;
         }
     }
-    HeldChain::new(alloc, book, seats)?.audit(calls)
+    HeldChain::new(alloc, &book, seats)?.audit(calls)
 }
 
 /// The run that the cells merge into.

@@ -1,7 +1,6 @@
-//! `HeldChain`: a chain's cells under their locks, as one value that lends them; for a store that is audited as it runs.
+//! `HeldChain`: a chain's cells whose locks are held, as one value that lends them; for a store that is audited as it runs.
 ghost use Rattle.std.specs.Prelude.{◌≡◌, ◌≤◌, [], IfOk, length, map, vec_capacity, vec_len};
 ghost use Rattle.std.specs.List.{AllByRecursion};
-ghost use Rattle.std.specs.Sync.Mutex.{mutex_guard_value};
 ghost use Rattle.craq_audit.specs.Audited.{Audits};
 ghost use Rattle.craq_audit.specs.Lookups.{cells_of};
 ghost use Rattle.craq_held.specs.Held.{AreOwn, cell_in};
@@ -15,13 +14,13 @@ use std::alloc::{AllocError, Global};
 use std::marker::Model;
 use std::sync::MutexGuard;
 
-/// The cells of a chain, its master's and its nodes', each under its lock: no step is taken at them as long as this value
-/// has the locks. A contract sees the cells that the locks hold, and that each step of theirs is their own. Which cell
+/// The cells of a chain: its master's, which whoever has its lock lends, and its nodes', each under its lock. No step is taken
+/// at them as long as this value is there. A contract sees these cells, and that each step of theirs is their own. Which cell
 /// stands behind a lock that nobody has no contract can say.
 #[derive(Drop)]
 pub struct HeldChain<'b, 's, C: Core, W: Drop = ()> {
     alloc: Global,
-    book: MutexGuard<'b, BookCell>,
+    book: &'b BookCell,
     seats: Vec<MutexGuard<'s, Seated<C, W>>>,
     /// Room for the list of the cells, for an audit.
     room: Vec<&'s Cell<C>>,
@@ -29,14 +28,13 @@ pub struct HeldChain<'b, 's, C: Core, W: Drop = ()> {
 
 impl<'b, 's, C: Core, W: Drop> Model for HeldChain<'b, 's, C, W> {
     ghost use Rattle.std.specs.Prelude.{◌≡◌, ◌≤◌, [], length, map, vec_capacity};
-    ghost use Rattle.std.specs.Sync.Mutex.{mutex_guard_value};
     ghost use Rattle.craq_held.specs.Held.{AreOwn, Held, cell_in};
 
     ghost Value = { Held C };
 
-    ghost view = { λ h. record { book = mutex_guard_value h.book; cells = map cell_in h.seats.items } };
+    ghost view = { λ h. record { book = h.book.now; cells = map cell_in h.seats.items } };
 
-    ghost invariant = { λ h. AreOwn C.represents (record { book = mutex_guard_value h.book; cells = map cell_in h.seats.items }) × (h.room.items ≡ []) × (length h.seats.items ≤ vec_capacity h.room) };
+    ghost invariant = { λ h. AreOwn C.represents (record { book = h.book.now; cells = map cell_in h.seats.items }) × (h.room.items ≡ []) × (length h.seats.items ≤ vec_capacity h.room) };
 }
 
 /// The cells that locks hold keep what their type says. It does nothing.
@@ -65,14 +63,14 @@ fn cells_in<'a, 's, C: Core, W: Drop>(
 }
 
 impl<'b, 's, C: Core, W: Drop> HeldChain<'b, 's, C, W> {
-    /// The cells behind these locks, those of the nodes in the order of their seats, and room for their audit. It fails for
-    /// want of memory alone, and then the locks are free.
+    /// A master's cell and those behind these locks, in the order of their seats, and room for their audit. It fails for want of
+    /// memory alone, and then the locks of the nodes are free.
     pub fn new(
         alloc: Global,
-        book: MutexGuard<'b, BookCell>,
+        book: &'b BookCell,
         seats: Vec<MutexGuard<'s, Seated<C, W>>>,
     ) -> Result<Self, AllocError>
-        ensures book { IfOk result (λ held. held.book ≡ mutex_guard_value book.entry) }
+        ensures book { IfOk result (λ held. held.book ≡ book.now) }
         ensures cells { IfOk result (λ held. held.cells ≡ map cell_in seats.entry.items) }
     {
         let room = Vec::with_capacity(alloc, seats.len())?;
@@ -90,7 +88,7 @@ impl<'b, 's, C: Core, W: Drop> HeldChain<'b, 's, C, W> {
     pub fn book(&self) -> &BookCell
         ensures { result.now ≡ self.now.book }
     {
-        &self.book
+        self.book
     }
 
     /// The nodes' cells, in the order of their seats. It fails for want of memory alone.
@@ -102,9 +100,9 @@ impl<'b, 's, C: Core, W: Drop> HeldChain<'b, 's, C, W> {
     }
 
     /// The audit of these cells with call receipts, exactly as `craq_audit::audit` has it: their journals as one run, or the
-    /// first fault. Afterwards the locks are free, and the cells as they were. Where it answers `Merged` the run is the merge
-    /// of the journals and a run of the chain, which `explain_run` explains, and each receipt is an ask and its answer in
-    /// that run.
+    /// first fault. Afterwards the locks of the nodes are free, and the cells as they were. Where it answers `Merged` the run is
+    /// the merge of the journals and a run of the chain, which `explain_run` explains, and each receipt is an ask and its answer
+    /// in that run.
     ///
     /// Refused as `craq_audit::audit` is.
     pub fn audit(self, receipts: &[CallReceipt]) -> Result<Audit, Refusal>
@@ -118,6 +116,6 @@ impl<'b, 's, C: Core, W: Drop> HeldChain<'b, 's, C, W> {
             room,
         } = self;
         let cells = cells_in(room, seats.as_slice());
-        audit(alloc, &book, cells.as_slice(), receipts)
+        audit(alloc, book, cells.as_slice(), receipts)
     }
 }

@@ -3,7 +3,9 @@ use Rattle.std.specs.Prelude.{◌≡◌, ℕ, List, map, codes, string_bytes}
 use Rattle.serde_json.specs.Data.{Data, number, unsigned, string, array, object, member, no_members}
 use Rattle.serde_json.specs.View.{items_of}
 use Rattle.serde_json.specs.Written.{compact_text}
+use Rattle.craq_held.specs.Membered.{AreMembershipsOf}
 use Rattle.craq_workers.specs.declared.store.ChainStatus.{ChainStatus}
+use Rattle.craq_workers.specs.Stores.{Stored}
 
 abbrev pub member_data : ℕ → Data
 member_data id = number (unsigned id)
@@ -23,6 +25,8 @@ status_data chains = object (member (codes "chains") (array (items_of (map chain
 unfoldable pub status_text : List ChainStatus → List ℕ
 status_text chains = compact_text (status_data chains)
 
--- the text is that of the chains of these names, in order, each with some membership
-abbrev pub TellsStatus : List (List ℕ) → List ℕ → Type 0
-TellsStatus names text = (chains : List ChainStatus) × (map (λ (c : ChainStatus). string_bytes c.name) chains ≡ names) × (text ≡ status_text chains)
+-- the text is that of the store's chains by name, in order, each with a membership that its master has after some steps
+abbrev pub TellsStatus : Stored → List ℕ → Type 0
+TellsStatus store text =
+    (chains : List ChainStatus) × (map (λ (c : ChainStatus). string_bytes c.name) chains ≡ store.names)
+    × AreMembershipsOf store.masters (map (λ (c : ChainStatus). c.config) chains) × (text ≡ status_text chains)

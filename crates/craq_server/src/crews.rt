@@ -44,7 +44,7 @@ where
     ghost use Rattle.craq_server.specs.Refusing.{RefusesServed};
     ghost use Rattle.craq_server.specs.Status.{TellsStatus};
 
-    ghost tells = { λ crew text. TellsStatus crew.callee.store.now.names text };
+    ghost tells = { λ crew text. TellsStatus crew.callee.store.now text };
 
     ghost refuses = { λ crew node pass ask refusal. RefusesServed (length crew.callee.store.now.names) node ask refusal };
 

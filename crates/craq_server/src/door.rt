@@ -39,7 +39,7 @@ where
     C: Core,
     G: Gate,
 {
-    ghost tells = { λ store text. TellsStatus store.store.now.names text };
+    ghost tells = { λ store text. TellsStatus store.store.now text };
 
     ghost refuses = { λ store node pass ask refusal. RefusesServed (length store.store.now.names) node ask refusal };
 

@@ -1,3 +1,4 @@
 pub mod Answered
+pub mod Memberships
 pub mod Names
 pub mod Owed

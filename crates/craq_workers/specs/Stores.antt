@@ -1,9 +1,10 @@
 -- What a contract sees of a store that runs, and what it answers that is asked for the audit of a chain.
-use Rattle.std.specs.Prelude.{◌≡◌, ◌<◌, ◌≤◌, ◌⊎◌, ℕ, List, Bool, true, false, length, Result, Ok, Err}
+use Rattle.std.specs.Prelude.{◌≡◌, ◌<◌, ◌≤◌, ◌⊎◌, ◌+◌, ℕ, List, [], ◌∷◌, Bool, true, false, length, Result, Ok, Err}
 use Rattle.craq_names.specs.declared.refusal.Refusal.{Refusal}
 use Rattle.craq_names.specs.declared.refusal.Refusal.TheVariants as refusals
 use Rattle.craq_model.specs.Plain.{Plain}
-use Rattle.craq_epochs.specs.Mastered.{Mastered}
+use Rattle.craq_epochs.specs.Mastered.{Mastered, opened}
+use Rattle.craq_place.specs.Plan.{Chain}
 use Rattle.craq_audit.specs.declared.finding.Audit.{Audit}
 use Rattle.craq_seat.specs.declared.journal.BookEvent.{BookEvent}
 use Rattle.craq_seat.specs.Books.{IsBook}
@@ -11,9 +12,15 @@ use Rattle.craq_seat.specs.Calls.{Called}
 use Rattle.craq_seat.specs.Cells.{Celled}
 use Rattle.craq_held.specs.Held.{Confirms}
 
--- the names of a store's chains, by id, and whether its cells keep journals
+-- the chains of a plan as their masters are opened, with ids from this one on
+abbrev pub masters_of : ℕ → List Chain → List Mastered
+masters_of id [] = []
+masters_of id (chain ∷ chains) = opened id chain.1 ∷ masters_of (id + 1) chains
+
+-- the names of a store's chains and their masters as they were opened, by id, and whether its cells keep journals
 pub record Stored : Type 0 where
   pub names : List (List ℕ)
+  pub masters : List Mastered
   pub journals : Bool
 
 -- the store has the chain, and keeps journals

@@ -1,6 +1,5 @@
 //! `Store::audit`: the audit of a chain whose nodes are all locked for it; for whoever has receipts of a store that runs.
 ghost use Rattle.std.specs.Prelude.{◌≡◌, IfOk};
-ghost use Rattle.std.specs.Sync.Mutex.{mutex_guard_value};
 ghost use Rattle.craq_workers.specs.Stores.{Answers};
 
 use crate::gate::Gate;
@@ -29,15 +28,15 @@ fn lock_all<'a, R: Wait, C: Core>(
     Ok(seats)
 }
 
-/// The cells of a chain, whose master's lock is held, under the locks of these nodes. It fails for want of memory alone. Here
+/// The cells of a chain: its master's, whose lock is held, and those under the locks of these nodes. It fails for want of memory alone. Here
 /// alone an audit reaches the locks of nodes.
 fn lock_chain<'b, 's, R: Wait, C: Core>(
     rt: &R,
     alloc: Global,
-    book: MutexGuard<'b, BookCell>,
+    book: &'b BookCell,
     nodes: &'s [Arc<RunningNode<C>>],
 ) -> Result<HeldChain<'b, 's, C, Addressee>, AllocError>
-    ensures { IfOk result (λ held. held.book ≡ mutex_guard_value book.entry) }
+    ensures { IfOk result (λ held. held.book ≡ book.now) }
 {
     let seats = lock_all(rt, alloc, nodes)?;
     HeldChain::new(alloc, book, seats)
@@ -63,11 +62,11 @@ impl<C: Core + Send + 'static, G: Gate + Send + Sync + 'static> Store<C, G> {
             return Err(Refusal::JournalOff);
         }
         let book = place.book.lock(rt);
-        if book.opening().name.chain != chain {
-            book.journal();
+        if book.cell().opening().name.chain != chain {
+            book.cell().journal();
             return Err(Refusal::WrongNode);
         }
         let nodes = place.all_nodes(rt, self.alloc)?;
-        lock_chain(rt, self.alloc, book, nodes.as_slice())?.audit(receipts)
+        lock_chain(rt, self.alloc, book.cell(), nodes.as_slice())?.audit(receipts)
     }
 }

@@ -1,11 +1,17 @@
 //! A chain that runs: the ways to its workers, through which all that asks, sends or ticks goes; for `shared` and `store`.
+ghost use Rattle.std.specs.Prelude.{◌≡◌, IsTrue};
+ghost use Rattle.craq_epochs.specs.Mastered.{opened};
+ghost use Rattle.craq_seat.specs.Books.{first_master};
+
 use crate::bell::Bell;
 use crate::node::{Brought, Entrances, RunningNode, Waiting, Way};
 use crate::replies::Replies;
 use crate::steps::{QueuedAsk, dismiss};
-use craq_names::{NodeId, Refusal};
+use craq_held::ChainBook;
+use craq_model::Config;
+use craq_names::{ChainId, NodeId, Refusal, Same};
 use craq_node::Core;
-use craq_seat::{BookCell, Caller};
+use craq_seat::{Caller, Opening};
 use crossbeam_channel::{SendError, Sender};
 use std::alloc::{AllocError, Global};
 use std::mem;
@@ -27,12 +33,14 @@ pub(crate) struct Open {
     pub alive: Sender<()>,
 }
 
-/// A chain that runs: its name, its master's cell under its lock, the ways to its workers, and the bell of the one that
-/// carries it.
+/// A chain that runs: its name, its id and its first membership, its master's cell under its lock, the ways to its workers, and
+/// the bell of the one that carries it.
 #[derive(Drop)]
 pub(crate) struct Chain<C: Core> {
     pub name: String,
-    pub book: Mutex<BookCell>,
+    pub id: ChainId,
+    pub first: Config,
+    pub book: Mutex<ChainBook>,
     pub ways: RwLock<Ways<C>>,
     pub bell: Bell,
 }
@@ -119,6 +127,16 @@ pub(crate) fn take_back<R: Wait>(
 }
 
 impl<C: Core> Chain<C> {
+    /// Whether a master's cell was opened as that of this chain: a lock tells a proof nothing of what it holds.
+    pub(crate) fn has_opened(&self, opening: &Opening) -> bool
+        ensures { IsTrue result → first_master opening.now ≡ opened self.now.id self.now.first.members }
+    {
+        match &opening.config {
+            Some(config) => opening.name.chain == self.id && config.is_same(&self.first),
+            None => false,
+        }
+    }
+
     /// The node of this id: `Closed` where the store is, `WrongNode` where the chain never had it, `Stopped` where it was
     /// removed and let go.
     pub(crate) fn node<R: Wait>(&self, rt: &R, id: NodeId) -> Result<Arc<RunningNode<C>>, Refusal> {

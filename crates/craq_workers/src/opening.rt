@@ -1,19 +1,22 @@
 //! Chains and nodes before any step; called by `store` at a start and at a join.
 ghost use Rattle.std.specs.Prelude.{◌≡◌, IfErr, IfOk, OnOk, map, string_bytes};
 ghost use Rattle.std.specs.Option.{option_copied};
+ghost use Rattle.craq_epochs.specs.Mastered.{opened};
 ghost use Rattle.craq_model.specs.Members.{IsMembership};
 ghost use Rattle.craq_node.specs.Represented.{CanOpen};
 ghost use Rattle.craq_place.specs.Plan.{IsPlan};
+ghost use Rattle.craq_workers.specs.Stores.{masters_of};
 
 use crate::bell::Bell;
 use crate::chain::{Chain, Open, Ways};
 use crate::node::{Entrances, Queues, RunningNode, Way};
 use crate::work::Worker;
+use craq_held::ChainBook;
 use craq_model::Config;
-use craq_names::{ChainId, NodeId, NodeName, Refusal, Stamp};
+use craq_names::{ChainId, Copied, NodeId, NodeName, Refusal, Stamp};
 use craq_node::Core;
 use craq_place::{MOST_CHAINS, Plan};
-use craq_seat::{BookCell, Cell, Desk};
+use craq_seat::{Cell, Desk};
 use crossbeam_channel::Sender;
 use std::alloc::{AllocError, Global};
 use std::sync::{Arc, Mutex, RwLock};
@@ -111,16 +114,20 @@ fn open_chain<C: Core>(
 ) -> Result<Chain<C>, Refusal>
     requires { IsMembership members.now }
     ensures name { IfOk result (λ c. string_bytes c.name ≡ name.now) }
+    ensures master { IfOk result (λ c. opened c.id c.first.members ≡ opened id members.now) }
     ensures err { IfErr result (λ e. e ≡ Refusal.Memory) }
 {
     let name = String::from_str(alloc, name)?;
-    let book = BookCell::open(alloc, id, members, form.journal)?;
-    let nodes = open_members(alloc, id, book.config(), form, workers)?;
+    let book = ChainBook::open(alloc, id, members, form.journal)?;
+    let first = book.cell().config().copied(alloc)?;
+    let nodes = open_members(alloc, id, &first, form, workers)?;
     let (master, ticks) = crossbeam_channel::bounded(alloc, 1)?;
     workers.push(Worker::Master(id, ticks))?;
     let alive = alive.clone()?;
     Ok(Chain {
         name,
+        id,
+        first,
         book: Mutex::new(book),
         ways: RwLock::new(Ways {
             nodes,
@@ -140,6 +147,7 @@ pub(crate) fn open_chains<C: Core>(
 ) -> Result<Vec<Chain<C>>, Refusal>
     requires { IsPlan plan.now }
     ensures names { IfOk result (λ chains. map (λ c. string_bytes c.name) chains.items ≡ map (λ c. c.0) plan.now) }
+    ensures masters { IfOk result (λ chains. map (λ c. opened c.id c.first.members) chains.items ≡ masters_of 0 plan.now) }
     ensures err { IfErr result (λ e. e ≡ Refusal.Memory) }
 {
     let mut chains = Vec::new(alloc);

@@ -1,7 +1,10 @@
 //! `Store`, the primary object of the crate: it starts, stops, removes, joins and closes; for whoever runs a store.
 ghost use Rattle.std.specs.Prelude.{◌≡◌, ◌≤◌, ◌↔◌, Err, IfErr, IfOk, OnOk, length, map, string_bytes};
+ghost use Rattle.craq_epochs.specs.Mastered.{opened};
+ghost use Rattle.craq_held.specs.Membered.{AreMembershipsOf, IsMembershipOf};
 ghost use Rattle.craq_place.specs.Plan.{IsPlan};
 ghost use Rattle.craq_workers.specs.Clients.{RefusesAsk};
+ghost use Rattle.craq_workers.specs.Stores.{masters_of};
 
 use crate::chain::{Chain, refuse_queued};
 use crate::client::Client;
@@ -13,6 +16,7 @@ use crate::shared::{Return, Shared};
 use crate::steps::{dismiss, sent_by_book};
 use crate::work::{Worker, master_of, work};
 use craq_epochs::{MEMBER_LIMIT, is_among};
+use craq_held::ChainBook;
 use craq_letters::Letterbox;
 use craq_model::{Ask, Config, Event};
 use craq_names::{ChainId, Copied, NodeId, NodeName, Pass, Refusal, Stamp};
@@ -36,7 +40,8 @@ pub struct ChainStatus {
 
 /// A store that runs: two threads for each node, one for its asks and one for what arrives there, or one for each chain
 /// where it is carried; and one for each chain's master. Whoever has it has to close it. A contract sees the names of its
-/// chains, by id, and whether it keeps journals: what stands behind locks and channels it does not see.
+/// chains and their masters as they were opened, by id, and whether it keeps journals: what stands behind locks and channels
+/// it does not see.
 pub struct Store<C: Core, G: Gate> {
     pub(crate) alloc: Global,
     form: Form,
@@ -47,34 +52,43 @@ pub struct Store<C: Core, G: Gate> {
 
 impl<C: Core, G: Gate> Model for Store<C, G> {
     ghost use Rattle.std.specs.Prelude.{map, string_bytes};
+    ghost use Rattle.craq_epochs.specs.Mastered.{opened};
     ghost use Rattle.craq_workers.specs.Stores.{Stored};
 
     ghost Value = { Stored };
 
-    ghost view = { λ s. record { names = map (λ c. string_bytes c.name) s.shared.value.chains.items; journals = s.form.journal } };
+    ghost view = { λ s. record { names = map (λ c. string_bytes c.name) s.shared.value.chains.items; masters = map (λ c. opened c.id c.first.members) s.shared.value.chains.items; journals = s.form.journal } };
 }
 
-/// What a chain's status is now. It fails for want of memory alone.
+/// What a chain's status is now. It fails for want of memory, and where another master stands behind the lock.
 fn status_of<R: Wait, C: Core>(
     rt: &R,
     alloc: Global,
     chain: &Chain<C>,
 ) -> Result<ChainStatus, AllocError>
-    ensures { IfOk result (λ status. string_bytes status.name ≡ string_bytes chain.now.name) }
+    ensures name { IfOk result (λ status. string_bytes status.name ≡ string_bytes chain.now.name) }
+    ensures config { IfOk result (λ status. IsMembershipOf (opened chain.now.id chain.now.first.members) status.config) }
 {
+    let book = chain.book.lock(rt);
+    let cell = book.cell();
+    if !chain.has_opened(cell.opening()) {
+        return Err(AllocError);
+    }
+    let config = cell.config().copied(alloc)?;
     Ok(ChainStatus {
         name: chain.name.clone()?,
-        config: chain.book.lock(rt).config().copied(alloc)?,
+        config,
     })
 }
 
-/// What the status of each chain is now. It fails for want of memory alone.
+/// What the status of each chain is now. It fails as `status_of` does.
 fn statuses_of<R: Wait, C: Core>(
     rt: &R,
     alloc: Global,
     chains: &[Chain<C>],
 ) -> Result<Vec<ChainStatus>, AllocError>
-    ensures { IfOk result (λ statuses. map (λ s. string_bytes s.name) statuses.items ≡ map (λ c. string_bytes c.name) chains.now) }
+    ensures names { IfOk result (λ statuses. map (λ s. string_bytes s.name) statuses.items ≡ map (λ c. string_bytes c.name) chains.now) }
+    ensures members { IfOk result (λ statuses. AreMembershipsOf (map (λ c. opened c.id c.first.members) chains.now) (map (λ s. s.config) statuses.items)) }
 {
     let mut statuses = Vec::new(alloc);
     for chain in chains {
@@ -175,9 +189,11 @@ impl<C: Core, G: Gate> Store<C, G> {
         }
     }
 
-    /// Each chain's name and membership, by id. It fails for want of memory alone.
+    /// Each chain's name and a membership that its master has after some steps, by id; it may lag. It fails for want
+    /// of memory, and where another master stands behind a lock.
     pub fn status<R: Wait>(&self, rt: &R) -> Result<Vec<ChainStatus>, AllocError>
-        ensures { IfOk result (λ statuses. map (λ s. string_bytes s.name) statuses.items ≡ self.now.names) }
+        ensures names { IfOk result (λ statuses. map (λ s. string_bytes s.name) statuses.items ≡ self.now.names) }
+        ensures members { IfOk result (λ statuses. AreMembershipsOf self.now.masters (map (λ s. s.config) statuses.items)) }
     {
         statuses_of(rt, self.alloc, self.shared.chains.as_slice())
     }
@@ -195,6 +211,7 @@ impl<C: Core + Send + 'static, G: Gate + Send + Sync + 'static> Store<C, G> {
     ) -> Result<Self, Refusal>
         requires { IsPlan plan.now }
         ensures names { IfOk result (λ store. store.names ≡ map (λ c. c.0) plan.now) }
+        ensures masters { IfOk result (λ store. store.masters ≡ masters_of 0 plan.now) }
         ensures journals { IfOk result (λ store. store.journals ≡ journal) }
         ensures err { IfErr result (λ e. e ≡ Refusal.Memory) }
     {
@@ -269,7 +286,7 @@ impl<C: Core + Send + 'static, G: Gate + Send + Sync + 'static> Store<C, G> {
     ) -> Result<Receipt, Refusal> {
         let place = self.shared.chain(chain)?;
         let mut book = place.book.lock(rt);
-        if !is_among(book.config().members.as_slice(), node) {
+        if !is_among(book.cell().config().members.as_slice(), node) {
             return Err(Refusal::NotMember);
         }
         let member = place.node(rt, node)?;
@@ -278,7 +295,7 @@ impl<C: Core + Send + 'static, G: Gate + Send + Sync + 'static> Store<C, G> {
         };
         let event = BookEvent::Remove { stopped, stop };
         let receipt = book.take(self.alloc, event, Pass::start())?;
-        let sent = sent_by_book(self.alloc, &book);
+        let sent = sent_by_book(self.alloc, book.cell());
         drop(book);
         place.retire(rt, node, self.form.journal);
         place.bell.change();
@@ -301,14 +318,14 @@ impl<C: Core + Send + 'static, G: Gate + Send + Sync + 'static> Store<C, G> {
     ) -> Result<Receipt, Refusal> {
         let place = self.shared.chain(chain)?;
         let mut book = place.book.lock(&rt);
-        test_join(&book, node)?;
+        test_join(book.cell(), node)?;
         let name = NodeName { chain, node };
-        let stamp = next(book.stamp())?;
+        let stamp = next(book.cell().stamp())?;
         let way = open_node(self.alloc, &name, None, self.form.journal, stamp)?;
         let mut hired = Vec::with_capacity(self.alloc, 2)?;
         match self.join_opened(rt, place, &mut book, node, way, &mut hired) {
             Ok(receipt) => {
-                let sent = sent_by_book(self.alloc, &book);
+                let sent = sent_by_book(self.alloc, book.cell());
                 drop(book);
                 place.bell.change();
                 self.announce(&rt, chain, sent);
@@ -347,7 +364,7 @@ impl<C: Core + Send + 'static, G: Gate + Send + Sync + 'static> Store<C, G> {
         &self,
         rt: R,
         place: &Chain<C>,
-        book: &mut BookCell,
+        book: &mut ChainBook,
         id: NodeId,
         way: Way<C>,
         hired: &mut Vec<JoinHandle<()>>,

@@ -140,7 +140,7 @@ fn tick<R: Wait, C: Core, G: Gate>(
     let mut book = chain.book.lock(rt);
     shared.gate.within(*name, Work::Deliveries, count);
     match book.take(alloc, BookEvent::Tick, Pass::start()) {
-        Ok(_) => sent_by_book(alloc, &book),
+        Ok(_) => sent_by_book(alloc, book.cell()),
         Err(_) => Vec::new(alloc),
     }
 }

@@ -68,6 +68,28 @@ fn set_patience(stream: &TcpStream, seconds: u32) {
 
 impl<'a, R, C, G> Server<'a, R, C, G>
 where
+    R: Eprint + Wait,
+    C: Core,
+    G: Gate,
+{
+    /// A connection is over, and its place is free.
+    fn leave(&self, place: usize) {
+        self.serving.log.ended(&self.rt, place);
+        self.connections.leave(&self.rt, place);
+    }
+
+    /// A connection that was served has ended: the receipts of its calls go to their place, where they are kept, and its own place is
+    /// free.
+    pub(crate) fn ended(&self, place: usize, receipts: usize, calls: Vec<CallReceipt>) {
+        if let Some(kept) = self.receipts.lock(&self.rt).get_mut(receipts) {
+            *kept = calls;
+        }
+        self.leave(place);
+    }
+}
+
+impl<'a, R, C, G> Server<'a, R, C, G>
+where
     R: Eprint + Threads + Wait + Clock + Copy + Drop + Send + Sync + 'static,
     C: Core + Send + 'static,
     G: Gate + Send + Sync + 'static,
@@ -148,21 +170,6 @@ where
             self.connections.end(&self.rt);
         }
         begun
-    }
-
-    /// A connection is over, and its place is free.
-    fn leave(&self, place: usize) {
-        self.serving.log.ended(&self.rt, place);
-        self.connections.leave(&self.rt, place);
-    }
-
-    /// A connection that was served has ended: the receipts of its calls go to their place, where they are kept, and its own place is
-    /// free.
-    pub(crate) fn ended(&self, place: usize, receipts: usize, calls: Vec<CallReceipt>) {
-        if let Some(kept) = self.receipts.lock(&self.rt).get_mut(receipts) {
-            *kept = calls;
-        }
-        self.leave(place);
     }
 
     /// The store, as the door of the connection of a place calls it, and what is told of the calls that it refuses.

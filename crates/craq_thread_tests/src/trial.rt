@@ -19,11 +19,12 @@ pub enum Trial {
     Within,
     /// It is held after that piece, and no lock is.
     After,
-    /// Of all messages a third is lost for so many turns, and then none.
+    /// Of all messages a third is lost for so many turns, and a tenth of the others sent twice; then none.
     Losses(u64),
     /// A node joins after so many calls, and what goes to it takes longer than a tick.
     SlowJoin(u64),
-    /// Members stop, are removed and join until so many calls are answered; one message in a hundred is lost.
+    /// Members stop, are removed and join until so many calls are answered; one message in a hundred is lost, and one in ten sent
+    /// twice.
     Changes(u64),
     /// A store is closed while clients ask, so often.
     Closes(u64),

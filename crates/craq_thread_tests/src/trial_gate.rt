@@ -18,7 +18,7 @@ const THIRD: u64 = 3;
 
 const HUNDREDTH: u64 = 100;
 
-/// Of how many messages one comes twice, while some are lost.
+/// Of how many messages that are not lost one is sent twice, while some are lost.
 const TENTH: u64 = 10;
 
 /// The number of a message, spread as if by chance.

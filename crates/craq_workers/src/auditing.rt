@@ -28,8 +28,8 @@ fn lock_all<'a, R: Wait, C: Core>(
     Ok(seats)
 }
 
-/// The cells of a chain: its master's, whose lock is held, and those under the locks of these nodes. It fails for want of memory alone. Here
-/// alone an audit reaches the locks of nodes.
+/// The cells of a chain: its master's, whose lock is held, and those under the locks of these nodes. It fails for want of memory
+/// alone. Here alone an audit reaches the locks of nodes.
 fn lock_chain<'b, 's, R: Wait, C: Core>(
     rt: &R,
     alloc: Global,

@@ -27,7 +27,8 @@ pub trait Gate: Drop {
     /// Whether a message goes over the link from one node, or the master, to another. Where it does not it is lost.
     fn carries(&self, from: NodeName, to: NodeName) -> bool;
 
-    /// Whether a message that goes over the link from one node, or the master, to another comes twice.
+    /// Whether a message that goes over the link from one node, or the master, to another is sent twice. It comes twice then, but
+    /// where it is an acknowledgement or says that its sender is not ready: of those that wait the last alone is taken.
     fn repeats(&self, _from: NodeName, _to: NodeName) -> bool {
         false
     }

@@ -51,7 +51,7 @@ fn beside(other: &NodeName, id: NodeId) -> NodeName {
     }
 }
 
-/// A message comes to a node of a chain, or comes twice, while memory is there.
+/// A message is brought to a node of a chain, or brought twice, while memory is there.
 fn bring<R: Wait, C: Core>(
     rt: &R,
     chain: &Chain<C>,
@@ -86,7 +86,7 @@ impl<C: Core, G: Gate> Shared<C, G> {
         }
     }
 
-    /// Sends a message. One that the gate does not carry is lost, and one that it repeats comes twice, while memory is there.
+    /// Sends a message. One that the gate does not carry is lost, and one that it repeats is sent twice, while memory is there.
     /// Who carries the chain's nodes is told, unless the sender carries them on itself (`quiet`).
     pub(crate) fn send<R: Wait>(&self, rt: &R, from: &NodeName, message: Sent, quiet: bool) {
         let Sent { to, kind, bytes } = message;

@@ -31,7 +31,7 @@ use std::sync::{Arc, Wait};
 use std::thread;
 use std::thread::{JoinHandle, Threads};
 
-/// A chain's name and its present membership.
+/// A chain's name and its membership as its master's lock was held; it may be an old one by now, and contracts say no more.
 #[derive(Debug, Drop)]
 pub struct ChainStatus {
     pub name: String,

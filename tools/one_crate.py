@@ -22,15 +22,6 @@ def words_of(name):
     return repository.text_of(file).splitlines() if os.path.isfile(file) else []
 
 
-def file_of(name, what, if_none=b""):
-    """The bytes of a file beside src/."""
-    try:
-        with open(repository.path("crates", name, what), "rb") as it:
-            return it.read()
-    except FileNotFoundError:
-        return if_none
-
-
 def built(name):
     """Proves and builds a program anew, and tells where it is; None where it could not be built."""
     program = repository.path("crates", name, "out", name)
@@ -49,8 +40,8 @@ def prints_its_file(name):
         data = repository.path("crates", name, "data")
         if os.path.isdir(data):
             shutil.copytree(data, room, dirs_exist_ok=True)
-        it = subprocess.run([program, *words_of(name)], input=file_of(name, "stdin"), cwd=room, stdout=subprocess.PIPE, timeout=PATIENCE)
-    return (it.returncode, it.stdout) == (int(file_of(name, "status", b"0")), file_of(name, "stdout"))
+        it = subprocess.run([program, *words_of(name)], input=repository.file_of(name, "stdin"), cwd=room, stdout=subprocess.PIPE, timeout=PATIENCE)
+    return (it.returncode, it.stdout) == (int(repository.file_of(name, "status", b"0")), repository.file_of(name, "stdout"))
 
 
 def steps(name):

@@ -56,6 +56,15 @@ def is_program(name):
     return os.path.isfile(path("crates", name, "src", "main.rt"))
 
 
+def file_of(name, file, otherwise=b""):
+    """The bytes of a file beside src/: on what a program is run, or what it has to print."""
+    try:
+        with open(path("crates", name, file), "rb") as it:
+            return it.read()
+    except FileNotFoundError:
+        return otherwise
+
+
 def edits_in(name, folder):
     """The names of the edits of a crate that stand in this folder of it, without their ending."""
     try:

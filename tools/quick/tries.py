@@ -27,22 +27,13 @@ def passes(checks, *words):
     return ran.stdout.strip().rpartition("\n")[2]
 
 
-def file_of(name, file, otherwise=b""):
-    """The bytes of a file that says on what a program is run, or what it has to print."""
-    try:
-        with open(repository.path("crates", name, file), "rb") as it:
-            return it.read()
-    except FileNotFoundError:
-        return otherwise
-
-
 def ran(name, program, words):
     """Runs a program as the gate does, in a new folder with the files of data/; what it printed, and its status."""
     data = repository.path("crates", name, "data")
     with tempfile.TemporaryDirectory(prefix="quick-") as room:
         if os.path.isdir(data):
             shutil.copytree(data, room, dirs_exist_ok=True)
-        it = subprocess.run([program, *words], cwd=room, input=file_of(name, "stdin"), stdout=subprocess.PIPE, stderr=subprocess.PIPE,
+        it = subprocess.run([program, *words], cwd=room, input=repository.file_of(name, "stdin"), stdout=subprocess.PIPE, stderr=subprocess.PIPE,
                             env={}, timeout=SECONDS)
     return it.returncode, it.stdout, it.stderr.decode(errors="replace")
 
@@ -55,12 +46,12 @@ def unlike(found, wanted):
 
 def prints_its_file(checks, name, program):
     """A program prints what its file stdout has, given the words of its file args; or less, where it is smaller here."""
-    wanted = file_of(name, "stdout")
-    words, fewer = SMALLER.get(name, (file_of(name, "args").decode().splitlines(), {}))
+    wanted = repository.file_of(name, "stdout")
+    words, fewer = SMALLER.get(name, (repository.file_of(name, "args").decode().splitlines(), {}))
     for many, few in fewer.items():
         checks.same(f"how often the stdout of {name} has {many!r}", wanted.count(many), 3)
         wanted = wanted.replace(many, few)
     status, found, errors = ran(name, program, words)
     checks.same(f"lines that {name} prints otherwise", unlike(found, wanted), [])
-    checks.same(f"the status of {name}, which told {errors[-300:]!r}", status, int(file_of(name, "status", b"0")))
+    checks.same(f"the status of {name}, which told {errors[-300:]!r}", status, int(repository.file_of(name, "status", b"0")))
     return f"{len(wanted.splitlines())} lines"

@@ -4,6 +4,7 @@ use Rattle.std.specs.Prelude.{IsPermutation, IsSome}
 use Rattle.std.specs.List.{AllByRecursion}
 use Rattle.std.specs.Borrow.{Bor}
 use Rattle.std.proofs.lemmas.List.Sorted.{Contains-permutation, IsPermutation-cons, IsPermutation-middle, IsPermutation-refl, IsPermutation-sym, IsPermutation-trans, length_permutation}
+use Rattle.craq_names.proofs.Lists.{all_like}
 use Rattle.craq_model.specs.declared.ask.Event.{Event}
 use Rattle.craq_epochs.specs.Mastered.{Mastered}
 use Rattle.craq_seat.specs.declared.journal.BookEvent.{BookEvent}
@@ -19,7 +20,6 @@ use Rattle.craq_merge.proofs.Used.{AreUsed, are_used}
 use Rattle.craq_audit.specs.Chained.{HasCell, HaveIds, IsOfChain}
 use Rattle.craq_audit.specs.Journals.{journals_of, records_in}
 use Rattle.craq_audit.specs.Lookups.{BearsStop, Found, HoldsStop, IsCellOf, cells_of}
-use Rattle.craq_audit.proofs.Lists.{all_change}
 use Rattle.craq_audit.proofs.Sendings.{stop_line, where_stopped}
 
 -- ---- ids that are used once, and as many ids among which all of them are
@@ -126,7 +126,7 @@ of_chain book cs b on ids opened stops =
       ids = have_permuted book book.journal cs b refl on ids;
       chain = chains book cs opened;
       opened = openings book cs opened;
-      stops = all_change (BearsStop cs) (λ (r : Record BookEvent). NamesItsStop (journals_of book (cells_of cs)) r.event) (records_in book.journal) (λ r h. stop_named book cs r.event h) stops;
+      stops = all_like (BearsStop cs) (λ (r : Record BookEvent). NamesItsStop (journals_of book (cells_of cs)) r.event) (records_in book.journal) (λ r h. stop_named book cs r.event h) stops;
     }
 
 pub chain_ids : {C : Type 0} (book : Celled Mastered BookEvent) (cs : List (Lent C)) → AreOfChain book (cells_of cs) (journals_of book (cells_of cs)) → HaveIds book.inside.used cs
@@ -136,4 +136,4 @@ pub chain_opened : {C : Type 0} (book : Celled Mastered BookEvent) (cs : List (L
 chain_opened book cs h = both book cs h.chain h.opened
 
 pub chain_stops : {C : Type 0} (book : Celled Mastered BookEvent) (cs : List (Lent C)) → AreOfChain book (cells_of cs) (journals_of book (cells_of cs)) → AllByRecursion (BearsStop cs) (records_in book.journal)
-chain_stops book cs h = all_change (λ (r : Record BookEvent). NamesItsStop (journals_of book (cells_of cs)) r.event) (BearsStop cs) (records_in book.journal) (λ r k. named_stop book cs r.event k) h.stops
+chain_stops book cs h = all_like (λ (r : Record BookEvent). NamesItsStop (journals_of book (cells_of cs)) r.event) (BearsStop cs) (records_in book.journal) (λ r k. named_stop book cs r.event k) h.stops

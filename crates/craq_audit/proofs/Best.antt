@@ -4,6 +4,7 @@ use Rattle.std.specs.Prelude.{MatchOption, ⊤}
 use Rattle.std.specs.List.{AllByRecursion}
 use Rattle.std.specs.Borrow.{Bor}
 use Rattle.std.proofs.lemmas.List.Elements.{Contains-append_left, Contains-push}
+use Rattle.craq_names.proofs.Lists.{all_like}
 use Rattle.craq_model.specs.declared.ask.Event.{Event}
 use Rattle.craq_seat.specs.declared.journal.Record.{Record}
 use Rattle.craq_seat.specs.Audits.{HasSender, IsFirstUnsent}
@@ -21,10 +22,6 @@ Sent j n = AllByRecursion (HasSender j) n.1
 all_push : {X : Type 0} (P : X → Type 0) (xs : List X) (x : X) → AllByRecursion P xs → P x → AllByRecursion P (xs ++ x ∷ [])
 all_push P [] x h p = (p, tt)
 all_push P (y ∷ xs) x h p = (h.0, all_push P xs x h.1 p)
-
-change : {X : Type 0} (P Q : X → Type 0) (xs : List X) → ((x : X) → P x → Q x) → AllByRecursion P xs → AllByRecursion Q xs
-change P Q [] f h = tt
-change P Q (x ∷ xs) f h = (f x h.0, change P Q xs f h.1)
 
 -- found already at a lower node
 pub best_stays : (j : Journals) (ns : List Kept) (n : Kept) (found : Option (ℕ × ℕ)) → ¬ MatchOption found ⊤ (λ f. n.0 < f.0) → IsBest j ns found → IsBest j (ns ++ n ∷ []) found
@@ -55,14 +52,14 @@ best_new j ns n None index l x b =
       records = n.1;
       journal = Contains-push ns n;
       first = x;
-      lower = all_push (λ (k : Kept). k.0 < n.0 → Sent j k) ns n (change (Sent j) (λ (k : Kept). k.0 < n.0 → Sent j k) ns (λ k s h. s) b) (λ h. absurd (omega (arith, h)));
+      lower = all_push (λ (k : Kept). k.0 < n.0 → Sent j k) ns n (all_like (Sent j) (λ (k : Kept). k.0 < n.0 → Sent j k) ns (λ k s h. s) b) (λ h. absurd (omega (arith, h)));
     }
 best_new j ns n (Some f) index l x b =
     record {
       records = n.1;
       journal = Contains-push ns n;
       first = x;
-      lower = all_push (λ (k : Kept). k.0 < n.0 → Sent j k) ns n (change (λ (k : Kept). k.0 < f.0 → Sent j k) (λ (k : Kept). k.0 < n.0 → Sent j k) ns (λ k s h. s (omega (arith, h, l))) b.lower) (λ h. absurd (omega (arith, h)));
+      lower = all_push (λ (k : Kept). k.0 < n.0 → Sent j k) ns n (all_like (λ (k : Kept). k.0 < f.0 → Sent j k) (λ (k : Kept). k.0 < n.0 → Sent j k) ns (λ k s h. s (omega (arith, h, l))) b.lower) (λ h. absurd (omega (arith, h)));
     }
 
 pub best_none : (j : Journals) → IsBest j [] None

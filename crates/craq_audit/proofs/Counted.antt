@@ -4,8 +4,6 @@ use Rattle.std.specs.Prelude.{◌||◌, ◌&&◌}
 use Rattle.std.specs.List.{AllByRecursion, AllWithin}
 use Rattle.std.specs.List.Sorted.{IsPartitionPoint, IsPartitionedBy}
 use Rattle.craq_model.specs.declared.message.LinkMessage.{LinkMessage}
-use Rattle.craq_runs.specs.declared.run.Taken.{Taken}
-use Rattle.craq_runs.specs.Typed.{AreOfType, IsMoveOfType}
 use Rattle.craq_runs.specs.Chain.{sent_in}
 use Rattle.craq_seat.specs.Merge.{AreInOrder, IsBefore, Line, number_among}
 use Rattle.craq_merge.proofs.Numbers.{all_sent, first_is, not_first}
@@ -110,10 +108,6 @@ map_more f (y ∷ xs) (suc i) x less is =
 pub mapped_push : {X Y : Type 0} (f : X → Y) (xs : List X) (i : ℕ) (x : X) (old new : List Y) (y : Y) → i < length xs → x ≡ get_or xs i x → new ≡ old ++ y ∷ [] → old ≡ map f (take i xs) → y ≡ f x → new ≡ map f (take (i + 1) xs)
 mapped_push f xs i x old new y less is e o m =
     e ∙ ap (λ zs. zs ++ y ∷ []) o ∙ ap (λ z. map f (take i xs) ++ z ∷ []) m ∙ sym (map_more f xs i x less is)
-
-pub typed_push : (ts : List Taken) (t : Taken) → AreOfType ts → IsMoveOfType t.chosen → AreOfType (ts ++ t ∷ [])
-typed_push [] t h k = (k, tt)
-typed_push (u ∷ ts) t h k = (h.0, typed_push ts t h.1 k)
 
 pub at_place : {X : Type 0} (P : X → Type 0) (xs : List X) (i : ℕ) (x : X) → AllByRecursion P xs → i < length xs → x ≡ get_or xs i x → P x
 at_place P [] i x h less is = absurd (omega (arith, less))

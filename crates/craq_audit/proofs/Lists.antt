@@ -1,5 +1,5 @@
 -- Loops that look for something in a list.
-use Rattle.std.proofs.Common.{◌≡◌, ◌<◌, ◌≤◌, ℕ, zero, suc, ◌+◌, List, [], ◌∷◌, map, length, take, drop, get_or, Some, sym, subst, ap, arith, inl, inr}
+use Rattle.std.proofs.Common.{◌≡◌, ◌<◌, ◌≤◌, ℕ, zero, suc, ◌+◌, List, [], ◌∷◌, length, take, drop, get_or, Some, sym, subst, ap, arith, inl, inr}
 use Rattle.std.specs.Prelude.{slice_get}
 use Rattle.std.specs.List.{AllByRecursion}
 use Rattle.craq_audit.specs.Lookups.{Found, IsFirstNot}
@@ -57,16 +57,3 @@ got (y ∷ xs) (suc i) x less is = got xs i x (omega (arith, less)) is
 
 pub first_not : {X : Type 0} (P : X → Type 0) (xs : List X) (i : ℕ) (x : X) → i < length xs → x ≡ get_or xs i x → ¬ P x → AllByRecursion P (take i xs) → IsFirstNot P xs i
 first_not P xs i x less is n h = record { not_so = (x, got xs i x less is, n); earlier = h }
-
--- what is so of each is so of each where it says more
-pub all_change : {X : Type 0} (P Q : X → Type 0) (xs : List X) → ((x : X) → P x → Q x) → AllByRecursion P xs → AllByRecursion Q xs
-all_change P Q [] f h = tt
-all_change P Q (x ∷ xs) f h = (f x h.0, all_change P Q xs f h.1)
-
-pub all_under : {X Y : Type 0} (f : X → Y) (P : Y → Type 0) (xs : List X) → AllByRecursion (λ x. P (f x)) xs → AllByRecursion P (map f xs)
-all_under f P [] h = tt
-all_under f P (x ∷ xs) h = (h.0, all_under f P xs h.1)
-
-pub all_over : {X Y : Type 0} (f : X → Y) (P : Y → Type 0) (xs : List X) → AllByRecursion P (map f xs) → AllByRecursion (λ x. P (f x)) xs
-all_over f P [] h = tt
-all_over f P (x ∷ xs) h = (h.0, all_over f P xs h.1)

@@ -5,6 +5,7 @@ use Rattle.std.specs.List.{AllByRecursion}
 use Rattle.std.specs.Borrow.{Bor}
 use Rattle.craq_names.specs.declared.refusal.Refusal.{Refusal}
 use Rattle.craq_names.specs.declared.refusal.Refusal.TheVariants.{Memory}
+use Rattle.craq_names.proofs.Lists.{all_like}
 use Rattle.craq_model.specs.declared.ask.Event.{Event}
 use Rattle.craq_model.specs.declared.message.LinkMessage.{LinkMessage}
 use Rattle.craq_model.specs.Plain.{Plain}
@@ -33,7 +34,6 @@ use Rattle.craq_audit.specs.Audited.{Audits, CanBeAudited, IsAudited, IsRefused}
 use Rattle.craq_audit.specs.Journals.{AreSent, journals_of}
 use Rattle.craq_audit.specs.Lines.{IsArrivalIn, IsSentIn}
 use Rattle.craq_audit.specs.Lookups.{HoldsCall, IsFirstNot, KeepsType, cells_of}
-use Rattle.craq_audit.proofs.Lists.{all_change}
 use Rattle.craq_audit.proofs.Sendings.{held, where_held}
 use Rattle.craq_audit.proofs.Keeping.{types_kept}
 
@@ -79,7 +79,7 @@ abbrev Lent : Type 0 → Type 0
 Lent C = Bor (Celled C Event)
 
 pub all_held : {C : Type 0} (book : Celled Mastered BookEvent) (cs : List (Lent C)) (receipts : List Called) → AllByRecursion (HoldsCall cs) receipts → AllByRecursion (IsHeld (journals_of book (cells_of cs))) receipts
-all_held book cs receipts h = all_change (HoldsCall cs) (IsHeld (journals_of book (cells_of cs))) receipts (λ c k. held book cs c k.0 k.1) h
+all_held book cs receipts h = all_like (HoldsCall cs) (IsHeld (journals_of book (cells_of cs))) receipts (λ c k. held book cs c k.0 k.1) h
 
 pub no_receipt : {C : Type 0} (book : Celled Mastered BookEvent) (cs : List (Lent C)) (receipts : List Called) (index : ℕ) → AreSent (journals_of book (cells_of cs)) → IsFirstNot (HoldsCall cs) receipts index → SaysNoReceipt (journals_of book (cells_of cs)) receipts index
 no_receipt book cs receipts index sent f =
@@ -87,7 +87,7 @@ no_receipt book cs receipts index sent f =
       sent = sent;
       unheld = record {
         unheld = (f.not_so.0, f.not_so.1, λ h. f.not_so.2 (where_held book cs f.not_so.0 h));
-        earlier = all_change (HoldsCall cs) (IsHeld (journals_of book (cells_of cs))) (take index receipts) (λ c k. held book cs c k.0 k.1) f.earlier;
+        earlier = all_like (HoldsCall cs) (IsHeld (journals_of book (cells_of cs))) (take index receipts) (λ c k. held book cs c k.0 k.1) f.earlier;
       };
     }
 

@@ -13,6 +13,7 @@ use Rattle.craq_model.specs.Plain.{Plain, id_of, opening_joined}
 use Rattle.craq_epochs.specs.Mastered.{Mastered, IsMastered, removed, joined}
 use Rattle.craq_epochs.specs.Switched.{Switched}
 use Rattle.craq_runs.specs.Chain.{Chain, Progress, config_progress, node_at, is_running, removal_progress, join_progress, next_epoch, with_node}
+use Rattle.craq_laws.proofs.Nodes.{ids_push, used_are_nodes}
 use Rattle.craq_chain.specs.Parts.{AreParts, HasStopped, Moves, master_of, place_from, told_step, join_step, removal_step}
 use Rattle.craq_chain.proofs.Places.{stands_at, no_node, place_known, zip_push}
 use Rattle.craq_chain.proofs.Steps.{own_name, names_push}
@@ -22,12 +23,6 @@ member_used : (members used : List ℕ) (id : ℕ) → AllByRecursion (λ id. is
 unfolding is_member
 member_used [] used id h e = cc
 member_used (k ∷ members) used id h e = let first = h.0 in grind (arith, member_used members used id h.1)
-
--- the used ids are those of the nodes
-used_are_nodes : (ps : List Plain) (id : ℕ) → is_member (map id_of ps) id ≡ is_some (node_at ps id)
-unfolding is_member node_at
-used_are_nodes [] id = refl
-used_are_nodes (p ∷ ps) id = grind (arith, used_are_nodes ps id)
 
 pub not_member : {C : Type 0} (R : C → Plain → Type 0) (cs : List C) (m : Mastered) (c : Chain) (id : ℕ) → AreParts R cs m c → is_member m.members id ≡ false → removal_progress c id ≡ Err NotMember
 unfolding removal_progress
@@ -203,10 +198,6 @@ not_out R cs m c id step e h zero place s (inr r) =
 pub join_made : (m n : Mastered) (id : ℕ) → joined m id ≡ Ok n → n ≡ record m { epoch = m.epoch + 1; members = m.members ++ id ∷ []; used = m.used ++ id ∷ [] }
 unfolding joined
 join_made m n id h = grind arith
-
-ids_push : (ps : List Plain) (p : Plain) → map id_of (ps ++ p ∷ []) ≡ map id_of ps ++ id_of p ∷ []
-ids_push [] p = refl
-ids_push (q ∷ ps) p = ap (λ xs. id_of q ∷ xs) (ids_push ps p)
 
 -- the master took a new member in, and its core was added
 pub joins : {C : Type 0} (R : C → Plain → Type 0) (cs : List C) (m n : Mastered) (c : Chain) (id : ℕ) (core : C) (step : Step) → AreParts R cs m c → (id == 0) ≡ false → is_some (place_from 0 c.nodes id) ≡ false → R core (opening_joined (record { chain = m.chain; node = id })) → join_step m id ≡ Ok step → joined m id ≡ Ok n → Moves (AreParts R (cs ++ core ∷ []) n) c (IsOk (join_progress c id)) (Ok step) (join_progress c id)

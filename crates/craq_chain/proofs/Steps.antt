@@ -1,7 +1,6 @@
 -- A core takes a step: the chain has its node's step.
-use Rattle.std.proofs.Common.{◌≡◌, ◌<◌, ◌+◌, ◌==◌, ℕ, Bool, true, false, if◌then◌else◌, List, [], ◌∷◌, ◌++◌, length, map, set, slice_index_or, Some, None, Result, Ok, Err, refl, ap, subst, arith, ◌∙◌, inl, inr}
+use Rattle.std.proofs.Common.{◌≡◌, ◌<◌, ◌+◌, ◌==◌, ℕ, Bool, true, false, if◌then◌else◌, List, [], ◌∷◌, ◌++◌, length, set, slice_index_or, Some, None, Result, Ok, Err, refl, ap, subst, arith, ◌∙◌, inl, inr}
 use Rattle.std.specs.Prelude.{IsSome}
-use Rattle.std.proofs.lemmas.Bool.{eqb-true}
 use Rattle.std.specs.List.{AllByRecursion, AllZip}
 use Rattle.craq_names.specs.declared.refusal.Refusal.{Refusal}
 use Rattle.craq_names.specs.declared.refusal.Refusal.TheVariants.{WrongNode}
@@ -11,15 +10,10 @@ use Rattle.craq_model.specs.Plain.{Plain, id_of}
 use Rattle.craq_epochs.specs.Mastered.{Mastered}
 use Rattle.craq_node.specs.Represented.{Answers}
 use Rattle.craq_laws.proofs.Names.{name_kept}
+use Rattle.craq_laws.proofs.Nodes.{ids_stay}
 use Rattle.craq_runs.specs.Chain.{Chain, node_at, set_node, node_progress}
 use Rattle.craq_chain.specs.Parts.{AreParts, Moves, place_from}
 use Rattle.craq_chain.proofs.Places.{stands_at, no_node}
-
--- the ids stay
-set_ids : (ps : List Plain) (q : Plain) → map id_of (set_node ps q) ≡ map id_of ps
-unfolding set_node
-set_ids [] q = refl
-set_ids (p ∷ ps) q = grind (arith, set_ids ps q, eqb-true (id_of p) (id_of q))
 
 by_test : {A : Type 0} (b : Bool) (Q : A → Type 0) (x y : A) → Q x → Q y → Q (if b then x else y)
 by_test true Q x y h k = h
@@ -29,7 +23,7 @@ by_test false Q x y h k = k
 abbrev pub AreOf : ℕ → List Plain → Type 0
 AreOf chain ps = AllByRecursion (λ (p : Plain). p.name.chain ≡ chain) ps
 
-set_names : (chain : ℕ) (ps : List Plain) (q : Plain) → AreOf chain ps → q.name.chain ≡ chain → AreOf chain (set_node ps q)
+pub set_names : (chain : ℕ) (ps : List Plain) (q : Plain) → AreOf chain ps → q.name.chain ≡ chain → AreOf chain (set_node ps q)
 unfolding set_node
 set_names chain [] q h e = tt
 set_names chain (p ∷ ps) q h e = by_test (id_of p == id_of q) (AreOf chain) (q ∷ ps) (p ∷ set_node ps q) (e, h.1) (h.0, set_names chain ps q h.1 e)
@@ -55,7 +49,7 @@ stepped R cs m c id i event core d (Ok step) h e w is a =
       rw (s.at, t.1) refl,
       record {
         nodes = s.goes d t.0 t.2 (ap (λ n. n.node) same ∙ s.own);
-        master = rw (set_ids c.nodes t.0) h.master;
+        master = rw (ids_stay c.nodes t.0) h.master;
         names = set_names c.chain c.nodes t.0 h.names (ap (λ n. n.chain) same ∙ chained);
       },
     )

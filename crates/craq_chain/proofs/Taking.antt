@@ -5,6 +5,7 @@ use Rattle.std.proofs.lemmas.List.{append-nil}
 use Rattle.craq_names.specs.Limits.{greatest}
 use Rattle.craq_names.specs.declared.refusal.Refusal.{Refusal}
 use Rattle.craq_names.specs.Order.{RefusesWhere}
+use Rattle.craq_names.proofs.Lists.{all_append}
 use Rattle.craq_model.specs.declared.step.Out.{Out}
 use Rattle.craq_model.specs.declared.step.Out.TheVariants as outs
 use Rattle.craq_model.specs.declared.step.Step.{Step}
@@ -14,20 +15,15 @@ use Rattle.craq_epochs.specs.Mastered.{Mastered}
 use Rattle.craq_runs.specs.declared.run.Move.{Move}
 use Rattle.craq_runs.specs.declared.run.Taken.{Taken}
 use Rattle.craq_runs.specs.Chain.{Chain, opening_chain, sent_in, move_progress, numbers_left, chain_step}
-use Rattle.craq_runs.specs.Runs.{Takes, after_move, after_moves, progressed}
-use Rattle.craq_runs.specs.Typed.{AreOfType, IsMoveOfType}
-use Rattle.craq_laws.proofs.Nodes.{goes_on}
-use Rattle.craq_node_invariant.proofs.Lists.{all_append}
+use Rattle.craq_runs.specs.Runs.{Takes, progressed}
+use Rattle.craq_runs.specs.Typed.{IsMoveOfType}
+use Rattle.craq_laws.proofs.Nodes.{goes_on, after_push, typed_push}
 use Rattle.craq_node_invariant.specs.Sound.{AreSpelled}
 use Rattle.craq_chain.specs.Chained.{Chained, Finds, chain_of, with_move, after_taking}
 use Rattle.craq_chain.specs.Parts.{AreParts, Moves}
 use Rattle.craq_chain.specs.Sent.{counts_from, sent_by}
 use Rattle.craq_chain.specs.Standing.{IsStanding}
 use Rattle.craq_chain.proofs.Sendings.{counts_long, total}
-
-after_push : (c : Chain) (ts : List Taken) (t : Taken) → after_moves c (ts ++ t ∷ []) ≡ after_move (after_moves c ts) t.chosen
-after_push c [] t = refl
-after_push c (u ∷ ts) t = after_push (after_move c u.chosen) ts t
 
 sent_push : (ts : List Taken) (t : Taken) → sent_by (ts ++ t ∷ []) ≡ sent_by ts ++ sent_in t.step.outs
 sent_push [] t = append-nil (sent_in t.step.outs)
@@ -40,10 +36,6 @@ counts_push before (u ∷ ts) t =
     (counts_push (before + length (sent_in u.step.outs)) ts t
     ∙ ap (λ n. counts_from (before + length (sent_in u.step.outs)) ts ++ n ∷ []) (omega (arith, length-append (sent_in u.step.outs) (sent_by ts))))
 
-typed_push : (ts : List Taken) (t : Taken) → AreOfType ts → IsMoveOfType t.chosen → AreOfType (ts ++ t ∷ [])
-typed_push [] t h k = (k, tt)
-typed_push (u ∷ ts) t h k = (h.0, typed_push ts t h.1 k)
-
 -- what is sent can be spelled
 sends_spelled : (os : List Out) → AreSpelled os → AllByRecursion IsSpelled (sent_in os)
 unfolding sent_in
@@ -51,7 +43,7 @@ sends_spelled [] h = tt
 sends_spelled (outs.Send to m ∷ os) h = (h.0.0, sends_spelled os h.1)
 sends_spelled (outs.Answer ticket answer ∷ os) h = sends_spelled os h.1
 
-numbered : (c : Chain) (step : Step) → c.moves < greatest → length c.messages + length (sent_in step.outs) ≤ greatest → numbers_left c step ≡ true
+pub numbered : (c : Chain) (step : Step) → c.moves < greatest → length c.messages + length (sent_in step.outs) ≤ greatest → numbers_left c step ≡ true
 unfolding numbers_left
 numbered c step few fits = grind arith
 

@@ -27,6 +27,7 @@ use Rattle.craq_model.specs.declared.step.Why.TheVariants.{OtherEpoch, NotNeighb
 use Rattle.craq_model.specs.declared.waiting.WaitingUpdate.{WaitingUpdate}
 use Rattle.craq_model.specs.declared.waiting.WaitingRead.{WaitingRead}
 use Rattle.craq_names.specs.Maps.{at_number}
+use Rattle.craq_names.proofs.Lists.{all_append}
 use Rattle.craq_model.specs.declared.gathering.Gathering.{Gathering}
 use Rattle.craq_model.specs.declared.message.StatePart.{StatePart}
 use Rattle.craq_model.specs.Parts.{gathered_position, gathering_for, is_in_order, with_part, is_whole, joined_state}
@@ -41,7 +42,7 @@ use Rattle.craq_refinement.specs.Follows.{IsPlaced}
 use Rattle.craq_refinement.proofs.Updates.{refused, turn_same}
 use Rattle.craq_updates.proofs.AtNodes.{for_node, tick_same, stop_same}
 use Rattle.craq_updates.proofs.EachMove.{entry_for}
-use Rattle.craq_strong_answers.proofs.Gives.{all_passing, all_joined}
+use Rattle.craq_strong_answers.proofs.Gives.{all_passing}
 use Rattle.craq_strong_answers.proofs.Kept.{IsNewest, newest_position}
 
 -- each of these updates waits for more than so many
@@ -235,7 +236,7 @@ replies_not_last p w ready inner position reply sends t h =
     (λ e k.
     let g : (is_full p ≡ false) × (Ok later ≡ Ok t) = refused (is_full p) refusals.PendingFull (Ok later) k in
     subst S (turn_same later t (Ok later) refl g.1) (record {
-      above = all_joined (λ (u : WaitingUpdate). p.past.acknowledged < u.position) p.waiting_updates (u ∷ []) w.above (leb-false position p.past.acknowledged e, tt);
+      above = all_append (λ (u : WaitingUpdate). p.past.acknowledged < u.position) p.waiting_updates (u ∷ []) w.above (leb-false position p.past.acknowledged e, tt);
       tail = λ i. absurd (both_ways (is_last p) inner (and_parts p.ready (is_last p) i).1);
       unready = λ i. absurd (both_ways p.ready i ready);
     }))

@@ -5,6 +5,7 @@ use Rattle.std.specs.List.{AllByRecursion}
 use Rattle.std.proofs.lemmas.Bool.{cond_both}
 use Rattle.craq_protocol.specs.Members.{is_member}
 use Rattle.craq_names.specs.declared.refusal.Refusal.{Refusal}
+use Rattle.craq_names.proofs.Lists.{all_append, all_like}
 use Rattle.craq_commands.specs.declared.entry.Entry.{Entry}
 use Rattle.craq_model.specs.declared.message.Body.{Body}
 use Rattle.craq_model.specs.declared.message.Body.TheVariants as bodies
@@ -25,7 +26,7 @@ use Rattle.craq_runs.specs.declared.run.Taken.{Taken}
 use Rattle.craq_refinement.specs.Follows.{seen_of, NodeFollows, Follows}
 use Rattle.craq_refinement.specs.Lines.{CanFollow}
 use Rattle.craq_refinement.proofs.EachStep.{every_step}
-use Rattle.craq_refinement.proofs.Lists.{all_append, all_at, all_like}
+use Rattle.craq_refinement.proofs.Lists.{all_at}
 use Rattle.craq_refinement.proofs.Opening.{opening_follows, distinct_members}
 use Rattle.craq_refinement.proofs.Worlds.{history_length}
 use Rattle.craq_updates.proofs.EachMove.{place_of}

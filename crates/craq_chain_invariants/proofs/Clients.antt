@@ -1,6 +1,7 @@
 -- The laws of what clients wait for: versions that were told, and replies of waiting updates.
 use Rattle.std.proofs.Common.{◌≡◌, ℕ, List, [], length, take, Some, ap, sym, subst, ◌∙◌, arith}
 use Rattle.std.specs.List.{AllByRecursion}
+use Rattle.craq_names.proofs.Lists.{all_like}
 use Rattle.craq_commands.specs.declared.state.State.{State}
 use Rattle.craq_commands.specs.SingleCopy.{opening_state, after_entries, said}
 use Rattle.craq_commands.specs.Objects.{version_of}
@@ -13,7 +14,6 @@ use Rattle.craq_runs.specs.Explain.{Account, opening_account}
 use Rattle.craq_runs.specs.Seen.{Asked, answers_from, ask_with}
 use Rattle.craq_runs.specs.Typed.{IsTypedRunOf}
 use Rattle.craq_runs.specs.declared.run.Run.{Run}
-use Rattle.craq_refinement.proofs.Lists.{all_like}
 use Rattle.craq_updates.proofs.Explained.{chain_of_account}
 use Rattle.craq_updates.proofs.Known.{Known}
 use Rattle.craq_updates.proofs.Replay.{account_asks, as_many as all_updates, state_replayed}

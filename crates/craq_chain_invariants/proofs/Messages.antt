@@ -1,6 +1,7 @@
 -- The laws of messages: what was sent stays true.
 use Rattle.std.proofs.Common.{◌≡◌, ℕ, ◌≤◌, true, List, length, take, Some, refl, ap, sym, subst, ◌∙◌, arith}
 use Rattle.std.specs.List.{AllByRecursion}
+use Rattle.craq_names.proofs.Lists.{all_like}
 use Rattle.craq_commands.specs.declared.entry.Entry.{Entry}
 use Rattle.craq_commands.specs.declared.state.State.{State}
 use Rattle.craq_commands.specs.SingleCopy.{opening_state, after, after_entries}
@@ -20,12 +21,11 @@ use Rattle.craq_protocol.proofs.Reached.{reached_safe, reached_inv}
 use Rattle.craq_runs.specs.Chain.{node_at}
 use Rattle.craq_runs.specs.Typed.{IsTypedRunOf}
 use Rattle.craq_runs.specs.declared.run.Run.{Run}
+use Rattle.craq_laws.proofs.Nodes.{node_id}
 use Rattle.craq_refinement.specs.Follows.{PartFollows, BodyFollows, Follows, NodeFollows, said, seen_of}
 use Rattle.craq_refinement.proofs.EachLine.{said_as}
 use Rattle.craq_refinement.proofs.Gathered.{part_is}
-use Rattle.craq_refinement.proofs.Lists.{all_like}
 use Rattle.craq_refinement.proofs.Master.{found}
-use Rattle.craq_refinement.proofs.Nodes.{node_id}
 use Rattle.craq_refinement.proofs.Worlds.{history_length}
 use Rattle.craq_updates.proofs.Replay.{as_many, state_replayed}
 use Rattle.craq_chain_invariants.specs.Kept.{WasSent, HasSender, chain_after, committed_in, history_of, updates_committed}

@@ -28,6 +28,7 @@ use Rattle.craq_model.specs.declared.waiting.WaitingRead.{WaitingRead}
 use Rattle.craq_model.specs.declared.waiting.WaitingUpdate.{WaitingUpdate}
 use Rattle.craq_names.specs.Limits.{greatest, part_limit}
 use Rattle.craq_names.specs.Maps.{at_number}
+use Rattle.craq_names.proofs.Lists.{all_append}
 use Rattle.craq_model.specs.declared.gathering.Gathering.{Gathering}
 use Rattle.craq_model.specs.declared.message.StatePart.{StatePart}
 use Rattle.craq_model.specs.Parts.{item_count, parts_of, gathering_for, is_in_order, with_part, is_whole, joined_state}
@@ -38,7 +39,6 @@ use Rattle.craq_model.specs.Settle.{Turn, Given, turn_with, turn_ignoring, all_c
 use Rattle.craq_model.specs.Asks.{accepted_turn, answered_turn, is_full, is_clean, with_entry, committed_if_last, reply_turn, new_update_turn, update_turn, waiting_read_turn, read_turn, accepted_ask_turn, ask_turn}
 use Rattle.craq_model.specs.Deliveries.{config_turn, are_applicable, forwarding_turn, taken_entries_turn, first_position, final_position, entries_above, entries_turn, due_updates, acknowledgement_turn, ack_turn, query_turn, told_version_turn, version_turn, read_with, fill_bodies, blank_turn, with_copy, copy_turn, gathered_turn, gathering_turn, is_outdated, part_turn, floor_turn, turn_in_epoch, body_turn}
 use Rattle.craq_model.specs.Node.{event_turn}
-use Rattle.craq_refinement.proofs.Lists.{all_append}
 use Rattle.craq_refinement.proofs.Updates.{refused, turn_same}
 use Rattle.craq_updates.proofs.AtNodes.{for_node, tick_same, stop_same}
 use Rattle.craq_updates.proofs.EachMove.{entry_for}

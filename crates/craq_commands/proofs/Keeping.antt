@@ -5,23 +5,12 @@ use Rattle.std.proofs.lemmas.Bool.Decides.{nat_tests}
 use Rattle.std.specs.List.{AllByRecursion}
 use Rattle.std.specs.Ordering.{nat_cmp, eq_by_cmp, is_lt}
 use Rattle.std.specs.declared.cmp.Ordering.TheVariants.{Less, Equal, Greater}
-use Rattle.std.specs.Cmp.{ranked, nat_cmp_is, nat_cmp_total, eq_by_cmp_equiv}
+use Rattle.std.specs.Cmp.{nat_cmp_is, nat_cmp_total, eq_by_cmp_equiv}
 use Rattle.std.specs.FinMap.Entries.{by_order, below_all, is_sorted, find-put, is_sorted-put}
 use Rattle.craq_names.specs.Maps.{at_number, put_number}
+use Rattle.craq_names.proofs.Numbers.{ByOrder, by_order_of, less_of, same_of}
 use Rattle.craq_commands.specs.declared.reply.Reply.{Reply}
 use Rattle.craq_commands.specs.Kept.{Kept, Window, smallest, is_stale, is_new, within_limit, keep}
-
--- two numbers in their order
-abbrev ByOrder : ℕ → ℕ → Type 0
-ByOrder m n = (m < n) ⊎ ((m ≡ n) ⊎ (n < m))
-
-by_order_of : (m n : ℕ) → ByOrder m n
-by_order_of m n =
-    elim (nat_cmp m n) as (λ o. o ≡ nat_cmp m n → ByOrder m n) [
-      | Less ↦ λ e. inl (ranked m n Less e)
-      | Equal ↦ λ e. inr (inl (ranked m n Equal e))
-      | Greater ↦ λ e. inr (inr (ranked m n Greater e))
-    ] refl
 
 -- ---- a reply that is put into a window
 
@@ -58,9 +47,6 @@ found_later n k ks ne =
       | false ↦ λ e. refl
     ] in
     by (eq_by_cmp nat_cmp n k.0) refl
-  where
-    same_of : (x y : ℕ) → eq_by_cmp nat_cmp x y ≡ true → x ≡ y
-    same_of x y e = grind (arith, nat_tests, e)
 
 -- a number that is not found adds to the length
 length_put : (w : Window) (m : ℕ) (r : Reply) → is_some (at_number w m) ≡ false → length (put_number w m r) ≡ suc (length w)
@@ -166,9 +152,6 @@ first false b p = p
 
 abbrev pub IsRising : Window → Type 0
 IsRising w = T (is_sorted nat_cmp w)
-
-less_of : (x y : ℕ) → T (is_lt (nat_cmp x y)) → x < y
-less_of x y h = grind (arith, nat_tests, h)
 
 rising_drop : (w : Window) → IsRising w → IsRising (drop 1 w)
 rising_drop [] h = tt

@@ -1,4 +1,5 @@
 pub mod Doubles
+pub mod Entries
 pub mod Lists
 pub mod Windows
 pub mod Keeping

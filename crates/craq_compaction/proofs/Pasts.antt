@@ -1,21 +1,18 @@
 -- What a compacted past tells of the past: all that a node reads of it but the positions of settled entries.
-use Rattle.std.proofs.Common.{◌≡◌, ◌≤◌, ℕ, ◌+◌, ◌-◌, List, [], ◌∷◌, ◌++◌, length, take, drop, refl, sym, ap, ◌∙◌, subst, arith, length-drop, length-append}
+use Rattle.std.proofs.Common.{◌≡◌, ◌≤◌, ℕ, ◌+◌, ◌-◌, List, ◌++◌, length, take, drop, sym, ap, ◌∙◌, subst, arith, length-drop, length-append}
 use Rattle.std.proofs.lemmas.List.{take-append-drop, take-append-le, drop-append-le, drop-drop}
 use Rattle.std.proofs.Math.Seq.{take-add}
 use Rattle.craq_commands.specs.declared.entry.Entry.{Entry}
 use Rattle.craq_commands.specs.declared.state.State.{State}
-use Rattle.craq_commands.specs.SingleCopy.{after_entry, after_entries}
+use Rattle.craq_commands.specs.SingleCopy.{after_entries}
+use Rattle.craq_commands.proofs.Entries.{after_entries-append}
 use Rattle.craq_model.specs.Past.{Past, length_in, entries_in, newest_in, clean_in, with_entries_in, acknowledged_in}
 use Rattle.craq_compaction.specs.Compacted.{compacted_in, HoldsCommitted}
 
 -- ---- states after entries
 
-pub after_both : (s : State) (es fs : List Entry) → after_entries s (es ++ fs) ≡ after_entries (after_entries s es) fs
-after_both s [] fs = refl
-after_both s (e ∷ es) fs = after_both (after_entry s e) es fs
-
 after_parts : (s : State) (m n : ℕ) (es : List Entry) → after_entries (after_entries s (take m es)) (take n (drop m es)) ≡ after_entries s (take (m + n) es)
-after_parts s m n es = sym (after_both s (take m es) (take n (drop m es))) ∙ ap (after_entries s) (sym (take-add m n es))
+after_parts s m n es = sym (after_entries-append s (take m es) (take n (drop m es))) ∙ ap (after_entries s) (sym (take-add m n es))
 
 -- ---- one past
 
@@ -41,7 +38,7 @@ compacted_length h w = omega (arith, w.based, w.within, length-drop (h.acknowled
 
 pub compacted_newest : (h : Past) → newest_in (compacted_in h) ≡ newest_in h
 compacted_newest h =
-    sym (after_both h.base_state (take (h.acknowledged - h.base) h.entries) (drop (h.acknowledged - h.base) h.entries))
+    sym (after_entries-append h.base_state (take (h.acknowledged - h.base) h.entries) (drop (h.acknowledged - h.base) h.entries))
     ∙ ap (after_entries h.base_state) (take-append-drop (h.acknowledged - h.base) h.entries)
 
 pub compacted_clean : (h : Past) → clean_in (compacted_in h) ≡ clean_in h

@@ -1,10 +1,10 @@
 -- What is remembered of a sound node is a sound node.
 use Rattle.std.proofs.Common.{◌≡◌, ◌≤◌, ℕ, ◌+◌, ◌-◌, Bool, true, false, drop, subst, arith}
+use Rattle.craq_names.proofs.Lists.{all_drop}
 use Rattle.craq_model.specs.Plain.{Plain, clean}
 use Rattle.craq_model.specs.Spelled.{IsSpelledEntry}
 use Rattle.craq_node_invariant.specs.Sound.{AreInRow, IsSound}
 use Rattle.craq_node_invariant.proofs.Applicable.{applicable_drop}
-use Rattle.craq_node_invariant.proofs.Lists.{all_drop}
 use Rattle.craq_node_invariant.proofs.Rows.{row_drop}
 use Rattle.craq_node_invariant.proofs.States.{clean_is}
 use Rattle.craq_compaction.specs.Compacted.{remembered}

@@ -18,6 +18,7 @@ use Rattle.craq_runs.specs.Chain.{Chain, Progress, node_at, opening_chain, chain
 use Rattle.craq_runs.specs.Runs.{AreTaken, Takes, after_move, after_moves, progressed}
 use Rattle.craq_runs.specs.Explain.{Account, account_after, account_of, account_with}
 use Rattle.craq_runs.specs.Seen.{Asked, ask_in, asks_from, node_of}
+use Rattle.craq_laws.proofs.Nodes.{after_push}
 use Rattle.craq_chain.specs.Chained.{Chained, chain_of, moved, with_move, after_taking}
 
 pub one_more : (w : Account) (ts : List Taken) (t : Taken) → account_of w (ts ++ t ∷ []) ≡ account_after (account_of w ts) t
@@ -91,13 +92,9 @@ same_progress w new t (Err r) h e = absurd h
 pub took_again : (w new : Chained) (t : Taken) → Takes (chain_step (chain_of w) t.chosen) t.step → after_taking w t.chosen ≡ Ok new → new ≡ with_move w t
 took_again w new t h e = same_progress w new t (chain_step (chain_of w) t.chosen) h e
 
-chain_more : (c : Chain) (ts : List Taken) (t : Taken) → after_moves c (ts ++ t ∷ []) ≡ after_move (after_moves c ts) t.chosen
-chain_more c [] t = refl
-chain_more c (u ∷ ts) t = chain_more (after_move c u.chosen) ts t
-
 -- the chain with one more move
 pub chain_with : (w : Chained) (t : Taken) → chain_of (with_move w t) ≡ after_move (chain_of w) t.chosen
-chain_with w t = chain_more (opening_chain w.chain w.run.members) w.run.moves t
+chain_with w t = after_push (opening_chain w.chain w.run.members) w.run.moves t
 
 -- the notes of the account after a move, by what was seen of the chain before it and after it
 pub noted_after : (w : Account) (t : Taken) (c d : Chain) (node : ℕ) (stands : Option Plain) (n : Notes) → w.chain ≡ c → d ≡ after_move c t.chosen → node ≡ node_of (map (λ (x : LinkMessage). x.receiver) c.messages) t.chosen → stands ≡ as_running (node_at d.nodes node) → IsNoted (account_with w t node (after_move w.chain t.chosen) stands stands) n → IsNoted (account_after w t) n

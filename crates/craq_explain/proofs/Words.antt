@@ -1,5 +1,5 @@
 -- A version that the tail tells leaves the clean state of the node that asked as it is.
-use Rattle.std.proofs.Common.{◌≡◌, ◌+◌, ◌-◌, ℕ, Bool, true, false, List, [], ◌∷◌, ◌++◌, map, Option, Some, None, Result, Ok, Err, refl, sym, ap, subst, arith, ◌∙◌}
+use Rattle.std.proofs.Common.{◌≡◌, ◌+◌, ◌-◌, ℕ, Bool, true, false, List, [], ◌∷◌, ◌++◌, map, Option, Some, None, Result, Ok, Err, refl, sym, ap, subst, ◌∙◌}
 use Rattle.std.specs.Prelude.{◌==◌, not, nat_lt, if◌then◌else◌, slice_index}
 use Rattle.craq_names.specs.declared.refusal.Refusal.{Refusal}
 use Rattle.craq_names.specs.declared.refusal.Refusal.TheVariants.{Exhausted, Stopped, WrongNode}
@@ -19,7 +19,7 @@ use Rattle.craq_model.specs.Settle.{Turn, read_answer, turn_ignoring, turn_with}
 use Rattle.craq_model.specs.Deliveries.{answering_version, body_turn, read_with, reads_without, told_version_turn, version_turn}
 use Rattle.craq_model.specs.Node.{event_turn, is_for, node_step, outs_fit, within_counts}
 use Rattle.craq_laws.proofs.Names.{name_kept}
-use Rattle.craq_laws.proofs.Nodes.{node_here}
+use Rattle.craq_laws.proofs.Nodes.{node_here, node_id}
 use Rattle.craq_runs.specs.declared.run.Move.{Move}
 use Rattle.craq_runs.specs.declared.run.Move.TheVariants as moves
 use Rattle.craq_runs.specs.Chain.{Chain, Progress, chain_step, counted_progress, message_at, node_at, node_progress, numbers_left, sent_in, set_node, turn_progress}
@@ -68,15 +68,9 @@ step_clean p m ticket version e =
     (one_of p (is_for p m) (Ok (body_turn p m m.body)) (Err WrongNode) (subst (λ b. clean (body_turn p m b).0 ≡ clean p) (sym e) (body_clean p m ticket version)) tt))
     tt
 
--- the node of an id has that id
-found_id : (nodes : List Plain) (id : ℕ) (p : Plain) → node_at nodes id ≡ Some p → id_of p ≡ id
-unfolding node_at
-found_id [] id p h = cc
-found_id (n ∷ nodes) id p h = grind (arith, h, found_id nodes id p)
-
 after_turn : (nodes : List Plain) (id : ℕ) (p : Plain) (t : Turn) → node_at nodes id ≡ Some p → t.0.name ≡ p.name → node_at (set_node nodes t.0) id ≡ Some t.0
 after_turn nodes id p t h name =
-    let same : id_of t.0 ≡ id = ap (λ x. x.node) name ∙ found_id nodes id p h in
+    let same : id_of t.0 ≡ id = ap (λ x. x.node) name ∙ node_id nodes id p h in
     subst (λ i. node_at (set_node nodes t.0) i ≡ Some t.0) same (node_here nodes t.0 p (ap (node_at nodes) same ∙ h))
 
 module _ (c : Chain) (m : LinkMessage) (key : List ℕ) where

@@ -1,5 +1,6 @@
 -- The parts of a state, joined in order, are the state; and the runs of entries, one after another, are the entries.
 use Rattle.std.proofs.Common.{◌≡◌, ◌≤◌, ℕ, zero, suc, ◌+◌, ◌-◌, ◌*◌, List, [], ◌∷◌, ◌++◌, map, length, take, drop, refl, sym, ap, ◌∙◌, arith, append_assoc, length-append}
+use Rattle.std.proofs.lemmas.List.{take-append-drop, drop_all, take_all}
 use Rattle.std.specs.List.{flat_map, range_with_len}
 use Rattle.std.specs.Slice.Iter.{chunk_count}
 use Rattle.craq_commands.specs.Kept.{Window}
@@ -8,12 +9,6 @@ use Rattle.craq_commands.specs.declared.state.State.{State}
 use Rattle.craq_model.specs.declared.message.StatePart.{StatePart}
 use Rattle.craq_model.specs.Parts.{item_count, share, part_count, part_of, parts_of, joined_state}
 use Rattle.craq_model.specs.Sends.{runs_of}
-
-take_all : {A : Type 0} (n : ℕ) (xs : List A) → length xs ≤ n → take n xs ≡ xs
-take_all zero [] h = refl
-take_all zero (x ∷ xs) h = absurd (omega (arith, h))
-take_all (suc n) [] h = refl
-take_all (suc n) (x ∷ xs) h = ap (λ l. x ∷ l) (take_all n xs (omega (arith, h)))
 
 nothing_between : {A : Type 0} (n : ℕ) (xs : List A) → drop n (take n xs) ≡ []
 nothing_between zero xs = refl
@@ -82,11 +77,6 @@ parts_joined position s =
 
 -- ---- runs
 
-front_and_rest : {A : Type 0} (n : ℕ) (xs : List A) → take n xs ++ drop n xs ≡ xs
-front_and_rest zero xs = refl
-front_and_rest (suc n) [] = refl
-front_and_rest (suc n) (x ∷ xs) = ap (λ l. x ∷ l) (front_and_rest n xs)
-
 drop_more : {A : Type 0} (a b : ℕ) (xs : List A) → drop b (drop a xs) ≡ drop (a + b) xs
 drop_more zero b xs = let e : b ≡ 0 + b = omega arith in ap (λ n. drop n xs) e
 drop_more (suc a) b [] = nothing b (suc a + b)
@@ -107,13 +97,7 @@ runs_from es a (suc n) =
     ap (λ k. (here ++ flat_map (λ (run : List Entry). run) (map (λ i. take 16 (drop (16 * i) es)) (range_with_len (a + 1) n))) ++ drop (16 * k) es) ends
     ∙ append_assoc here (flat_map (λ (run : List Entry). run) (map (λ i. take 16 (drop (16 * i) es)) (range_with_len (a + 1) n))) (drop (16 * (a + 1 + n)) es)
     ∙ ap (λ l. here ++ l) (runs_from es (a + 1) n ∙ ap (λ k. drop k es) next ∙ sym (drop_more (16 * a) 16 es))
-    ∙ front_and_rest 16 (drop (16 * a) es)
-
-drop_all : {A : Type 0} (n : ℕ) (xs : List A) → length xs ≤ n → drop n xs ≡ []
-drop_all zero [] h = refl
-drop_all zero (x ∷ xs) h = absurd (omega (arith, h))
-drop_all (suc n) [] h = refl
-drop_all (suc n) (x ∷ xs) h = drop_all n xs (omega (arith, h))
+    ∙ take-append-drop 16 (drop (16 * a) es)
 
 append_nothing : {A : Type 0} (xs : List A) → xs ++ [] ≡ xs
 append_nothing [] = refl

@@ -6,6 +6,7 @@ use Rattle.craq_model.specs.declared.ask.Event.TheVariants as events
 use Rattle.craq_model.specs.Plain.{Plain, opening_joined}
 use Rattle.craq_epochs.specs.Mastered.{Mastered, joined, removed}
 use Rattle.craq_runs.specs.Chain.{Chain, is_running, move_progress, node_at}
+use Rattle.craq_laws.proofs.Nodes.{still_there}
 use Rattle.craq_chain.specs.Parts.{master_of, told_step}
 use Rattle.craq_seat.specs.declared.journal.BookEvent.{BookEvent}
 use Rattle.craq_seat.specs.declared.journal.BookEvent.TheVariants as books
@@ -16,7 +17,7 @@ use Rattle.craq_seat.specs.Journal.{Replays}
 use Rattle.craq_seat.specs.Merge.{AtNode, AtMaster, Line, book_line, move_among}
 use Rattle.craq_merge.proofs.AtNodes.{IsNext, first_same, line_in, taken}
 use Rattle.craq_merge.proofs.Masters.{after_join, after_removal, is_told, joins, removes, told_from}
-use Rattle.craq_merge.proofs.Nodes.{pushed_new, pushed_old, pushed_other, same_or_not}
+use Rattle.craq_merge.proofs.Nodes.{pushed_new, pushed_other, same_or_not}
 use Rattle.craq_merge.proofs.Orders.{at_here, at_other, lines_at}
 use Rattle.craq_merge.proofs.Reached.{AreSound, IsChanged, IsJoinOf, IsNow, IsReached, IsStopped, IsThere, NodeGoes, is_done}
 use Rattle.craq_seat.specs.Numbered.{AreFrom}
@@ -69,8 +70,8 @@ join_changes chain members done rest c r id n last rs old event new is from ls r
         | inl e ↦ subst (λ j. NodeGoes chain j (node_at (c.nodes ++ q ∷ []) j) (lines_at j rest)) e (rw here (new_node chain id c (lines_at id rest) old.chained new (subst (λ j. NodeGoes chain j (node_at c.nodes j) (lines_at j rest)) (sym e) g)))
         | inr d ↦ rw (pushed_other c.nodes q k d) g
       ];
-      keeps = λ k t. (t.0, pushed_old c.nodes q k t.0 t.1);
-      stays = λ k t. (t.0, pushed_old c.nodes q k t.0 t.1, t.2);
+      keeps = λ k t. (t.0, still_there c.nodes q k t.0 t.1);
+      stays = λ k t. (t.0, still_there c.nodes q k t.0 t.1, t.2);
       join = λ k j. subst (IsThere (c.nodes ++ q ∷ [])) (sym (joins_id r.event id k event j)) (q, here);
       stop = λ e. absurd (not_stop r e);
       from = from;

@@ -12,13 +12,13 @@ use Rattle.craq_runs.specs.Chain.{Chain, chain_step, message_at, move_progress, 
 use Rattle.craq_runs.specs.Seen.{node_of, receiver_of}
 use Rattle.craq_chain.specs.Parts.{master_of}
 use Rattle.craq_laws.proofs.Names.{name_kept}
-use Rattle.craq_laws.proofs.Nodes.{node_here, node_elsewhere}
+use Rattle.craq_laws.proofs.Nodes.{node_here, node_elsewhere, node_id, ids_stay}
 use Rattle.craq_seat.specs.declared.journal.Receipt.{Receipt}
 use Rattle.craq_seat.specs.declared.journal.Record.{Record}
 use Rattle.craq_seat.specs.Journal.{Replays}
 use Rattle.craq_seat.specs.Merge.{AtNode, Line, move_among, node_line, number_among}
 use Rattle.craq_merge.proofs.Arrivals.{named_from, unnamed}
-use Rattle.craq_merge.proofs.Nodes.{halts, is_receiver, own_id, runs, same_or_not, set_ids, takes, counted}
+use Rattle.craq_merge.proofs.Nodes.{halts, is_receiver, runs, same_or_not, takes, counted}
 use Rattle.craq_merge.proofs.Numbers.{all_sent, number_names}
 use Rattle.craq_merge.proofs.Orders.{AreRising, IsIn, at_here, at_other, in_get, in_right, lines_at}
 use Rattle.craq_merge.proofs.Reached.{AreSound, IsChanged, IsJoinOf, IsNow, IsReached, IsThere, MasterGoes, NodeGoes, is_done, messages_left, moves_left, reached_more}
@@ -42,7 +42,7 @@ moves lines c id p q (events.Ask ask) step z at h f = rw (at, h) refl
 moves lines c id p q (events.Deliver m) step z at h f =
     let s = f m refl in
     let t : node_step p (events.Deliver s.0) ≡ Ok (q, step) = s.2 ∙ h in
-    let to : s.0.receiver ≡ id = is_receiver p q s.0 step t ∙ own_id c.nodes id p at in
+    let to : s.0.receiver ≡ id = is_receiver p q s.0 step t ∙ node_id c.nodes id p at in
     let found : node_at c.nodes s.0.receiver ≡ Some p = ap (node_at c.nodes) to ∙ at in
     rw (s.1, found, t) refl
 moves lines c id p q events.Tick step z at h f =
@@ -65,7 +65,7 @@ places : (lines : List Line) (c : Chain) (id : ℕ) (p q : Plain) (e : Event) (s
 places lines c id p q (events.Ask ask) step at h f = refl
 places lines c id p q (events.Deliver m) step at h f =
     let s = f m refl in
-    receiver_at c.messages (number_among lines m) s.0 s.1 ∙ is_receiver p q s.0 step (s.2 ∙ h) ∙ own_id c.nodes id p at
+    receiver_at c.messages (number_among lines m) s.0 s.1 ∙ is_receiver p q s.0 step (s.2 ∙ h) ∙ node_id c.nodes id p at
 places lines c id p q events.Tick step at h f = refl
 places lines c id p q events.Stop step at h f = refl
 
@@ -97,11 +97,11 @@ true_false b h k = cc
 
 changes : (chain : ℕ) (members : List ℕ) (done rest : List Line) (c : Chain) (id : ℕ) (r : Record Event) (p q last : Plain) (rs : List (Record Event)) → IsReached chain members done (node_line id r ∷ rest) c → id ≢ 0 → node_at c.nodes id ≡ Some p → node_step p r.event ≡ Ok (q, r.step) → lines_at id rest ≡ map (node_line id) rs → Replays node_step q rs last → IsChanged chain (node_line id r) rest c (record c { nodes = set_node c.nodes q })
 changes chain members done rest c id r p q last rs old z at h ls replay =
-    let own : id_of p ≡ id = own_id c.nodes id p at in
+    let own : id_of p ≡ id = node_id c.nodes id p at in
     let kept : id_of q ≡ id = ap (λ n. n.node) (name_kept p q r.event r.step h) ∙ own in
     let here : node_at (set_node c.nodes q) id ≡ Some q = subst (λ n. node_at (set_node c.nodes q) n ≡ Some q) kept (node_here c.nodes q p (ap (node_at c.nodes) kept ∙ at)) in
     let other : (n : ℕ) → n ≢ id → node_at (set_node c.nodes q) n ≡ node_at c.nodes n = λ n d. node_elsewhere c.nodes q n (λ e. d (e ∙ kept)) in
-    let same : map id_of (set_node c.nodes q) ≡ map id_of c.nodes = set_ids c.nodes q in
+    let same : map id_of (set_node c.nodes q) ≡ map id_of c.nodes = ids_stay c.nodes q in
     record {
       chained = refl;
       master = rw same (subst (MasterGoes (master_of c)) (at_other 0 (node_line id r) rest z) old.master);

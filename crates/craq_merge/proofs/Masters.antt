@@ -1,5 +1,5 @@
 -- A master's step, as a move of its chain.
-use Rattle.std.proofs.Common.{◌≡◌, ◌+◌, ◌++◌, ◌==◌, ◌&&◌, ◌||◌, ℕ, Bool, true, false, not, if◌then◌else◌, List, [], ◌∷◌, length, map, Option, Some, None, Result, Ok, Err, refl, sym, ap, subst, arith, ◌∙◌}
+use Rattle.std.proofs.Common.{◌≡◌, ◌+◌, ◌++◌, ◌==◌, ◌&&◌, ◌||◌, ℕ, Bool, true, false, not, if◌then◌else◌, List, [], ◌∷◌, length, map, Option, Some, None, Result, Ok, Err, refl, sym, ap, subst, ◌∙◌}
 use Rattle.std.specs.Prelude.{is_some, nat_le}
 use Rattle.craq_names.specs.Limits.{greatest, member_limit}
 use Rattle.craq_names.specs.declared.name.NodeName.{NodeName}
@@ -7,23 +7,14 @@ use Rattle.craq_names.specs.declared.refusal.Refusal.{Refusal}
 use Rattle.craq_names.specs.declared.refusal.Refusal.TheVariants.{NotMember, NotStopped, LastNode, Exhausted, ChainFull, UsedId}
 use Rattle.craq_model.specs.declared.step.Step.{Step}
 use Rattle.craq_model.specs.Members.{is_member, without}
-use Rattle.craq_model.specs.Plain.{Plain, id_of, opening_joined}
+use Rattle.craq_model.specs.Plain.{id_of, opening_joined}
 use Rattle.craq_epochs.specs.Mastered.{Mastered, removed, joined}
 use Rattle.craq_runs.specs.Chain.{Chain, Progress, config_progress, node_at, is_running, removal_progress, join_progress, next_epoch, with_node}
+use Rattle.craq_laws.proofs.Nodes.{ids_push, used_are_nodes}
 use Rattle.craq_chain.specs.Parts.{master_of, told, told_step}
 use Rattle.craq_chain.proofs.Commands.{join_made, removal_made}
 use Rattle.craq_seat.specs.Books.{tells}
 use Rattle.craq_seat.specs.Numbered.{AreFrom}
-
--- the used ids are those of the nodes
-pub used_are_nodes : (ps : List Plain) (id : ℕ) → is_member (map id_of ps) id ≡ is_some (node_at ps id)
-unfolding is_member node_at
-used_are_nodes [] id = refl
-used_are_nodes (p ∷ ps) id = grind (arith, used_are_nodes ps id)
-
-pub ids_push : (ps : List Plain) (p : Plain) → map id_of (ps ++ p ∷ []) ≡ map id_of ps ++ id_of p ∷ []
-ids_push [] p = refl
-ids_push (q ∷ ps) p = ap (λ xs. id_of q ∷ xs) (ids_push ps p)
 
 told_same : (x y : Mastered × Step) (r : Result (Mastered × Step) Refusal) → r ≡ Ok x → r ≡ Ok y → x ≡ y
 told_same x y r h k = cc

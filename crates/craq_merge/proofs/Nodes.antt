@@ -1,5 +1,5 @@
 -- The nodes of a chain by their ids, as its moves change them.
-use Rattle.std.proofs.Common.{◌≡◌, ◌≢◌, ◌<◌, ◌≤◌, ◌+◌, ◌++◌, ◌==◌, ◌⊎◌, ℕ, true, false, List, [], ◌∷◌, length, map, Some, None, Result, Ok, Err, refl, subst, arith, inl, inr}
+use Rattle.std.proofs.Common.{◌≡◌, ◌≢◌, ◌<◌, ◌≤◌, ◌+◌, ◌++◌, ◌==◌, ◌⊎◌, ℕ, true, false, List, [], ◌∷◌, length, Some, None, Result, Ok, Err, refl, subst, arith, inl, inr}
 use Rattle.std.specs.Prelude.{⊤}
 use Rattle.std.proofs.lemmas.Bool.{cases_Bool, eqb-false, eqb-true}
 use Rattle.craq_names.specs.Limits.{greatest}
@@ -12,29 +12,13 @@ use Rattle.craq_model.specs.Plain.{Plain, id_of}
 use Rattle.craq_model.specs.Settle.{Turn}
 use Rattle.craq_model.specs.Node.{node_step}
 use Rattle.craq_runs.specs.declared.run.Move.{Move}
-use Rattle.craq_runs.specs.Chain.{Chain, chain_step, move_progress, node_at, set_node, numbers_left, sent_in}
+use Rattle.craq_runs.specs.Chain.{Chain, chain_step, move_progress, node_at, sent_in}
+use Rattle.craq_chain.proofs.Taking.{numbered}
 
 pub same_or_not : (a b : ℕ) → (a ≡ b) ⊎ (a ≢ b)
 same_or_not a b = elim (cases_Bool (a == b)) [ inl e ↦ inl (eqb-true a b e) | inr e ↦ inr (eqb-false a b e) ]
 
--- the node of an id has that id
-pub own_id : (ps : List Plain) (id : ℕ) (p : Plain) → node_at ps id ≡ Some p → id_of p ≡ id
-unfolding node_at
-own_id [] id p h = cc
-own_id (q ∷ ps) id p h = grind (arith, own_id ps id p)
-
--- a step keeps the ids
-pub set_ids : (ps : List Plain) (q : Plain) → map id_of (set_node ps q) ≡ map id_of ps
-unfolding set_node
-set_ids [] q = refl
-set_ids (p ∷ ps) q = grind (arith, set_ids ps q, eqb-true (id_of p) (id_of q))
-
 -- a new node is found, and others as before
-pub pushed_old : (ps : List Plain) (q : Plain) (id : ℕ) (p : Plain) → node_at ps id ≡ Some p → node_at (ps ++ q ∷ []) id ≡ Some p
-unfolding node_at
-pushed_old [] q id p h = cc
-pushed_old (r ∷ ps) q id p h = grind (arith, pushed_old ps q id p)
-
 pub pushed_new : (ps : List Plain) (q : Plain) → node_at ps (id_of q) ≡ None → node_at (ps ++ q ∷ []) (id_of q) ≡ Some q
 unfolding node_at
 pushed_new [] q h = grind arith
@@ -73,10 +57,6 @@ halts p q s h = subst IsHalted h (stop_halts p)
 abbrev pub counted : Chain → Chain → Step → Chain
 counted c x step = record x { messages = c.messages ++ sent_in step.outs; moves = c.moves + 1 }
 
-fits : (c : Chain) (step : Step) → c.moves < greatest → length c.messages + length (sent_in step.outs) ≤ greatest → numbers_left c step ≡ true
-unfolding numbers_left
-fits c step h k = grind (arith, h, k)
-
 pub takes : (c x : Chain) (m : Move) (step : Step) → move_progress c m ≡ Ok (x, step) → c.moves < greatest → length c.messages + length (sent_in step.outs) ≤ greatest → chain_step c m ≡ Ok (counted c x step, step)
 unfolding chain_step
-takes c x m step h k l = rw (h, fits c step k l) refl
+takes c x m step h k l = rw (h, numbered c step k l) refl

@@ -1,5 +1,6 @@
 -- What is seen of the run that the lines of a merge are.
 use Rattle.std.proofs.Common.{◌≡◌, ◌<◌, ◌≤◌, ℕ, zero, suc, ◌+◌, List, [], ◌∷◌, ◌++◌, map, Some, refl, sym, ap, subst, arith, ◌∙◌, inl, inr, append_assoc, append-nil}
+use Rattle.std.proofs.lemmas.List.{map-append}
 use Rattle.std.specs.Prelude.{slice_get}
 use Rattle.craq_model.specs.declared.ask.Answer.{Answer}
 use Rattle.craq_model.specs.declared.ask.Ask.{Ask}
@@ -80,15 +81,11 @@ answer_in number node (outs.Answer t a ∷ os) ticket answer (inl e) =
     inl (rw (s, u) refl)
 answer_in number node (outs.Answer t a ∷ os) ticket answer (inr i) = inr (answer_in number node os ticket answer i)
 
-map_append : {X Y : Type 0} (f : X → Y) (xs ys : List X) → map f (xs ++ ys) ≡ map f xs ++ map f ys
-map_append f [] ys = refl
-map_append f (x ∷ xs) ys = ap (λ zs. f x ∷ zs) (map_append f xs ys)
-
 -- the receivers after one line more
 receivers_more : (done : List Line) (l : Line) → AreFrom l.node l.step.outs → receivers_of (all_sent (done ++ l ∷ [])) ≡ receivers_of (all_sent done) ++ receivers_in l.step.outs
 receivers_more done l a =
     ap receivers_of (all_sent-append done (l ∷ []) ∙ ap (λ ms. all_sent done ++ ms) (append-nil (sent_in l.step.outs)))
-    ∙ map_append (λ (m : LinkMessage). m.receiver) (all_sent done) (sent_in l.step.outs)
+    ∙ map-append (λ (m : LinkMessage). m.receiver) (all_sent done) (sent_in l.step.outs)
     ∙ ap (λ rs. receivers_of (all_sent done) ++ rs) (sym (receivers_same l.node l.step.outs a))
 
 pub answered_at : (chain : ℕ) (members : List ℕ) (lines done rest : List Line) (c : Chain) (number k : ℕ) (l : Line) (ticket : ℕ) (answer : Answer) → lines ≡ done ++ rest → AreSound members lines → IsReached chain members done rest c → slice_get rest k ≡ Some l → IsIn l.step.outs (outs.Answer ticket answer) → IsIn (answers_from number (receivers_of (all_sent done)) (map (taken_among lines) rest)) (record { move = number + k; node = l.node; ticket = ticket; answer = answer })

@@ -1,3 +1,5 @@
+pub mod Lists
+pub mod Numbers
 pub mod Places
 pub mod Puts
 pub mod Refusals

@@ -1,6 +1,7 @@
 -- A sound node hears that entries are committed.
 use Rattle.std.proofs.Common.{◌≡◌, ◌≤◌, ◌<◌, ℕ, nat_le, nat_lt, true, not, cond, [], ◌∷◌, map, arith}
 use Rattle.std.proofs.lemmas.Bool.{cond_both, not-false, leb-false, ltb-false}
+use Rattle.craq_names.proofs.Lists.{all_append, all_filter}
 use Rattle.craq_model.specs.declared.message.Body.TheVariants as bodies
 use Rattle.craq_model.specs.declared.step.Why.TheVariants.{NotNeighbour, NotReadyHere, AlreadyHave, TooFar}
 use Rattle.craq_model.specs.declared.waiting.WaitingUpdate.{WaitingUpdate}
@@ -11,7 +12,6 @@ use Rattle.craq_model.specs.Sends.{send, to_neighbour}
 use Rattle.craq_model.specs.Settle.{Turn, turn_ignoring, update_given, answer_outs}
 use Rattle.craq_model.specs.Spelled.{IsReply}
 use Rattle.craq_node_invariant.specs.Sound.{IsSound}
-use Rattle.craq_node_invariant.proofs.Lists.{all_append, all_filter}
 use Rattle.craq_node_invariant.proofs.Sends.{IsSpelledIfFitting, Speaks, ack_sent}
 use Rattle.craq_node_invariant.proofs.Settling.{IsSoundTurn, ignoring, updates_given, answers_spelled}
 

@@ -4,6 +4,7 @@ use Rattle.std.proofs.lemmas.Bool.{cond_both, not-false}
 use Rattle.craq_names.specs.Limits.{greatest}
 use Rattle.craq_names.specs.declared.refusal.Refusal.{Refusal}
 use Rattle.craq_names.specs.declared.refusal.Refusal.TheVariants as refusals
+use Rattle.craq_names.proofs.Lists.{all_append}
 use Rattle.craq_commands.specs.declared.read_mode.ReadMode.{ReadMode}
 use Rattle.craq_commands.specs.declared.read_mode.ReadMode.TheVariants.{Strong, Eventual, Bounded}
 use Rattle.craq_commands.specs.Evaluation.{all_of_chain}
@@ -21,7 +22,6 @@ use Rattle.craq_model.specs.Plain.{Plain, is_first, newest, newest_object, clean
 use Rattle.craq_model.specs.Sends.{send}
 use Rattle.craq_model.specs.Settle.{Turn, read_answer}
 use Rattle.craq_node_invariant.specs.Sound.{IsSound, IsSpelledAnswer, IsSpelledAsk}
-use Rattle.craq_node_invariant.proofs.Lists.{all_append}
 use Rattle.craq_node_invariant.proofs.Objects.{newest_read, bounded_read}
 use Rattle.craq_node_invariant.proofs.Sends.{Speaks, sent, last_member_is}
 use Rattle.craq_node_invariant.proofs.Applicable.{unsaid_is_new}

@@ -2,13 +2,13 @@
 use Rattle.std.proofs.Common.{◌≤◌, ℕ, nat_le, not, cond, List, None, arith}
 use Rattle.std.proofs.lemmas.Bool.{cond_both}
 use Rattle.craq_names.specs.Limits.{greatest_count}
+use Rattle.craq_names.proofs.Lists.{all_like}
 use Rattle.craq_model.specs.declared.step.Why.TheVariants.{OtherEpoch, NotNeighbour}
 use Rattle.craq_model.specs.Deliveries.{config_turn}
 use Rattle.craq_model.specs.Members.{IsMembership, is_member}
 use Rattle.craq_model.specs.Plain.{Plain, id_of}
 use Rattle.craq_model.specs.Settle.{Turn, turn_ignoring, settling_turn}
 use Rattle.craq_node_invariant.specs.Sound.{IsSound}
-use Rattle.craq_node_invariant.proofs.Lists.{all_like}
 use Rattle.craq_node_invariant.proofs.Settling.{IsSoundTurn, ignoring, settling_is}
 
 adopted_is : (p : Plain) (epoch : ℕ) (members : List ℕ) → IsSound p → 1 ≤ epoch → IsMembership members → IsSound (record p { epoch = epoch; members = members; floor = None; gathering = None })

@@ -8,6 +8,7 @@ use Rattle.craq_model.specs.declared.step.Why.TheVariants.{NotNeighbour, NotRead
 use Rattle.craq_model.specs.declared.gathering.Gathering.{Gathering}
 use Rattle.craq_model.specs.declared.message.StatePart.{StatePart}
 use Rattle.craq_names.specs.Maps.{at_number}
+use Rattle.craq_names.proofs.Lists.{all_append}
 use Rattle.craq_model.specs.Parts.{new_gathering, gathering_for, is_in_order, with_part, is_whole, joined_state}
 use Rattle.craq_model.specs.Deliveries.{fill_bodies, blank_turn, with_copy, copy_turn, gathered_turn, gathering_turn, is_outdated, part_turn, floor_turn}
 use Rattle.craq_model.specs.Members.{is_id}
@@ -16,7 +17,6 @@ use Rattle.craq_model.specs.Sends.{send_all, copy_bodies, catch_up}
 use Rattle.craq_model.specs.Settle.{Turn, turn_with, turn_ignoring, readiness_turn}
 use Rattle.craq_node_invariant.specs.Sound.{IsSoundState, IsSoundGathering, IsSoundIfAny, IsSound}
 use Rattle.craq_node_invariant.proofs.Gathered.{gathered_is}
-use Rattle.craq_node_invariant.proofs.Lists.{all_append}
 use Rattle.craq_node_invariant.proofs.Sends.{IsSayable, Speaks, all_sent, copy_sayable, catch_up_sayable}
 use Rattle.craq_node_invariant.proofs.Settling.{IsSoundTurn, ignoring, readiness_is}
 use Rattle.craq_node_invariant.proofs.States.{clean_is}

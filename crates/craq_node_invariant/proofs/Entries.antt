@@ -2,6 +2,7 @@
 use Rattle.std.proofs.Common.{◌≡◌, ℕ, ◌+◌, nat_le, nat_lt, true, not, cond, List, [], ◌∷◌, length, subst, arith, length-append}
 use Rattle.std.proofs.lemmas.Bool.{cond_both, ltb-false}
 use Rattle.std.specs.List.{AllByRecursion}
+use Rattle.craq_names.proofs.Lists.{all_append, all_filter}
 use Rattle.craq_commands.specs.declared.entry.Entry.{Entry}
 use Rattle.craq_model.specs.declared.message.Body.TheVariants as bodies
 use Rattle.craq_model.specs.declared.step.Why.TheVariants.{NotNeighbour, AlreadyHave, OutOfOrder, TooFar}
@@ -13,7 +14,6 @@ use Rattle.craq_model.specs.Settle.{Turn, turn_with, turn_ignoring, readiness_tu
 use Rattle.craq_model.specs.Spelled.{IsSpelledEntry, IsConsecutive}
 use Rattle.craq_node_invariant.specs.Sound.{AreInRow, IsSound}
 use Rattle.craq_node_invariant.proofs.Applicable.{applicable_append}
-use Rattle.craq_node_invariant.proofs.Lists.{all_append, all_filter}
 use Rattle.craq_node_invariant.proofs.Neighbours.{successor_is}
 use Rattle.craq_node_invariant.proofs.Rows.{row_append, above_in_row}
 use Rattle.craq_node_invariant.proofs.Sends.{AreSpelledIfFitting, Speaks, all_sent, entries_sayable, neighbour_sent, ack_sent}

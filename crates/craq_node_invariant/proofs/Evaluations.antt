@@ -9,6 +9,7 @@ use Rattle.std.specs.Int.{to_be_bytes, w64}
 use Rattle.craq_names.specs.Limits.{greatest, value_limit, item_limit}
 use Rattle.craq_names.specs.Maps.{same_bytes}
 use Rattle.craq_names.specs.declared.name.ObjectId.{ObjectId}
+use Rattle.craq_names.proofs.Lists.{all_map, all_each}
 use Rattle.craq_commands.specs.declared.command.Command.{Command}
 use Rattle.craq_commands.specs.declared.command.Command.TheVariants.{Put, TestAndSet, Append, Prepend, Increment, Decrement, Mini}
 use Rattle.craq_commands.specs.declared.reply.Reply.{Reply}
@@ -18,7 +19,6 @@ use Rattle.craq_commands.specs.Transaction.{Transaction, IsWithinLimits, same_ob
 use Rattle.craq_commands.specs.Evaluation.{Outcome, writes_one, writes_none, writes_number, tested, joined, number_at, increased, decreased, first_difference, transacted, eval, objects_named, all_of_chain}
 use Rattle.craq_model.specs.Spelled.{IsObjectRead, IsReply, IsNotStale}
 use Rattle.craq_node_invariant.specs.Sound.{IsSpelledCommand}
-use Rattle.craq_node_invariant.proofs.Lists.{all_map, each}
 use Rattle.craq_node_invariant.proofs.States.{AreWritten, object_is_read}
 
 pub record IsSoundOutcome (o : Outcome) : Type 0 where
@@ -133,7 +133,7 @@ transacted_is m chain t None a l h d =
     record {
       reply = (
         reads_few,
-        all_map IsObjectRead (λ (o : ObjectId). object_of m o.key) t.reads (each (λ (o : ObjectId). IsObjectRead (object_of m o.key)) t.reads (λ o. object_is_read m o.key a)),
+        all_map IsObjectRead (λ (o : ObjectId). object_of m o.key) t.reads (all_each (λ (o : ObjectId). IsObjectRead (object_of m o.key)) t.reads (λ o. object_is_read m o.key a)),
       );
       not_stale = tt;
       few = omega (arith, l.few_writes, writes);

@@ -1,15 +1,17 @@
 -- Parts of a state that come in order make a state in order.
-use Rattle.std.proofs.Common.{◌≡◌, ◌<◌, ◌≤◌, ◌⊎◌, ℕ, Bool, true, false, ◌&&◌, T, cond, List, [], ◌∷◌, ◌++◌, Some, is_some, refl, sym, ap, subst, ◌∙◌, inl, inr, arith}
+use Rattle.std.proofs.Common.{◌≡◌, ◌<◌, ◌≤◌, ℕ, Bool, true, false, ◌&&◌, T, cond, List, [], ◌∷◌, ◌++◌, Some, is_some, refl, sym, ap, subst, ◌∙◌, inl, inr, arith}
 use Rattle.std.proofs.lemmas.Bool.{and_parts, cond-true, cond-false, lt-ltb}
 use Rattle.std.proofs.lemmas.Bool.Decides.{nat_tests}
 use Rattle.std.specs.Prelude.{nat_lt}
 use Rattle.std.specs.List.{AllByRecursion, flat_map, list_all}
 use Rattle.std.specs.Ordering.{nat_cmp, is_lt, eq_by_cmp}
-use Rattle.std.specs.Cmp.{ranked, nat_cmp_is, nat_cmp_total, eq_by_cmp_equiv}
+use Rattle.std.specs.Cmp.{nat_cmp_is, nat_cmp_total, eq_by_cmp_equiv}
 use Rattle.std.specs.declared.cmp.Ordering.{Ordering}
 use Rattle.std.specs.declared.cmp.Ordering.TheVariants.{Less, Equal, Greater}
 use Rattle.std.specs.FinMap.Entries.{by_order, below_all, is_sorted, is_sorted-put}
 use Rattle.craq_names.specs.Maps.{key_cmp, at_number, put_number}
+use Rattle.craq_names.proofs.Lists.{all_append, all_each}
+use Rattle.craq_names.proofs.Numbers.{ByOrder, by_order_of, less_of}
 use Rattle.craq_commands.specs.Kept.{Window}
 use Rattle.craq_commands.specs.declared.state.State.{State}
 use Rattle.craq_model.specs.declared.gathering.Gathering.{Gathering}
@@ -17,23 +19,11 @@ use Rattle.craq_model.specs.declared.message.StatePart.{StatePart}
 use Rattle.craq_model.specs.Parts.{precedes, is_in_order, with_part, joined_state}
 use Rattle.craq_model.specs.Spelled.{IsSpelledWindow}
 use Rattle.craq_node_invariant.specs.Sound.{IsSoundState, IsSoundGathering}
-use Rattle.craq_node_invariant.proofs.Lists.{all_append, each}
 use Rattle.craq_node_invariant.proofs.Sorted.{first, second, all_split, AreBelow, IsRising, rising_append, rising_parts}
 
 -- the parts held, by number
 abbrev Held : Type 0
 Held = List (ℕ × State)
-
-abbrev ByOrder : ℕ → ℕ → Type 0
-ByOrder m n = (m < n) ⊎ ((m ≡ n) ⊎ (n < m))
-
-by_order_of : (m n : ℕ) → ByOrder m n
-by_order_of m n =
-    elim (nat_cmp m n) as (λ o. o ≡ nat_cmp m n → ByOrder m n) [
-      | Less ↦ λ e. inl (ranked m n Less e)
-      | Equal ↦ λ e. inr (inl (ranked m n Equal e))
-      | Greater ↦ λ e. inr (inr (ranked m n Greater e))
-    ] refl
 
 module _ (n : ℕ) (s : State) where
   put_lower : (h : ℕ × State) (hs : Held) → n < h.0 → put_number (h ∷ hs) n s ≡ (n, s) ∷ h ∷ hs
@@ -56,12 +46,9 @@ absent_later n h hs e =
 abbrev AreAbove : ℕ → Held → Type 0
 AreAbove n hs = AllByRecursion (λ (h : ℕ × State). n < h.0) hs
 
-lt_of : (x y : ℕ) → T (is_lt (nat_cmp x y)) → x < y
-lt_of x y h = grind (arith, nat_tests, h)
-
 above_all : (n k : ℕ) (hs : Held) → n < k → T (below_all nat_cmp k hs) → AreAbove n hs
 above_all n k [] l b = tt
-above_all n k (h ∷ hs) l b = let k_below : k < h.0 = lt_of k h.0 (first (is_lt (nat_cmp k h.0)) (below_all nat_cmp k hs) b) in (omega (arith, l, k_below), above_all n k hs l (second (is_lt (nat_cmp k h.0)) (below_all nat_cmp k hs) b))
+above_all n k (h ∷ hs) l b = let k_below : k < h.0 = less_of k h.0 (first (is_lt (nat_cmp k h.0)) (below_all nat_cmp k hs) b) in (omega (arith, l, k_below), above_all n k hs l (second (is_lt (nat_cmp k h.0)) (below_all nat_cmp k hs) b))
 
 module _ {K X : Type 0} (cmp : K → K → Ordering) (items : State → List (K × X)) where
   abbrev pub flat : Held → List (K × X)
@@ -86,7 +73,7 @@ module _ {K X : Type 0} (cmp : K → K → Ordering) (items : State → List (K 
   below_both (x ∷ xs) ys zs a b = (all_append (λ (e : K × X). T (is_lt (cmp x.0 e.0))) ys zs a.0 b.0, below_both xs ys zs a.1 b.1)
 
   below_nothing : (xs : List (K × X)) → AreBelow cmp xs []
-  below_nothing xs = each (λ (x : K × X). Unit {0}) xs (λ x. tt)
+  below_nothing xs = all_each (λ (x : K × X). Unit {0}) xs (λ x. tt)
 
   below_higher : (n : ℕ) (s : State) (hs : Held) → AreAbove n hs → InOrder n s hs → AreBelow cmp (items s) (flat hs)
   below_higher n s [] a o = below_nothing (items s)

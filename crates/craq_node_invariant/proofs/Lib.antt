@@ -5,7 +5,7 @@ pub mod Configs
 pub mod Copies
 pub mod Entries
 pub mod Evaluations
-pub mod Lists
+pub mod Maps
 pub mod Neighbours
 pub mod Objects
 pub mod Openings

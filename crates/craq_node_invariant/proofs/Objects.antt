@@ -3,13 +3,13 @@ use Rattle.std.proofs.Common.{◌≤◌, ℕ, ◌-◌, List, [], ◌∷◌, nat_
 use Rattle.std.proofs.lemmas.Bool.{cond_both}
 use Rattle.std.specs.List.{AllByRecursion}
 use Rattle.craq_names.specs.Maps.{same_bytes}
+use Rattle.craq_names.proofs.Lists.{all_append, all_drop}
 use Rattle.craq_commands.specs.declared.entry.Entry.{Entry}
 use Rattle.craq_commands.specs.declared.entry.Write.{Write}
 use Rattle.craq_model.specs.Past.{values_in, values_after, newest_within}
 use Rattle.craq_model.specs.Plain.{Plain, newest, clean, newest_object, clean_object, object_within, entries_after}
 use Rattle.craq_model.specs.Spelled.{IsObjectRead, IsSpelledEntry}
 use Rattle.craq_node_invariant.specs.Sound.{IsSound}
-use Rattle.craq_node_invariant.proofs.Lists.{all_append, all_drop}
 use Rattle.craq_node_invariant.proofs.States.{written_read, object_is_read, newest_is, clean_is}
 
 abbrev AreRead : List (ℕ × List ℕ) → Type 0

@@ -2,11 +2,11 @@
 use Rattle.std.proofs.Common.{◌≤◌, ℕ, List, refl, arith}
 use Rattle.craq_names.specs.Limits.{greatest_count}
 use Rattle.craq_names.specs.declared.name.NodeName.{NodeName}
+use Rattle.craq_names.proofs.Lists.{all_like}
 use Rattle.craq_commands.specs.SingleCopy.{opening_state}
 use Rattle.craq_model.specs.Members.{IsMembership}
 use Rattle.craq_model.specs.Plain.{opening_member, opening_joined}
 use Rattle.craq_node_invariant.specs.Sound.{IsSoundState, IsSound}
-use Rattle.craq_node_invariant.proofs.Lists.{all_like}
 
 opening_state_is : IsSoundState opening_state
 opening_state_is = record { versions = tt; windows = tt; keys_rise = tt; clients_rise = tt }

@@ -1,6 +1,7 @@
 -- A sound node answers a question about a version, or learns a version.
 use Rattle.std.proofs.Common.{◌≤◌, ℕ, ◌==◌, nat_lt, not, ◌||◌, cond, List, [], ◌∷◌, Option, Some, None, ap}
 use Rattle.std.proofs.lemmas.Bool.{cond_both}
+use Rattle.craq_names.proofs.Lists.{all_filter}
 use Rattle.craq_model.specs.declared.message.Body.TheVariants as bodies
 use Rattle.craq_model.specs.declared.step.Out.{Out}
 use Rattle.craq_model.specs.declared.step.Out.TheVariants as outs
@@ -12,7 +13,6 @@ use Rattle.craq_model.specs.Plain.{Plain, id_of, is_tail, newest_object, object_
 use Rattle.craq_model.specs.Sends.{send}
 use Rattle.craq_model.specs.Settle.{Turn, turn_with, turn_ignoring, read_answer}
 use Rattle.craq_node_invariant.specs.Sound.{IsSound}
-use Rattle.craq_node_invariant.proofs.Lists.{all_filter}
 use Rattle.craq_node_invariant.proofs.Objects.{bounded_read}
 use Rattle.craq_node_invariant.proofs.Sends.{Speaks, sent}
 use Rattle.craq_node_invariant.proofs.Settling.{IsSoundTurn, ignoring}

@@ -5,6 +5,7 @@ use Rattle.std.specs.List.{AllByRecursion}
 use Rattle.std.specs.Slice.Iter.{chunk_count}
 use Rattle.std.proofs.lemmas.List.{length-take}
 use Rattle.craq_names.specs.Limits.{greatest_count}
+use Rattle.craq_names.proofs.Lists.{all_append, all_map, all_drop, all_take}
 use Rattle.craq_commands.specs.declared.entry.Entry.{Entry}
 use Rattle.craq_commands.specs.declared.state.State.{State}
 use Rattle.craq_model.specs.declared.message.Body.{Body}
@@ -20,7 +21,6 @@ use Rattle.craq_model.specs.Parts.{item_count, parts_of}
 use Rattle.craq_node_invariant.specs.Sound.{AreInRow, IsSoundState, IsSound, IsSpelledOut}
 use Rattle.craq_node_invariant.proofs.Rows.{row_take, row_drop, row_consecutive}
 use Rattle.craq_node_invariant.proofs.Shares.{all_range, parts_are}
-use Rattle.craq_node_invariant.proofs.Lists.{all_append, all_map, all_drop, all_take}
 use Rattle.craq_node_invariant.proofs.Neighbours.{IsIdIfAny, successor_is, predecessor_is, last_is}
 
 -- what is said can be spelled if its counts fit

@@ -2,6 +2,7 @@
 use Rattle.std.proofs.Common.{◌≤◌, true, not, ◌&&◌, nat_lt, nat_le, None, List, [], ◌∷◌, ◌++◌, map, refl, arith}
 use Rattle.std.proofs.lemmas.Bool.{cond_both}
 use Rattle.std.specs.List.{AllByRecursion}
+use Rattle.craq_names.proofs.Lists.{all_append, all_map, all_each}
 use Rattle.craq_model.specs.declared.step.Why.{Why}
 use Rattle.craq_model.specs.declared.waiting.WaitingRead.{WaitingRead}
 use Rattle.craq_model.specs.declared.waiting.WaitingUpdate.{WaitingUpdate}
@@ -11,7 +12,6 @@ use Rattle.craq_model.specs.Parts.{gathered_position}
 use Rattle.craq_model.specs.Settle.{Turn, turn_with, turn_ignoring, Given, update_given, read_given, insert_given, by_ticket, answer_outs, all_given, all_committed, settling_turn, is_reached, without_reached, readiness_turn}
 use Rattle.craq_model.specs.Spelled.{IsReply}
 use Rattle.craq_node_invariant.specs.Sound.{IsSound, IsSpelledAnswer}
-use Rattle.craq_node_invariant.proofs.Lists.{all_append, all_map, each}
 use Rattle.craq_node_invariant.proofs.Objects.{newest_read}
 use Rattle.craq_node_invariant.proofs.Sends.{IsSpelledIfFitting, AreSpelledIfFitting, tick_sent}
 
@@ -48,7 +48,7 @@ all_are_given p s =
     (all_append (λ (g : Given). IsSpelledAnswer g.1) (map update_given p.waiting_updates) (map (read_given p) p.waiting_reads)
     (updates_given p.waiting_updates s.replies)
     (all_map (λ (g : Given). IsSpelledAnswer g.1) (read_given p) p.waiting_reads
-    (each (λ (r : WaitingRead). IsSpelledAnswer (read_given p r).1) p.waiting_reads (λ r. newest_read p r.key s))))
+    (all_each (λ (r : WaitingRead). IsSpelledAnswer (read_given p r).1) p.waiting_reads (λ r. newest_read p r.key s))))
 
 pub answers_spelled : (gs : List Given) → AreGiven gs → AreSpelledIfFitting (answer_outs gs)
 answers_spelled [] a = tt

@@ -5,12 +5,12 @@ use Rattle.std.specs.List.{AllByRecursion, range_with_len}
 use Rattle.std.specs.Ordering.{nat_cmp}
 use Rattle.std.specs.Slice.Iter.{chunk_count}
 use Rattle.craq_names.specs.Maps.{key_cmp}
+use Rattle.craq_names.proofs.Lists.{all_drop, all_take}
 use Rattle.craq_commands.specs.Kept.{Window}
 use Rattle.craq_commands.specs.declared.state.State.{State}
 use Rattle.craq_model.specs.Parts.{item_count, share, part_count, part_of, parts_of}
 use Rattle.craq_model.specs.Spelled.{IsSpelledPart, IsSpelledWindow}
 use Rattle.craq_node_invariant.specs.Sound.{IsSoundState}
-use Rattle.craq_node_invariant.proofs.Lists.{all_drop, all_take}
 use Rattle.craq_node_invariant.proofs.Sorted.{rising_drop, rising_take}
 
 -- what holds of each number of a range holds of all that is made of them

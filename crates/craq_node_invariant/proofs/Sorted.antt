@@ -4,7 +4,7 @@ use Rattle.std.specs.List.{AllByRecursion}
 use Rattle.std.specs.Ordering.{is_lt}
 use Rattle.std.specs.declared.cmp.Ordering.{Ordering}
 use Rattle.std.specs.FinMap.Entries.{below_all, is_sorted}
-use Rattle.craq_node_invariant.proofs.Lists.{all_append, all_take}
+use Rattle.craq_names.proofs.Lists.{all_append, all_take}
 
 pub both : (a b : Bool) → T a → T b → T (a && b)
 both true b p q = q

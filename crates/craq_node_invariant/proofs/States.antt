@@ -7,6 +7,7 @@ use Rattle.std.specs.Cmp.{nat_cmp_total}
 use Rattle.std.specs.Cmp.Lexicographic.{nat_list_cmp_total}
 use Rattle.std.specs.FinMap.Entries.{is_sorted, is_sorted-put}
 use Rattle.craq_names.specs.Maps.{key_cmp, at_key, at_number, put_key}
+use Rattle.craq_names.proofs.Lists.{all_take}
 use Rattle.craq_commands.specs.declared.reply.Reply.{Reply}
 use Rattle.craq_commands.specs.declared.entry.Entry.{Entry}
 use Rattle.craq_commands.specs.declared.entry.Write.{Write}
@@ -18,7 +19,7 @@ use Rattle.craq_commands.specs.SingleCopy.{window_of, with_writes, kept_with, af
 use Rattle.craq_model.specs.Plain.{Plain, newest, clean}
 use Rattle.craq_model.specs.Spelled.{IsObjectRead, IsReply, IsNotStale, IsSpelledEntry, IsSpelledWindow}
 use Rattle.craq_node_invariant.specs.Sound.{IsSoundState, IsSound}
-use Rattle.craq_node_invariant.proofs.Lists.{all_take, found_is, put_is}
+use Rattle.craq_node_invariant.proofs.Maps.{found_is, put_is}
 
 -- each object that is there was written
 abbrev pub AreWritten : Objects → Type 0

@@ -16,6 +16,7 @@ use Rattle.craq_commands.specs.declared.reply.Reply.{Reply}
 use Rattle.craq_commands.specs.declared.reply.Reply.TheVariants.{Stale}
 use Rattle.craq_commands.specs.Evaluation.{Outcome, eval, objects_named, all_of_chain, some_used_up}
 use Rattle.craq_names.specs.Maps.{at_number}
+use Rattle.craq_names.proofs.Lists.{all_append, all_like, all_map, all_each}
 use Rattle.craq_commands.specs.Kept.{Kept, Window, largest, is_stale, said_of}
 use Rattle.craq_commands.specs.Objects.{Objects, version_of}
 use Rattle.craq_commands.specs.SingleCopy.{is_new_to, window_of, said}
@@ -32,7 +33,7 @@ use Rattle.craq_node_invariant.specs.Sound.{IsSound, IsSpelledCommand}
 use Rattle.craq_node_invariant.proofs.Applicable.{entry_is_applicable}
 use Rattle.craq_node_invariant.proofs.Entries.{with_entries_is, entries_sent}
 use Rattle.craq_node_invariant.proofs.Evaluations.{IsSoundOutcome, outcome_is}
-use Rattle.craq_node_invariant.proofs.Lists.{all_append, all_like, all_map, each, found_is}
+use Rattle.craq_node_invariant.proofs.Maps.{found_is}
 use Rattle.craq_node_invariant.proofs.Sends.{AreSpelledIfFitting}
 use Rattle.craq_node_invariant.proofs.Settling.{IsSoundTurn, committed_is}
 use Rattle.craq_node_invariant.proofs.States.{newest_is, replies_are}
@@ -123,7 +124,7 @@ entry_of_is p u o s i =
       reply = i.reply;
       not_stale = i.not_stale;
       few = omega (arith, count, i.few);
-      versions = all_map (λ (w : Write). 1 ≤ w.version) (versioned_write m) o.0 (each (λ (w : List ℕ × List ℕ). 1 ≤ version_of m w.0 + 1) o.0 (λ w. omega arith));
+      versions = all_map (λ (w : Write). 1 ≤ w.version) (versioned_write m) o.0 (all_each (λ (w : List ℕ × List ℕ). 1 ≤ version_of m w.0 + 1) o.0 (λ w. omega arith));
       once = subst Once (sym (same_keys m o.0)) i.once;
     }
 

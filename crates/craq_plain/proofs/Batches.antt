@@ -5,8 +5,8 @@ use Rattle.std.proofs.Math.Seq.{take-suc}
 use Rattle.craq_commands.specs.declared.entry.Entry.{Entry}
 use Rattle.craq_commands.specs.declared.state.State.{State}
 use Rattle.craq_commands.specs.SingleCopy.{after_entry, after_entries}
+use Rattle.craq_commands.proofs.Entries.{after_entries-append}
 use Rattle.craq_model.specs.Deliveries.{is_applicable, are_applicable}
-use Rattle.craq_plain.proofs.Windows.{entries_further}
 
 -- where one more fits, it is the rest that has to
 pub next_fits : (s : State) (es : List Entry) (i : ℕ) (e : Entry) → i < length es → e ≡ get_or es i e → is_applicable (after_entries s (take i es)) e ≡ true → are_applicable (after_entries s (take (i + 1) es)) (drop (i + 1) es) ≡ are_applicable (after_entries s (take i es)) (drop i es)
@@ -17,6 +17,6 @@ next_fits s es i e h is fits =
     let more : take (suc i) es ≡ take i es ++ e ∷ [] = take-suc es i e h ∙ ap (λ (x : Entry). take i es ++ x ∷ []) (sym is) in
     ap (λ n. are_applicable (after_entries s (take n es)) (drop n es)) (add-one i)
     ∙ ap (λ (xs : List Entry). are_applicable (after_entries s xs) rest) more
-    ∙ ap (λ (t : State). are_applicable t rest) (entries_further s (take i es) (e ∷ []))
+    ∙ ap (λ (t : State). are_applicable t rest) (after_entries-append s (take i es) (e ∷ []))
     ∙ ap (λ b. b && are_applicable (after_entry before e) rest) (sym fits)
     ∙ ap (are_applicable before) (sym here)

@@ -15,6 +15,7 @@ use Rattle.craq_commands.specs.declared.reply.Reply.TheVariants.{Stale}
 use Rattle.craq_commands.specs.declared.state.State.{State}
 use Rattle.craq_commands.specs.Kept.{Kept, Window, smallest, largest, is_stale, is_new, keep, said_of}
 use Rattle.craq_commands.specs.SingleCopy.{window_of, is_new_to, said, kept_with, after_entry, after_entries}
+use Rattle.craq_commands.proofs.Entries.{after_entries-append}
 use Rattle.craq_plain.specs.Slots.{Slots, within_window, window_with, slots_from, slots_after, reply_at, first_number, last_number, is_stale_in, is_new_in, said_in}
 
 -- ---- the values of slots
@@ -231,13 +232,9 @@ slots_further client i (e ∷ es) fs xs =
     let z : i + 1 + length es ≡ i + suc (length es) = omega arith in
     slots_further client (i + 1) es fs ys ∙ ap (λ n. slots_after client n fs (slots_after client (i + 1) es ys)) z
 
-pub entries_further : (s : State) (es fs : List Entry) → after_entries s (es ++ fs) ≡ after_entries (after_entries s es) fs
-entries_further s [] fs = refl
-entries_further s (e ∷ es) fs = entries_further (after_entry s e) es fs
-
 pub new_later : (s : State) (es fs : List Entry) (client n : ℕ) → let w = window_of s client in is_new_in (slots_after client (length w + length es) fs (slots_after client (length w) es (slots_from 0 w))) n ≡ is_new_to (after_entries (after_entries s es) fs) client n
 new_later s es fs client n =
     let w : Window = window_of s client in
     ap (λ (xs : Slots). is_new_in xs n) (sym (slots_further client (length w) es fs (slots_from 0 w)))
     ∙ same_new (reply_at w (es ++ fs)) (slots_after client (length w) (es ++ fs) (slots_from 0 w)) (window_of (after_entries s (es ++ fs)) client) (stand_after s (es ++ fs) client) n
-    ∙ ap (λ (t : State). is_new_to t client n) (entries_further s es fs)
+    ∙ ap (λ (t : State). is_new_to t client n) (after_entries-append s es fs)

@@ -1,9 +1,11 @@
 -- Eventual and bounded answers, each against what its node told before.
-use Rattle.std.proofs.Common.{◌≡◌, ◌⊎◌, ⊎_elim, ℕ, suc, ◌+◌, ◌≤◌, ◌==◌, Bool, true, ◌&&◌, List, [], ◌∷◌, ◌++◌, length, take, Some, refl, ap, sym, subst, ◌∙◌, arith, append_assoc, append-nil}
+use Rattle.std.proofs.Common.{◌≡◌, ◌⊎◌, ⊎_elim, ℕ, ◌+◌, ◌≤◌, ◌==◌, Bool, true, ◌&&◌, List, [], ◌∷◌, ◌++◌, length, take, Some, refl, ap, sym, subst, ◌∙◌, arith, append_assoc, append-nil}
 use Rattle.std.specs.Prelude.{⊤}
 use Rattle.std.specs.List.{AllByRecursion}
 use Rattle.std.proofs.lemmas.Bool.{leb-true}
+use Rattle.std.proofs.Math.Seq.{take-length}
 use Rattle.craq_names.specs.declared.name.ObjectId.{ObjectId}
+use Rattle.craq_names.proofs.Lists.{all_append, all_like}
 use Rattle.craq_commands.specs.declared.command.Update.{Update}
 use Rattle.craq_commands.specs.declared.entry.Entry.{Entry}
 use Rattle.craq_commands.specs.declared.read_mode.ReadMode.{ReadMode}
@@ -24,12 +26,11 @@ use Rattle.craq_protocol.proofs.Prefix.{take_prefix}
 use Rattle.craq_runs.specs.Seen.{Asked, Answered, ask_with, answers_in}
 use Rattle.craq_runs.specs.Explain.{Account}
 use Rattle.craq_runs.specs.Valid.{single_object, any_mode, bounded_within}
-use Rattle.craq_refinement.proofs.Lists.{all_append, all_like}
 use Rattle.craq_updates.specs.Genuine.{AllGenuine}
 use Rattle.craq_updates.proofs.Found.{find_all}
 use Rattle.craq_updates.proofs.Entries.{genuine_stays}
 use Rattle.craq_updates.proofs.Lens.{AreLens}
-use Rattle.craq_updates.proofs.Updates.{numbers_of, number_is, numbers_stay}
+use Rattle.craq_updates.proofs.Updates.{numbers_of, number_is, numbers_stay, numbers_length}
 use Rattle.craq_updates.proofs.Known.{Known}
 use Rattle.craq_strong_answers.proofs.Outs.{AllTold}
 use Rattle.craq_strong_answers.proofs.Stands.{state_after, Owed, IsAnswer}
@@ -128,11 +129,7 @@ belows_stay a b w v k n g p node counts object version ys h =
 taken_stays : (a b : Account) (w v : World Entry) → Known a w → GoesOn a b w v → IsPrefix a.committed b.committed → (move : ℕ) → move ≤ length a.lens → take (after_move b move) b.committed ≡ take (after_move a move) a.committed
 taken_stays a b w v k g p move le =
     let l : AreLens a.chain.moves a.lens (numbers_of a.asks a.committed) = k.lens in
-    ap (λ j. take j b.committed) (g.lens move le) ∙ take_prefix (after_move a move) p (omega (arith, l.within move, mapped a.asks a.committed))
-  where
-    mapped : (asked : List Asked) (es : List Entry) → length (numbers_of asked es) ≡ length es
-    mapped asked [] = refl
-    mapped asked (e ∷ es) = ap suc (mapped asked es)
+    ap (λ j. take j b.committed) (g.lens move le) ∙ take_prefix (after_move a move) p (omega (arith, l.within move, numbers_length a.asks a.committed))
 
 line_stays : (a b : Account) (w v : World Entry) → Known a w → GoesOn a b w v → IsPrefix a.committed b.committed → (x : Answered) (h : List Entry) → LineAt a x h → LineAt b x h
 line_stays a b w v k g p x h l =
@@ -233,13 +230,9 @@ history_line : (b : Account) (v : World Entry) (x : Answered) → Known b v → 
 history_line b v x n moved last below id l =
     let held : _ = n.held in
     let P : List Entry → Type 0 = λ es. IsPrefix es (v.history id) in
-    let all : take (after_move b x.move) b.committed ≡ v.log = (λ i. take (last i) (n.committed i)) ∙ whole v.log in
+    let all : take (after_move b x.move) b.committed ≡ v.log = (λ i. take (last i) (n.committed i)) ∙ take-length v.log in
     record { genuine = held.histories id; in_time = numbered (v.history id) opening_state (held.histories id); begins = subst P (sym all) l; moved = moved }
   where
-    whole : (l : List Entry) → take (length l) l ≡ l
-    whole [] = refl
-    whole (y ∷ l) = ap (λ l. y ∷ l) (whole l)
-
     numbered : (es : List Entry) (s : State) → AllGenuine b.asks s es → AllByRecursion (λ k. k ≤ x.move) (numbers_of b.asks es)
     numbered [] s g = tt
     numbered (e ∷ es) s g =
@@ -260,7 +253,7 @@ look_owed b v position number id ticket (answers.Read version value) earlier ask
 look_owed b v position number id ticket (answers.Read version value) earlier ask (asks.Read (Bounded k) object) n moved last below lows o =
     let x : Answered = record { move = number; node = id; ticket = ticket; answer = answers.Read version value } in
     let V : List Entry → ℕ = λ es. version_of (after_entries opening_state es).objects object.key in
-    let whole : V (take (after_move b number) b.committed) ≡ V v.log = ap V ((λ i. take (last i) (n.committed i)) ∙ all v.log) in
+    let whole : V (take (after_move b number) b.committed) ≡ V v.log = ap V ((λ i. take (last i) (n.committed i)) ∙ take-length v.log) in
     record {
       line = v.history id;
       is_line = history_line b v x n moved last below id o.begins;
@@ -269,10 +262,6 @@ look_owed b v position number id ticket (answers.Read version value) earlier ask
       near = omega (arith, o.near, whole);
       lows = belows b v id (bounded_within k) object version earlier (λ q y l. below_bounded b v n object k version id (record { most = o.most }) q y l) lows;
     }
-  where
-    all : (l : List Entry) → take (length l) l ≡ l
-    all [] = refl
-    all (y ∷ l) = ap (λ l. y ∷ l) (all l)
 look_owed b v position number id ticket (answers.Read version value) earlier ask (asks.Read Strong object) n moved last below lows o = tt
 look_owed b v position number id ticket (answers.Update reply) earlier ask (asks.Read Strong object) n moved last below lows o = tt
 look_owed b v position number id ticket (answers.Update reply) earlier ask (asks.Read Eventual object) n moved last below lows o = tt

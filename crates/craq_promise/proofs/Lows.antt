@@ -2,6 +2,7 @@
 use Rattle.std.proofs.Common.{◌≡◌, ⊎_elim, ℕ, ◌+◌, ◌≤◌, List, [], ◌∷◌, ◌++◌, filter_map, length, take, find, Some, refl, ap, sym, subst, ◌∙◌, arith, take-take}
 use Rattle.std.proofs.lemmas.List.Elements.{filter_map-append}
 use Rattle.std.proofs.lemmas.List.{map-append}
+use Rattle.std.proofs.Math.Seq.{take-length}
 use Rattle.craq_names.specs.declared.name.ObjectId.{ObjectId}
 use Rattle.craq_commands.specs.declared.command.Update.{Update}
 use Rattle.craq_commands.specs.declared.entry.Entry.{Entry}
@@ -109,11 +110,7 @@ pub record Low (a : Account) (w : World Entry) (y : Answered) : Type 0 where
 -- ---- it stays
 
 whole_take : (h : List Entry) (key : List ℕ) → version_after h key (length h) ≡ version_of (after_entries opening_state h).objects key
-whole_take h key = ap (λ l. version_of (after_entries opening_state l).objects key) (whole h)
-  where
-    whole : (l : List Entry) → take (length l) l ≡ l
-    whole [] = refl
-    whole (x ∷ l) = ap (λ l. x ∷ l) (whole l)
+whole_take h key = ap (λ l. version_of (after_entries opening_state l).objects key) (take-length h)
 
 pub newest_rises : (b : Account) (w v : World Entry) → Known b v → Later w v → (id : ℕ) (key : List ℕ) → newest_at w id key ≤ newest_at v id key
 newest_rises b w v n l id key =

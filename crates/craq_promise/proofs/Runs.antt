@@ -1,7 +1,8 @@
 -- Eventual and bounded answers, move by move.
-use Rattle.std.proofs.Common.{◌≡◌, ℕ, suc, ◌+◌, ◌≤◌, List, [], ◌∷◌, ◌++◌, length, slice_index, Result, Ok, Err, refl, ap, sym, subst, ◌∙◌, arith, append-nil, append_assoc}
+use Rattle.std.proofs.Common.{◌≡◌, ℕ, ◌+◌, ◌≤◌, List, [], ◌∷◌, ◌++◌, length, slice_index, Result, Ok, Err, refl, ap, sym, subst, ◌∙◌, arith, append-nil, append_assoc}
 use Rattle.std.specs.List.{AllByRecursion}
 use Rattle.craq_names.specs.declared.refusal.Refusal.{Refusal}
+use Rattle.craq_names.proofs.Lists.{all_append, all_like}
 use Rattle.craq_commands.specs.declared.entry.Entry.{Entry}
 use Rattle.craq_protocol.specs.Machine.{World, opening}
 use Rattle.craq_protocol.specs.Promises.{IsPrefix}
@@ -11,12 +12,11 @@ use Rattle.craq_runs.specs.Chain.{Chain, Progress, chain_step}
 use Rattle.craq_runs.specs.Runs.{progressed, Takes, AreTaken}
 use Rattle.craq_runs.specs.Seen.{Asked, Answered, answers_in, answers_from, receivers_in, node_of}
 use Rattle.craq_runs.specs.Explain.{Account, opening_account, account_with, account_of}
-use Rattle.craq_refinement.proofs.Lists.{all_append, all_like}
 use Rattle.craq_runs.specs.Typed.{IsMoveOfType, AreOfType, IsTypedRunOf}
 use Rattle.craq_updates.proofs.EachMove.{place_of}
 use Rattle.craq_updates.proofs.Places.{happens_at}
 use Rattle.craq_updates.proofs.Lens.{AreLens}
-use Rattle.craq_updates.proofs.Updates.{numbers_of}
+use Rattle.craq_updates.proofs.Updates.{numbers_of, numbers_length}
 use Rattle.craq_updates.proofs.Known.{Known}
 use Rattle.craq_updates.proofs.Accounts.{next_account, moves_counted}
 use Rattle.craq_updates.proofs.Runs.{account_by, run_account}
@@ -50,7 +50,7 @@ told_next a w t x receivers given o does same type =
     let count : b.chain.moves ≡ number = ap (λ (c : Chain). c.moves) (next_chain a t x) ∙ moves_counted a.chain t.chosen x (happens_at a.chain t.chosen x does) in
     let l : AreLens b.chain.moves b.lens (numbers_of b.asks b.committed) = n.lens in
     let long : number ≤ length b.lens = omega (arith, l.count, count) in
-    let last : after_move b number ≡ length v.log = ap (slice_index (0 ∷ b.lens)) (sym count) ∙ (l.ends ∙ (mapped b.asks b.committed ∙ ap length n.committed)) in
+    let last : after_move b number ≡ length v.log = ap (slice_index (0 ∷ b.lens)) (sym count) ∙ (l.ends ∙ (numbers_length b.asks b.committed ∙ ap length n.committed)) in
     let I : ℕ → Type 0 = λ m. AllByRecursion (λ (y : Asked). y.move ≤ m) b.asks in
     let lows : AllByRecursion (Low b v) given = all_like (Low a w) (Low b v) given (λ y h. low_stays a b w v k n c.goes longer y h) o.lows in
     let new : NewLooks b v given (new_answers a t) = new_looks b v (position_in a t x) number (place_of a.chain t.chosen) given t.step.outs n long last (subst I count n.in_time) lows c.told in
@@ -62,10 +62,6 @@ told_next a w t x receivers given o does same type =
         facts = facts_append b [] given (new_answers a t) (facts_stay a b w v k n c.goes longer [] given o.facts) new.facts;
       };
     }
-  where
-    mapped : (asked : List Asked) (es : List Entry) → length (numbers_of asked es) ≡ length es
-    mapped asked [] = refl
-    mapped asked (e ∷ es) = ap suc (mapped asked es)
 
 pub record ToldRun (b : Account) (given : List Answered) : Type 0 where
   pub world : World Entry

@@ -23,7 +23,7 @@ use Rattle.craq_protocol.proofs.Lists.{next_right}
 use Rattle.craq_refinement.proofs.EachLine.{said_as}
 use Rattle.craq_refinement.proofs.EachStep.{every_run}
 use Rattle.craq_refinement.proofs.Members.{is_member-same, next_from_predecessor}
-use Rattle.craq_refinement.proofs.Nodes.{node_id}
+use Rattle.craq_laws.proofs.Nodes.{node_id}
 use Rattle.craq_refinement.proofs.Worlds.{history_length}
 use Rattle.craq_runs.specs.Chain.{Chain, message_at, node_at, sent_in}
 use Rattle.craq_runs.specs.Runs.{IsRunOf, after_move}

@@ -12,7 +12,7 @@ use Rattle.craq_model.specs.Deliveries.{delivery_turn}
 use Rattle.craq_model.specs.Members.{is_member}
 use Rattle.craq_model.specs.Plain.{Plain, id_of}
 use Rattle.craq_model.specs.Settle.{Turn}
-use Rattle.craq_refinement.proofs.Nodes.{node_elsewhere}
+use Rattle.craq_laws.proofs.Nodes.{node_elsewhere}
 use Rattle.craq_refinement.proofs.Stages.{Arrived, arrived}
 use Rattle.craq_runs.specs.declared.run.Move.{Move}
 use Rattle.craq_runs.specs.declared.run.Move.TheVariants as moves

@@ -3,6 +3,7 @@ use Rattle.std.proofs.Common.{◌≡◌, ◌⊎◌, inl, inr, ⊎_elim, ℕ, zer
 use Rattle.std.proofs.lemmas.Bool.{eq-eqb}
 use Rattle.std.specs.Prelude.{⊤}
 use Rattle.std.specs.List.{AllByRecursion}
+use Rattle.craq_names.proofs.Lists.{all_each, all_like}
 use Rattle.craq_commands.specs.declared.entry.Entry.{Entry}
 use Rattle.craq_chain_invariants.specs.Invariants.{HistoriesAreWhole, WaitingUpdatesAreOwed}
 use Rattle.craq_chain_invariants.specs.Kept.{HasReply, updates_held}
@@ -21,8 +22,7 @@ use Rattle.craq_protocol.proofs.Reached.{reached_inv}
 use Rattle.craq_refinement.specs.Follows.{Follows, NodeFollows, seen_of}
 use Rattle.craq_refinement.proofs.Members.{first_of-same, last_of-same}
 use Rattle.craq_refinement.specs.Lines.{IsFollowed}
-use Rattle.craq_refinement.proofs.Lists.{all_each, all_like}
-use Rattle.craq_refinement.proofs.Nodes.{node_id}
+use Rattle.craq_laws.proofs.Nodes.{node_id}
 use Rattle.craq_refinement.proofs.Worlds.{history_length}
 use Rattle.craq_runs.specs.declared.run.Run.{Run}
 use Rattle.craq_runs.specs.Chain.{Chain, node_at}

@@ -6,6 +6,7 @@ use Rattle.craq_names.specs.declared.name.NodeName.{NodeName}
 use Rattle.craq_commands.specs.declared.entry.Entry.{Entry}
 use Rattle.craq_commands.specs.declared.state.State.{State}
 use Rattle.craq_commands.specs.SingleCopy.{after_entries, opening_state}
+use Rattle.craq_commands.proofs.Entries.{after_entries-append}
 use Rattle.craq_model.specs.declared.message.Body.{Body}
 use Rattle.craq_model.specs.declared.message.Body.TheVariants as bodies
 use Rattle.craq_model.specs.declared.message.LinkMessage.{LinkMessage}
@@ -30,12 +31,12 @@ use Rattle.craq_refinement.proofs.EachLine.{said_as}
 use Rattle.craq_refinement.proofs.Entries.{batch_follows, entry_follows}
 use Rattle.craq_refinement.proofs.Here.{Here}
 use Rattle.craq_refinement.proofs.Members.{next_from_predecessor}
-use Rattle.craq_refinement.proofs.Nodes.{node_elsewhere, node_here, node_id}
+use Rattle.craq_laws.proofs.Nodes.{node_elsewhere, node_here, node_id}
 use Rattle.craq_refinement.proofs.Others.{query_follows, version_follows}
 use Rattle.craq_refinement.proofs.Stages.{TurnFollows, moved}
 use Rattle.craq_refinement.proofs.Worlds.{history_length}
 use Rattle.craq_runs.specs.Chain.{Chain, message_at, node_at, sent_in, set_node}
-use Rattle.craq_updates.proofs.Known.{after_entries-append, newest_is}
+use Rattle.craq_updates.proofs.Known.{newest_is}
 use Rattle.craq_recovery.specs.Room.{greatest_of, largest_state, longest_history, most_reads}
 use Rattle.craq_recovery.proofs.Costs.{Within, cost, top}
 use Rattle.craq_recovery.proofs.Entries.{prefix_of}

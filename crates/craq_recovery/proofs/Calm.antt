@@ -27,7 +27,7 @@ use Rattle.craq_refinement.specs.Lines.{IsFollowed}
 use Rattle.craq_refinement.proofs.EachStep.{every_run}
 use Rattle.craq_refinement.proofs.Members.{last_of-same}
 use Rattle.craq_refinement.proofs.Worlds.{history_length}
-use Rattle.craq_refinement.proofs.Nodes.{node_id}
+use Rattle.craq_laws.proofs.Nodes.{node_id}
 use Rattle.craq_runs.specs.declared.run.Move.{Move}
 use Rattle.craq_runs.specs.declared.run.Run.{Run}
 use Rattle.craq_runs.specs.declared.run.Taken.{Taken}

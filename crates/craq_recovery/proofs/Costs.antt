@@ -5,6 +5,7 @@ use Rattle.std.proofs.lemmas.List.{length-take}
 use Rattle.std.specs.List.{AllByRecursion, range_with_len}
 use Rattle.std.specs.Slice.Iter.{chunk_count}
 use Rattle.craq_names.specs.Limits.{greatest_count, part_limit}
+use Rattle.craq_names.proofs.Lists.{all_append}
 use Rattle.craq_commands.specs.declared.entry.Entry.{Entry}
 use Rattle.craq_commands.specs.declared.state.State.{State}
 use Rattle.craq_model.specs.declared.message.Body.{Body}
@@ -19,7 +20,6 @@ use Rattle.craq_model.specs.Parts.{item_count, part_count, part_of, parts_of}
 use Rattle.craq_model.specs.Plain.{Plain, clean, entries_after, is_last, length_of, newest, predecessor, successor}
 use Rattle.craq_model.specs.Sends.{catch_up, copy_bodies, entry_bodies, queries, ready_sends, run_body, runs_of, send, send_all, tick_sends, to_neighbour, unready_sends}
 use Rattle.craq_model.specs.Settle.{Given, answer_outs}
-use Rattle.craq_refinement.proofs.Lists.{all_append}
 use Rattle.craq_runs.specs.Chain.{sent_in}
 use Rattle.craq_recovery.proofs.Items.{clean_items}
 use Rattle.craq_recovery.proofs.Series.{sent_both}

@@ -3,10 +3,10 @@ use Rattle.std.proofs.Common.{◌≡◌, ◌≢◌, ⊎_elim, ℕ, ◌==◌, Lis
 use Rattle.std.specs.List.{AllByRecursion}
 use Rattle.craq_names.specs.declared.name.NodeName.{NodeName}
 use Rattle.craq_names.specs.declared.refusal.Refusal.{Refusal}
+use Rattle.craq_names.proofs.Lists.{all_append, all_each, all_map}
 use Rattle.craq_model.specs.Plain.{Plain, id_of, opening_joined, opening_member}
 use Rattle.craq_runs.specs.declared.run.Move.{Move}
 use Rattle.craq_runs.specs.Chain.{Chain, Progress, chain_step, node_at, opening_chain, set_node}
-use Rattle.craq_refinement.proofs.Lists.{all_append, all_each, all_map}
 use Rattle.craq_runs.specs.Runs.{after_move, progressed}
 use Rattle.craq_updates.proofs.Places.{AtMaster, AtNode, OneMore, happens_at}
 use Rattle.craq_recovery.proofs.Finding.{found_of}

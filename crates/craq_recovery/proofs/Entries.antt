@@ -3,6 +3,7 @@ use Rattle.std.proofs.Common.{◌≡◌, ◌≢◌, inr, ℕ, suc, ◌+◌, ◌-
 use Rattle.std.proofs.lemmas.Bool.{cond_both, both_ways, eqb-true, leb-true, ltb-true, ltb-false, not-true}
 use Rattle.std.proofs.lemmas.List.{length-append, length-drop, map-append}
 use Rattle.std.specs.List.{AllByRecursion, flat_map}
+use Rattle.craq_names.proofs.Lists.{all_like}
 use Rattle.craq_commands.specs.declared.entry.Entry.{Entry}
 use Rattle.craq_laws.proofs.Parts.{runs_joined}
 use Rattle.craq_model.specs.declared.message.Body.{Body}
@@ -26,7 +27,7 @@ use Rattle.craq_protocol.proofs.Reached.{reached_inv, reached_safe}
 use Rattle.craq_refinement.specs.Follows.{BodyFollows, Follows, IsPlaced, NodeFollows, said, seen_of}
 use Rattle.craq_refinement.specs.Lines.{IsFollowed}
 use Rattle.craq_refinement.proofs.EachLine.{said_as}
-use Rattle.craq_refinement.proofs.Lists.{all_like, placed_back}
+use Rattle.craq_refinement.proofs.Lists.{placed_back}
 use Rattle.craq_refinement.proofs.Members.{is_member-same, next_from_predecessor}
 use Rattle.craq_refinement.proofs.Rows.{all_of_above, placed_above, placed_drop}
 use Rattle.craq_refinement.proofs.Worlds.{history_length}

@@ -2,14 +2,14 @@
 use Rattle.std.proofs.Common.{◌≡◌, List, [], ◌∷◌, ◌++◌, ℕ, Result, Ok, Err, refl, ap, sym, subst, ◌∙◌}
 use Rattle.std.specs.List.{AllByRecursion}
 use Rattle.craq_names.specs.declared.refusal.Refusal.{Refusal}
-use Rattle.craq_laws.proofs.Nodes.{goes_on}
+use Rattle.craq_laws.proofs.Nodes.{goes_on, after_push, typed_push}
 use Rattle.craq_runs.specs.declared.run.Move.{Move}
 use Rattle.craq_runs.specs.declared.run.Move.TheVariants as moves
 use Rattle.craq_runs.specs.declared.run.Run.{Run}
 use Rattle.craq_runs.specs.declared.run.Taken.{Taken}
 use Rattle.craq_runs.specs.Chain.{Chain, Progress, chain_step, opening_chain}
-use Rattle.craq_runs.specs.Runs.{Takes, after_move, after_moves, progressed}
-use Rattle.craq_runs.specs.Typed.{AreOfType, IsMoveOfType, IsTypedRunOf}
+use Rattle.craq_runs.specs.Runs.{Takes, after_move, progressed}
+use Rattle.craq_runs.specs.Typed.{IsMoveOfType, IsTypedRunOf}
 use Rattle.craq_recovery.specs.Recovered.{chain_after}
 use Rattle.craq_recovery.specs.Rounds.{after_moves_by}
 use Rattle.craq_recovery.proofs.Onward.{IsTravel}
@@ -22,14 +22,6 @@ pub record IsReachedBy (chain : ℕ) (d : Chain) : Type 0 where
 
 pub reached_here : (chain : ℕ) (run : Run) → IsTypedRunOf chain run → IsReachedBy chain (chain_after chain run)
 reached_here chain run t = record { run = run; typed = t; leads = refl }
-
-types_push : (ts : List Taken) (t : Taken) → AreOfType ts → IsMoveOfType t.chosen → AreOfType (ts ++ t ∷ [])
-types_push [] t a b = (b, tt)
-types_push (s ∷ ts) t a b = (a.0, types_push ts t a.1 b)
-
-after_push : (ts : List Taken) (t : Taken) (c : Chain) → after_moves c (ts ++ t ∷ []) ≡ after_move (after_moves c ts) t.chosen
-after_push [] t c = refl
-after_push (s ∷ ts) t c = after_push ts t (after_move c s.chosen)
 
 travel_type : (m : Move) → IsTravel m → IsMoveOfType m
 travel_type (moves.Ask node ask) t = absurd t
@@ -50,9 +42,9 @@ goes_further chain run m i t (Ok x) is =
       run = longer;
       typed = record {
         run_of = record { members = i.run_of.members; moves = goes_on (opening_chain chain run.members) run.moves taken i.run_of.moves (subst T (sym is) refl) };
-        typed = types_push run.moves taken i.typed (travel_type m t);
+        typed = typed_push run.moves taken i.typed (travel_type m t);
       };
-      leads = after_push run.moves taken (opening_chain chain run.members) ∙ ap (progressed (chain_after chain run)) is;
+      leads = after_push (opening_chain chain run.members) run.moves taken ∙ ap (progressed (chain_after chain run)) is;
     }
 
 pub reached_move : (chain : ℕ) (d : Chain) (m : Move) → IsTravel m → IsReachedBy chain d → IsReachedBy chain (after_move d m)

@@ -13,7 +13,7 @@ use Rattle.craq_protocol.proofs.Reached.{reached_later, reached_run}
 use Rattle.craq_refinement.specs.Follows.{Follows, NodeFollows, seen_of}
 use Rattle.craq_refinement.specs.Lines.{CanFollow, IsFollowed}
 use Rattle.craq_refinement.proofs.EachStep.{every_step}
-use Rattle.craq_refinement.proofs.Nodes.{node_id}
+use Rattle.craq_laws.proofs.Nodes.{node_id}
 use Rattle.craq_refinement.proofs.Worlds.{history_length}
 use Rattle.craq_runs.specs.declared.run.Move.{Move}
 use Rattle.craq_runs.specs.Chain.{Chain, Progress, chain_step, is_running, node_at}

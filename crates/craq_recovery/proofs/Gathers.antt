@@ -2,6 +2,7 @@
 use Rattle.std.proofs.Common.{◌≡◌, ℕ, ◌+◌, true, false, List, [], ◌∷◌, ◌++◌, Option, Some, None, Result, Ok, Err, refl, sym, subst, slice_get, zero, suc, append-nil, inl, inr}
 use Rattle.craq_names.specs.declared.refusal.Refusal.{Refusal}
 use Rattle.craq_names.specs.declared.refusal.Refusal.TheVariants as refusals
+use Rattle.craq_names.proofs.Lists.{all_like}
 use Rattle.craq_model.specs.declared.ask.Ask.{Ask}
 use Rattle.craq_model.specs.declared.ask.Event.{Event}
 use Rattle.craq_model.specs.declared.ask.Event.TheVariants as events
@@ -21,7 +22,6 @@ use Rattle.craq_runs.specs.declared.run.Taken.{Taken}
 use Rattle.craq_runs.specs.Chain.{Chain, Progress, chain_step, counted_progress, message_at, move_progress, node_at, numbers_left, opening_chain, sent_in}
 use Rattle.craq_runs.specs.Runs.{after_move, after_moves, progressed}
 use Rattle.craq_recovery.specs.Recovered.{chain_after}
-use Rattle.craq_refinement.proofs.Lists.{all_like}
 use Rattle.craq_recovery.proofs.Each.{Each, each_at, each_moved, each_opening}
 use Rattle.craq_recovery.proofs.Lines.{ByAsk, ByMessage, IfTaken, by_ask, by_message, by_test}
 use Rattle.craq_updates.proofs.Places.{EventOf}

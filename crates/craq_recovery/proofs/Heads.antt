@@ -2,6 +2,7 @@
 use Rattle.std.proofs.Common.{◌≡◌, ℕ, zero, suc, ◌+◌, ◌≤◌, ◌==◌, true, false, List, [], ◌∷◌, ◌++◌, append_assoc, length, Some, slice_get, refl, ap, sym, subst, ◌∙◌, arith}
 use Rattle.std.proofs.lemmas.Bool.{both_ways, cond-true, cond-false, eq-eqb, eqb-true, false_from_ne_true, or_left, or_right}
 use Rattle.std.specs.List.{AllByRecursion}
+use Rattle.craq_names.proofs.Lists.{all_like}
 use Rattle.craq_commands.specs.declared.entry.Entry.{Entry}
 use Rattle.craq_model.specs.Members.{is_member, last_of, predecessor_in, successor_in}
 use Rattle.craq_model.specs.Plain.{Plain, id_of}
@@ -14,8 +15,8 @@ use Rattle.craq_refinement.specs.Follows.{Follows}
 use Rattle.craq_refinement.specs.Lines.{IsFollowed}
 use Rattle.craq_refinement.proofs.EachStep.{every_run}
 use Rattle.craq_refinement.proofs.Members.{is_member-same}
-use Rattle.craq_refinement.proofs.Lists.{all_back, all_like}
-use Rattle.craq_refinement.proofs.Nodes.{node_id}
+use Rattle.craq_refinement.proofs.Lists.{all_back}
+use Rattle.craq_laws.proofs.Nodes.{node_id}
 use Rattle.craq_runs.specs.declared.run.Move.{Move}
 use Rattle.craq_runs.specs.declared.run.Run.{Run}
 use Rattle.craq_runs.specs.Chain.{Chain, node_at}

@@ -21,7 +21,7 @@ use Rattle.craq_protocol.proofs.Reached.{reached_safe}
 use Rattle.craq_refinement.specs.Follows.{Follows, NodeFollows, seen_of}
 use Rattle.craq_refinement.specs.Lines.{IsFollowed}
 use Rattle.craq_refinement.proofs.EachStep.{every_run}
-use Rattle.craq_refinement.proofs.Nodes.{node_here, node_id}
+use Rattle.craq_laws.proofs.Nodes.{node_here, node_id}
 use Rattle.craq_refinement.proofs.Stages.{Arrived, arrived}
 use Rattle.craq_runs.specs.declared.run.Move.{Move}
 use Rattle.craq_runs.specs.declared.run.Move.TheVariants.{Deliver, Tick}

@@ -9,7 +9,7 @@ use Rattle.craq_runs.specs.declared.run.Taken.{Taken}
 use Rattle.craq_runs.specs.Chain.{Chain, node_at, opening_chain}
 use Rattle.craq_runs.specs.Runs.{IsRunOf, after_move, after_moves}
 use Rattle.craq_names.specs.declared.name.NodeName.{NodeName}
-use Rattle.craq_refinement.proofs.Nodes.{node_id}
+use Rattle.craq_laws.proofs.Nodes.{node_id}
 use Rattle.craq_recovery.proofs.Each.{Each, each_at, each_moved}
 use Rattle.craq_recovery.proofs.Sound.{turn_named}
 

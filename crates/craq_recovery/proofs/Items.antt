@@ -12,9 +12,9 @@ use Rattle.craq_commands.specs.declared.state.State.{State}
 use Rattle.craq_commands.specs.Kept.{keep}
 use Rattle.craq_commands.specs.Objects.{Objects, set_object}
 use Rattle.craq_commands.specs.SingleCopy.{after_entries, after_entry, kept_with, window_of, with_writes}
+use Rattle.craq_commands.proofs.Entries.{after_entries-append}
 use Rattle.craq_model.specs.Parts.{item_count}
 use Rattle.craq_model.specs.Plain.{Plain, clean, newest}
-use Rattle.craq_updates.proofs.Known.{after_entries-append}
 
 put_longer : {K A : Type 0} (R : K → K → Ordering) (k : K) (x : A) (es : List (K × A)) → length es ≤ length (put R k x es)
 put_longer R k x [] = omega arith

@@ -5,6 +5,7 @@ use Rattle.std.specs.List.{AllByRecursion}
 use Rattle.craq_names.specs.declared.name.NodeName.{NodeName}
 use Rattle.craq_names.specs.declared.refusal.Refusal.{Refusal}
 use Rattle.craq_names.specs.Maps.{at_number}
+use Rattle.craq_names.proofs.Lists.{all_like}
 use Rattle.craq_commands.specs.declared.entry.Entry.{Entry}
 use Rattle.craq_commands.specs.declared.state.State.{State}
 use Rattle.craq_commands.specs.SingleCopy.{after_entries, opening_state}
@@ -28,8 +29,7 @@ use Rattle.craq_refinement.specs.Follows.{AreGathered, BodyFollows, Follows, IsG
 use Rattle.craq_refinement.specs.Lines.{IsFollowed}
 use Rattle.craq_refinement.proofs.EachLine.{said_as}
 use Rattle.craq_refinement.proofs.Gathered.{IsPartOf, belongs, gathered_state, part_is}
-use Rattle.craq_refinement.proofs.Lists.{all_like}
-use Rattle.craq_refinement.proofs.Nodes.{node_elsewhere, node_id}
+use Rattle.craq_laws.proofs.Nodes.{node_elsewhere, node_id}
 use Rattle.craq_refinement.proofs.Stages.{Arrived, arrived}
 use Rattle.craq_refinement.proofs.Worlds.{history_length}
 use Rattle.craq_runs.specs.declared.run.Move.TheVariants.{Deliver}

@@ -13,7 +13,7 @@ use Rattle.craq_model.specs.Deliveries.{delivery_turn}
 use Rattle.craq_model.specs.Node.{event_turn, is_for, node_step}
 use Rattle.craq_model.specs.Plain.{Plain, id_of}
 use Rattle.craq_model.specs.Settle.{Turn}
-use Rattle.craq_refinement.proofs.Nodes.{node_here, node_elsewhere, node_id}
+use Rattle.craq_laws.proofs.Nodes.{node_here, node_elsewhere, node_id}
 use Rattle.craq_runs.specs.declared.run.Move.{Move}
 use Rattle.craq_runs.specs.declared.run.Move.TheVariants as moves
 use Rattle.craq_runs.specs.Chain.{Chain, Progress, arrival_progress, chain_step, config_progress, counted_progress, is_running, message_at, node_at, node_progress, numbers_left, sent_in, set_node, tick_progress, turn_progress}

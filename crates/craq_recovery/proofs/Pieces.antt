@@ -10,6 +10,8 @@ use Rattle.std.specs.Cmp.Lexicographic.{nat_list_cmp_total}
 use Rattle.std.specs.declared.cmp.Ordering.{Ordering}
 use Rattle.std.specs.FinMap.Entries.{below_all, is_sorted, is_sorted-put, find-put}
 use Rattle.craq_names.specs.Maps.{at_number, key_cmp, put_number}
+use Rattle.craq_names.proofs.Lists.{all_drop, all_take}
+use Rattle.craq_names.proofs.Numbers.{less_of, same_of}
 use Rattle.craq_commands.specs.declared.entry.Entry.{Entry}
 use Rattle.craq_commands.specs.declared.entry.Write.{Write}
 use Rattle.craq_commands.specs.declared.state.State.{State}
@@ -18,7 +20,6 @@ use Rattle.craq_commands.specs.SingleCopy.{after_entries, after_entry, kept_with
 use Rattle.craq_model.specs.declared.gathering.Gathering.{Gathering}
 use Rattle.craq_model.specs.declared.message.StatePart.{StatePart}
 use Rattle.craq_model.specs.Parts.{is_in_order, precedes, share}
-use Rattle.craq_node_invariant.proofs.Lists.{all_drop, all_take}
 use Rattle.craq_node_invariant.proofs.Sorted.{AreBelow, IsBelow, IsRising, first, rising_append, rising_drop, rising_parts, rising_take, second}
 use Rattle.craq_refinement.proofs.Gathered.{IsPartOf}
 
@@ -122,11 +123,8 @@ part_precedes s n i r lt =
 
 -- ---- parts held, by number
 
-same_number : (j n : ℕ) → eq_by_cmp nat_cmp j n ≡ true → j ≡ n
-same_number j n h = grind (arith, nat_tests, h)
-
 apart_number : (j n : ℕ) → j ≢ n → eq_by_cmp nat_cmp j n ≡ false
-apart_number j n ne = cond_both (eq_by_cmp nat_cmp j n) true false (λ (b : Bool). eq_by_cmp nat_cmp j n ≡ false) (λ e. absurd (ne (same_number j n e))) (λ e. e)
+apart_number j n ne = cond_both (eq_by_cmp nat_cmp j n) true false (λ (b : Bool). eq_by_cmp nat_cmp j n ≡ false) (λ e. absurd (ne (same_of j n e))) (λ e. e)
 
 -- of a list of parts: the first one is of that number, or a later one is
 found_where : (j : ℕ) (h : ℕ × State) (hs : List (ℕ × State)) → j ≢ h.0 → at_number (h ∷ hs) j ≡ at_number hs j
@@ -185,12 +183,9 @@ put_keeps hs n j s h =
 abbrev AreAbove : ℕ → List (ℕ × State) → Type 0
 AreAbove n hs = AllByRecursion (λ (h : ℕ × State). n < h.0) hs
 
-lt_of : (x y : ℕ) → T (is_lt (nat_cmp x y)) → x < y
-lt_of x y h = grind (arith, nat_tests, h)
-
 all_above : (n : ℕ) (hs : List (ℕ × State)) → T (below_all nat_cmp n hs) → AreAbove n hs
 all_above n [] b = tt
-all_above n (h ∷ hs) b = (lt_of n h.0 (first (is_lt (nat_cmp n h.0)) (below_all nat_cmp n hs) b), all_above n hs (second (is_lt (nat_cmp n h.0)) (below_all nat_cmp n hs) b))
+all_above n (h ∷ hs) b = (less_of n h.0 (first (is_lt (nat_cmp n h.0)) (below_all nat_cmp n hs) b), all_above n hs (second (is_lt (nat_cmp n h.0)) (below_all nat_cmp n hs) b))
 
 none_below : (n j : ℕ) (hs : List (ℕ × State)) → j ≤ n → AreAbove n hs → is_some (at_number hs j) ≡ true → ⊥
 none_below n j [] le a h = absurd (cc)
@@ -213,7 +208,7 @@ counted (h ∷ hs) a (suc k) rises is all =
     let above : AreAbove h.0 hs = all_above h.0 hs (first (below_all nat_cmp h.0 hs) (is_sorted nat_cmp hs) rises) in
     let same : h.0 ≡ a =
     cond_both (eq_by_cmp nat_cmp a h.0) true false (λ (b : Bool). h.0 ≡ a)
-    (λ e. sym (same_number a h.0 e))
+    (λ e. sym (same_of a h.0 e))
     (λ e. absurd (none_below h.0 a hs is.0.low above (sym (ap (λ b. is_some (cond b (Some h.1) (at_number hs a))) e) ∙ all a (omega arith) (omega arith)))) in
     let rest : length hs ≡ k =
     counted hs (a + 1) k (second (below_all nat_cmp h.0 hs) (is_sorted nat_cmp hs) rises) (higher a k h.0 hs is.0.low above is.1)

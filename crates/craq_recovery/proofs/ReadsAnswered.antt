@@ -10,6 +10,7 @@ use Rattle.craq_commands.specs.declared.state.State.{State}
 use Rattle.craq_commands.specs.Objects.{Objects, version_of}
 use Rattle.craq_commands.specs.SingleCopy.{after_entries, after_entry, apply, opening_state}
 use Rattle.craq_laws.proofs.Histories.{IsNoOlder, more_updates}
+use Rattle.craq_laws.proofs.Nodes.{node_id}
 use Rattle.craq_model.specs.declared.message.Body.{Body}
 use Rattle.craq_model.specs.declared.message.Body.TheVariants as bodies
 use Rattle.craq_model.specs.declared.message.LinkMessage.{LinkMessage}
@@ -30,9 +31,7 @@ use Rattle.craq_protocol.proofs.Invariant.{Clauses, Invariant}
 use Rattle.craq_protocol.proofs.Reached.{reached_inv, reached_safe}
 use Rattle.craq_refinement.specs.Follows.{Follows, NodeFollows, seen_of}
 use Rattle.craq_refinement.specs.Lines.{IsFollowed}
-use Rattle.craq_refinement.proofs.Lists.{all_like}
 use Rattle.craq_refinement.proofs.Members.{is_member-same}
-use Rattle.craq_refinement.proofs.Nodes.{node_id}
 use Rattle.craq_runs.specs.declared.run.Run.{Run}
 use Rattle.craq_runs.specs.Chain.{Chain, message_at, node_at, sent_in}
 use Rattle.craq_runs.specs.Explain.{Account, opening_account}
@@ -40,12 +39,14 @@ use Rattle.craq_runs.specs.Runs.{after_move}
 use Rattle.craq_runs.specs.Seen.{Asked, answers_from, ask_with}
 use Rattle.craq_runs.specs.Typed.{IsTypedRunOf}
 use Rattle.craq_names.specs.declared.name.ObjectId.{ObjectId}
+use Rattle.craq_names.proofs.Lists.{all_like}
 use Rattle.craq_commands.specs.declared.read_mode.ReadMode.TheVariants.{Strong}
+use Rattle.craq_commands.proofs.Entries.{after_entries-append}
 use Rattle.craq_model.specs.declared.ask.Ask.{Ask}
 use Rattle.craq_model.specs.declared.ask.Ask.TheVariants as asks
 use Rattle.craq_updates.specs.Genuine.{AllGenuine, IsGenuine}
 use Rattle.craq_updates.proofs.Explained.{chain_of_account}
-use Rattle.craq_updates.proofs.Known.{Known, after_entries-append, newest_is}
+use Rattle.craq_updates.proofs.Known.{Known, newest_is}
 use Rattle.craq_updates.proofs.Machine.{Held}
 use Rattle.craq_updates.proofs.Runs.{run_account}
 use Rattle.craq_strong_answers.proofs.Clients.{Clients}

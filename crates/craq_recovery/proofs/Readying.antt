@@ -2,12 +2,13 @@
 use Rattle.std.proofs.Common.{◌≡◌, ℕ, suc, ◌≤◌, Bool, true, false, List, [], ◌∷◌, ◌++◌, append_assoc, length, Some, sym, subst, ◌∙◌, arith}
 use Rattle.std.proofs.lemmas.Bool.{cond_both}
 use Rattle.std.specs.List.{AllByRecursion}
+use Rattle.craq_names.proofs.Lists.{all_like}
 use Rattle.craq_model.specs.Members.{is_member}
 use Rattle.craq_model.specs.Plain.{Plain, id_of, length_of}
-use Rattle.craq_refinement.proofs.Nodes.{node_id}
 use Rattle.craq_runs.specs.declared.run.Move.{Move}
 use Rattle.craq_runs.specs.Chain.{Chain, node_at}
 use Rattle.craq_runs.specs.Runs.{after_move}
+use Rattle.craq_laws.proofs.Nodes.{node_id}
 use Rattle.craq_recovery.specs.Recovered.{AreNeighbours, HearsAt, HoldsEntries, IsReadyAt, Knows, after_round}
 use Rattle.craq_recovery.specs.Rounds.{after_moves_by, after_rounds, round}
 use Rattle.craq_recovery.specs.Taken.{HaveNumbers, HaveNumbersFor}
@@ -16,7 +17,6 @@ use Rattle.craq_recovery.proofs.Extending.{IsReachedBy}
 use Rattle.craq_recovery.proofs.Gains.{Gains, Later, followed_moves}
 use Rattle.craq_recovery.proofs.Heads.{Good, facing, in_members, knows_later}
 use Rattle.craq_recovery.proofs.Spreading.{Hands, reaches_all}
-use Rattle.craq_refinement.proofs.Lists.{all_like}
 use Rattle.craq_recovery.proofs.Hearing.{knows_at}
 use Rattle.craq_recovery.proofs.Ids.{not_master}
 use Rattle.craq_recovery.proofs.Onward.{onward_moves}

@@ -6,7 +6,7 @@ use Rattle.craq_model.specs.declared.waiting.WaitingRead.{WaitingRead}
 use Rattle.craq_model.specs.declared.waiting.WaitingUpdate.{WaitingUpdate}
 use Rattle.craq_model.specs.Members.{last_of}
 use Rattle.craq_model.specs.Plain.{Plain, id_of, is_last}
-use Rattle.craq_refinement.proofs.Nodes.{node_id}
+use Rattle.craq_laws.proofs.Nodes.{node_id}
 use Rattle.craq_runs.specs.declared.run.Run.{Run}
 use Rattle.craq_runs.specs.Chain.{Chain, is_running, node_at}
 use Rattle.craq_runs.specs.Runs.{after_move}

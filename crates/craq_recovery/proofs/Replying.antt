@@ -7,6 +7,7 @@ use Rattle.craq_chain_invariants.specs.Invariants.{MessagesAgreeWithSenders}
 use Rattle.craq_chain_invariants.specs.Kept.{HasSender}
 use Rattle.craq_chain_invariants.proofs.Invariants.{messages_agree_with_senders}
 use Rattle.craq_names.specs.declared.refusal.Refusal.{Refusal}
+use Rattle.craq_names.proofs.Lists.{all_drop}
 use Rattle.craq_commands.specs.declared.entry.Entry.{Entry}
 use Rattle.craq_model.specs.declared.message.Body.TheVariants as bodies
 use Rattle.craq_model.specs.declared.message.LinkMessage.{LinkMessage}
@@ -23,8 +24,8 @@ use Rattle.craq_protocol.specs.Promises.{IsPrefix, IsSafe}
 use Rattle.craq_protocol.proofs.Reached.{reached_inv, reached_safe}
 use Rattle.craq_refinement.specs.Follows.{IsPlaced, NodeFollows, seen_of}
 use Rattle.craq_refinement.specs.Lines.{IsFollowed}
-use Rattle.craq_refinement.proofs.Lists.{all_back, all_drop, placed_back}
-use Rattle.craq_refinement.proofs.Nodes.{node_id}
+use Rattle.craq_refinement.proofs.Lists.{all_back, placed_back}
+use Rattle.craq_laws.proofs.Nodes.{node_id}
 use Rattle.craq_refinement.proofs.Rows.{placed_drop}
 use Rattle.craq_refinement.proofs.Worlds.{history_length}
 use Rattle.craq_runs.specs.declared.run.Move.{Move}

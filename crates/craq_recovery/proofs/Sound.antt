@@ -5,6 +5,7 @@ use Rattle.craq_names.specs.Limits.{greatest, member_limit}
 use Rattle.craq_names.specs.declared.name.NodeName.{NodeName}
 use Rattle.craq_names.specs.declared.refusal.Refusal.{Refusal}
 use Rattle.craq_names.specs.declared.refusal.Refusal.TheVariants as refusals
+use Rattle.craq_names.proofs.Lists.{all_append}
 use Rattle.craq_model.specs.declared.ask.Event.{Event}
 use Rattle.craq_model.specs.declared.ask.Event.TheVariants as events
 use Rattle.craq_model.specs.declared.message.LinkMessage.{LinkMessage}
@@ -13,7 +14,6 @@ use Rattle.craq_model.specs.Node.{event_turn, node_step}
 use Rattle.craq_model.specs.Plain.{Plain, opening_joined}
 use Rattle.craq_model.specs.Settle.{Turn}
 use Rattle.craq_laws.proofs.Names.{Gives, event_turn-name}
-use Rattle.craq_refinement.proofs.Lists.{all_append}
 use Rattle.craq_runs.specs.declared.run.Move.{Move}
 use Rattle.craq_runs.specs.declared.run.Move.TheVariants as moves
 use Rattle.craq_runs.specs.declared.run.Taken.{Taken}

@@ -1,9 +1,10 @@
 -- What a member hands on to the next in a round reaches all members, one member a round.
 use Rattle.std.proofs.Common.{◌≡◌, ℕ, zero, suc, ◌≤◌, List, [], ◌∷◌, ◌++◌, append_assoc, length, subst, ◌∙◌, arith, sym}
 use Rattle.std.specs.List.{AllByRecursion}
+use Rattle.craq_names.proofs.Lists.{all_append, all_like}
 use Rattle.craq_runs.specs.Chain.{Chain}
 use Rattle.craq_runs.specs.Runs.{after_move}
-use Rattle.craq_refinement.proofs.Lists.{all_append, all_back, all_like}
+use Rattle.craq_refinement.proofs.Lists.{all_back}
 use Rattle.craq_recovery.specs.Recovered.{after_round}
 use Rattle.craq_recovery.specs.Rounds.{after_rounds, round}
 use Rattle.craq_recovery.specs.Taken.{HaveNumbers, HaveNumbersFor}

@@ -1,6 +1,7 @@
 -- A chain that has recovered stays so by rounds.
 use Rattle.std.proofs.Common.{◌≡◌, ℕ, List, [], ◌∷◌, Some, refl, sym, subst}
 use Rattle.std.specs.List.{AllByRecursion}
+use Rattle.craq_names.proofs.Lists.{all_like}
 use Rattle.craq_model.specs.declared.waiting.WaitingRead.{WaitingRead}
 use Rattle.craq_model.specs.declared.waiting.WaitingUpdate.{WaitingUpdate}
 use Rattle.craq_model.specs.Plain.{Plain}
@@ -10,7 +11,6 @@ use Rattle.craq_runs.specs.Runs.{IsRunOf, after_move}
 use Rattle.craq_recovery.specs.Recovered.{HasRecovered, IsReadyAt, IsServing, Knows, ServesAt, after_round, chain_after}
 use Rattle.craq_recovery.specs.Rounds.{round}
 use Rattle.craq_recovery.proofs.Heads.{Good, good_run, ready_later}
-use Rattle.craq_refinement.proofs.Lists.{all_like}
 use Rattle.craq_recovery.proofs.Onward.{Onward, onward_moves}
 use Rattle.craq_recovery.proofs.Taking.{round_travels}
 use Rattle.craq_recovery.proofs.Travels.{NodeIs, lasts_on}

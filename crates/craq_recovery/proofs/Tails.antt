@@ -1,9 +1,10 @@
 -- What the first member holds reaches each member, one member a round.
 use Rattle.std.proofs.Common.{◌≡◌, ℕ, suc, ◌≤◌, true, List, [], ◌∷◌, ◌++◌, length, Some, refl, sym, subst, arith}
 use Rattle.std.specs.List.{AllByRecursion}
+use Rattle.craq_names.proofs.Lists.{all_like}
 use Rattle.craq_model.specs.Members.{first_of}
 use Rattle.craq_model.specs.Plain.{Plain, id_of, length_of}
-use Rattle.craq_refinement.proofs.Nodes.{node_id}
+use Rattle.craq_laws.proofs.Nodes.{node_id}
 use Rattle.craq_runs.specs.declared.run.Run.{Run}
 use Rattle.craq_runs.specs.Chain.{Chain, node_at}
 use Rattle.craq_runs.specs.Runs.{after_move}
@@ -16,7 +17,6 @@ use Rattle.craq_recovery.proofs.Extending.{IsReachedBy, reached_here, reached_mo
 use Rattle.craq_recovery.proofs.Gains.{Gains, Later}
 use Rattle.craq_recovery.proofs.Heads.{Good, facing, good_run, knows_later, ready_later}
 use Rattle.craq_recovery.proofs.Spreading.{Hands, reaches_all}
-use Rattle.craq_refinement.proofs.Lists.{all_like}
 use Rattle.craq_recovery.proofs.Taking.{round_travels}
 
 pub good_there : (chain : ℕ) (d : Chain) → IsReachedBy chain d → Good d

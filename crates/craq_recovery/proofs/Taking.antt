@@ -5,6 +5,7 @@ use Rattle.std.proofs.lemmas.List.{length-append, length-take, take-append-drop}
 use Rattle.std.specs.List.{AllByRecursion}
 use Rattle.craq_names.specs.declared.refusal.Refusal.{Refusal}
 use Rattle.craq_names.specs.declared.refusal.Refusal.TheVariants as refusals
+use Rattle.craq_names.proofs.Lists.{all_append}
 use Rattle.craq_model.specs.declared.ask.Event.{Event}
 use Rattle.craq_model.specs.declared.ask.Event.TheVariants as events
 use Rattle.craq_model.specs.declared.message.LinkMessage.{LinkMessage}
@@ -13,8 +14,8 @@ use Rattle.craq_model.specs.Node.{event_turn, is_for, node_step, outs_fit, withi
 use Rattle.craq_model.specs.Plain.{Plain, id_of}
 use Rattle.craq_model.specs.Sends.{tick_sends}
 use Rattle.craq_model.specs.Settle.{Turn, turn_with}
-use Rattle.craq_refinement.proofs.Lists.{all_append, all_at}
-use Rattle.craq_refinement.proofs.Nodes.{node_id}
+use Rattle.craq_refinement.proofs.Lists.{all_at}
+use Rattle.craq_laws.proofs.Nodes.{node_id}
 use Rattle.craq_runs.specs.declared.run.Move.{Move}
 use Rattle.craq_runs.specs.declared.run.Move.TheVariants.{Deliver, Tick}
 use Rattle.craq_runs.specs.declared.run.Run.{Run}

@@ -9,10 +9,10 @@ use Rattle.craq_model.specs.Node.{node_step, outs_fit, within_counts}
 use Rattle.craq_model.specs.Plain.{Plain, id_of}
 use Rattle.craq_model.specs.Sends.{tick_sends}
 use Rattle.craq_model.specs.Settle.{Turn, turn_with}
-use Rattle.craq_refinement.proofs.Nodes.{node_here, node_elsewhere, node_id}
 use Rattle.craq_runs.specs.declared.run.Move.TheVariants.{Tick}
 use Rattle.craq_runs.specs.Chain.{Chain, Progress, chain_step, config_progress, counted_progress, node_at, node_progress, numbers_left, set_node, tick_progress, turn_progress}
 use Rattle.craq_runs.specs.Runs.{after_move, progressed}
+use Rattle.craq_laws.proofs.Nodes.{node_here, node_elsewhere, node_id}
 use Rattle.craq_recovery.proofs.Lines.{by_test}
 
 abbrev KeepsNodes : Chain → Result Progress Refusal → Type 0

@@ -14,7 +14,7 @@ use Rattle.craq_model.specs.Plain.{Plain, id_of, opening_joined}
 use Rattle.craq_model.specs.Sends.{tick_sends}
 use Rattle.craq_model.specs.Settle.{Turn, turn_with, turn_ignoring}
 use Rattle.craq_refinement.specs.Lines.{IsFollowed}
-use Rattle.craq_refinement.proofs.Nodes.{node_here}
+use Rattle.craq_laws.proofs.Nodes.{node_here, still_there}
 use Rattle.craq_refinement.proofs.Stages.{Arrived, Took, arrived, took}
 use Rattle.craq_runs.specs.declared.run.Move.{Move}
 use Rattle.craq_runs.specs.declared.run.Move.TheVariants.{Deliver, Tick}
@@ -162,12 +162,6 @@ lasts_at F keeps c (moves.Tick node) e t by p h = let K : Event → Type 0 = λ 
 lasts_at F keeps c (moves.Stop node) e t by p h = absurd t
 lasts_at F keeps c (moves.Remove node) e t by p h = absurd t
 lasts_at F keeps c (moves.Join node) e t by p h = absurd t
-
--- who is a node stays so when another one joins
-still_there : (nodes : List Plain) (q : Plain) (id : ℕ) (p : Plain) → node_at nodes id ≡ Some p → node_at (nodes ++ q ∷ []) id ≡ Some p
-unfolding node_at
-still_there [] q id p h = absurd (cc)
-still_there (n ∷ nodes) q id p h = grind (arith, h, still_there nodes q id p)
 
 -- a fact that no message changes lasts
 pub lasts_by : (F : Plain → Type 0) → ((p : Plain) (l : LinkMessage) → F p → F (delivery_turn p l).0) → Lasts F

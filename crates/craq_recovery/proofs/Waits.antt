@@ -1,6 +1,7 @@
 -- By ticks and messages no ask begins to wait.
-use Rattle.std.proofs.Common.{◌==◌, nat_lt, Bool, true, not, List, [], ◌∷◌, filter, None}
+use Rattle.std.proofs.Common.{◌==◌, nat_lt, true, not, None}
 use Rattle.std.specs.List.{AllByRecursion}
+use Rattle.craq_names.proofs.Lists.{all_filter}
 use Rattle.craq_model.specs.declared.message.LinkMessage.{LinkMessage}
 use Rattle.craq_model.specs.declared.waiting.WaitingRead.{WaitingRead}
 use Rattle.craq_model.specs.declared.waiting.WaitingUpdate.{WaitingUpdate}
@@ -13,10 +14,6 @@ use Rattle.craq_recovery.proofs.Lines.{ByMessage, by_message, by_test}
 -- this is so of each update and each read that waits at the node
 abbrev pub Waiting : (WaitingUpdate → Type 0) → (WaitingRead → Type 0) → Plain → Type 0
 Waiting P R p = AllByRecursion P p.waiting_updates × AllByRecursion R p.waiting_reads
-
-all_filter : {A : Type 0} (P : A → Type 0) (f : A → Bool) (xs : List A) → AllByRecursion P xs → AllByRecursion P (filter f xs)
-all_filter P f [] a = tt
-all_filter P f (x ∷ xs) a = by_test (f x) (λ l. AllByRecursion P l) (x ∷ filter f xs) (filter f xs) (a.0, all_filter P f xs a.1) (all_filter P f xs a.1)
 
 module _ (P : WaitingUpdate → Type 0) (R : WaitingRead → Type 0) where
   abbrev AfterTurn : Turn → Type 0

@@ -10,7 +10,7 @@ use Rattle.craq_protocol.specs.Members.{is_next}
 use Rattle.craq_protocol.specs.Promises.{Before}
 use Rattle.craq_protocol.proofs.Lists.{next_left, next_right}
 use Rattle.craq_refinement.proofs.Members.{is_member-same, next_from_predecessor}
-use Rattle.craq_refinement.proofs.Nodes.{node_id}
+use Rattle.craq_laws.proofs.Nodes.{node_id}
 use Rattle.craq_runs.specs.declared.run.Run.{Run}
 use Rattle.craq_runs.specs.Chain.{Chain, is_running, node_at}
 use Rattle.craq_runs.specs.Runs.{after_move}

@@ -4,9 +4,11 @@ use Rattle.std.proofs.lemmas.Bool.{cond_both, not-false}
 use Rattle.std.proofs.lemmas.List.{length-take-le}
 use Rattle.std.specs.List.{AllByRecursion, range_with_len}
 use Rattle.craq_names.specs.Limits.{part_limit}
+use Rattle.craq_names.proofs.Lists.{all_append}
 use Rattle.craq_commands.specs.declared.entry.Entry.{Entry}
 use Rattle.craq_commands.specs.declared.state.State.{State}
-use Rattle.craq_commands.specs.SingleCopy.{opening_state, after_entry, after_entries}
+use Rattle.craq_commands.specs.SingleCopy.{opening_state, after_entries}
+use Rattle.craq_commands.proofs.Entries.{after_entries-append}
 use Rattle.craq_model.specs.declared.message.Body.{Body}
 use Rattle.craq_model.specs.declared.message.Body.TheVariants as bodies
 use Rattle.craq_model.specs.declared.message.LinkMessage.{LinkMessage}
@@ -25,7 +27,7 @@ use Rattle.craq_runs.specs.Chain.{Chain}
 use Rattle.craq_refinement.specs.Follows.{IsHistory, seen_of, NodeFollows}
 use Rattle.craq_refinement.specs.Lines.{IsNothing}
 use Rattle.craq_refinement.proofs.Members.{is_id-some}
-use Rattle.craq_refinement.proofs.Lists.{all_append, placed_take}
+use Rattle.craq_refinement.proofs.Lists.{placed_take}
 use Rattle.craq_refinement.proofs.Sends.{IsPartAfter, BodySendable}
 use Rattle.craq_refinement.proofs.Stages.{TurnFollows, stage_turn, stage_before}
 use Rattle.craq_refinement.proofs.Ticks.{sendable_all, catch_up_sendable}
@@ -38,10 +40,6 @@ take_past (x ∷ front) es (suc k) le =
     let same : k - length front ≡ suc k - suc (length front) = omega arith in
     ap (λ l. x ∷ l) (take_past front es k (omega arith) ∙ ap (λ j. front ++ take j es) same)
 
-after_both : (s : State) (xs ys : List Entry) → after_entries s (xs ++ ys) ≡ after_entries (after_entries s xs) ys
-after_both s [] ys = refl
-after_both s (x ∷ xs) ys = after_both (after_entry s x) xs ys
-
 -- the state that a node sends is that after the entries that it knows to be committed
 clean_is : {w : World Entry} (p : Plain) → NodeFollows w (seen_of p) → after_entries opening_state (take (w.acknowledged (id_of p)) (w.history (id_of p))) ≡ clean p
 unfolding clean
@@ -53,7 +51,7 @@ clean_is {w} p n =
     let two : take k (h.front ++ p.past.entries) ≡ h.front ++ take (k - length h.front) p.past.entries = take_past h.front p.past.entries k (omega (arith, n.based, h.count)) in
     let three : k - length h.front ≡ k - p.past.base = omega (arith, h.count) in
     ap (after_entries opening_state) (one ∙ two)
-    ∙ (after_both opening_state h.front (take (k - length h.front) p.past.entries)
+    ∙ (after_entries-append opening_state h.front (take (k - length h.front) p.past.entries)
     ∙ (ap (λ s. after_entries s (take (k - length h.front) p.past.entries)) h.after ∙ ap (λ j. after_entries p.past.base_state (take j p.past.entries)) three))
 
 -- each part of the state

@@ -14,9 +14,9 @@ use Rattle.craq_protocol.specs.Machine.{World, Move}
 use Rattle.craq_protocol.specs.Promises.{IsReached}
 use Rattle.craq_runs.specs.declared.run.Move.TheVariants.{Ask, Deliver}
 use Rattle.craq_runs.specs.Chain.{Chain, Progress, node_at, message_at, chain_step}
+use Rattle.craq_laws.proofs.Nodes.{node_id}
 use Rattle.craq_refinement.specs.Follows.{BodyFollows, Follows}
 use Rattle.craq_refinement.specs.Lines.{StandsFor, IsTaking, IsTakingAll, IsHearing, IsAdopting, IsUpdating}
-use Rattle.craq_refinement.proofs.Nodes.{node_id}
 use Rattle.craq_refinement.proofs.Stages.{TurnFollows, Took, took, Arrived, arrived, message_said}
 use Rattle.craq_refinement.proofs.Here.{Here}
 use Rattle.craq_refinement.proofs.Entries.{entry_follows, batch_follows}

@@ -27,9 +27,9 @@ use Rattle.craq_runs.specs.declared.run.Run.{Run}
 use Rattle.craq_runs.specs.declared.run.Taken.{Taken}
 use Rattle.craq_runs.specs.Chain.{Chain, Progress, node_at, message_at, sent_in, config_progress, node_progress, arrival_progress, counted_progress, chain_step, opening_chain}
 use Rattle.craq_runs.specs.Runs.{progressed, Takes, AreTaken, after_moves, IsRunOf}
+use Rattle.craq_laws.proofs.Nodes.{node_id}
 use Rattle.craq_refinement.specs.Follows.{BodyFollows, Follows}
 use Rattle.craq_refinement.specs.Lines.{moves_of_sends, StandsFor, CanFollow, IsFollowed, IsTaking, IsTakingAll, IsHearing, IsAdopting, IsUpdating, IsStopping, IsRemoving, IsJoining, IsNothing}
-use Rattle.craq_refinement.proofs.Nodes.{node_id}
 use Rattle.craq_refinement.proofs.Stages.{TurnFollows, Took, took, Arrived, arrived}
 use Rattle.craq_refinement.proofs.Here.{Here}
 use Rattle.craq_refinement.proofs.Copies.{copy_follows, part_follows, floor_follows}

@@ -1,13 +1,14 @@
 -- The parts of a state that a node gathers, and the state once no part is missing.
 use Rattle.std.proofs.Common.{◌≡◌, ◌<◌, ◌≤◌, ℕ, zero, suc, ◌+◌, ◌-◌, ◌*◌, nat_lt, Bool, true, false, ◌&&◌, T, List, [], ◌∷◌, map, length, take, Option, Some, None, refl, sym, ap, subst, ◌∙◌, arith}
 use Rattle.std.proofs.lemmas.Bool.{cond_both, ltb-false}
-use Rattle.std.proofs.lemmas.Bool.Decides.{nat_tests}
 use Rattle.std.specs.List.{AllByRecursion, range_with_len}
 use Rattle.std.specs.Ordering.{nat_cmp, is_lt}
 use Rattle.std.specs.Cmp.{ranked, nat_cmp_total}
 use Rattle.std.specs.declared.cmp.Ordering.TheVariants.{Less, Equal, Greater}
 use Rattle.std.specs.FinMap.Entries.{by_order, below_all, is_sorted, is_sorted-put}
 use Rattle.craq_names.specs.Maps.{put_number}
+use Rattle.craq_names.proofs.Lists.{all_like}
+use Rattle.craq_names.proofs.Numbers.{less_of}
 use Rattle.craq_commands.specs.declared.entry.Entry.{Entry}
 use Rattle.craq_commands.specs.declared.state.State.{State}
 use Rattle.craq_commands.specs.SingleCopy.{opening_state, after_entries}
@@ -21,7 +22,6 @@ use Rattle.craq_protocol.proofs.Prefix.{prefix_is_take}
 use Rattle.craq_protocol.proofs.Reached.{reached_safe}
 use Rattle.craq_laws.proofs.Parts.{parts_joined}
 use Rattle.craq_refinement.specs.Follows.{said, PartFollows, PartWasSent, held_part, IsGathered, AreGathered}
-use Rattle.craq_refinement.proofs.Lists.{all_like}
 
 first : (a b : Bool) → T (a && b) → T a
 first true b p = tt
@@ -38,12 +38,9 @@ Held = List (ℕ × State)
 abbrev AreAbove : ℕ → Held → Type 0
 AreAbove n hs = AllByRecursion (λ (h : ℕ × State). n < h.0) hs
 
-lt_of : (x y : ℕ) → T (is_lt (nat_cmp x y)) → x < y
-lt_of x y h = grind (arith, nat_tests, h)
-
 all_above : (n : ℕ) (hs : Held) → T (below_all nat_cmp n hs) → AreAbove n hs
 all_above n [] b = tt
-all_above n (h ∷ hs) b = (lt_of n h.0 (first (is_lt (nat_cmp n h.0)) (below_all nat_cmp n hs) b), all_above n hs (second (is_lt (nat_cmp n h.0)) (below_all nat_cmp n hs) b))
+all_above n (h ∷ hs) b = (less_of n h.0 (first (is_lt (nat_cmp n h.0)) (below_all nat_cmp n hs) b), all_above n hs (second (is_lt (nat_cmp n h.0)) (below_all nat_cmp n hs) b))
 
 -- the part of a number
 abbrev pub numbered : State → ℕ → ℕ × State

@@ -2,7 +2,6 @@ pub mod Members
 pub mod Lists
 pub mod Rows
 pub mod Gathered
-pub mod Nodes
 pub mod Worlds
 pub mod Sends
 pub mod Stages

@@ -5,6 +5,7 @@ use Rattle.std.specs.List.{AllByRecursion}
 use Rattle.craq_names.specs.Limits.{greatest, member_limit}
 use Rattle.craq_names.specs.declared.refusal.Refusal.{Refusal}
 use Rattle.craq_names.specs.declared.refusal.Refusal.TheVariants as refusals
+use Rattle.craq_names.proofs.Lists.{all_append, all_like}
 use Rattle.craq_commands.specs.declared.entry.Entry.{Entry}
 use Rattle.craq_commands.specs.SingleCopy.{opening_state}
 use Rattle.craq_model.specs.declared.message.Body.{Body}
@@ -22,11 +23,10 @@ use Rattle.craq_protocol.proofs.Invariant.{Invariant}
 use Rattle.craq_protocol.proofs.Effects.{remove_does, join_does}
 use Rattle.craq_protocol.proofs.Reached.{reached_inv, reached_safe}
 use Rattle.craq_runs.specs.Chain.{Chain, Progress, node_at, sent_in, config_to, config_progress, next_epoch, is_running, removal_progress, with_node, join_progress, numbers_left, counted_progress}
+use Rattle.craq_laws.proofs.Nodes.{node_id}
 use Rattle.craq_refinement.specs.Follows.{IsHistory, Seen, seen_of, NodeFollows, BodyFollows, MessageFollows, Follows}
 use Rattle.craq_refinement.specs.Lines.{moves_of_sends, StandsFor}
 use Rattle.craq_refinement.proofs.Members.{is_member-same}
-use Rattle.craq_refinement.proofs.Lists.{all_append, all_like}
-use Rattle.craq_refinement.proofs.Nodes.{node_id}
 use Rattle.craq_refinement.proofs.Worlds.{history_like, placed_like}
 
 without-same : (ms : List ℕ) (id : ℕ) → model.without ms id ≡ protocol.without ms id

@@ -1,6 +1,7 @@
 -- What a node sends, it may send in the protocol.
 use Rattle.std.proofs.Common.{◌≡◌, inl, inr, ℕ, ◌≤◌, true, List, [], ◌∷◌, map, length, take, Some, refl, ap, sym, subst, ◌∙◌}
 use Rattle.std.specs.List.{AllByRecursion}
+use Rattle.craq_names.proofs.Lists.{all_like}
 use Rattle.craq_commands.specs.declared.entry.Entry.{Entry}
 use Rattle.craq_commands.specs.SingleCopy.{opening_state, after_entries}
 use Rattle.craq_model.specs.declared.message.Body.{Body}
@@ -16,7 +17,6 @@ use Rattle.craq_protocol.proofs.Effects.{send_entry_does, send_ack_does, send_co
 use Rattle.craq_protocol.proofs.Reached.{after_moves-append}
 use Rattle.craq_refinement.specs.Follows.{IsPlaced, said, BodyFollows, MessageFollows}
 use Rattle.craq_refinement.specs.Lines.{moves_of_send, moves_of_sends}
-use Rattle.craq_refinement.proofs.Lists.{all_like}
 use Rattle.craq_refinement.proofs.Worlds.{part_later}
 
 -- the entry is in the history at its position

@@ -4,6 +4,7 @@ use Rattle.std.proofs.lemmas.Bool.{cond_both, cases_eq}
 use Rattle.std.specs.List.{AllByRecursion}
 use Rattle.craq_names.specs.declared.refusal.Refusal.{Refusal}
 use Rattle.craq_names.specs.declared.refusal.Refusal.TheVariants as refusals
+use Rattle.craq_names.proofs.Lists.{all_append, all_like}
 use Rattle.craq_commands.specs.declared.entry.Entry.{Entry}
 use Rattle.craq_model.specs.declared.message.LinkMessage.{LinkMessage}
 use Rattle.craq_model.specs.declared.ask.Event.{Event}
@@ -20,10 +21,10 @@ use Rattle.craq_protocol.specs.Promises.{Sent}
 use Rattle.craq_protocol.proofs.Reached.{after_moves-append}
 use Rattle.craq_runs.specs.declared.run.Move.TheVariants.{Deliver}
 use Rattle.craq_runs.specs.Chain.{Chain, Progress, node_at, set_node, message_at, sent_in, turn_progress, node_progress, arrival_progress, numbers_left, counted_progress, chain_step}
+use Rattle.craq_laws.proofs.Nodes.{node_here, node_elsewhere, node_id, ids_stay}
 use Rattle.craq_refinement.specs.Follows.{Seen, seen_of, NodeFollows, MessageFollows, Follows}
 use Rattle.craq_refinement.specs.Lines.{moves_of_sends, StandsFor}
-use Rattle.craq_refinement.proofs.Lists.{all_append, all_like, all_at}
-use Rattle.craq_refinement.proofs.Nodes.{node_here, node_elsewhere, node_id, ids_stay}
+use Rattle.craq_refinement.proofs.Lists.{all_at}
 use Rattle.craq_refinement.proofs.Worlds.{OnlyAt, only_self, gathered_later, others_follow}
 use Rattle.craq_refinement.proofs.Sends.{Sendable, AfterSends, body_stays, sends_all}
 

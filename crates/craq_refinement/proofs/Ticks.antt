@@ -3,6 +3,7 @@ use Rattle.std.proofs.Common.{◌≡◌, ℕ, ◌+◌, ◌-◌, ◌*◌, ◌==�
 use Rattle.std.proofs.lemmas.Bool.{cond_both}
 use Rattle.std.specs.List.{AllByRecursion, range_with_len}
 use Rattle.std.specs.Slice.Iter.{chunk_count}
+use Rattle.craq_names.proofs.Lists.{all_append, all_map, all_drop, all_take, all_each}
 use Rattle.craq_commands.specs.declared.entry.Entry.{Entry}
 use Rattle.craq_model.specs.declared.message.Body.{Body}
 use Rattle.craq_model.specs.declared.message.Body.TheVariants as bodies
@@ -18,7 +19,7 @@ use Rattle.craq_protocol.specs.Machine.{World, known_membership}
 use Rattle.craq_runs.specs.Chain.{sent_in}
 use Rattle.craq_refinement.specs.Follows.{IsPlaced, seen_of, NodeFollows}
 use Rattle.craq_refinement.proofs.Members.{next_from_successor, next_from_predecessor}
-use Rattle.craq_refinement.proofs.Lists.{all_append, all_map, all_drop, all_take, all_each, placed_take, placed_back, placed_entries}
+use Rattle.craq_refinement.proofs.Lists.{placed_take, placed_back, placed_entries}
 use Rattle.craq_refinement.proofs.Rows.{placed_drop}
 use Rattle.craq_refinement.proofs.Worlds.{history_length}
 use Rattle.craq_refinement.proofs.Sends.{IsAt, BodySendable, Sendable}

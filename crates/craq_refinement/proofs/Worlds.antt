@@ -1,6 +1,7 @@
 -- Worlds that differ at one node alone.
 use Rattle.std.proofs.Common.{◌≡◌, ◌≢◌, ℕ, Bool, true, false, ◌&&◌, ◌==◌, List, length, Option, Some, None, refl, ap, sym, subst, ◌∙◌, ◌+◌, arith, length-append}
 use Rattle.std.proofs.lemmas.Bool.{cond_both}
+use Rattle.craq_names.proofs.Lists.{all_like}
 use Rattle.craq_commands.specs.declared.entry.Entry.{Entry}
 use Rattle.craq_commands.specs.declared.state.State.{State}
 use Rattle.craq_model.specs.Members.{last_of}
@@ -14,7 +15,6 @@ use Rattle.craq_protocol.specs.Machine.{World, Message, known_membership, is_tai
 use Rattle.craq_protocol.proofs.Lists.{put_same, put_other}
 use Rattle.craq_protocol.proofs.Effects.{commit_tail, commit_other}
 use Rattle.craq_refinement.specs.Follows.{IsHistory, IsPlaced, PartFollows, PartWasSent, held_part, AreGathered, said, Seen, NodeFollows}
-use Rattle.craq_refinement.proofs.Lists.{all_like}
 use Rattle.craq_refinement.proofs.Members.{last_of-same}
 
 pub record OnlyAt (id : ℕ) (w v : World Entry) : Type 0 where

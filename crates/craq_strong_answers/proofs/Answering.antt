@@ -1,5 +1,6 @@
 -- Each answer of a node's step is owed to its ask.
-use Rattle.std.proofs.Common.{◌≡◌, ⊎_elim, ℕ, suc, ◌-◌, ◌≤◌, true, List, [], ◌∷◌, length, take, Some, refl, ap, sym, subst, ◌∙◌, arith}
+use Rattle.std.proofs.Common.{◌≡◌, ⊎_elim, ℕ, ◌-◌, ◌≤◌, true, List, length, Some, ap, sym, subst, ◌∙◌, arith}
+use Rattle.std.proofs.Math.Seq.{take-length}
 use Rattle.craq_commands.specs.declared.entry.Entry.{Entry}
 use Rattle.craq_commands.specs.declared.read_mode.ReadMode.TheVariants.{Strong}
 use Rattle.craq_commands.specs.Objects.{object_of}
@@ -21,7 +22,7 @@ use Rattle.craq_runs.specs.Seen.{Asked, ask_with}
 use Rattle.craq_runs.specs.Explain.{Account}
 use Rattle.craq_refinement.specs.Follows.{seen_of, NodeFollows}
 use Rattle.craq_updates.proofs.Lens.{AreLens}
-use Rattle.craq_updates.proofs.Updates.{numbers_of}
+use Rattle.craq_updates.proofs.Updates.{numbers_of, numbers_length}
 use Rattle.craq_updates.proofs.Commits.{tail_seen}
 use Rattle.craq_updates.proofs.Known.{Known}
 use Rattle.craq_strong_answers.proofs.Gives.{MayAnswer}
@@ -64,13 +65,9 @@ update_answered b v position id u d l le known =
 pub before_log : (b : Account) (v : World Entry) → Known b v → (ask : Asked) → before b ask ≤ length v.log
 before_log b v k ask =
     let l : AreLens b.chain.moves b.lens (numbers_of b.asks b.committed) = k.lens in
-    let count : length (numbers_of b.asks b.committed) ≡ length b.committed = mapped b.asks b.committed in
+    let count : length (numbers_of b.asks b.committed) ≡ length b.committed = numbers_length b.asks b.committed in
     let same : length b.committed ≡ length v.log = ap length k.committed in
     omega (arith, l.within (ask.move - 1), count, same)
-  where
-    mapped : (asked : List Asked) (es : List Entry) → length (numbers_of asked es) ≡ length es
-    mapped asked [] = refl
-    mapped asked (e ∷ es) = ap suc (mapped asked es)
 
 -- a node of the chain after the step
 pub record At (b : Account) (v : World Entry) (id : ℕ) (q : Plain) : Type 0 where
@@ -102,11 +99,7 @@ at_tail b v id q h u t =
 pub tail_object : (b : Account) (v : World Entry) (id : ℕ) (q : Plain) (key : List ℕ) → At b v id q → q.running ≡ true → is_tail q ≡ true → object_of (state_after (length v.log) v.log).objects key ≡ newest_object q key
 tail_object b v id q key h u t =
     let o : Holds b.asks v q (v.history id) = at_holds b v id q h in
-    ap (λ l. object_of (after_entries opening_state l).objects key) (whole v.log ∙ sym (at_tail b v id q h u t)) ∙ sym (ap (λ (s : State). object_of s.objects key) o.newest_is)
-  where
-    whole : (l : List Entry) → take (length l) l ≡ l
-    whole [] = refl
-    whole (x ∷ l) = ap (λ l. x ∷ l) (whole l)
+    ap (λ l. object_of (after_entries opening_state l).objects key) (take-length v.log ∙ sym (at_tail b v id q h u t)) ∙ sym (ap (λ (s : State). object_of s.objects key) o.newest_is)
 
 -- with no word of a tail a read stands after all that is committed
 pub may_answer : (b : Account) (v : World Entry) (id : ℕ) (q : Plain) (position : List ℕ → ℕ) → At b v id q → q.running ≡ true → ((key : List ℕ) → position key ≡ length v.log)

@@ -1,9 +1,10 @@
 -- What a node does with an ask, in the account and the world after it.
-use Rattle.std.proofs.Common.{◌≡◌, ◌⊎◌, inl, inr, ⊎_elim, ℕ, suc, ◌+◌, ◌-◌, ◌≤◌, ◌==◌, max, Bool, true, false, ◌&&◌, List, [], ◌∷◌, ◌++◌, length, slice_index, Option, Some, None, Ok, refl, ap, sym, subst, ◌∙◌, arith}
+use Rattle.std.proofs.Common.{◌≡◌, ◌⊎◌, inl, inr, ⊎_elim, ℕ, ◌+◌, ◌-◌, ◌≤◌, ◌==◌, max, Bool, true, false, ◌&&◌, List, [], ◌∷◌, ◌++◌, length, slice_index, Option, Some, None, Ok, refl, ap, sym, subst, ◌∙◌, arith}
 use Rattle.std.specs.Prelude.{⊤}
 use Rattle.std.specs.List.{AllByRecursion}
 use Rattle.std.proofs.lemmas.Bool.{eqb-true, eq-eqb, and_parts, false_from_ne_true}
 use Rattle.craq_names.specs.declared.name.ObjectId.{ObjectId}
+use Rattle.craq_names.proofs.Lists.{all_like}
 use Rattle.craq_commands.specs.declared.command.Update.{Update}
 use Rattle.craq_commands.specs.declared.entry.Entry.{Entry}
 use Rattle.craq_commands.specs.declared.reply.Reply.{Reply}
@@ -31,12 +32,12 @@ use Rattle.craq_runs.specs.Chain.{Progress, node_at}
 use Rattle.craq_runs.specs.Seen.{Asked, ask_with}
 use Rattle.craq_runs.specs.Explain.{Account, account_with, due_in}
 use Rattle.craq_refinement.specs.Follows.{IsPlaced, IsHistory, seen_of, NodeFollows}
-use Rattle.craq_refinement.proofs.Lists.{placed_back, all_like}
+use Rattle.craq_refinement.proofs.Lists.{placed_back}
 use Rattle.craq_refinement.proofs.Worlds.{history_length}
 use Rattle.craq_updates.proofs.EachMove.{entry_for}
 use Rattle.craq_updates.proofs.Found.{find_last}
 use Rattle.craq_updates.proofs.Lens.{AreLens}
-use Rattle.craq_updates.proofs.Updates.{numbers_of}
+use Rattle.craq_updates.proofs.Updates.{numbers_of, numbers_length}
 use Rattle.craq_updates.proofs.Known.{Known, some_same}
 use Rattle.craq_updates.proofs.NewAsks.{TookAsk, new_ask_found}
 use Rattle.craq_updates.proofs.AtNodes.{now_at}
@@ -70,11 +71,7 @@ pub before_new : (a b : Account) (w v : World Entry) (ask : Asked) → Known a w
 before_new a b w v ask k g is =
     let l : AreLens a.chain.moves a.lens (numbers_of a.asks a.committed) = k.lens in
     let at : ask.move - 1 ≡ a.chain.moves = omega (arith, is) in
-    ap (slice_index (0 ∷ b.lens)) at ∙ (g.lens a.chain.moves (omega (arith, l.count)) ∙ (l.ends ∙ (mapped a.asks a.committed ∙ ap length k.committed)))
-  where
-    mapped : (asked : List Asked) (es : List Entry) → length (numbers_of asked es) ≡ length es
-    mapped asked [] = refl
-    mapped asked (e ∷ es) = ap suc (mapped asked es)
+    ap (slice_index (0 ∷ b.lens)) at ∙ (g.lens a.chain.moves (omega (arith, l.count)) ∙ (l.ends ∙ (numbers_length a.asks a.committed ∙ ap length k.committed)))
 
 new_due : (a : Account) (w : World Entry) (node : ℕ) (u : Update) (x : Progress) (step : Step) → Served a w → (t : TookAsk a.chain node (asks.Update u) x step)
     → due_of (next_account a (asking node (asks.Update u) step) x).due node (t.here.was.last_ticket + 1)

@@ -5,6 +5,7 @@ use Rattle.craq_names.specs.Limits.{greatest}
 use Rattle.craq_names.specs.declared.refusal.Refusal.{Refusal}
 use Rattle.craq_names.specs.declared.refusal.Refusal.TheVariants as refusals
 use Rattle.craq_names.specs.declared.name.ObjectId.{ObjectId}
+use Rattle.craq_names.proofs.Lists.{all_append}
 use Rattle.craq_commands.specs.declared.command.Update.{Update}
 use Rattle.craq_commands.specs.declared.entry.Entry.{Entry}
 use Rattle.craq_commands.specs.declared.reply.Reply.{Reply}
@@ -27,7 +28,7 @@ use Rattle.craq_model.specs.Asks.{accepted_turn, answered_turn, is_full, is_clea
 use Rattle.craq_refinement.proofs.Updates.{refused, turn_same}
 use Rattle.craq_updates.proofs.EachMove.{entry_for}
 use Rattle.craq_strong_answers.proofs.Outs.{AllTold, told_sends, told_neighbour, says_entry_bodies}
-use Rattle.craq_strong_answers.proofs.Gives.{Gives, MayAnswer, Waits, all_joined, like_waits}
+use Rattle.craq_strong_answers.proofs.Gives.{Gives, MayAnswer, Waits, like_waits}
 use Rattle.craq_strong_answers.proofs.Same.{SameHistory}
 
 module _ (P : WaitingUpdate → Type 0) (R : WaitingRead → Type 0) (G : ℕ → Answer → Type 0) (Q : ℕ → ℕ → List ℕ → Type 0) (V : ℕ → ℕ → ℕ → Type 0) where
@@ -45,7 +46,7 @@ module _ (P : WaitingUpdate → Type 0) (R : WaitingRead → Type 0) (G : ℕ �
       (λ e k. subst S (turn_same now t (Ok now) refl k) (λ m. record { updates = w.updates; reads = w.reads; told = (m.acknowledged ready u new (leb-true position q.past.acknowledged e), a) }))
       (λ e k.
       let g : (is_full q ≡ false) × (Ok later ≡ Ok t) = refused (is_full q) refusals.PendingFull (Ok later) k in
-      subst S (turn_same later t (Ok later) refl g.1) (λ m. record { updates = all_joined P q.waiting_updates (u ∷ []) w.updates (new, tt); reads = w.reads; told = a }))
+      subst S (turn_same later t (Ok later) refl g.1) (λ m. record { updates = all_append P q.waiting_updates (u ∷ []) w.updates (new, tt); reads = w.reads; told = a }))
       h m
 
   replies_after : (p : Plain) → Waits P R G Q V p → (position : ℕ) (reply : Reply) (sends : List Out) → AllTold G Q V sends → P (record { ticket = p.last_ticket + 1; position = position; reply = reply }) → p.ready ≡ true
@@ -116,7 +117,7 @@ module _ (P : WaitingUpdate → Type 0) (R : WaitingRead → Type 0) (G : ℕ �
       let S : Turn → Type 0 = λ t. ReadGives p t in
       subst S (turn_same (accepted_turn q os) t (Ok (accepted_turn q os)) refl f.1)
       (record {
-        gives = record { updates = w.updates; reads = all_joined R p.waiting_reads (r ∷ []) w.reads (g.1, tt); told = ((refl, w.asks r g.1), tt) };
+        gives = record { updates = w.updates; reads = all_append R p.waiting_reads (r ∷ []) w.reads (g.1, tt); told = ((refl, w.asks r g.1), tt) };
         same = record { base = refl; state = refl; entries = refl; acknowledged = refl; ready = refl };
         ready = ready;
       }))

@@ -4,6 +4,7 @@ use Rattle.std.specs.List.{AllByRecursion, AllZip}
 use Rattle.std.proofs.lemmas.Bool.{cond_both}
 use Rattle.std.proofs.lemmas.List.{map-append}
 use Rattle.std.proofs.lemmas.List.Elements.{filter-append}
+use Rattle.craq_names.proofs.Lists.{all_append, all_like}
 use Rattle.craq_commands.specs.declared.entry.Entry.{Entry}
 use Rattle.craq_model.specs.declared.message.LinkMessage.{LinkMessage}
 use Rattle.craq_model.specs.declared.step.Out.{Out}
@@ -21,7 +22,6 @@ use Rattle.craq_runs.specs.declared.run.Taken.{Taken}
 use Rattle.craq_runs.specs.Chain.{Chain, Progress, node_at, sent_in, config_to, chain_step}
 use Rattle.craq_runs.specs.Seen.{Asked, Answered, answers_in, receivers_in, is_strong_answer, ask_of}
 use Rattle.craq_runs.specs.Explain.{Account, opening_account, account_with, places_of, tail_word}
-use Rattle.craq_refinement.proofs.Lists.{all_append, all_like}
 use Rattle.craq_runs.specs.Typed.{IsMoveOfType, IsTypedRunOf}
 use Rattle.craq_updates.proofs.EachMove.{place_of}
 use Rattle.craq_updates.proofs.Places.{AtNode, AtMaster, happens_at}

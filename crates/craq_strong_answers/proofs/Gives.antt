@@ -9,6 +9,7 @@ use Rattle.craq_model.specs.declared.message.Body.{Body}
 use Rattle.craq_model.specs.declared.message.Body.TheVariants as bodies
 use Rattle.craq_model.specs.declared.message.LinkMessage.{LinkMessage}
 use Rattle.craq_names.specs.Maps.{at_number}
+use Rattle.craq_names.proofs.Lists.{all_append, all_filter}
 use Rattle.craq_model.specs.declared.gathering.Gathering.{Gathering}
 use Rattle.craq_model.specs.declared.message.StatePart.{StatePart}
 use Rattle.craq_model.specs.Parts.{gathered_position, gathering_for, is_in_order, with_part, is_whole, joined_state}
@@ -27,11 +28,6 @@ use Rattle.craq_model.specs.Settle.{Turn, turn_with, turn_ignoring, read_answer,
 use Rattle.craq_model.specs.Deliveries.{config_turn, are_applicable, forwarding_turn, taken_entries_turn, first_position, final_position, entries_above, entries_turn, due_updates, later_updates, acknowledgement_turn, ack_turn, query_turn, read_with, reads_without, answering_version, told_version_turn, version_turn, fill_bodies, blank_turn, with_copy, copy_turn, gathered_turn, gathering_turn, is_outdated, part_turn, floor_turn, turn_in_epoch, body_turn}
 use Rattle.craq_strong_answers.proofs.Outs.{Says, AllTold, told_both, told_answers, told_sends, told_neighbour, says_entry_bodies, says_copy_bodies, says_catch_up, told_tick}
 
-pub all_filter : {A : Type 0} (P : A → Type 0) (test : A → Bool) (xs : List A) → AllByRecursion P xs → AllByRecursion P (filter test xs)
-all_filter P test [] a = tt
-all_filter {A} P test (x ∷ xs) a =
-    cond_both (test x) (x ∷ filter test xs) (filter test xs) (λ (l : List A). AllByRecursion P l) (λ e. (a.0, all_filter P test xs a.1)) (λ e. all_filter P test xs a.1)
-
 -- what passes a test, passes it
 pub all_passing : {A : Type 0} (P S : A → Type 0) (test : A → Bool) (xs : List A) → ((x : A) → P x → test x ≡ true → S x) → AllByRecursion P xs → AllByRecursion S (filter test xs)
 all_passing P S test [] f a = tt
@@ -41,10 +37,6 @@ all_passing {A} P S test (x ∷ xs) f a =
 all_mapped : {A B : Type 0} (P : A → Type 0) (S : B → Type 0) (f : A → B) (xs : List A) → ((x : A) → P x → S (f x)) → AllByRecursion P xs → AllByRecursion S (map f xs)
 all_mapped P S f [] g a = tt
 all_mapped P S f (x ∷ xs) g a = (g x a.0, all_mapped P S f xs g a.1)
-
-pub all_joined : {A : Type 0} (P : A → Type 0) (xs ys : List A) → AllByRecursion P xs → AllByRecursion P ys → AllByRecursion P (xs ++ ys)
-all_joined P [] ys a b = b
-all_joined P (x ∷ xs) ys a b = (a.0, all_joined P xs ys a.1 b)
 
 all_inserted : (S : Given → Type 0) (g : Given) (gs : List Given) → S g → AllByRecursion S gs → AllByRecursion S (insert_given g gs)
 unfolding insert_given
@@ -98,7 +90,7 @@ module _ (P : WaitingUpdate → Type 0) (R : WaitingRead → Type 0) (G : ℕ �
   all_answers p w t m =
       let S : Given → Type 0 = λ g. G g.0 g.1 in
       all_sorted S (map update_given p.waiting_updates ++ map (read_given p) p.waiting_reads)
-      (all_joined S (map update_given p.waiting_updates) (map (read_given p) p.waiting_reads)
+      (all_append S (map update_given p.waiting_updates) (map (read_given p) p.waiting_reads)
       (all_mapped P S update_given p.waiting_updates (λ u h. m.tail_updates t u h) w.updates)
       (all_mapped R S (read_given p) p.waiting_reads (λ r h. m.tail_reads t r h) w.reads))
 
@@ -250,7 +242,7 @@ module _ (P : WaitingUpdate → Type 0) (R : WaitingRead → Type 0) (G : ℕ �
   unfolding fill_bodies
   says_fill p count to =
       let copies : List Body = copy_bodies p.past.acknowledged (clean p) in
-      all_joined (Says Q V (id_of p) to) (cond (nat_lt count p.past.acknowledged) copies []) (catch_up p (max count p.past.acknowledged))
+      all_append (Says Q V (id_of p) to) (cond (nat_lt count p.past.acknowledged) copies []) (catch_up p (max count p.past.acknowledged))
       (cond_both (nat_lt count p.past.acknowledged) copies [] (λ (l : List Body). AllByRecursion (Says Q V (id_of p) to) l) (λ e. says_copy_bodies G Q V (id_of p) to p.past.acknowledged (clean p)) (λ e. tt))
       (says_catch_up G Q V p (max count p.past.acknowledged) (id_of p) to)
 

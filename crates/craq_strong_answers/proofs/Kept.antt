@@ -3,19 +3,20 @@ use Rattle.std.proofs.Common.{◌≡◌, ◌≢◌, ℕ, zero, suc, ◌+◌, ◌
 use Rattle.std.specs.List.{AllByRecursion}
 use Rattle.std.proofs.lemmas.Bool.{cond_both, cond-true, eq-eqb}
 use Rattle.std.proofs.Math.Seq.{drop-append-add}
+use Rattle.std.proofs.lemmas.List.{take-append-drop}
 use Rattle.craq_commands.specs.declared.command.Update.{Update}
 use Rattle.craq_commands.specs.declared.entry.Entry.{Entry}
 use Rattle.craq_commands.specs.declared.reply.Reply.{Reply}
 use Rattle.craq_commands.specs.Kept.{keep, said_of}
 use Rattle.craq_commands.specs.declared.state.State.{State}
 use Rattle.craq_commands.specs.SingleCopy.{opening_state, window_of, is_new_to, kept_with, said, after_entry, after_entries}
+use Rattle.craq_commands.proofs.Entries.{after_entries-append}
 use Rattle.craq_model.specs.Past.{last_position}
 use Rattle.craq_model.specs.Plain.{Plain, newest, position_of}
 use Rattle.craq_laws.proofs.Copies.{after_entries-push, new_unsaid}
 use Rattle.craq_laws.proofs.Histories.{kept_here, put_elsewhere}
 use Rattle.craq_refinement.specs.Follows.{IsPlaced, IsHistory}
 use Rattle.craq_updates.proofs.EachMove.{entry_for}
-use Rattle.craq_updates.proofs.Known.{after_entries-append}
 use Rattle.craq_strong_answers.proofs.Stands.{state_after}
 use Rattle.craq_strong_answers.proofs.Windows.{said_kept}
 
@@ -79,13 +80,8 @@ kept_from q h client d i p le short =
     let rest : drop d h ≡ drop k q.past.entries = ap (drop d) (sym i.whole) ∙ (ap (λ j. drop j (i.front ++ q.past.entries)) (sym count) ∙ drop-append-add i.front q.past.entries k) in
     let P : List Entry → Type 0 = λ l. OfOthers client l in
     let others : OfOthers client (drop d h) = subst P (sym rest) (n.others k (omega (arith, le, base))) in
-    let split : after_entries opening_state h ≡ after_entries (state_after d h) (drop d h) = ap (after_entries opening_state) (sym (take_drop d h)) ∙ after_entries-append opening_state (take d h) (drop d h) in
+    let split : after_entries opening_state h ≡ after_entries (state_after d h) (drop d h) = ap (after_entries opening_state) (sym (take-append-drop d h)) ∙ after_entries-append opening_state (take d h) (drop d h) in
     sym (ap (λ s. window_of s client) split ∙ kept_by_others (state_after d h) (drop d h) client others)
-  where
-    take_drop : {A : Type 0} (i : ℕ) (l : List A) → take i l ++ drop i l ≡ l
-    take_drop zero l = refl
-    take_drop (suc i) [] = refl
-    take_drop (suc i) (x ∷ l) = ap (λ l. x ∷ l) (take_drop i l)
 
 -- ---- an update that was asked
 

@@ -1,6 +1,7 @@
 -- Reads that are answered hold.
-use Rattle.std.proofs.Common.{◌≡◌, ◌⊎◌, ⊎_elim, ℕ, ◌<◌, ◌≤◌, nat_le, max, true, List, [], ◌∷◌, length, take, option_map, unwrap_or, Option, Some, refl, ap, sym, subst, ◌∙◌, arith}
+use Rattle.std.proofs.Common.{◌≡◌, ◌⊎◌, ⊎_elim, ℕ, ◌<◌, ◌≤◌, nat_le, max, true, List, length, option_map, unwrap_or, Option, Some, refl, ap, sym, subst, ◌∙◌, arith}
 use Rattle.std.proofs.lemmas.Bool.{cond_both, eqb-true, leb-true, leb-false}
+use Rattle.std.proofs.Math.Seq.{take-length}
 use Rattle.craq_commands.specs.declared.entry.Entry.{Entry}
 use Rattle.craq_commands.specs.Objects.{object_of, version_of}
 use Rattle.craq_commands.specs.declared.state.State.{State}
@@ -25,11 +26,7 @@ log_state : (w : World Entry) (h : List Entry) → IsPrefix w.log h → after_en
 log_state w h p = ap (after_entries opening_state) (sym (prefix_is_take p))
 
 whole_state : (h : List Entry) → after_entries opening_state h ≡ state_after (length h) h
-whole_state h = ap (after_entries opening_state) (sym (whole h))
-  where
-    whole : (l : List Entry) → take (length l) l ≡ l
-    whole [] = refl
-    whole (x ∷ l) = ap (λ l. x ∷ l) (whole l)
+whole_state h = ap (after_entries opening_state) (sym (take-length h))
 
 -- a clean object is the committed one
 pub clean_committed : (asked : List Asked) (w : World Entry) (p : Plain) (h : List Entry) (key : List ℕ) → Holds asked w p h → IsPrefix w.log h → is_clean p key ≡ true

@@ -1,10 +1,12 @@
 -- What a node holds, in the world that stands for its chain.
-use Rattle.std.proofs.Common.{◌≡◌, ◌⊎◌, ⊎_elim, ℕ, zero, suc, ◌+◌, ◌-◌, ◌≤◌, true, List, [], ◌∷◌, ◌++◌, length, take, drop, refl, ap, sym, subst, ◌∙◌, arith, take-take, length-drop}
+use Rattle.std.proofs.Common.{◌≡◌, ◌⊎◌, ⊎_elim, ℕ, ◌+◌, ◌-◌, ◌≤◌, true, List, ◌++◌, length, take, drop, ap, sym, subst, ◌∙◌, arith, take-take, length-drop}
 use Rattle.std.proofs.Math.Seq.{take-add, take-append-add, drop-append-add}
+use Rattle.std.proofs.lemmas.List.{take-append-drop}
 use Rattle.craq_commands.specs.declared.entry.Entry.{Entry}
 use Rattle.craq_commands.specs.Objects.{object_of, version_of}
 use Rattle.craq_commands.specs.declared.state.State.{State}
 use Rattle.craq_commands.specs.SingleCopy.{opening_state, after_entries}
+use Rattle.craq_commands.proofs.Entries.{after_entries-append}
 use Rattle.craq_model.specs.Past.{values_after, newest_within}
 use Rattle.craq_model.specs.Plain.{Plain, id_of, newest, clean, clean_object, entries_after, object_within}
 use Rattle.craq_protocol.specs.Machine.{World}
@@ -16,7 +18,7 @@ use Rattle.craq_refinement.specs.Follows.{seen_of, NodeFollows}
 use Rattle.craq_updates.specs.Genuine.{AllGenuine}
 use Rattle.craq_updates.proofs.Found.{IsNumbered}
 use Rattle.craq_updates.proofs.Entries.{genuine_closed}
-use Rattle.craq_updates.proofs.Known.{after_entries-append, newest_is}
+use Rattle.craq_updates.proofs.Known.{newest_is}
 use Rattle.craq_strong_answers.proofs.Stands.{state_after}
 use Rattle.craq_strong_answers.proofs.Versions.{genuine_rest, no_older_prefix, version_rises, version_tells}
 use Rattle.craq_strong_answers.proofs.Within.{IsWithin, within, version_at}
@@ -106,7 +108,7 @@ given_within asked w p h key bound o le =
     let a : ℕ = p.past.acknowledged in
     let s : State = state_after a h in
     let es : List Entry = drop a h in
-    let split : take a h ++ es ≡ h = take_drop a h in
+    let split : take a h ++ es ≡ h = take-append-drop a h in
     let P : List Entry → Type 0 = λ l. AllGenuine asked opening_state l in
     let g : AllGenuine asked s es = genuine_rest asked opening_state (take a h) es (subst P (sym split) o.genuine) in
     let clean_version : (clean_object p key).0 ≡ version_of s.objects key = ap (λ (s : State). version_of s.objects key) o.clean_is in
@@ -125,11 +127,6 @@ given_within asked w p h key bound o le =
           let there : version_after h key k ≡ version_at s es key j = ap (version_after h key) (sym same) ∙ at j in
           omega (arith, there, at i.count, i.most j (omega (arith, there, h')));
     }
-  where
-    take_drop : {A : Type 0} (i : ℕ) (l : List A) → take i l ++ drop i l ≡ l
-    take_drop zero l = refl
-    take_drop (suc i) [] = refl
-    take_drop (suc i) (x ∷ l) = ap (λ l. x ∷ l) (take_drop i l)
 
 -- a running node that is ready holds the log
 pub holds_log : (w : World Entry) (id : ℕ) → IsReached w → w.ready id ≡ true → w.running id ≡ true → IsPrefix w.log (w.history id)

@@ -2,6 +2,9 @@
 use Rattle.std.proofs.Common.{◌≡◌, ◌≢◌, ◌⊎◌, inl, inr, ⊎_elim, ℕ, ◌+◌, ◌<◌, ◌≤◌, ◌==◌, Bool, true, false, cond, List, [], ◌∷◌, ◌++◌, map, filter, Option, Some, None, Ok, refl, ap, sym, subst, ◌∙◌, arith}
 use Rattle.std.specs.List.{AllByRecursion, IsDistinct}
 use Rattle.std.proofs.lemmas.Bool.{cond_both, cond-true, cond-false, eqb-true, eq-eqb, ne_eqb, and_parts, cases_eq, false_from_ne_true}
+use Rattle.std.proofs.lemmas.List.{map-append}
+use Rattle.std.proofs.lemmas.List.Elements.{filter-append}
+use Rattle.craq_names.proofs.Lists.{all_filter}
 use Rattle.craq_model.specs.declared.ask.Event.{Event}
 use Rattle.craq_model.specs.declared.ask.Event.TheVariants as events
 use Rattle.craq_model.specs.declared.step.Out.{Out}
@@ -19,7 +22,6 @@ use Rattle.craq_updates.proofs.Places.{AtNode, AtMaster, OneMore}
 use Rattle.craq_updates.proofs.AtNodes.{now_at, others_stay, tickets_rise, for_node, tick_same, stop_same}
 use Rattle.craq_updates.proofs.Known.{NodesGrow, some_same, grow_at_node, grow_at_master}
 use Rattle.craq_refinement.proofs.Master.{node_pushed}
-use Rattle.craq_strong_answers.proofs.Gives.{all_filter}
 use Rattle.craq_strong_answers.proofs.Times.{times, times_cons, times_nil, times_append, open_of, given_in}
 use Rattle.craq_strong_answers.proofs.Tickets.{Closes, body_closes, tick_closes, stop_closes, ask_closes}
 
@@ -27,20 +29,9 @@ use Rattle.craq_strong_answers.proofs.Tickets.{Closes, body_closes, tick_closes,
 unfoldable pub given_at : ℕ → List Answered → List ℕ
 given_at id xs = map (λ (x : Answered). x.ticket) (filter (λ (x : Answered). x.node == id) xs)
 
-filter_both : {A : Type 0} (test : A → Bool) (xs ys : List A) → filter test (xs ++ ys) ≡ filter test xs ++ filter test ys
-filter_both test [] ys = refl
-filter_both {A} test (x ∷ xs) ys =
-    cond_both (test x) (x ∷ filter test xs) (filter test xs) (λ (l : List A). cond (test x) (x ∷ filter test (xs ++ ys)) (filter test (xs ++ ys)) ≡ l ++ filter test ys)
-    (λ e. cond-true (test x) (x ∷ filter test (xs ++ ys)) (filter test (xs ++ ys)) e ∙ ap (λ l. x ∷ l) (filter_both test xs ys))
-    (λ e. cond-false (test x) (x ∷ filter test (xs ++ ys)) (filter test (xs ++ ys)) e ∙ filter_both test xs ys)
-
-map_both : {A B : Type 0} (f : A → B) (xs ys : List A) → map f (xs ++ ys) ≡ map f xs ++ map f ys
-map_both f [] ys = refl
-map_both f (x ∷ xs) ys = ap (λ l. f x ∷ l) (map_both f xs ys)
-
 given_more : (id : ℕ) (xs ys : List Answered) → given_at id (xs ++ ys) ≡ given_at id xs ++ given_at id ys
 unfolding given_at
-given_more id xs ys = ap (map (λ (x : Answered). x.ticket)) (filter_both (λ (x : Answered). x.node == id) xs ys) ∙ map_both (λ (x : Answered). x.ticket) (filter (λ (x : Answered). x.node == id) xs) (filter (λ (x : Answered). x.node == id) ys)
+given_more id xs ys = ap (map (λ (x : Answered). x.ticket)) (filter-append (λ (x : Answered). x.node == id) xs ys) ∙ map-append (λ (x : Answered). x.ticket) (filter (λ (x : Answered). x.node == id) xs) (filter (λ (x : Answered). x.node == id) ys)
 
 given_here : (number id : ℕ) (os : List Out) → given_at id (answers_in number id os) ≡ given_in os
 unfolding given_at answers_in given_in

@@ -1,5 +1,5 @@
 -- Each strong answer of a run has its place.
-use Rattle.std.proofs.Common.{◌≡◌, ℕ, suc, ◌≤◌, cond, List, [], ◌∷◌, ◌++◌, filter, length, slice_index, unwrap_or, option_map, Option, Some, refl, ap, sym, subst, ◌∙◌, arith}
+use Rattle.std.proofs.Common.{◌≡◌, ℕ, ◌≤◌, cond, List, [], ◌∷◌, ◌++◌, filter, length, slice_index, unwrap_or, option_map, Option, Some, refl, ap, sym, subst, ◌∙◌, arith}
 use Rattle.std.specs.List.{AllByRecursion, AllZip}
 use Rattle.craq_commands.specs.declared.entry.Entry.{Entry}
 use Rattle.craq_commands.specs.declared.read_mode.ReadMode.TheVariants.{Strong, Eventual, Bounded}
@@ -18,7 +18,7 @@ use Rattle.craq_runs.specs.Seen.{Asked, Answered, ask_with, ask_of, answers_in, 
 use Rattle.craq_runs.specs.Explain.{Account, due_place, read_place, place_by, place_if_asked, places_of}
 use Rattle.craq_runs.specs.Valid.{IsSaid}
 use Rattle.craq_updates.proofs.Lens.{AreLens}
-use Rattle.craq_updates.proofs.Updates.{numbers_of}
+use Rattle.craq_updates.proofs.Updates.{numbers_of, numbers_length}
 use Rattle.craq_updates.proofs.Known.{Known}
 use Rattle.craq_strong_answers.proofs.Outs.{AllTold}
 use Rattle.craq_strong_answers.proofs.Stands.{state_after, before, Owed, IsAnswer}
@@ -56,7 +56,7 @@ explains_stay {a} {b} {w} {v} k g longer x p e =
     let same : before b e.ask ≡ before a e.ask = before_stays g x.node x.ticket e.ask e.is_ask in
     let len : after_move b x.move ≡ after_move a x.move = g.lens x.move e.in_time in
     let more : length a.lens ≤ length b.lens = g.longer in
-    let within : p.position ≤ length a.committed = omega (arith, e.not_beyond, l.within x.move, mapped a.asks a.committed) in
+    let within : p.position ≤ length a.committed = omega (arith, e.not_beyond, l.within x.move, numbers_length a.asks a.committed) in
     let S : State → Type 0 = λ s. IsSaid s e.ask.ask x.answer in
     record {
       node = e.node;
@@ -69,10 +69,6 @@ explains_stay {a} {b} {w} {v} k g longer x p e =
       not_beyond = omega (arith, e.not_beyond, len);
       is_said = subst S (sym (state_stays p.position a.committed b.committed longer within)) e.is_said;
     }
-  where
-    mapped : (asked : List Asked) (es : List Entry) → length (numbers_of asked es) ≡ length es
-    mapped asked [] = refl
-    mapped asked (e ∷ es) = ap suc (mapped asked es)
 
 pub zip_stays : {a b : Account} {w v : World Entry} → Known a w → GoesOn a b w v → IsPrefix a.committed b.committed → (xs : List Answered) (ps : List Place) → AllZip (Explains a) xs ps → AllZip (Explains b) xs ps
 zip_stays k g l [] [] z = tt

@@ -2,6 +2,7 @@
 use Rattle.std.proofs.Common.{◌≡◌, ℕ, ◌+◌, ◌≤◌, ◌==◌, ◌&&◌, List, [], ◌∷◌, length, Some, sym, subst, arith, length-append}
 use Rattle.std.specs.List.{AllByRecursion, AllZip}
 use Rattle.std.proofs.lemmas.List.{get_or_append_left}
+use Rattle.craq_names.proofs.Lists.{all_like}
 use Rattle.craq_commands.specs.declared.entry.Entry.{Entry}
 use Rattle.craq_model.specs.Plain.{Plain}
 use Rattle.craq_protocol.specs.Machine.{World}
@@ -11,7 +12,6 @@ use Rattle.craq_runs.specs.declared.run.Taken.{Taken}
 use Rattle.craq_runs.specs.Chain.{Progress, node_at}
 use Rattle.craq_runs.specs.Seen.{Asked, ask_in}
 use Rattle.craq_runs.specs.Explain.{Account, account_with, due_in}
-use Rattle.craq_refinement.proofs.Lists.{all_like}
 use Rattle.craq_updates.proofs.EachMove.{place_of}
 use Rattle.craq_updates.proofs.Found.{find_left}
 use Rattle.craq_updates.proofs.Lens.{AreLens}

@@ -2,6 +2,7 @@
 use Rattle.std.proofs.Common.{◌≡◌, ◌⊎◌, inl, inr, ⊎_elim, ℕ, ◌+◌, ◌-◌, max, true, List, [], ◌∷◌, ◌++◌, map, length, slice_index, Option, Some, None, Ok, refl, ap, sym, subst, ◌∙◌, arith}
 use Rattle.std.specs.List.{AllByRecursion, AllZip}
 use Rattle.std.proofs.lemmas.Bool.{cases_eq}
+use Rattle.craq_names.proofs.Lists.{all_append, all_like}
 use Rattle.craq_commands.specs.declared.entry.Entry.{Entry}
 use Rattle.craq_model.specs.declared.ask.Ask.{Ask}
 use Rattle.craq_model.specs.declared.ask.Ask.TheVariants as asks
@@ -25,7 +26,6 @@ use Rattle.craq_runs.specs.declared.run.Taken.{Taken}
 use Rattle.craq_runs.specs.Chain.{Chain, Progress, node_at, message_at, sent_in, config_to, chain_step}
 use Rattle.craq_runs.specs.Seen.{Asked}
 use Rattle.craq_runs.specs.Explain.{Account, account_with, due_in, tail_word, word_in, read_place}
-use Rattle.craq_refinement.proofs.Lists.{all_append, all_like}
 use Rattle.craq_refinement.proofs.Master.{node_pushed}
 use Rattle.craq_updates.proofs.EachMove.{place_of, arrives_at}
 use Rattle.craq_updates.proofs.Turns.{Delivers, body_delivers}

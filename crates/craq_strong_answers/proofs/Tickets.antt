@@ -3,6 +3,7 @@ use Rattle.std.proofs.Common.{◌≡◌, ℕ, ◌+◌, ◌≤◌, ◌==◌, nat_
 use Rattle.std.specs.Prelude.{⊤}
 use Rattle.std.specs.List.{AllByRecursion}
 use Rattle.std.proofs.lemmas.Bool.{cond_both, eqb-true}
+use Rattle.std.proofs.lemmas.List.{map-append}
 use Rattle.craq_updates.proofs.Found.{find_true}
 use Rattle.craq_names.specs.Limits.{greatest}
 use Rattle.craq_names.specs.declared.refusal.Refusal.{Refusal}
@@ -97,10 +98,6 @@ map_map : {A B C : Type 0} (f : B → C) (g : A → B) (xs : List A) → map f (
 map_map f g [] = refl
 map_map f g (x ∷ xs) = ap (λ l. f (g x) ∷ l) (map_map f g xs)
 
-map_both : {A B : Type 0} (f : A → B) (xs ys : List A) → map f (xs ++ ys) ≡ map f xs ++ map f ys
-map_both f [] ys = refl
-map_both f (x ∷ xs) ys = ap (λ l. f x ∷ l) (map_both f xs ys)
-
 -- the answers to all that waits
 all_tickets : (p : Plain) (k : ℕ) → times k (given_in (answer_outs (all_given p))) ≡ times k (open_of p)
 unfolding all_given
@@ -110,7 +107,7 @@ all_tickets p k =
     let f : Given → ℕ = λ g. g.0 in
     ap (times k) (given_answers (by_ticket (us ++ rs)))
     ∙ (sorted_times k (us ++ rs)
-    ∙ ap (times k) (map_both f us rs ∙ λ i. map_map f update_given p.waiting_updates i ++ map_map f (read_given p) p.waiting_reads i))
+    ∙ ap (times k) (map-append f us rs ∙ λ i. map_map f update_given p.waiting_updates i ++ map_map f (read_given p) p.waiting_reads i))
 
 settling : (p : Plain) → Closes (open_of p) (settling_turn p)
 unfolding settling_turn
@@ -325,7 +322,7 @@ reply_closes p position reply sends a =
     (λ f. tt)
     (λ g. waiting p q sends a
     (λ k.
-    let one : times k (update_tickets (p.waiting_updates ++ u ∷ [])) ≡ times k (us ++ new) = ap (times k) (map_both f p.waiting_updates (u ∷ [])) in
+    let one : times k (update_tickets (p.waiting_updates ++ u ∷ [])) ≡ times k (us ++ new) = ap (times k) (map-append f p.waiting_updates (u ∷ [])) in
     omega (arith, one, times_append k us new, times_append k (update_tickets (p.waiting_updates ++ u ∷ [])) rs, times_append k us rs, times_append k (us ++ rs) new))))
 
 replies_after : (p : Plain) (position : ℕ) (reply : Reply) (sends : List Out) → NoAnswer sends → IfCloses (open_of p) p.last_ticket (reply_turn (committed_if_last p) position reply sends)
@@ -362,7 +359,7 @@ read_closes p Strong key =
     (λ f. tt)
     (λ g. waiting p q os (no_sends p (last_of p.members) (bodies.Query (p.last_ticket + 1) key ∷ []))
     (λ k.
-    let one : times k (read_tickets (p.waiting_reads ++ r ∷ [])) ≡ times k (rs ++ new) = ap (times k) (map_both f p.waiting_reads (r ∷ [])) in
+    let one : times k (read_tickets (p.waiting_reads ++ r ∷ [])) ≡ times k (rs ++ new) = ap (times k) (map-append f p.waiting_reads (r ∷ [])) in
     omega (arith, one, times_append k rs new, times_append k us (read_tickets (p.waiting_reads ++ r ∷ [])), times_append k us rs, times_append k (us ++ rs) new))))
 
 if_refused : (p : Plain) (b : Bool) (e : Refusal) (r : Result Turn Refusal) → IfCloses (open_of p) p.last_ticket r → IfCloses (open_of p) p.last_ticket (cond b (Err e) r)

@@ -10,6 +10,7 @@ use Rattle.craq_commands.specs.Objects.{Objects, object_of, version_of, set_obje
 use Rattle.craq_commands.specs.Evaluation.{eval}
 use Rattle.craq_commands.specs.declared.state.State.{State}
 use Rattle.craq_commands.specs.SingleCopy.{opening_state, with_writes, after_entry, after_entries}
+use Rattle.craq_commands.proofs.Entries.{after_entries-append}
 use Rattle.craq_model.specs.Asks.{versioned_write}
 use Rattle.craq_model.specs.Past.{values_in}
 use Rattle.craq_protocol.specs.Promises.{IsPrefix}
@@ -19,7 +20,6 @@ use Rattle.craq_laws.proofs.Writes.{found_here, found_elsewhere}
 use Rattle.craq_updates.specs.Genuine.{IsGenuine, AllGenuine}
 use Rattle.craq_updates.proofs.Found.{IsNumbered}
 use Rattle.craq_updates.proofs.Updates.{updates_of, after_updates}
-use Rattle.craq_updates.proofs.Known.{after_entries-append}
 
 -- ---- along a list
 

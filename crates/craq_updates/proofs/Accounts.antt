@@ -1,5 +1,5 @@
 -- What is known of an account stays known, move by move.
-use Rattle.std.proofs.Common.{◌≡◌, ◌⊎◌, inl, inr, ⊎_elim, ℕ, suc, ◌+◌, ◌≤◌, ◌==◌, true, ◌&&◌, List, [], ◌∷◌, ◌++◌, length, Option, Some, None, Ok, refl, ap, sym, subst, ◌∙◌, arith}
+use Rattle.std.proofs.Common.{◌≡◌, ◌⊎◌, inl, inr, ⊎_elim, ℕ, ◌+◌, ◌≤◌, ◌==◌, true, ◌&&◌, List, [], ◌∷◌, ◌++◌, length, Option, Some, None, Ok, refl, ap, sym, subst, ◌∙◌, arith}
 use Rattle.std.specs.List.{AllByRecursion}
 use Rattle.std.proofs.lemmas.List.{map-append}
 use Rattle.craq_commands.specs.declared.entry.Entry.{Entry}
@@ -18,16 +18,16 @@ use Rattle.craq_runs.specs.Chain.{Chain, Progress, node_at, chain_step}
 use Rattle.craq_runs.specs.Seen.{Asked, ask_in, ask_with}
 use Rattle.craq_runs.specs.Explain.{Account, account_with, committed_by, ask_number}
 use Rattle.craq_refinement.specs.Follows.{seen_of, NodeFollows, Follows}
-use Rattle.craq_refinement.proofs.Nodes.{node_id}
 use Rattle.craq_updates.specs.Genuine.{IsGenuine, AllGenuine}
 use Rattle.craq_runs.specs.Typed.{IsMoveOfType}
+use Rattle.craq_laws.proofs.Nodes.{node_id}
 use Rattle.craq_updates.proofs.Machine.{Held}
 use Rattle.craq_updates.proofs.Moves.{LogBy}
 use Rattle.craq_updates.proofs.Steps.{Went}
 use Rattle.craq_updates.proofs.EachMove.{place_of, entry_for, MayAppend, each_move}
 use Rattle.craq_updates.proofs.Found.{find_all}
 use Rattle.craq_updates.proofs.Entries.{genuine_closed, genuine_push, genuine_stays, entry_genuine, StaysAsked}
-use Rattle.craq_updates.proofs.Updates.{numbers_of, number_is, numbers_stay}
+use Rattle.craq_updates.proofs.Updates.{numbers_of, number_is, numbers_stay, numbers_length}
 use Rattle.craq_updates.proofs.Places.{AtNode, AtMaster, happens_at}
 use Rattle.craq_updates.proofs.AtNodes.{now_at}
 use Rattle.craq_updates.proofs.Lens.{AreLens, lens_push}
@@ -102,11 +102,7 @@ lens_after asked more moves next lens log longer same stay l p g h below =
     let back : AreLens (moves + 1) (lens ++ length (numbers_of more longer) ∷ []) (numbers_of more longer) = subst D (sym split) pushed in
     let E : ℕ → Type 0 = λ k. AreLens (moves + 1) (lens ++ k ∷ []) (numbers_of more longer) in
     let F : ℕ → Type 0 = λ n. AreLens n (lens ++ length longer ∷ []) (numbers_of more longer) in
-    subst F (sym same) (subst E (map_length more longer) back)
-  where
-    map_length : (asked : List Asked) (es : List Entry) → length (numbers_of asked es) ≡ length es
-    map_length asked [] = refl
-    map_length asked (e ∷ es) = ap suc (map_length asked es)
+    subst F (sym same) (subst E (numbers_length more longer) back)
 
 -- the node of the move, before and after it
 abbrev pub next_account : Account → Taken → Progress → Account

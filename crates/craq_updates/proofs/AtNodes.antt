@@ -24,10 +24,10 @@ use Rattle.craq_runs.specs.declared.run.Move.{Move}
 use Rattle.craq_runs.specs.declared.run.Move.TheVariants as moves
 use Rattle.craq_runs.specs.Chain.{Chain, Progress, node_at, set_node, message_at}
 use Rattle.craq_refinement.specs.Follows.{seen_of, PartFollows, NodeFollows, Follows, BodyFollows, said}
-use Rattle.craq_refinement.proofs.Nodes.{node_id, node_here, node_elsewhere}
 use Rattle.craq_refinement.proofs.EachLine.{said_as}
 use Rattle.craq_refinement.proofs.Updates.{turn_same}
 use Rattle.craq_laws.proofs.Names.{Gives, event_turn-name}
+use Rattle.craq_laws.proofs.Nodes.{node_id, node_here, node_elsewhere}
 use Rattle.craq_updates.proofs.EachMove.{place_of}
 use Rattle.craq_updates.proofs.Turns.{Delivers, body_delivers, Accepts, ask_accepts}
 use Rattle.craq_updates.proofs.Places.{EventOf, AtNode}

@@ -25,9 +25,9 @@ use Rattle.craq_runs.specs.declared.run.Move.{Move}
 use Rattle.craq_runs.specs.declared.run.Move.TheVariants as moves
 use Rattle.craq_runs.specs.Chain.{Chain, Progress, node_at, message_at, arrival_progress, counted_progress, chain_step}
 use Rattle.craq_runs.specs.Seen.{node_of}
+use Rattle.craq_laws.proofs.Nodes.{node_id}
 use Rattle.craq_refinement.specs.Follows.{Follows}
 use Rattle.craq_refinement.specs.Lines.{StandsFor}
-use Rattle.craq_refinement.proofs.Nodes.{node_id}
 use Rattle.craq_refinement.proofs.Stages.{TurnFollows, Took, took}
 use Rattle.craq_refinement.proofs.Here.{Here}
 use Rattle.craq_refinement.proofs.Updates.{refused, new_update, old_update}

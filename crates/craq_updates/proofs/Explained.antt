@@ -1,5 +1,5 @@
 -- The explanation of a run: its form and its list.
-use Rattle.std.proofs.Common.{◌≡◌, ℕ, suc, ◌+◌, List, [], ◌∷◌, ◌++◌, length, IsSome, Some, Result, Ok, Err, refl, ap, sym, subst, ◌∙◌, arith}
+use Rattle.std.proofs.Common.{◌≡◌, ℕ, ◌+◌, List, [], ◌∷◌, ◌++◌, length, IsSome, Some, Result, Ok, Err, refl, ap, sym, subst, ◌∙◌, arith}
 use Rattle.std.specs.List.{AllByRecursion}
 use Rattle.std.proofs.lemmas.List.{map-append}
 use Rattle.craq_commands.specs.declared.entry.Entry.{Entry}
@@ -20,7 +20,7 @@ use Rattle.craq_runs.specs.Valid.{OnlyGrows}
 use Rattle.craq_updates.specs.Genuine.{AllGenuine, HasGenuineHistory, IsBeginning}
 use Rattle.craq_runs.specs.Typed.{IsMoveOfType, AreOfType, IsTypedRunOf}
 use Rattle.craq_laws.proofs.Histories.{opening_rises}
-use Rattle.craq_updates.proofs.Updates.{numbers_of, updates_length, numbers_name, numbers_stay, no_request_twice}
+use Rattle.craq_updates.proofs.Updates.{numbers_of, updates_length, numbers_name, numbers_stay, no_request_twice, numbers_length}
 use Rattle.craq_updates.proofs.Lens.{AreLens}
 use Rattle.craq_updates.proofs.Known.{Known}
 use Rattle.craq_updates.proofs.NewAsks.{asks_stay}
@@ -34,10 +34,6 @@ seen_by a answers = record { moves = a.chain.moves; asks = a.asks; answers = ans
 -- the committed entries are genuine
 pub log_genuine : {a : Account} {w : World Entry} → Known a w → AllGenuine a.asks opening_state a.committed
 log_genuine {a} k = let P : List Entry → Type 0 = λ l. AllGenuine a.asks opening_state l in subst P (sym k.committed) k.held.log
-
-numbers_length : (asked : List Asked) (es : List Entry) → length (numbers_of asked es) ≡ length es
-numbers_length asked [] = refl
-numbers_length asked (e ∷ es) = ap suc (numbers_length asked es)
 
 pub grows_in : (a : Account) (w : World Entry) (answers : List Answered) → Known a w → OnlyGrows (seen_by a answers) (explanation_in a)
 grows_in a w answers k =

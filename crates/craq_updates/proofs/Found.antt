@@ -2,8 +2,8 @@
 use Rattle.std.proofs.Common.{◌≡◌, ℕ, ◌<◌, ◌==◌, Bool, true, false, ◌&&◌, List, [], ◌∷◌, ◌++◌, find, Option, Some, None, refl, ap, sym, subst, ◌∙◌, arith}
 use Rattle.std.specs.List.{AllByRecursion}
 use Rattle.std.proofs.lemmas.Bool.{cond_both, cond-true, cond-false, eq-eqb, eqb-true, ne_eqb, and_parts, false_from_ne_true}
+use Rattle.craq_names.proofs.Lists.{all_append, all_like}
 use Rattle.craq_runs.specs.Seen.{Asked, is_ticket, ask_with}
-use Rattle.craq_refinement.proofs.Lists.{all_append, all_like}
 
 pub find_all : {A : Type 0} (P : A → Type 0) (test : A → Bool) (xs : List A) (x : A) → AllByRecursion P xs → find test xs ≡ Some x → P x
 find_all P test [] x a h = absurd (cc)

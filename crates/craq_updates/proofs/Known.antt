@@ -1,10 +1,10 @@
 -- What is known of an account of a run, and of the world that stands for its chain.
-use Rattle.std.proofs.Common.{◌≡◌, ◌≢◌, ⊎_elim, ℕ, ◌≤◌, ◌==◌, true, ◌&&◌, List, [], ◌∷◌, ◌++◌, length, find, Option, Some, None, refl, ap, sym, subst, ◌∙◌, arith}
+use Rattle.std.proofs.Common.{◌≡◌, ◌≢◌, ⊎_elim, ℕ, ◌≤◌, ◌==◌, true, ◌&&◌, List, [], ◌∷◌, ◌++◌, length, find, Option, Some, None, ap, sym, subst, ◌∙◌, arith}
 use Rattle.std.specs.List.{AllByRecursion}
 use Rattle.std.proofs.lemmas.Bool.{cond_both, cases_eq, and_parts, cond-false, ne_eqb}
 use Rattle.craq_commands.specs.declared.entry.Entry.{Entry}
-use Rattle.craq_commands.specs.declared.state.State.{State}
-use Rattle.craq_commands.specs.SingleCopy.{opening_state, after_entry, after_entries}
+use Rattle.craq_commands.specs.SingleCopy.{opening_state, after_entries}
+use Rattle.craq_commands.proofs.Entries.{after_entries-append}
 use Rattle.craq_model.specs.Plain.{Plain, id_of, newest, opening_joined}
 use Rattle.craq_protocol.specs.Members.{is_member, is_last}
 use Rattle.craq_protocol.specs.Machine as machine
@@ -109,10 +109,6 @@ tail_there {c} {w} f r id t =
     found c.nodes id (subst P f.joined listed)
 
 -- ---- states
-
-pub after_entries-append : (s : State) (xs ys : List Entry) → after_entries s (xs ++ ys) ≡ after_entries (after_entries s xs) ys
-after_entries-append s [] ys = refl
-after_entries-append s (x ∷ xs) ys = after_entries-append (after_entry s x) xs ys
 
 -- a node's newest state is that after its whole history
 pub newest_is : {w : World Entry} (p : Plain) → NodeFollows w (seen_of p) → newest p ≡ after_entries opening_state (w.history (id_of p))

@@ -1,6 +1,7 @@
 -- The ask of a move, if it is one, among the asks before it.
 use Rattle.std.proofs.Common.{◌≡◌, ◌⊎◌, inl, inr, ⊎_elim, ℕ, ◌+◌, ◌<◌, ◌≤◌, List, [], ◌∷◌, ◌++◌, Option, Some, Ok, refl, ap, sym, subst, ◌∙◌, arith, append-nil}
 use Rattle.std.specs.List.{AllByRecursion}
+use Rattle.craq_names.proofs.Lists.{all_append, all_like}
 use Rattle.craq_model.specs.declared.ask.Ask.{Ask}
 use Rattle.craq_model.specs.declared.ask.Event.{Event}
 use Rattle.craq_model.specs.declared.step.Step.{Step}
@@ -10,7 +11,6 @@ use Rattle.craq_runs.specs.declared.run.Move.{Move}
 use Rattle.craq_runs.specs.declared.run.Move.TheVariants as moves
 use Rattle.craq_runs.specs.Chain.{Chain, Progress, node_at, chain_step}
 use Rattle.craq_runs.specs.Seen.{Asked, ask_in, ask_with}
-use Rattle.craq_refinement.proofs.Lists.{all_append, all_like}
 use Rattle.craq_updates.proofs.Turns.{Accepts, ask_accepts}
 use Rattle.craq_updates.proofs.Places.{AtNode, AtMaster, happens_at}
 use Rattle.craq_updates.proofs.AtNodes.{now_at}

@@ -2,6 +2,8 @@
 use Rattle.std.proofs.Common.{◌≡◌, ℕ, zero, suc, ◌==◌, Bool, true, false, ◌&&◌, List, [], ◌∷◌, map, length, take, find, filter_map, option_and_then, option_map, unwrap_or, is_some, IsSome, Option, Some, refl, ap, sym, subst, ◌∙◌}
 use Rattle.std.specs.List.{AllByRecursion, IsDistinct}
 use Rattle.std.proofs.lemmas.Bool.{eqb-true, and_parts, both_ways, false_from_ne_true}
+use Rattle.std.proofs.lemmas.List.{length-map}
+use Rattle.craq_names.proofs.Lists.{all_like}
 use Rattle.craq_commands.specs.declared.command.Update.{Update}
 use Rattle.craq_commands.specs.declared.entry.Entry.{Entry}
 use Rattle.craq_commands.specs.declared.state.State.{State}
@@ -10,7 +12,6 @@ use Rattle.craq_runs.specs.Seen.{Asked, ask_with, update_of, update_at}
 use Rattle.craq_runs.specs.Explain.{ask_number}
 use Rattle.craq_runs.specs.Valid.{same_request}
 use Rattle.craq_laws.proofs.Histories.{applied_is_old, HasRisingWindows, apply_rises, old_after_one}
-use Rattle.craq_refinement.proofs.Lists.{all_like}
 use Rattle.craq_updates.specs.Genuine.{IsGenuine, AllGenuine}
 use Rattle.craq_updates.proofs.Entries.{StaysAsked}
 use Rattle.craq_updates.proofs.Found.{find_all, IsNumbered}
@@ -18,6 +19,9 @@ use Rattle.craq_updates.proofs.Found.{find_all, IsNumbered}
 -- the numbers of the asks of entries, and their updates
 abbrev pub numbers_of : List Asked → List Entry → List ℕ
 numbers_of asked es = map (ask_number asked) es
+
+pub numbers_length : (asked : List Asked) (es : List Entry) → length (numbers_of asked es) ≡ length es
+numbers_length asked es = length-map es (ask_number asked)
 
 abbrev pub updates_of : List Asked → List Entry → List Update
 updates_of asked es = filter_map (update_at asked) (numbers_of asked es)

@@ -1,10 +1,10 @@
 -- A chain that takes the moves of scripts keeps a run by the definitions.
-use Rattle.std.proofs.Common.{◌≡◌, ◌+◌, ◌++◌, ℕ, zero, suc, true, false, cond, List, [], ◌∷◌, length, Option, Some, None, Result, Ok, Err, refl, sym, subst}
+use Rattle.std.proofs.Common.{◌≡◌, ◌+◌, ℕ, zero, suc, true, false, cond, List, [], ◌∷◌, length, Option, Some, None, Result, Ok, Err, refl, sym, subst}
 use Rattle.std.specs.Prelude.{◌==◌, nat_le, IfOk}
 use Rattle.craq_names.specs.declared.refusal.Refusal.{Refusal}
 use Rattle.craq_runs.specs.Chain.{Progress, chain_step, opening_chain}
 use Rattle.craq_runs.specs.Runs.{Takes}
-use Rattle.craq_runs.specs.Typed.{AreOfType, IsMoveOfType, IsTypedRunOf}
+use Rattle.craq_runs.specs.Typed.{IsMoveOfType, IsTypedRunOf}
 use Rattle.craq_runs.specs.declared.run.Move.{Move}
 use Rattle.craq_runs.specs.declared.run.Move.TheVariants as moves
 use Rattle.craq_runs.specs.declared.run.Taken.{Taken}
@@ -21,16 +21,12 @@ use Rattle.craq_verdicts.proofs.Asking.{MoveFits, line_fits}
 abbrev pub HasRun : Chained → Type 0
 HasRun w = IsTypedRunOf w.chain w.run
 
-typed_with : (ts : List Taken) (t : Taken) → AreOfType ts → IsMoveOfType t.chosen → AreOfType (ts ++ t ∷ [])
-typed_with [] t h fits = (fits, tt)
-typed_with (u ∷ ts) t h fits = (h.0, typed_with ts t h.1 fits)
-
 -- one more move
 runs_with : (w : Chained) (t : Taken) → HasRun w → IsMoveOfType t.chosen → Takes (chain_step (chain_of w) t.chosen) t.step → HasRun (with_move w t)
 runs_with w t h fits takes =
     record {
       run_of = record { members = h.run_of.members; moves = nodes.goes_on (opening_chain w.chain w.run.members) w.run.moves t h.run_of.moves takes };
-      typed = typed_with w.run.moves t h.typed fits;
+      typed = nodes.typed_push w.run.moves t h.typed fits;
     }
 
 moved_runs : (w : Chained) (m : Move) (r : Result Progress Refusal) → chain_step (chain_of w) m ≡ r → IsMoveOfType m → HasRun w → IfOk (moved w m r) HasRun

@@ -4,9 +4,9 @@ use Rattle.std.specs.Prelude.{nat_eq}
 use Rattle.std.specs.List.{AllByRecursion, IsDistinct}
 use Rattle.std.proofs.lemmas.Bool.{ne_eqb}
 use Rattle.craq_names.specs.Limits.{greatest_count}
+use Rattle.craq_names.proofs.Lists.{all_append}
 use Rattle.craq_model.specs.Members.{IsMembership}
 use Rattle.craq_runs.specs.Typed.{IsTypedRunOf}
-use Rattle.craq_node_invariant.proofs.Lists.{all_append}
 use Rattle.craq_play.specs.Played.{first_ids, opening}
 
 as_many : (n : ℕ) → length (first_ids n) ≡ n

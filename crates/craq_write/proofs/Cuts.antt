@@ -1,12 +1,12 @@
 -- A state that is cut into parts from its end.
 use Rattle.std.proofs.Common.{◌≡◌, ℕ, suc, ◌+◌, ◌-◌, ◌*◌, ◌≤◌, List, ◌∷◌, map, length, take, drop, refl, ap, ◌∙◌, arith}
+use Rattle.std.proofs.lemmas.List.{take_all}
 use Rattle.std.specs.List.{range_with_len}
 use Rattle.std.specs.Slice.Iter.{chunk_count}
 use Rattle.craq_commands.specs.Kept.{Window}
 use Rattle.craq_commands.specs.declared.state.State.{State}
 use Rattle.craq_model.specs.declared.message.StatePart.{StatePart}
 use Rattle.craq_model.specs.Parts.{part_count, part_of}
-use Rattle.craq_write.proofs.Ends.{take_all}
 
 enough : (m n : ℕ) → m ≤ 64 * chunk_count (m + n) 64
 enough m n = omega arith

@@ -15,13 +15,6 @@ more_after base acknowledged xs ys h = drop-append-le (acknowledged - base) xs y
 pub none_after : {A : Type 0} (place : ℕ) → drop {A = A} place [] ≡ []
 none_after place = drop_of_length-le [] (search arith)
 
--- as many as there are are all
-pub take_all : {A : Type 0} (n : ℕ) (xs : List A) → length xs ≤ n → take n xs ≡ xs
-take_all zero [] h = refl
-take_all zero (x ∷ xs) h = absurd (omega (arith, h))
-take_all (suc n) [] h = refl
-take_all (suc n) (x ∷ xs) h = ap (λ l. x ∷ l) (take_all n xs (omega (arith, h)))
-
 -- fewer of the first ones
 pub take_fewer : {A : Type 0} (m n : ℕ) (xs : List A) → m ≤ n → take m (take n xs) ≡ take m xs
 take_fewer zero n xs h = refl

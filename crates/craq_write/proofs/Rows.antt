@@ -1,29 +1,9 @@
 -- Entries in a row, of which a node has the first.
-use Rattle.std.proofs.Common.{◌≡◌, ◌≤◌, ◌<◌, ℕ, suc, ◌+◌, ◌-◌, nat_lt, List, [], ◌∷◌, length, Some, refl, sym, ap, subst, ◌∙◌, arith}
-use Rattle.std.specs.Prelude.{slice_get}
+use Rattle.std.proofs.Common.{◌≡◌, ◌≤◌, ◌<◌, ℕ, ◌+◌, nat_lt, List, [], ◌∷◌, length, sym, ap, ◌∙◌, arith}
 use Rattle.std.proofs.lemmas.Bool.{cond_both, cond-true, ltb-true, ltb-false, lt-ltb}
 use Rattle.craq_commands.specs.declared.entry.Entry.{Entry}
 use Rattle.craq_model.specs.Deliveries.{first_position, final_position, entries_above}
 use Rattle.craq_model.specs.Spelled.{IsConsecutive}
-
--- the last position is that of the last entry
-last_is_final : (es : List Entry) (n : ℕ) (e : Entry) → length es ≡ suc n → slice_get es n ≡ Some e → final_position es ≡ e.position
-last_is_final [] n e l h = absurd (omega (arith, l))
-last_is_final (x ∷ []) n e l h =
-    let z : n ≡ 0 = omega (arith, l) in
-    let h' : slice_get (x ∷ []) 0 ≡ Some e = subst (λ (m : ℕ). slice_get (x ∷ []) m ≡ Some e) z h in
-    let s : x ≡ e = cc in
-    ap (λ (k : Entry). k.position) s
-last_is_final (x ∷ y ∷ es) n e l h =
-    let m : ℕ = length es in
-    let z : n ≡ suc m = omega (arith, l) in
-    last_is_final (y ∷ es) m e refl (subst (λ (i : ℕ). slice_get (x ∷ y ∷ es) i ≡ Some e) z h)
-
-pub final_last : (es : List Entry) (e : Entry) → slice_get es (length es - 1) ≡ Some e → final_position es ≡ e.position
-final_last [] e h = cc
-final_last (x ∷ es) e h =
-    let l : length (x ∷ es) - 1 ≡ length es = omega arith in
-    last_is_final (x ∷ es) (length es) e refl (subst (λ (i : ℕ). slice_get (x ∷ es) i ≡ Some e) l h)
 
 -- one entry that is above a position
 pub one_above : (n : ℕ) (e : Entry) → n < e.position → entries_above n (e ∷ []) ≡ e ∷ []

@@ -225,7 +225,7 @@ fn start_of(entries: &[Entry]) -> Seq
 }
 
 /// The position of the last of some entries; 0 where there is none.
-#[tactic(auto, using(crate::proofs::Rows::final_last))]
+#[tactic(auto, using(craq_model::proofs::Batches::final_last))]
 fn end_of(entries: &[Entry]) -> Seq
     ensures { result ≡ final_position entries.now }
 {

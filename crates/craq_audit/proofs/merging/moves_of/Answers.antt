@@ -1,7 +1,8 @@
 use Rattle.std.proofs.Common.{arith, subst, sym}
 use Rattle.craq_runs.specs.Typed.{AreOfType}
+use Rattle.craq_laws.proofs.Nodes.{typed_push}
 use Rattle.craq_audit.specs.Lines.{taken_among}
-use Rattle.craq_audit.proofs.Counted.{mapped_push, typed_push}
+use Rattle.craq_audit.proofs.Counted.{mapped_push}
 use Rattle.craq_audit.proofs.merging.moves_of.Goals as goal
 
 pub loop-line-preserved : goal.loop-line-preserved

@@ -7,7 +7,7 @@ ghost use Rattle.craq_frames.specs.Reading.{ask_body_at, answer_body_at, payload
 
 use crate::answer::{read_answer_body, test_answer};
 use crate::ask::read_ask_body;
-use crate::{ClientMessage, ClientReply, PAYLOAD_VERSION, USUAL_SIZE};
+use crate::{ClientMessage, ClientReply, PAYLOAD_VERSION, USUAL_PAYLOAD_SIZE};
 use bytes::{Bytes, BytesMut};
 use craq_codec::{Part, Unread, read_u8, write_u8};
 use craq_names::Refusal;
@@ -60,7 +60,7 @@ impl ClientMessage {
     pub fn encode(&self, alloc: Global) -> Result<Bytes, AllocError>
         ensures { IfOk result (λ bytes. SpellsAsk self.now bytes) }
     {
-        let mut out = BytesMut::with_capacity(alloc, USUAL_SIZE)?;
+        let mut out = BytesMut::with_capacity(alloc, USUAL_PAYLOAD_SIZE)?;
         write_u8(&mut out, PAYLOAD_VERSION)?;
         self.write(&mut out)?;
         Ok(out.freeze()?)
@@ -101,7 +101,7 @@ impl ClientReply {
         requires { IsAnswer self.now }
         ensures { IfOk result (λ bytes. SpellsAnswer self.now bytes) }
     {
-        let mut out = BytesMut::with_capacity(alloc, USUAL_SIZE)?;
+        let mut out = BytesMut::with_capacity(alloc, USUAL_PAYLOAD_SIZE)?;
         write_u8(&mut out, PAYLOAD_VERSION)?;
         self.write(&mut out)?;
         Ok(out.freeze()?)

@@ -24,4 +24,4 @@ pub use versions::{Answered, MOST_MESSAGES, Payload, PayloadVersion};
 const PAYLOAD_VERSION: u8 = 1;
 
 /// The bytes that most payloads need at most.
-const USUAL_SIZE: usize = 128;
+const USUAL_PAYLOAD_SIZE: usize = 128;

@@ -14,7 +14,7 @@ ghost use Rattle.craq_frames.specs.Tests.{is_answer, is_answered};
 use crate::answer::{read_answer_body, test_answer};
 use crate::ask::read_ask_body;
 use crate::frame::set_u32;
-use crate::{ClientMessage, ClientReply, USUAL_SIZE};
+use crate::{ClientMessage, ClientReply, USUAL_PAYLOAD_SIZE};
 use bytes::{Bytes, BytesMut};
 use craq_codec::{Part, Unread, read_parts, read_u8, write_short_list, write_u8, write_u32};
 use craq_names::{Items, Refusal};
@@ -245,7 +245,7 @@ impl Payload {
         requires { IsPayload self.now }
         ensures { IfOk result (λ bytes. SpellsPayload self.now bytes) }
     {
-        let mut out = BytesMut::with_capacity(alloc, USUAL_SIZE)?;
+        let mut out = BytesMut::with_capacity(alloc, USUAL_PAYLOAD_SIZE)?;
         write_payload(&mut out, self)?;
         Ok(out.freeze()?)
     }
@@ -278,7 +278,7 @@ impl Answered {
         ensures ok { OnOk result ((payload : List ℕ) × (out.new.items ≡ out.old.items ++ frame payload) × SpellsAnswered self.now payload) }
         ensures same { OnErr result (out.new.items ≡ out.old.items) }
     {
-        out.reserve(USUAL_SIZE)?;
+        out.reserve(USUAL_PAYLOAD_SIZE)?;
         let start = out.len();
         let written = append_answered(out, self);
         if written.is_err() {
@@ -293,7 +293,7 @@ impl Answered {
         requires { IsAnswered self.now }
         ensures { IfOk result (λ bytes. SpellsAnswered self.now bytes) }
     {
-        let mut out = BytesMut::with_capacity(alloc, USUAL_SIZE)?;
+        let mut out = BytesMut::with_capacity(alloc, USUAL_PAYLOAD_SIZE)?;
         write_answered(&mut out, self)?;
         Ok(out.freeze()?)
     }

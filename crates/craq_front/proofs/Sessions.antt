@@ -1,11 +1,12 @@
 -- Serving, one part after the other.
 use Rattle.std.proofs.Common.{◌≡◌, ℕ, ◌+◌, ◌<◌, ◌≤◌, inl, inr, Bool, true, false, List, [], ◌∷◌, ◌++◌, length, take, drop, Result, Ok, Err, IfOk, IfErr, refl, sym, ap, subst, ◌∙◌, append_assoc, arith, length-append, take-append-drop}
-use Rattle.std.specs.List.{flat_map, AllByRecursion}
+use Rattle.std.specs.List.{flat_map}
 use Rattle.std.proofs.lemmas.List.{append-nil}
 use Rattle.std.proofs.lemmas.Grind.{flat_map-append}
 use Rattle.std.proofs.lemmas.List.Concat.{flat_map-cons}
 use Rattle.craq_names.specs.declared.refusal.Refusal.{Refusal}
 use Rattle.craq_names.specs.declared.refusal.Refusal.TheVariants as refusals
+use Rattle.craq_names.proofs.Lists.{all_append}
 use Rattle.craq_frames.specs.Frame.{frame, payload_limit}
 use Rattle.craq_codec.specs.NumberSpelling.{number}
 use Rattle.std.specs.Int.{w32}
@@ -35,10 +36,6 @@ each_then turn a b c [] (r ∷ rs) qs ss h k = absurd h
 each_then turn a b c (p ∷ ps) [] qs ss h k = absurd h
 each_then turn a b c (p ∷ ps) (r ∷ rs) qs ss h k = (h.0, h.1, each_then turn h.0 b c ps rs qs ss h.2 k)
 
-all_then : {A : Type 0} (P : A → Type 0) (xs ys : List A) → AllByRecursion P xs → AllByRecursion P ys → AllByRecursion P (xs ++ ys)
-all_then P [] ys h k = k
-all_then P (x ∷ xs) ys h k = (h.0, all_then P xs ys h.1 k)
-
 pub served_then : {D : Type 0} (turn : Turn D) (a b c : D) (read rest left written due : List ℕ) (n k : ℕ)
     → Served turn a read rest written n b → Served turn b rest left due k c → Served turn a read left (written ++ due) (n + k) c
 served_then turn a b c read rest left written due n k h t = record {
@@ -46,7 +43,7 @@ served_then turn a b c read rest left written due n k h t = record {
   answers = h.answers ++ t.answers;
   frames = h.frames ∙ ap (λ (x : List ℕ). flat_map frame h.payloads ++ x) t.frames ∙ sym (append_assoc (flat_map frame h.payloads) (flat_map frame t.payloads) left)
       ∙ ap (λ (x : List ℕ). x ++ left) (sym (flat_map-append frame h.payloads t.payloads));
-  within = all_then _ h.payloads t.payloads h.within t.within;
+  within = all_append _ h.payloads t.payloads h.within t.within;
   replies = ap (λ (x : List ℕ). x ++ due) h.replies ∙ ap (λ (x : List ℕ). flat_map frame h.answers ++ x) t.replies ∙ sym (flat_map-append frame h.answers t.answers);
   count = omega (arith, h.count, t.count, length-append h.payloads t.payloads);
   each = each_then turn a b c h.payloads h.answers t.payloads t.answers h.each t.each;

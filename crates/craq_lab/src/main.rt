@@ -12,7 +12,9 @@ mod runs;
 use command_line::{CoreKind, Nodes, Wanted, wanted_by};
 use craq_claim::{Misread, explanation_of};
 use craq_epochs::MEMBER_LIMIT;
-use craq_line::{BAD_INPUT, report_failure, report_memory, report_no_text, report_words, words_of};
+use craq_line::{
+    BAD_INPUT, NO_MEMORY, report_failure, report_memory, report_no_text, report_words, words_of,
+};
 use craq_list::ListCore;
 use craq_names::{NodeId, Refusal};
 use craq_node::Core;
@@ -27,9 +29,6 @@ use std::process::ExitCode;
 use std::rt::Files;
 use std::sync::Wait;
 use std::{fs, io};
-
-/// The status where a growth was refused.
-const NO_MEMORY: u8 = 3;
 
 /// The status where a locked cell did otherwise than the chain.
 const CELLS_DIFFER: u8 = 5;

@@ -17,7 +17,8 @@ pub use client::{CallLine, Fault};
 pub use commands::request_of;
 pub use expected::{BadWord, Expected, Unread};
 pub use program::{
-    BAD_INPUT, CANNOT_PRINT, report_failure, report_memory, report_no_text, report_words, words_of,
+    BAD_INPUT, CANNOT_PRINT, NO_MEMORY, report_failure, report_memory, report_no_text,
+    report_words, words_of,
 };
 pub use server::Line;
 pub use task::{Load, Request, Task};

@@ -14,6 +14,9 @@ pub const CANNOT_PRINT: u8 = 1;
 /// The status after bad words, and after input of which nothing can be made.
 pub const BAD_INPUT: u8 = 2;
 
+/// The status of `craqd` and `craq_lab` where a growth was refused.
+pub const NO_MEMORY: u8 = 3;
+
 /// The words of the command line, the program's own among them.
 ///
 /// An error of kind `InvalidData` where one is not UTF-8, of kind `OutOfMemory` where a growth was refused.

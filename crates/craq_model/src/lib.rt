@@ -12,6 +12,6 @@ mod waiting;
 pub use ask::{Answer, Ask, Event};
 pub use config::Config;
 pub use gathering::Gathering;
-pub use message::{BATCH_LIMIT, Body, LinkMessage, PART_LIMIT, StatePart};
+pub use message::{BATCH_LIMIT, Body, GREATEST_COUNT, LinkMessage, PART_LIMIT, StatePart};
 pub use step::{Out, Step, Why};
 pub use waiting::{WaitingRead, WaitingUpdate};

@@ -9,6 +9,9 @@ pub const BATCH_LIMIT: usize = 16;
 /// How many items of a state one message has at most.
 pub const PART_LIMIT: usize = 64;
 
+/// The greatest index or count in a message.
+pub const GREATEST_COUNT: usize = u32::MAX as usize;
+
 /// One part of a state that has more items than one message takes. Its items are its objects by rising
 /// key, then its kept replies by rising client.
 #[derive(Debug, Drop)]

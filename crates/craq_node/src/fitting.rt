@@ -2,10 +2,7 @@
 ghost use Rattle.std.specs.Prelude.{◌≡◌};
 ghost use Rattle.craq_model.specs.Node.{outs_fit, counts_fit};
 
-use craq_model::{Body, Out};
-
-/// The greatest index or count in a message.
-const GREATEST_COUNT: usize = u32::MAX as usize;
+use craq_model::{Body, GREATEST_COUNT, Out};
 
 /// Whether the counts in what a message says can be spelled.
 fn has_fitting_counts(body: &Body) -> bool

@@ -150,37 +150,46 @@ fn start_of(layout: &Layout<'_>, sent: &Sent, taken: &Taken) -> Point {
     }
 }
 
-/// Draws the lines of all messages, below their labels.
-pub(crate) fn draw_all_lines(
+/// Draws what a message says, at its start.
+fn draw_label(
     alloc: Global,
     svg: &mut String,
     layout: &Layout<'_>,
-    moves: &[Taken],
-    arrows: &[Arrow],
+    sent: &Sent,
+    taken: &Taken,
+    start: Point,
 ) -> Result<(), AllocError> {
-    for arrow in arrows {
-        if let Some(taken) = move_at(moves, arrow.sent.row) {
-            let start = start_of(layout, &arrow.sent, taken);
-            draw_lines(alloc, svg, layout, arrow, start)?;
+    match sent_at(taken, sent.place) {
+        Some(message) => {
+            let end = layout.across(sent.to);
+            draw_message(alloc, svg, sent.number, message, start, end)
         }
+        None => Ok(()),
     }
-    Ok(())
 }
 
-/// Draws what all messages say.
-pub(crate) fn draw_all_labels(
+/// What is drawn of all messages: the lines lie below the labels.
+#[derive(Clone, Copy)]
+pub(crate) enum Layer {
+    Lines,
+    Labels,
+}
+
+/// Draws one layer of all messages.
+pub(crate) fn draw_messages(
     alloc: Global,
     svg: &mut String,
     layout: &Layout<'_>,
     moves: &[Taken],
     arrows: &[Arrow],
+    layer: Layer,
 ) -> Result<(), AllocError> {
     for arrow in arrows {
         if let Some(taken) = move_at(moves, arrow.sent.row) {
             let start = start_of(layout, &arrow.sent, taken);
-            if let Some(message) = sent_at(taken, arrow.sent.place) {
-                let end = layout.across(arrow.sent.to);
-                draw_message(alloc, svg, arrow.sent.number, message, start, end)?;
+            match layer {
+                Layer::Lines => draw_lines(alloc, svg, layout, arrow, start)?,
+                Layer::Labels => draw_label(alloc, svg, layout, &arrow.sent, taken, start)?,
             }
         }
     }

@@ -15,8 +15,8 @@ const COLUMN: u64 = 175;
 /// Where the first row lies.
 const FIRST_ROW: u64 = 66;
 
-/// How high a line of a row is.
-const LINE: u64 = 15;
+/// How high a line of a row is, and one of the legend.
+pub(crate) const LINE: u64 = 15;
 
 /// How far a row lies below the one above it, beside its lines.
 const GAP: u64 = 12;

@@ -1,7 +1,7 @@
 //! The whole picture as SVG text: `picture_of`, called by `craq_lab`.
-use crate::arrows::{draw_all_labels, draw_all_lines};
+use crate::arrows::{Layer, draw_messages};
 use crate::columns::draw_columns;
-use crate::layout::{Layout, Point, tops_of};
+use crate::layout::{LINE, Layout, Point, tops_of};
 use crate::pen::{draw_box, draw_note};
 use crate::rows::{draw_margins, draw_moves, width_of};
 use crate::style::STYLE;
@@ -16,9 +16,6 @@ static LEGEND: [&str; 4] = [
     "(C.N): request N of client C; thick: what the node sends and answers at once",
     "committed: how many updates are, after the move",
 ];
-
-/// How high a line of the legend is.
-const LINE: u64 = 15;
 
 /// Begins the picture: its size, its colours and its ground.
 fn open_picture(svg: &mut String, layout: &Layout<'_>) -> Result<(), AllocError> {
@@ -57,7 +54,7 @@ fn draw_shapes(
     let arrows = drawing.arrows.as_slice();
     draw_margins(alloc, svg, layout, rows, moves)?;
     draw_columns(alloc, svg, layout, moves)?;
-    draw_all_lines(alloc, svg, layout, moves, arrows)?;
+    draw_messages(alloc, svg, layout, moves, arrows, Layer::Lines)?;
     draw_moves(
         alloc,
         svg,
@@ -66,7 +63,7 @@ fn draw_shapes(
         moves,
         explanation.places.as_slice(),
     )?;
-    draw_all_labels(alloc, svg, layout, moves, arrows)
+    draw_messages(alloc, svg, layout, moves, arrows, Layer::Labels)
 }
 
 /// A run as an SVG picture: its drawing (`drawing_of`), with a column for the master and each node, a row for each move, an

@@ -1,3 +1,2 @@
-mod Batches
 mod Floats
 mod Lines

@@ -21,7 +21,7 @@ fn first_position(entries: &[Entry]) -> u64
 }
 
 /// The position of the last entry; 0 where there is none.
-#[tactic(auto, using(crate::proofs::Batches::final_last))]
+#[tactic(auto, using(craq_model::proofs::Batches::final_last))]
 fn final_position(entries: &[Entry]) -> u64
     ensures { result ≡ final_position entries.now }
 {

@@ -19,14 +19,14 @@ use std::time::Duration;
 /// The token under which a thread is woken.
 const WAKER: Token = Token(usize::MAX);
 
-/// The most bytes that are read at once.
-const MOST_AT_ONCE: usize = 65_536;
+/// The most bytes that one read of a connection brings.
+const CHUNK_SIZE: usize = 65_536;
 
 /// The most connections whose readiness is told at once.
 const MOST_EVENTS: usize = 256;
 
-/// So many connections are few.
-const FEW: usize = 2;
+/// The most connections that are few.
+const FEW_CONNECTIONS: usize = 2;
 
 /// So often a thread of few connections looks again for something to do, before it sleeps: some 60 microseconds.
 const MOST_LOOKS: u32 = 200;
@@ -77,7 +77,7 @@ impl Members {
     /// No connections. It fails for want of memory alone.
     fn new(alloc: Global, keeps: bool, idle: u32) -> Result<Self, AllocError> {
         let mut chunk = Vec::new(alloc);
-        chunk.resize(MOST_AT_ONCE, 0u8)?;
+        chunk.resize(CHUNK_SIZE, 0u8)?;
         Ok(Members {
             alloc,
             connections: Slab::new(alloc),
@@ -205,7 +205,7 @@ impl Members {
     fn advance_all<H: Host>(&mut self, host: &H)
         ensures { EachTakesSteps (H.tells host.now) (H.refuses host.now) (H.submits host.now) self.old.connections self.new.connections }
     {
-        let few = self.busy.len() <= FEW;
+        let few = self.busy.len() <= FEW_CONNECTIONS;
         for token in self.busy.iter() {
             advance_at(self.alloc, &mut self.connections, host, *token, few);
         }
@@ -289,7 +289,7 @@ impl Members {
     /// Whether it looks again soon: a client alone asks again as soon as it was answered, and a thread that sleeps takes longer to
     /// wake than that.
     fn looks_again(&self) -> bool {
-        self.connections.len() <= FEW && self.looks < MOST_LOOKS
+        self.connections.len() <= FEW_CONNECTIONS && self.looks < MOST_LOOKS
     }
 
     /// How long to wait for readiness: not at all where something is left to do, may come soon or came meanwhile, and

@@ -9,7 +9,7 @@ use std::sync::Arc;
 use std::sync::atomic::{AtomicBool, AtomicU64, Ordering};
 
 /// For how many turns a caller that takes its own step is held after it.
-const FEW: u64 = 5;
+const FEW_TURNS: u64 = 5;
 
 /// Of how many messages one is lost while members change.
 const ONE_LOST: u64 = 500;
@@ -98,7 +98,7 @@ impl Gate for CaseGate {
         }
         match self.case {
             Case::After if node.node.get() == 1 && count == 0 => self.hold(LIMIT),
-            Case::Taking => self.hold(if self.form.is_own() { FEW } else { LIMIT }),
+            Case::Taking => self.hold(if self.form.is_own() { FEW_TURNS } else { LIMIT }),
             Case::Stop => self.signs.reached.store(true, Ordering::SeqCst),
             _ => (),
         }

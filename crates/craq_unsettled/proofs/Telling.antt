@@ -1,6 +1,7 @@
 -- What is told of entries, once more of them are told, or the first ones no more.
-use Rattle.std.proofs.Common.{◌≡◌, ℕ, zero, suc, ◌+◌, ◌-◌, ◌≤◌, min, List, [], ◌∷◌, ◌++◌, length, take, drop, refl, sym, ◌∙◌, ap, arith, take-add}
+use Rattle.std.proofs.Common.{◌≡◌, ℕ, zero, suc, ◌+◌, ◌-◌, ◌≤◌, min, List, [], ◌++◌, length, take, drop, refl, sym, ◌∙◌, ap, arith, take-add}
 use Rattle.std.proofs.lemmas.List.{length-take, length-drop, take-append-drop, take-take, drop-take}
+use Rattle.std.proofs.Math.Seq.{take-length}
 use Rattle.craq_commands.specs.declared.entry.Entry.{Entry}
 use Rattle.craq_model.specs.Past.{last_position}
 use Rattle.craq_node_invariant.specs.Sound.{AreInRow}
@@ -117,10 +118,6 @@ slots_of_all client first m es xs ys within is =
     ∙ sym (slots_further client first (take m es) (drop m es) xs)
     ∙ ap (λ (l : List Entry). slots_after client first l xs) (take-append-drop m es)
 
-whole : (es : List Entry) → take (length es) es ≡ es
-whole [] = refl
-whole (e ∷ es) = ap (λ (l : List Entry). e ∷ l) (whole es)
-
 -- what is lent from an index on
 pub from_index : (n : ℕ) (es : List Entry) → take (length es - n) (drop n es) ≡ drop n es
-from_index n es = ap (λ (k : ℕ). take k (drop n es)) (sym (length-drop n es)) ∙ whole (drop n es)
+from_index n es = ap (λ (k : ℕ). take k (drop n es)) (sym (length-drop n es)) ∙ take-length (drop n es)

@@ -10,8 +10,8 @@ use std::alloc::{AllocError, Global};
 use std::collections::VecDeque;
 use std::marker::Model;
 
-// How many items a queue keeps memory for.
-const FEW: usize = 4;
+// How many items a queue keeps memory for, also where it has fewer.
+const KEPT_ROOM: usize = 4;
 
 /// The versions of one object that a node holds, each with what is held of it, as its value: consecutive and rising. At most
 /// one is clean, the first; those after it are dirty (clean and dirty versions as in the USENIX ATC 2009 paper).
@@ -273,7 +273,7 @@ fn replace_first<V: Drop>(items: &mut VecDeque<V>, count: usize, first: V)
 fn trim<V: Drop>(items: &mut VecDeque<V>)
     ensures items { items.new.items ≡ items.old.items }
 {
-    if items.capacity() > FEW {
+    if items.capacity() > KEPT_ROOM {
         items.shrink_to_fit();
     }
 }

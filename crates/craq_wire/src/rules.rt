@@ -8,11 +8,8 @@ use crate::alike::{has_twice, rises};
 use craq_codec::{is_fresh_reply, is_spelled_reply};
 use craq_commands::{Entry, Kept, Mini, State, WINDOW_LIMIT, Window, Write};
 use craq_epochs::MEMBER_LIMIT;
-use craq_model::{BATCH_LIMIT, Body, LinkMessage, PART_LIMIT, StatePart};
+use craq_model::{BATCH_LIMIT, Body, GREATEST_COUNT, LinkMessage, PART_LIMIT, StatePart};
 use craq_names::{ClientId, Key, NodeId, Value, Version};
-
-/// The most values that a count of a state can tell.
-const MOST_COPIED: usize = 0xffff_ffff;
 
 /// Whether each of them has a version.
 fn have_versions(writes: &[Write]) -> bool
@@ -73,8 +70,8 @@ fn test_state(state: &State) -> bool
 {
     let objects = state.objects.as_slice();
     let kept = state.kept.as_slice();
-    objects.len() <= MOST_COPIED
-        && kept.len() <= MOST_COPIED
+    objects.len() <= GREATEST_COUNT
+        && kept.len() <= GREATEST_COUNT
         && are_stored(objects)
         && are_clients(kept)
         && rises(objects)

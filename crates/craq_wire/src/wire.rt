@@ -14,7 +14,7 @@ use craq_names::{NodeId, Refusal, Stamp};
 use std::alloc::{AllocError, Global};
 
 /// The bytes that most messages need at most.
-const USUAL_SIZE: usize = 128;
+const USUAL_MESSAGE_SIZE: usize = 128;
 
 /// Whether the message can be spelled, that is, whether bytes exist that spell it (`messages_with_spellings`):
 /// its sender is 0 exactly under a membership, receiver, stamp and epoch are at least 1, and what it says keeps
@@ -45,7 +45,7 @@ pub fn encode_as(
     requires { IsSpelled (renamed message.now sender stamp index) }
     ensures { IfOk result (λ bytes. Spells (renamed message.now sender stamp index) bytes) }
 {
-    let mut out = BytesMut::with_capacity(alloc, USUAL_SIZE)?;
+    let mut out = BytesMut::with_capacity(alloc, USUAL_MESSAGE_SIZE)?;
     write_message(&mut out, message, sender, stamp, index)?;
     Ok(out.freeze()?)
 }

@@ -20,19 +20,19 @@ use Rattle.craq_model.specs.declared.step.Step.{Step}
 use Rattle.craq_model.specs.Asks.{asked_objects, accepted_ask_turn, ask_turn}
 use Rattle.craq_model.specs.Members.{is_member, without}
 use Rattle.craq_model.specs.Node.{node_step, event_turn}
-use Rattle.craq_model.specs.Plain.{Plain, id_of, opening_member, opening_joined}
+use Rattle.craq_model.specs.Plain.{Plain, opening_member, opening_joined}
 use Rattle.craq_model.specs.Settle.{Turn}
 use Rattle.craq_runs.specs.declared.run.Move.{Move}
 use Rattle.craq_runs.specs.declared.run.Move.TheVariants as moves
 use Rattle.craq_runs.specs.declared.run.Run.{Run}
 use Rattle.craq_runs.specs.declared.run.Taken.{Taken}
-use Rattle.craq_runs.specs.Chain.{Chain, Progress, node_at, set_node, message_at, config_progress, next_epoch, with_node, is_running, turn_progress, node_progress, arrival_progress, removal_progress, join_progress, move_progress, counted_progress, numbers_left, sent_in, opening_chain, chain_step}
+use Rattle.craq_runs.specs.Chain.{Chain, Progress, node_at, message_at, config_progress, next_epoch, with_node, is_running, turn_progress, node_progress, arrival_progress, removal_progress, join_progress, move_progress, counted_progress, numbers_left, sent_in, opening_chain, chain_step}
 use Rattle.craq_runs.specs.Runs.{IsRunOf, progressed, Takes, AreTaken, after_move}
 use Rattle.craq_runs.specs.Typed.{AreOfType, IsAskOfType, IsOfType, IsMoveOfType}
 use Rattle.craq_laws.proofs.Names.{name_kept}
-use Rattle.craq_chain.proofs.Steps.{AreOf, own_name, names_push}
 use Rattle.craq_refinement.proofs.Updates.{refused}
 use Rattle.craq_updates.proofs.Places.{AtNode, AtMaster, happens_at}
+use Rattle.craq_chain.proofs.Steps.{AreOf, own_name, names_push, set_names}
 use Rattle.craq_world.specs.Named.{named_first, named_in}
 
 -- ---- each node of a chain bears the chain's id
@@ -50,11 +50,6 @@ by_test false Q x y h k = k
 
 unless : (chain : ℕ) (b : Bool) (e : Refusal) (r : Result Progress Refusal) → StaysOf chain r → StaysOf chain (cond b (Err e) r)
 unless chain b e r h = by_test b (StaysOf chain) (Err e) r tt h
-
-set_names : (chain : ℕ) (ps : List Plain) (q : Plain) → AreOf chain ps → q.name.chain ≡ chain → AreOf chain (set_node ps q)
-unfolding set_node
-set_names chain [] q h e = tt
-set_names chain (p ∷ ps) q h e = by_test (id_of p == id_of q) (AreOf chain) (q ∷ ps) (p ∷ set_node ps q) (e, h.1) (h.0, set_names chain ps q h.1 e)
 
 turn_stays : (chain : ℕ) (c : Chain) (p : Plain) (r : Result Turn Refusal) → IsOf chain c → p.name.chain ≡ chain → ((t : Turn) → r ≡ Ok t → t.0.name ≡ p.name) → StaysOf chain (turn_progress c r)
 turn_stays chain c p (Ok t) h own keeps = (h.0, set_names chain c.nodes t.0 h.1 (ap (λ (n : NodeName). n.chain) (keeps t refl) ∙ own))

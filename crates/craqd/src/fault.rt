@@ -1,12 +1,9 @@
 //! Why `craqd` ends or serves nothing, with the text and the status of each reason; for `main`, `serving`, `plans`, `audits`
 //! and `closing`.
-use craq_line::{BAD_INPUT, report_memory};
+use craq_line::{BAD_INPUT, NO_MEMORY, report_memory};
 use craq_names::Refusal;
 use std::alloc::{AllocError, AllocFailed};
 use std::io;
-
-/// The status where a growth was refused.
-pub const NO_MEMORY: u8 = 3;
 
 /// The status where nothing can be listened to.
 const CANNOT_LISTEN: u8 = 4;

@@ -9,8 +9,7 @@ mod serving;
 mod telling;
 mod ways;
 
-use craq_line::{Line, report_failure, report_no_text, report_words, words_of};
-use fault::NO_MEMORY;
+use craq_line::{Line, NO_MEMORY, report_failure, report_no_text, report_words, words_of};
 use serving::serve_line;
 use std::env::Env;
 use std::io;

@@ -39,10 +39,10 @@ FRAME_LIMIT = 1_048_576
 UPDATE, READ, STATUS, MANY = 1, 2, 3, 4
 UPDATE_REPLY, READ_REPLY, REFUSED_REPLY, STATUS_REPLY, MANY_REPLY = 1, 2, 3, 4, 5
 STRONG, EVENTUAL = b"\x01", b"\x02"
-# After these refusals the same may be asked again: the head is another node, a node stopped, too much waits there, no
-# memory for the moment, or a server that closes.
-NOT_HEAD, STOPPED, PENDING_FULL, MEMORY, CLOSED = 9, 11, 12, 14, 27
-PASSING = (NOT_HEAD, STOPPED, PENDING_FULL, MEMORY, CLOSED)
+# After these refusals the same may be asked again: another node is the head, the node is not ready yet, it stopped, too much
+# waits there, there is no memory for the moment, or the server closes.
+NOT_HEAD, NOT_READY, STOPPED, PENDING_FULL, MEMORY, CLOSED = 9, 10, 11, 12, 14, 27
+PASSING = (NOT_HEAD, NOT_READY, STOPPED, PENDING_FULL, MEMORY, CLOSED)
 
 
 def reply(name, *fields):

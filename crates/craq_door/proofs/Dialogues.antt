@@ -114,7 +114,7 @@ continues_room p t u calls h = λ q is. absurd (subst (λ (x : Phase). Continues
 
 not_found : (q : Question) (s : Stepped) (t u : Conversation) → Found (phases.Waits q) s t u → ⊥
 not_found q steps.Goes t u h = h
-not_found q steps.Calls t u h = h
+not_found q (steps.Calls permit) t u h = h
 not_found q steps.Starved t u h = h
 not_found q steps.Stays t u h = h
 

@@ -94,7 +94,7 @@ IsUnderWay phase found = found ≡ None
 abbrev pub Took : (List ℕ → Type 0) → Phase → Stepped → Phase → Conversation → Conversation → DoorCalls → DoorCalls → Type 0
 Took tells (phases.Asks m) steps.Goes q t u c d =
     (reply : ClientReply) × HasOneMore (phases.Asks m) t q u m reply × IsTurn tells for_memory c.keeps c.receipts.items m reply d.receipts.items × MakesRoom c m (Told reply) d × Continues q t u
-Took tells (phases.Asks m) steps.Calls (phases.Waits x) t u c d =
+Took tells (phases.Asks m) (steps.Calls permit) (phases.Waits x) t u c d =
     (m ≡ asked_by x) × (x.node ≡ name_of x.node.node x.ask) × (d.receipts.items ≡ kept c.keeps c.receipts.items) × MakesRoom c m (Calls x) d × (u ≡ t)
 Took tells phases.Idle stepped q t u c d = Found q stepped t u × HasNoMore phases.Idle t q u × (d ≡ c)
 Took tells (phases.Waits x) steps.Stays q t u c d = (q ≡ phases.Waits x) × (u ≡ t) × (d ≡ c)

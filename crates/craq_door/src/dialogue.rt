@@ -34,13 +34,27 @@ pub(crate) enum Phase {
     Over(Ending),
 }
 
+/// The right to make the call that is under way. The step that comes to a call makes it (`Stepped::Calls`), and nothing else does;
+/// it is not copied, and whoever makes the call takes it. So no call is made twice, and none to which no step came.
+#[derive(Debug, Drop)]
+pub struct Permit {
+    _made: (),
+}
+
+impl Permit {
+    /// The right to make the call to which a step came.
+    pub(crate) fn new() -> Self {
+        Permit { _made: () }
+    }
+}
+
 /// What a step came to.
-#[derive(Clone, Copy, PartialEq, Eq)]
+#[derive(Debug, Drop)]
 pub enum Stepped {
     /// There may be another step to take.
     Goes,
-    /// The call of `question` is to be made, and its outcome to be given back by `answer`.
-    Calls,
+    /// The call of `question` is to be made, by this right alone, and its outcome to be given back by `answer`.
+    Calls(Permit),
     /// Less than a frame is there: more bytes have to come.
     Starved,
     /// Nothing is done before bytes that are due are written or a call came back, or any more.

@@ -13,7 +13,7 @@ mod question;
 mod telling;
 
 pub use calls::DoorCalls;
-pub use dialogue::{Dialogue, Ending, Stepped};
+pub use dialogue::{Dialogue, Ending, Permit, Stepped};
 pub use door::{CallDoor, Callee};
 pub use laws::halves_are_a_turn;
 pub use question::{Begun, Question, begin_turn, end_turn};

@@ -4,7 +4,7 @@ ghost use Rattle.craq_front.specs.Door.{IsAllowed};
 ghost use Rattle.craq_door.specs.Dialogues.{Answers, Continues, Found, HasNoMore, HasOneMore, KeepsRoom, Took};
 ghost use Rattle.craq_frames.specs.declared.ask.ClientMessage.{ClientMessage};
 
-use crate::dialogue::{Ending, Phase, Stepped};
+use crate::dialogue::{Ending, Permit, Phase, Stepped};
 use crate::{Begun, Callee, DoorCalls, begin_turn, end_turn};
 use craq_frames::{ClientMessage, ClientReply};
 use craq_front::{Conversation, Step};
@@ -62,7 +62,7 @@ fn begin<C: Callee>(
 {
     match begin_turn(callee, calls, message) {
         Begun::Told(reply) => (next_phase(alloc, talk, reply), Stepped::Goes),
-        Begun::Calls(question) => (Phase::Waits(question), Stepped::Calls),
+        Begun::Calls(question) => (Phase::Waits(question), Stepped::Calls(Permit::new())),
     }
 }
 

@@ -1,6 +1,6 @@
--- A dialogue whose host is asked, and one that takes steps, one step on.
-use Rattle.std.proofs.Common.{◌≡◌, ◌⊎◌, ℕ, List, Some, None, Result, Ok, Err, inl, inr, sym, refl, subst, ⊎_elim, ◌∙◌, ◌≢◌}
-use Rattle.std.proofs.lemmas.Bool.{cases_eq}
+-- A dialogue whose host is asked, one that takes steps, one step on, and the turns of connections.
+use Rattle.std.proofs.Common.{◌≡◌, ◌⊎◌, ◌+◌, ◌<◌, ℕ, Bool, true, false, List, [], ◌∷◌, ◌++◌, length, take, get_or, Some, None, Result, Ok, Err, inl, inr, sym, refl, subst}
+use Rattle.std.proofs.lemmas.List.{take_more}
 use Rattle.slab.specs.Slab.{Slab, get, with_value}
 use Rattle.slab.proofs.SlabLemmas.{Updates-with_value}
 use Rattle.craq_names.specs.declared.refusal.Refusal.{Refusal}
@@ -9,12 +9,13 @@ use Rattle.craq_door.specs.Dialogues.{IsUnderWay, Took}
 use Rattle.craq_door.specs.Halves.{IsRefusable}
 use Rattle.craq_door.specs.Turns.{Refusing}
 use Rattle.craq_door.specs.declared.dialogue.Dialogue.{Dialogue}
+use Rattle.craq_door.specs.declared.dialogue.Permit.{Permit}
 use Rattle.craq_door.specs.declared.dialogue.Phase.{Phase}
 use Rattle.craq_door.specs.declared.dialogue.Phase.TheVariants as phases
 use Rattle.craq_door.specs.declared.dialogue.Stepped.TheVariants as steps
 use Rattle.craq_door.specs.declared.question.Question.{Question}
 use Rattle.craq_ready.specs.declared.connection.Connection.{Connection}
-use Rattle.craq_ready.specs.Advancing.{TakesStepsAt, EachTakesSteps, AsksHost, TakesSteps, none, step, call}
+use Rattle.craq_ready.specs.Advancing.{AsksHost, TakesSteps, none, step, call, TakesTurn, rests, gives_way, HasTurn, HasTurnAt, TurnsAlone, TakeTurns}
 use Rattle.craq_ready.specs.Belonging.{CameBack, OthersStay, StaysVacant}
 use Rattle.craq_ready.specs.Letters.{MayHaveAny, Submitting}
 use Rattle.craq_ready.proofs.Letters.{receipt_refusable, refusal_refusable}
@@ -61,63 +62,60 @@ module _ (refuses : Refusing) (submits : Submitting) where
   asked_and_refused phase old new found e is so may came = asked phase old new found is (inr (Err e, so, refusal_refusable refuses found e may, came))
 
 module _ (tells : List ℕ → Type 0) (refuses : Refusing) (submits : Submitting) (old : Dialogue) where
-  pub none_taken : TakesSteps tells refuses submits old old
+  pub none_taken : TakesSteps tells refuses submits old 0 old
   none_taken = none
 
-  pub went : (mid new : Dialogue) → TakesSteps tells refuses submits old mid
-      → Took tells mid.phase steps.Goes new.phase mid.talk new.talk mid.calls new.calls → TakesSteps tells refuses submits old new
-  went mid new before took = step mid new steps.Goes before (λ e. cc) took
+  pub went : (count : ℕ) (mid new : Dialogue) → TakesSteps tells refuses submits old count mid
+      → Took tells mid.phase steps.Goes new.phase mid.talk new.talk mid.calls new.calls → TakesSteps tells refuses submits old (count + 1) new
+  went count mid new before took = step count mid new steps.Goes before tt took
 
-  pub starved : (mid new : Dialogue) → TakesSteps tells refuses submits old mid
-      → Took tells mid.phase steps.Starved new.phase mid.talk new.talk mid.calls new.calls → TakesSteps tells refuses submits old new
-  starved mid new before took = step mid new steps.Starved before (λ e. cc) took
+  pub called : (count : ℕ) (mid made new : Dialogue) (permit : Permit) → TakesSteps tells refuses submits old count mid
+      → Took tells mid.phase (steps.Calls permit) made.phase mid.talk made.talk mid.calls made.calls → AsksHost refuses submits made.phase made new
+      → TakesSteps tells refuses submits old (count + 1) new
+  called count mid made new permit before took asked = call count mid made new permit before took asked
 
-  pub stayed : (mid new : Dialogue) → TakesSteps tells refuses submits old mid
-      → Took tells mid.phase steps.Stays new.phase mid.talk new.talk mid.calls new.calls → TakesSteps tells refuses submits old new
-  stayed mid new before took = step mid new steps.Stays before (λ e. cc) took
+  -- the turn of a connection that is not over
+  turn_of : (over : Bool) (new : Dialogue) → over ≡ false → TakesTurn tells refuses submits old new → HasTurn tells refuses submits over old new
+  turn_of over new is turn = subst (λ (x : Bool). HasTurn tells refuses submits x old new) (sym is) turn
 
-  pub called : (mid made new : Dialogue) → TakesSteps tells refuses submits old mid
-      → Took tells mid.phase steps.Calls made.phase mid.talk made.talk mid.calls made.calls → AsksHost refuses submits made.phase made new
-      → TakesSteps tells refuses submits old new
-  called mid made new before took asked = call mid made new before took asked
+  pub starved : (over : Bool) (count : ℕ) (mid new : Dialogue) → over ≡ false → TakesSteps tells refuses submits old count mid
+      → Took tells mid.phase steps.Starved new.phase mid.talk new.talk mid.calls new.calls → HasTurn tells refuses submits over old new
+  starved over count mid new is before took = turn_of over new is (rests count mid steps.Starved before tt took)
 
-  -- more steps after some
-  further : (mid new : Dialogue) → TakesSteps tells refuses submits old mid → TakesSteps tells refuses submits mid new → TakesSteps tells refuses submits old new
-  further mid _ before none = before
-  further mid _ before (step a new stepped more is took) = step a new stepped (further mid a before more) is took
-  further mid _ before (call a made new more took asked) = call a made new (further mid a before more) took asked
+  pub stayed : (over : Bool) (count : ℕ) (mid new : Dialogue) → over ≡ false → TakesSteps tells refuses submits old count mid
+      → Took tells mid.phase steps.Stays new.phase mid.talk new.talk mid.calls new.calls → HasTurn tells refuses submits over old new
+  stayed over count mid new is before took = turn_of over new is (rests count mid steps.Stays before tt took)
+
+  pub gave_way : (over : Bool) (count : ℕ) (new : Dialogue) → over ≡ false → count ≡ 64 → TakesSteps tells refuses submits old count new
+      → HasTurn tells refuses submits over old new
+  gave_way over count new is all taken = turn_of over new is (gives_way (subst (λ (x : ℕ). TakesSteps tells refuses submits old x new) all taken))
+
+  -- a connection that is over
+  pub over_already : (over : Bool) (new : Dialogue) → over ≡ true → new ≡ old → HasTurn tells refuses submits over old new
+  over_already over new is same = subst (λ (x : Bool). HasTurn tells refuses submits x old new) (sym is) same
 
 module _ {S : Type 0} (tells : List ℕ → Type 0) (refuses : Refusing) where
   -- what a connection became is what is under its token
-  pub stepped_at : (submits : Submitting) (s : Slab (Connection S)) (token : ℕ) (c d : Connection S)
-      → get s token ≡ Some c → TakesSteps tells refuses submits c.dialogue d.dialogue → d.stream ≡ c.stream
-      → TakesStepsAt tells refuses submits s (with_value s token d) token
-  stepped_at submits s token c d was took same c' here =
+  pub turned_at : (submits : Submitting) (s : Slab (Connection S)) (token : ℕ) (c d : Connection S)
+      → get s token ≡ Some c → HasTurn tells refuses submits c.over c.dialogue d.dialogue → d.stream ≡ c.stream
+      → HasTurnAt tells refuses submits s (with_value s token d) token
+  turned_at submits s token c d was took same c' here =
       let e : c' ≡ c = cc in
       let is : get (with_value s token d) token ≡ Some d = (Updates-with_value s token d (rw was refl)).changed in
       rw e (d, is, took, same)
 
-  -- no connection took steps
-  pub none_steps : (submits : ℕ → Submitting) (s : Slab (Connection S)) → EachTakesSteps tells refuses submits s s
-  none_steps submits s token = ((λ c here. (c, here, none, refl)), λ vacant. vacant)
+  -- one more had its turn, behind all before
+  pub one_more : (submits : ℕ → Submitting) (tokens : List ℕ) (one : ℕ) (s t u : Slab (Connection S)) → TakeTurns tells refuses submits tokens s t
+      → TurnsAlone tells refuses (submits one) t u one → TakeTurns tells refuses submits (tokens ++ one ∷ []) s u
+  one_more submits [] one s t u before turn = (u, subst (λ (x : Slab (Connection S)). TurnsAlone tells refuses (submits one) x u one) before turn, refl)
+  one_more submits (token ∷ tokens) one s t u before turn = (before.0, before.1, one_more submits tokens one before.0 t u before.2 turn)
 
-  -- one more took steps, behind what all took before
-  pub one_steps : (submits : ℕ → Submitting) (s t u : Slab (Connection S)) (one : ℕ) → EachTakesSteps tells refuses submits s t
-      → TakesStepsAt tells refuses (submits one) t u one → StaysVacant t u one → OthersStay t u one → EachTakesSteps tells refuses submits s u
-  one_steps submits s t u one before goes vacant others token =
-      ⊎_elim
-      (λ (same : token ≡ one).
-      subst (λ (x : ℕ). TakesStepsAt tells refuses (submits x) s u x × StaysVacant s u x) (sym same) (
-        (λ c here.
-            let b = (before one).0 c here in
-            let n = goes b.0 b.1 in
-            (n.0, n.1, further tells refuses (submits one) c.dialogue b.0.dialogue n.0.dialogue b.2 n.2, n.3 ∙ b.3)),
-        λ none. vacant ((before one).1 none),
-      ))
-      (λ (other : token ≢ one). (
-        (λ c here.
-            let b = (before token).0 c here in
-            (b.0, others token other ∙ b.1, b.2, b.3)),
-        λ none. others token other ∙ (before token).1 none,
-      ))
-      (cases_eq token one)
+  pub one_more_at : (submits : ℕ → Submitting) (tokens : List ℕ) (index : ℕ) (s t u : Slab (Connection S)) → index < length tokens
+      → TakeTurns tells refuses submits (take index tokens) s t
+      → HasTurnAt tells refuses (submits (get_or tokens index 0)) t u (get_or tokens index 0)
+      → StaysVacant t u (get_or tokens index 0) → OthersStay t u (get_or tokens index 0)
+      → TakeTurns tells refuses submits (take (index + 1) tokens) s u
+  one_more_at submits tokens index s t u there before turn vacant others =
+      subst (λ (x : List ℕ). TakeTurns tells refuses submits x s u)
+      (sym (take_more tokens index 0 there))
+      (one_more submits (take index tokens) (get_or tokens index 0) s t u before (turn, vacant, others))

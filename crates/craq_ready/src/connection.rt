@@ -6,7 +6,7 @@ ghost use Rattle.craq_door.specs.declared.question.Question.{Question};
 use crate::host::{Arrival, Host};
 use crate::socket::Socket;
 use craq_calls::refusal_of_call;
-use craq_door::{Dialogue, Stepped};
+use craq_door::{Dialogue, Permit, Stepped};
 use craq_letters::Outcome;
 use mio::event::Event;
 use mio::unix::SourceFd;
@@ -106,7 +106,7 @@ impl Connection<Arc<TcpStream>> {
 }
 
 impl<S: Socket> Connection<S> {
-    ghost use Rattle.craq_ready.specs.Advancing.{AsksHost, TakesSteps};
+    ghost use Rattle.craq_ready.specs.Advancing.{AsksHost, HasTurn};
     ghost use Rattle.craq_ready.specs.Belonging.{CameBack, CameByLetter, Gives, Hears, Reads, Writes};
     ghost use Rattle.craq_ready.specs.Letters.{IsOutcome};
 
@@ -308,41 +308,42 @@ impl<S: Socket> Connection<S> {
         self.answer(alloc, host, outcome);
     }
 
-    /// The call that is under way is submitted, under this token.
+    /// The call that is under way is submitted, under this token, by the right of the step that came to it.
     #[tactic(auto, using(crate::proofs::Advancing::none_asked, crate::proofs::Advancing::asked_and_waits, crate::proofs::Advancing::asked_and_answered, crate::proofs::Advancing::asked_and_refused))]
-    fn submit<H: Host>(&mut self, alloc: Global, host: &H, token: usize, few: bool)
+    fn submit<H: Host>(&mut self, alloc: Global, host: &H, permit: Permit, token: usize, few: bool)
         ensures asked { AsksHost (H.refuses host.now) (H.submits host.now token) self.old.dialogue.phase self.old.dialogue self.new.dialogue }
         ensures stream { self.new.stream ≡ self.old.stream }
     {
         let Some(question) = self.dialogue.question() else {
             return;
         };
-        match host.submit(question, token, few) {
+        match host.submit(permit, question, token, few) {
             Ok(None) => {}
             Ok(Some(receipt)) => self.answer(alloc, host, Ok(receipt)),
             Err(refusal) => self.answer(alloc, host, Err(refusal)),
         }
     }
 
-    /// Takes the steps of the dialogue, as far as its bytes and replies are there. Its calls are asked under this token. What comes
-    /// of the steps is then due. `few` tells that few connections have something to do just now.
-    #[tactic(auto, using(crate::proofs::Advancing::none_taken, crate::proofs::Advancing::went, crate::proofs::Advancing::starved, crate::proofs::Advancing::stayed, crate::proofs::Advancing::called))]
+    /// Its turn: takes the steps of the dialogue, until one finds nothing to do, or 64. Its calls are asked under this token. What
+    /// comes of the steps is then due. A connection that is over takes none. `few` tells that few connections have something to do
+    /// just now.
+    #[tactic(auto, using(crate::proofs::Advancing::none_taken, crate::proofs::Advancing::went, crate::proofs::Advancing::called, crate::proofs::Advancing::starved, crate::proofs::Advancing::stayed))]
     pub(crate) fn advance<H: Host>(&mut self, alloc: Global, host: &H, token: usize, few: bool)
-        ensures steps { TakesSteps (H.tells host.now) (H.refuses host.now) (H.submits host.now token) self.old.dialogue self.new.dialogue }
+        ensures turn { HasTurn (H.tells host.now) (H.refuses host.now) (H.submits host.now token) self.old.over self.old.dialogue self.new.dialogue }
         ensures stream { self.new.stream ≡ self.old.stream }
     {
+        if self.over {
+            return;
+        }
         for _step in 0..MOST_STEPS {
-            if self.over {
-                break;
-            }
             match self.dialogue.step(alloc, host) {
                 Stepped::Goes => {}
-                Stepped::Calls => self.submit(alloc, host, token, few),
+                Stepped::Calls(permit) => self.submit(alloc, host, permit, token, few),
                 Stepped::Starved => {
                     self.more = false;
-                    break;
+                    return;
                 }
-                Stepped::Stays => break,
+                Stepped::Stays => return,
             }
         }
     }

@@ -1,7 +1,7 @@
 //! `Crowd`: the connections of a thread and the loop over them, for the thread that serves them: it takes what came, steps each
 //! connection that has something to do, and sleeps where none has.
 ghost use Rattle.std.specs.Prelude.{◌≡◌, []};
-ghost use Rattle.craq_ready.specs.Advancing.{TakesStepsAt, EachTakesSteps};
+ghost use Rattle.craq_ready.specs.Advancing.{HasTurnAt, TakeTurns};
 ghost use Rattle.craq_ready.specs.Belonging.{Delivers, DeliversAll, DeliversBrought, OthersStay, StaysVacant, Wakes};
 
 use crate::connection::Connection;
@@ -31,8 +31,8 @@ const FEW_CONNECTIONS: usize = 2;
 /// So often a thread of few connections looks again for something to do, before it sleeps: some 60 microseconds.
 const MOST_LOOKS: u32 = 200;
 
-/// The connection under a token takes the steps of its conversation. Its calls are asked under this token, and no other connection
-/// changes; where none is under the token nothing does.
+/// The connection under a token has its turn. Its calls are asked under this token, and no other connection changes; where none is
+/// under the token nothing does.
 fn advance_at<H: Host>(
     alloc: Global,
     connections: &mut Slab<Connection<Arc<TcpStream>>>,
@@ -40,7 +40,7 @@ fn advance_at<H: Host>(
     token: usize,
     few: bool,
 )
-    ensures steps { TakesStepsAt (H.tells host.now) (H.refuses host.now) (H.submits host.now token) connections.old connections.new token }
+    ensures turn { HasTurnAt (H.tells host.now) (H.refuses host.now) (H.submits host.now token) connections.old connections.new token }
     ensures vacant { StaysVacant connections.old connections.new token }
     ensures others { OthersStay connections.old connections.new token }
 {
@@ -201,9 +201,10 @@ impl Members {
         }
     }
 
-    /// The busy connections take the steps of their conversations, and each asks its calls under its own token.
+    /// Each busy connection has its turn, in which it asks its calls under its own token, and no other connection changes.
     fn advance_all<H: Host>(&mut self, host: &H)
-        ensures { EachTakesSteps (H.tells host.now) (H.refuses host.now) (H.submits host.now) self.old.connections self.new.connections }
+        ensures turns { TakeTurns (H.tells host.now) (H.refuses host.now) (H.submits host.now) self.old.busy.items self.old.connections self.new.connections }
+        ensures busy { self.new.busy.items ≡ self.old.busy.items }
     {
         let few = self.busy.len() <= FEW_CONNECTIONS;
         for token in self.busy.iter() {

@@ -7,7 +7,7 @@ ghost use Rattle.craq_letters.specs.declared.pile.Letter.{Letter};
 ghost use Rattle.craq_door.specs.declared.question.Question.{Question};
 ghost use Rattle.craq_ready.specs.Letters.{MayHaveAny, at_once};
 
-use craq_door::{Callee, Question};
+use craq_door::{Callee, Permit, Question};
 use craq_letters::Letter;
 use craq_names::Refusal;
 use craq_seat::CallReceipt;
@@ -37,9 +37,11 @@ pub trait Host: Callee {
     /// connections have something to do just now.
     ///
     /// What is refused is refused as this host may refuse the call, and a call that is not may be refused with whatever an ask
-    /// of its kind may be refused with. This call was asked under this token, and this came of it at once.
+    /// of its kind may be refused with. This call was asked under this token, and this came of it at once. Only a step of a dialogue
+    /// makes a permit, with the call to which it came, and each call takes one: so it makes no call twice, and no other.
     fn submit(
         &self,
+        permit: Permit,
         question: &Question,
         token: usize,
         few: bool,

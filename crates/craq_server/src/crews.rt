@@ -3,7 +3,7 @@ use crate::accepting::{Served, Server, Serving};
 use crate::connections::Connections;
 use crate::door::ServedStore;
 use crate::logging::Log;
-use craq_door::{Callee, Question};
+use craq_door::{Callee, Permit, Question};
 use craq_frames::Text;
 use craq_letters::{Letter, Letterbox};
 use craq_model::{Answer, Ask};
@@ -71,10 +71,12 @@ where
 
     fn submit(
         &self,
+        permit: Permit,
         question: &Question,
         token: usize,
         few: bool,
     ) -> Result<Option<CallReceipt>, Refusal> {
+        drop(permit);
         self.callee.submit(question, &self.letters, token, few)
     }
 

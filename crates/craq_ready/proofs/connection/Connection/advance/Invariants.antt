@@ -1,8 +1,10 @@
-use Rattle.std.proofs.Common.{◌≡◌}
+use Rattle.std.proofs.Common.{◌≡◌, ◌≤◌, false}
 use Rattle.craq_ready.specs.Advancing.{TakesSteps}
 use Rattle.craq_ready.proofs.connection.Connection.advance.Given as goal
 
 abbrev pub invariant-loop-step : goal.invariant-loop-step
 invariant-loop-step g l =
     (l.self.stream ≡ l.fn.self.stream)
-    × TakesSteps (g.H.Callee.tells l.fn.host) (g.H.Callee.refuses l.fn.host) (g.H.Host.submits l.fn.host l.fn.token) l.fn.self.dialogue l.self.dialogue
+    × (l.fn.self.over ≡ false)
+    × (l._step ≤ 64)
+    × TakesSteps (g.H.Callee.tells l.fn.host) (g.H.Callee.refuses l.fn.host) (g.H.Host.submits l.fn.host l.fn.token) l.fn.self.dialogue l._step l.self.dialogue

@@ -202,6 +202,9 @@ def serve_fails(checks, clone):
     checks.same("a server that ends at once", (status, out, err.splitlines()[-1]), (4, "", "cannot listen on nowhere"))
     status, out, err = clone.ran("serve", "nowhere.toml")
     checks.that((status, out) == (2, "") and err.startswith("cannot read "), f"a plan that is not there: {status} {err}")
+    clone.words()
+    status, out, err = clone.ran("serve", "--journal")
+    checks.same("journals without an end", (status, out, "--connections" in err, clone.words()), (2, "", True, []))
 
 
 def serve_proved(checks, clone):
@@ -213,7 +216,7 @@ def serve_proved(checks, clone):
     status, out, _ = clone.ran("serve", plan, "127.0.0.1:7123")
     lines = out.splitlines()
     checks.same("the proved server", (status, lines[0], lines[-1]), (0, "listening 7123", f"3: --until-input-ends {plan} 127.0.0.1:7123"))
-    _, out, _ = clone.ran("serve", "--journal", "--most", "9", plan)
+    _, out, _ = clone.ran("serve", "--journal", "--until-input-ends", "--most", "9", plan)
     checks.same("its options", out.splitlines()[-1], f"6: --until-input-ends --journal --most 9 {plan} 127.0.0.1:0")
     checks.that(any("examples/client.py 127.0.0.1:7123 put" in it for it in lines), f"it tells of the client in Python: {lines}")
     clone.built("craq", "exit 0\n")

@@ -3,9 +3,10 @@ answers is right, and once the others and the limits are gone it serves as befor
 
     crowd    1,000 connections that hold a request but its last byte, 200 that send and never read, 200 a second that connect and leave.
              Of an honest client's calls meanwhile 99 of 100 take at most 3 times as long as among as many idle connections, in
-             each way of serving, or 2 ms where each connection has a thread. Those who never read have the segments of an Ethernet. With
-             those of the loopback the system takes 2.8 MB of replies for each before his connection waits: 200 clients are then served for
-             seconds, and 99 of 100 calls of the honest one take at most 100 ms
+             each way of serving, or 2 ms where each connection has a thread. Those who never read have the segments of an Ethernet, or
+             those of the loopback. For each of them the system holds no more bytes of replies than docs/use/SERVER.md says
+    greedy   a client that sends and reads as fast as it can, so that the system would give its connection more and more room, and then sends and
+             never reads: the system holds no more bytes for it, in either direction, than docs/use/SERVER.md says
     halves   1,000 connections that sent the length of a request and no more, and 100 that sent all of one of 1 MiB but its last byte:
              they take as much memory as docs/use/SERVER.md says, in each way of serving
     limits   the system gives the running server no more memory (RLIMIT_AS), no more open files (RLIMIT_NOFILE), no more threads
@@ -20,6 +21,7 @@ import re
 import resource
 import socket
 import subprocess
+import threading
 import time
 
 import asked
@@ -42,7 +44,14 @@ FULL = asked.framed(bytes.fromhex("01030c0000000000000000"))
 ETHERNET = 1_448
 # How a server is told to serve, the segments of those who never read (None: those of the loopback), and how many seconds 99 of 100
 # honest calls may take where that is more than 3 times as long as among idle connections.
-CROWDS = [([], ETHERNET, FLOOR), (["--threads", "2"], ETHERNET, 0), ([], None, 0.1), (["--threads", "2"], None, 0.1)]
+CROWDS = [([], ETHERNET, FLOOR), (["--threads", "2"], ETHERNET, 0), ([], None, FLOOR), (["--threads", "2"], None, 0)]
+# How many bytes the system may hold in each direction of a connection (docs/use/SERVER.md): twice as many as the server asks for, and
+# one segment of the loopback.
+HELD = 3 * 65_536
+# How /proc/net/tcp calls a connection that is open.
+OPEN = "01"
+# How long a greedy client reads, how many puts it sends at once, and the most that it sends once it reads no more.
+READING, AT_ONCE, MOST_SENT = 1.0, 256, 64 << 20
 # How many MiB a connection may take at most; and how many connections send what part of a request of the most bytes, and how many these may take
 # (docs/use/SERVER.md).
 EACH = 1.1
@@ -76,6 +85,14 @@ class Crowded(running.Server):
     def space(self):
         with open(f"/proc/{self.process.pid}/statm", encoding="ascii") as it:
             return int(it.read().split()[0]) * PAGE
+
+    def held(self):
+        """How many bytes the system holds for a connection at most: of those that its client has not taken, and of those that the server has
+        not read."""
+        with open("/proc/net/tcp", encoding="ascii") as it:
+            rows = [line.split() for line in it]
+        held = [row[4].split(":") for row in rows if row[1].endswith(f":{self.port:04X}") and row[3] == OPEN]
+        return [max(int(it, 16) for it in way) for way in zip(*held)]
 
     def connect_from(self, at, window=None, segment=None):
         """A connection from one of some addresses, since each has only so many ports."""
@@ -206,16 +223,17 @@ def crowd(checks, craqd, way, segment, most):
         leaver = multiprocessing.Process(target=leave, args=(server, over), daemon=True)
         leaver.start()
         among = slowest_of_most(client, CALLS)
-        with_all = server.memory()
+        with_all, (unread, _) = server.memory(), server.held()
         over.set()
         leaver.join()
         checks.that(among <= max(TIMES * alone, most),
                     f"99 of 100 calls take {among * 1000:.2f} ms among the crowd, {alone * 1000:.2f} among idle connections ({name})")
         checks.that(with_all - bare <= EACH * (HALF + MUTE + LEAVERS), f"the crowd takes {with_all - bare:.0f} MiB ({name})")
+        checks.that(unread <= HELD, f"the system holds {unread} bytes of replies for a client that never reads, {HELD} at most ({name})")
         has_gone(checks, name, client, halves + mute)
         return (f"{name}: 99 of 100 calls within {alone * 1000:.2f} ms among {HALF + MUTE + LEAVERS} idle connections and {among * 1000:.2f} ms "
                 f"among the crowd; {bare:.0f} MiB, {with_idle:.0f} with the idle, {with_halves:.0f} with {HALF} half requests, "
-                f"{with_all:.0f} with the crowd")
+                f"{with_all:.0f} with the crowd, for each of which the system held at most {unread} bytes of replies")
     finally:
         over.set()
         server.kill()
@@ -228,6 +246,39 @@ def has_gone(checks, name, client, crowd):
     checks.that(is_answered_at_last(client), f"the client is answered once the crowd has gone ({name})")
     checks.same(f"what the honest client was told that is wrong ({name})", client.wrong[:3], [])
     checks.same(f"what the honest client wrote and nobody finds ({name})", client.finds()[:3], [])
+
+
+def read_until(connection, until):
+    """Reads what comes on a connection until then."""
+    while time.monotonic() < until and connection.recv(1 << 20):
+        pass
+
+
+def greedy(checks, craqd):
+    """The system holds no more for a client that it served fast than for any other; gives how much, in words."""
+    server = Crowded(craqd)
+    try:
+        put = asked.framed(example.one(1, example.update_request(1, 0, 99, 1, example.put(0, "held", BIG)))) * AT_ONCE
+        made, sent = server.connect_from(0), 0
+        until = time.monotonic() + READING
+        reader = threading.Thread(target=read_until, args=(made, until))
+        reader.start()
+        while time.monotonic() < until:
+            made.sendall(put)
+        reader.join()
+        made.settimeout(SHORTLY)
+        try:
+            while sent < MOST_SENT:
+                sent += made.send(put)
+        except TimeoutError:
+            pass
+        unread, unasked = server.held()
+        checks.that(max(unread, unasked) <= HELD, f"for a greedy client the system holds {unread} bytes of replies and {unasked} of requests, {HELD} at most")
+        checks.that(is_answered_at_last(Honest(server, 1)), "a client is answered beside a greedy one")
+        made.close()
+        return f"for a greedy client the system held {unread} bytes of replies and {unasked} of requests"
+    finally:
+        server.kill()
 
 
 class Few:
@@ -347,8 +398,8 @@ def one_too_many(checks, craqd):
 
 
 def limits(checks, craqd):
-    """Half requests, the three limits and one connection too many in one way of serving, and what was seen, in words."""
-    told = [holds_halves(checks, craqd), limited(checks, craqd, "open files", resource.RLIMIT_NOFILE), limited(checks, craqd, "memory", resource.RLIMIT_AS)]
+    """Half requests, a greedy client, the three limits and one connection too many in one way of serving, and what was seen, in words."""
+    told = [holds_halves(checks, craqd), greedy(checks, craqd), limited(checks, craqd, "open files", resource.RLIMIT_NOFILE), limited(checks, craqd, "memory", resource.RLIMIT_AS)]
     told.append(limited_threads(checks, craqd) if os.getuid() == 0 else "the limit of threads is left out: only root can start craqd under another user")
     return ", ".join([*told, one_too_many(checks, craqd)])
 

@@ -5,6 +5,7 @@ use crate::connections::Connections;
 use crate::door::ServedStore;
 use crate::logging::Log;
 use crate::passes::Passes;
+use crate::socket_buffers::bound_buffers;
 use crate::turning::turn_away;
 use craq_door::CallDoor;
 use craq_front::{Stream, serve};
@@ -113,8 +114,9 @@ where
         }
     }
 
-    /// The next connection; none where the server is to end. A listener that fails is asked again after a pause, until it
-    /// gives one: what it lacks comes free where a connection ends.
+    /// The next connection, for which the system holds a bounded number of bytes; none where the server is to end. One for
+    /// which it takes no bound is closed. A listener that fails is asked again after a pause, until it gives one: what it
+    /// lacks comes free where a connection ends.
     pub(crate) fn next_connection(&self, listener: &TcpListener) -> Option<TcpStream> {
         for _ in self.rt.forever() {
             let accepted = listener.accept();
@@ -122,7 +124,9 @@ where
                 drop(accepted);
                 break;
             }
-            if let Ok((stream, _)) = accepted {
+            if let Ok((stream, _)) = accepted
+                && bound_buffers(&stream)
+            {
                 return Some(stream);
             }
             thread::sleep(&self.rt, Duration::from_millis(PAUSE_MILLISECONDS));

@@ -52,9 +52,9 @@ HELD = 3 * 65_536
 OPEN = "01"
 # How long a greedy client reads, how many puts it sends at once, and the most that it sends once it reads no more.
 READING, AT_ONCE, MOST_SENT = 1.0, 256, 64 << 20
-# How many MiB a connection may take at most; and how many connections send what part of a request of the most bytes, and how many these may take
+# How many MiB the crowd may take, and how many connections send what part of a request of the most bytes, and how many these may take
 # (docs/use/SERVER.md).
-EACH = 1.1
+CROWD_TAKES = 110
 LENGTH = asked.LIMIT.to_bytes(4, "big")
 HALVES = {"the length of a request": (1_000, LENGTH, 40), "a request of 1 MiB but its last byte": (100, LENGTH + bytes(asked.LIMIT - 1), 110)}
 
@@ -192,6 +192,11 @@ def held(server, count, sends, window=None, segment=None):
     return made
 
 
+def big_reads():
+    """The bytes of many reads of a large value."""
+    return asked.framed(example.one(1, example.read_request(1, 0, example.STRONG, 0, "big"))) * READS
+
+
 def leave(server, over):
     """So many connections a second come and leave, until it is over."""
     at = 0
@@ -218,8 +223,7 @@ def crowd(checks, craqd, way, segment, most):
         request = asked.framed(example.one(1, example.update_request(1, 0, 99, 1, example.put(0, "held", b"held"))))
         halves = held(server, HALF, request[:-1])
         with_halves = server.memory()
-        asks = asked.framed(example.one(1, example.read_request(1, 0, example.STRONG, 0, "big"))) * READS
-        mute = held(server, MUTE, asks, WINDOW, segment)
+        mute = held(server, MUTE, big_reads(), WINDOW, segment)
         leaver = multiprocessing.Process(target=leave, args=(server, over), daemon=True)
         leaver.start()
         among = slowest_of_most(client, CALLS)
@@ -228,7 +232,7 @@ def crowd(checks, craqd, way, segment, most):
         leaver.join()
         checks.that(among <= max(TIMES * alone, most),
                     f"99 of 100 calls take {among * 1000:.2f} ms among the crowd, {alone * 1000:.2f} among idle connections ({name})")
-        checks.that(with_all - bare <= EACH * (HALF + MUTE + LEAVERS), f"the crowd takes {with_all - bare:.0f} MiB ({name})")
+        checks.that(with_all - bare <= CROWD_TAKES, f"the crowd takes {with_all - bare:.0f} MiB, {CROWD_TAKES} at most ({name})")
         checks.that(unread <= HELD, f"the system holds {unread} bytes of replies for a client that never reads, {HELD} at most ({name})")
         has_gone(checks, name, client, halves + mute)
         return (f"{name}: 99 of 100 calls within {alone * 1000:.2f} ms among {HALF + MUTE + LEAVERS} idle connections and {among * 1000:.2f} ms "
@@ -258,21 +262,22 @@ def greedy(checks, craqd):
     """The system holds no more for a client that it served fast than for any other; gives how much, in words."""
     server = Crowded(craqd)
     try:
-        put = asked.framed(example.one(1, example.update_request(1, 0, 99, 1, example.put(0, "held", BIG)))) * AT_ONCE
-        made, sent = server.connect_from(0), 0
-        until = time.monotonic() + READING
+        put = asked.framed(example.one(1, example.update_request(1, 0, 99, 1, example.put(0, "big", BIG)))) * AT_ONCE
+        made, until, held_then = server.connect_from(0), time.monotonic() + READING, []
         reader = threading.Thread(target=read_until, args=(made, until))
         reader.start()
         while time.monotonic() < until:
             made.sendall(put)
+            held_then.append(server.held())
         reader.join()
         made.settimeout(SHORTLY)
+        asks, sent = big_reads(), 0
         try:
             while sent < MOST_SENT:
-                sent += made.send(put)
+                sent += made.send(asks[sent % len(asks):])
         except TimeoutError:
             pass
-        unread, unasked = server.held()
+        unread, unasked = (max(it) for it in zip(*held_then, server.held()))
         checks.that(max(unread, unasked) <= HELD, f"for a greedy client the system holds {unread} bytes of replies and {unasked} of requests, {HELD} at most")
         checks.that(is_answered_at_last(Honest(server, 1)), "a client is answered beside a greedy one")
         made.close()
@@ -286,21 +291,25 @@ class Few:
 
     def __init__(self, server):
         self.server, self.all = server, [Honest(server, it, SHORTLY) for it in (1, *range(100, 100 + NEWCOMERS))]
-        self.answered = self.left_open = 0
+        self.answered = self.left_open = self.first_left_open = 0
         for _ in range(50):
             self.all[0].tries(b"a")
 
     def ask_for(self, seconds):
+        """All newcomers ask in turn for so long, and the client that was there asks after each."""
+        first, *newcomers = self.all
         until = time.monotonic() + seconds
         while time.monotonic() < until:
-            for it in self.all:
-                done = it.tries(BIG)
-                self.answered, self.left_open = self.answered + done, self.left_open + (not done)
+            for it in newcomers:
+                done = [it.tries(BIG), first.tries(BIG)]
+                self.answered, self.left_open = self.answered + sum(done), self.left_open + done.count(False)
+                self.first_left_open += not done[1]
 
-    def ends(self, checks, name, is_felt=True):
-        """Calls were left open where the limit is felt, and none else; all are answered now, and what was ever answered is there. Gives what was seen,
-        in words."""
+    def ends(self, checks, name, is_felt=True, is_first_served=True):
+        """Calls were left open where the limit is felt, and none else, nor any of the client that was there where it is served all the while; all
+        are answered now, and what was ever answered is there. Gives what was seen, in words."""
         checks.that(self.server.runs(), f"the server goes on with {name} at their limit")
+        checks.that(not self.first_left_open or not is_first_served, f"with {name} at their limit {self.first_left_open} calls of who was there are left open")
         checks.that((self.left_open > 0) == is_felt and self.answered > 0, f"with {name} at their limit {self.answered} calls are answered, {self.left_open} left open")
         for it in self.all:
             checks.that(is_answered_at_last(it), f"client {it.id} is answered once {name} are no more at their limit")
@@ -342,7 +351,7 @@ def limited(checks, craqd, name, what):
         resource.prlimit(server.process.pid, what, (reached, before[1]))
         few.ask_for(LIMITED)
         resource.prlimit(server.process.pid, what, before)
-        return few.ends(checks, name)
+        return few.ends(checks, name, is_first_served=what == resource.RLIMIT_NOFILE)
     finally:
         server.kill()
 

@@ -278,7 +278,9 @@ where
 /// many connections were made as `serving` says, or `connections` are to end, and all are over.
 ///
 /// A listener that fails is asked again every 10 milliseconds until it gives a connection; those that are open are served
-/// meanwhile. A connection that finds no thread or no memory is ended at once, and the answer tells so.
+/// meanwhile. A connection that finds no thread or no memory is ended at once, and the answer tells so. In each direction of a
+/// connection the system is asked to hold 65,536 bytes, what a client has not taken or the server has not read; where it
+/// refuses that, the connection is closed and counts among none.
 pub fn accept<'x, R, C, G>(
     rt: R,
     alloc: Global,

@@ -19,6 +19,7 @@ import multiprocessing
 import os
 import re
 import resource
+import select
 import socket
 import subprocess
 import threading
@@ -254,8 +255,9 @@ def has_gone(checks, name, client, crowd):
 
 def read_until(connection, until):
     """Reads what comes on a connection until then."""
-    while time.monotonic() < until and connection.recv(1 << 20):
-        pass
+    while (left := until - time.monotonic()) > 0:
+        if select.select([connection], [], [], left)[0] and not connection.recv(1 << 20):
+            return
 
 
 def greedy(checks, craqd):

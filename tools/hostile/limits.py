@@ -3,9 +3,10 @@ answers is right, and once the others and the limits are gone it serves as befor
 
     crowd    1,000 connections that hold a request but its last byte, 200 that send and never read, 200 a second that connect and leave.
              Of an honest client's calls meanwhile 99 of 100 take at most 3 times as long as among as many idle connections, in
-             each way of serving, or 2 ms where each connection has a thread. Those who never read have the segments of an Ethernet. With
-             those of the loopback the system takes 2.8 MB of replies for each before his connection waits: 200 clients are then served for
-             seconds, and 99 of 100 calls of the honest one take at most 100 ms
+             each way of serving, or 2 ms where each connection has a thread. Those who never read have the segments of an Ethernet, or
+             those of the loopback. For each of them the system holds no more bytes of replies than docs/use/SERVER.md says
+    greedy   a client that sends and reads as fast as it can, so that the system would give its connection more and more room, and then sends and
+             never reads: the system holds no more bytes for it, in either direction, than docs/use/SERVER.md says
     halves   1,000 connections that sent the length of a request and no more, and 100 that sent all of one of 1 MiB but its last byte:
              they take as much memory as docs/use/SERVER.md says, in each way of serving
     limits   the system gives the running server no more memory (RLIMIT_AS), no more open files (RLIMIT_NOFILE), no more threads
@@ -18,8 +19,10 @@ import multiprocessing
 import os
 import re
 import resource
+import select
 import socket
 import subprocess
+import threading
 import time
 
 import asked
@@ -42,10 +45,17 @@ FULL = asked.framed(bytes.fromhex("01030c0000000000000000"))
 ETHERNET = 1_448
 # How a server is told to serve, the segments of those who never read (None: those of the loopback), and how many seconds 99 of 100
 # honest calls may take where that is more than 3 times as long as among idle connections.
-CROWDS = [([], ETHERNET, FLOOR), (["--threads", "2"], ETHERNET, 0), ([], None, 0.1), (["--threads", "2"], None, 0.1)]
-# How many MiB a connection may take at most; and how many connections send what part of a request of the most bytes, and how many these may take
+CROWDS = [([], ETHERNET, FLOOR), (["--threads", "2"], ETHERNET, 0), ([], None, FLOOR), (["--threads", "2"], None, 0)]
+# How many bytes the system may hold in each direction of a connection (docs/use/SERVER.md): twice as many as the server asks for, and
+# one segment of the loopback.
+HELD = 3 * 65_536
+# How /proc/net/tcp calls a connection that is open.
+OPEN = "01"
+# How long a greedy client reads, how many puts it sends at once, and the most that it sends once it reads no more.
+READING, AT_ONCE, MOST_SENT = 1.0, 256, 64 << 20
+# How many MiB the crowd may take, and how many connections send what part of a request of the most bytes, and how many these may take
 # (docs/use/SERVER.md).
-EACH = 1.1
+CROWD_TAKES = 110
 LENGTH = asked.LIMIT.to_bytes(4, "big")
 HALVES = {"the length of a request": (1_000, LENGTH, 40), "a request of 1 MiB but its last byte": (100, LENGTH + bytes(asked.LIMIT - 1), 110)}
 
@@ -76,6 +86,14 @@ class Crowded(running.Server):
     def space(self):
         with open(f"/proc/{self.process.pid}/statm", encoding="ascii") as it:
             return int(it.read().split()[0]) * PAGE
+
+    def held(self):
+        """How many bytes the system holds for a connection at most: of those that its client has not taken, and of those that the server has
+        not read."""
+        with open("/proc/net/tcp", encoding="ascii") as it:
+            rows = [line.split() for line in it]
+        held = [row[4].split(":") for row in rows if row[1].endswith(f":{self.port:04X}") and row[3] == OPEN]
+        return [max(int(it, 16) for it in way) for way in zip(*held)]
 
     def connect_from(self, at, window=None, segment=None):
         """A connection from one of some addresses, since each has only so many ports."""
@@ -175,6 +193,11 @@ def held(server, count, sends, window=None, segment=None):
     return made
 
 
+def big_reads():
+    """The bytes of many reads of a large value."""
+    return asked.framed(example.one(1, example.read_request(1, 0, example.STRONG, 0, "big"))) * READS
+
+
 def leave(server, over):
     """So many connections a second come and leave, until it is over."""
     at = 0
@@ -201,21 +224,21 @@ def crowd(checks, craqd, way, segment, most):
         request = asked.framed(example.one(1, example.update_request(1, 0, 99, 1, example.put(0, "held", b"held"))))
         halves = held(server, HALF, request[:-1])
         with_halves = server.memory()
-        asks = asked.framed(example.one(1, example.read_request(1, 0, example.STRONG, 0, "big"))) * READS
-        mute = held(server, MUTE, asks, WINDOW, segment)
+        mute = held(server, MUTE, big_reads(), WINDOW, segment)
         leaver = multiprocessing.Process(target=leave, args=(server, over), daemon=True)
         leaver.start()
         among = slowest_of_most(client, CALLS)
-        with_all = server.memory()
+        with_all, (unread, _) = server.memory(), server.held()
         over.set()
         leaver.join()
         checks.that(among <= max(TIMES * alone, most),
                     f"99 of 100 calls take {among * 1000:.2f} ms among the crowd, {alone * 1000:.2f} among idle connections ({name})")
-        checks.that(with_all - bare <= EACH * (HALF + MUTE + LEAVERS), f"the crowd takes {with_all - bare:.0f} MiB ({name})")
+        checks.that(with_all - bare <= CROWD_TAKES, f"the crowd takes {with_all - bare:.0f} MiB, {CROWD_TAKES} at most ({name})")
+        checks.that(unread <= HELD, f"the system holds {unread} bytes of replies for a client that never reads, {HELD} at most ({name})")
         has_gone(checks, name, client, halves + mute)
         return (f"{name}: 99 of 100 calls within {alone * 1000:.2f} ms among {HALF + MUTE + LEAVERS} idle connections and {among * 1000:.2f} ms "
                 f"among the crowd; {bare:.0f} MiB, {with_idle:.0f} with the idle, {with_halves:.0f} with {HALF} half requests, "
-                f"{with_all:.0f} with the crowd")
+                f"{with_all:.0f} with the crowd, for each of which the system held at most {unread} bytes of replies")
     finally:
         over.set()
         server.kill()
@@ -230,26 +253,65 @@ def has_gone(checks, name, client, crowd):
     checks.same(f"what the honest client wrote and nobody finds ({name})", client.finds()[:3], [])
 
 
+def read_until(connection, until):
+    """Reads what comes on a connection until then."""
+    while (left := until - time.monotonic()) > 0:
+        if select.select([connection], [], [], left)[0] and not connection.recv(1 << 20):
+            return
+
+
+def greedy(checks, craqd):
+    """The system holds no more for a client that it served fast than for any other; gives how much, in words."""
+    server = Crowded(craqd)
+    try:
+        put = asked.framed(example.one(1, example.update_request(1, 0, 99, 1, example.put(0, "big", BIG)))) * AT_ONCE
+        made, until, held_then = server.connect_from(0), time.monotonic() + READING, []
+        reader = threading.Thread(target=read_until, args=(made, until))
+        reader.start()
+        while time.monotonic() < until:
+            made.sendall(put)
+            held_then.append(server.held())
+        reader.join()
+        made.settimeout(SHORTLY)
+        asks, sent = big_reads(), 0
+        try:
+            while sent < MOST_SENT:
+                sent += made.send(asks[sent % len(asks):])
+        except TimeoutError:
+            pass
+        unread, unasked = (max(it) for it in zip(*held_then, server.held()))
+        checks.that(max(unread, unasked) <= HELD, f"for a greedy client the system holds {unread} bytes of replies and {unasked} of requests, {HELD} at most")
+        checks.that(is_answered_at_last(Honest(server, 1)), "a client is answered beside a greedy one")
+        made.close()
+        return f"for a greedy client the system held {unread} bytes of replies and {unasked} of requests"
+    finally:
+        server.kill()
+
+
 class Few:
     """One client that is there from the start, and many that come."""
 
     def __init__(self, server):
         self.server, self.all = server, [Honest(server, it, SHORTLY) for it in (1, *range(100, 100 + NEWCOMERS))]
-        self.answered = self.left_open = 0
+        self.answered = self.left_open = self.first_left_open = 0
         for _ in range(50):
             self.all[0].tries(b"a")
 
     def ask_for(self, seconds):
+        """All newcomers ask in turn for so long, and the client that was there asks after each."""
+        first, *newcomers = self.all
         until = time.monotonic() + seconds
         while time.monotonic() < until:
-            for it in self.all:
-                done = it.tries(BIG)
-                self.answered, self.left_open = self.answered + done, self.left_open + (not done)
+            for it in newcomers:
+                done = [it.tries(BIG), first.tries(BIG)]
+                self.answered, self.left_open = self.answered + sum(done), self.left_open + done.count(False)
+                self.first_left_open += not done[1]
 
-    def ends(self, checks, name, is_felt=True):
-        """Calls were left open where the limit is felt, and none else; all are answered now, and what was ever answered is there. Gives what was seen,
-        in words."""
+    def ends(self, checks, name, is_felt=True, is_first_served=True):
+        """Calls were left open where the limit is felt, and none else, nor any of the client that was there where it is served all the while; all
+        are answered now, and what was ever answered is there. Gives what was seen, in words."""
         checks.that(self.server.runs(), f"the server goes on with {name} at their limit")
+        checks.that(not self.first_left_open or not is_first_served, f"with {name} at their limit {self.first_left_open} calls of who was there are left open")
         checks.that((self.left_open > 0) == is_felt and self.answered > 0, f"with {name} at their limit {self.answered} calls are answered, {self.left_open} left open")
         for it in self.all:
             checks.that(is_answered_at_last(it), f"client {it.id} is answered once {name} are no more at their limit")
@@ -291,7 +353,7 @@ def limited(checks, craqd, name, what):
         resource.prlimit(server.process.pid, what, (reached, before[1]))
         few.ask_for(LIMITED)
         resource.prlimit(server.process.pid, what, before)
-        return few.ends(checks, name)
+        return few.ends(checks, name, is_first_served=what == resource.RLIMIT_NOFILE)
     finally:
         server.kill()
 
@@ -347,8 +409,8 @@ def one_too_many(checks, craqd):
 
 
 def limits(checks, craqd):
-    """Half requests, the three limits and one connection too many in one way of serving, and what was seen, in words."""
-    told = [holds_halves(checks, craqd), limited(checks, craqd, "open files", resource.RLIMIT_NOFILE), limited(checks, craqd, "memory", resource.RLIMIT_AS)]
+    """Half requests, a greedy client, the three limits and one connection too many in one way of serving, and what was seen, in words."""
+    told = [holds_halves(checks, craqd), greedy(checks, craqd), limited(checks, craqd, "open files", resource.RLIMIT_NOFILE), limited(checks, craqd, "memory", resource.RLIMIT_AS)]
     told.append(limited_threads(checks, craqd) if os.getuid() == 0 else "the limit of threads is left out: only root can start craqd under another user")
     return ", ".join([*told, one_too_many(checks, craqd)])
 

@@ -5,6 +5,7 @@ use crate::connections::Connections;
 use crate::door::ServedStore;
 use crate::logging::Log;
 use crate::passes::Passes;
+use crate::socket_buffers::bound_buffers;
 use crate::turning::turn_away;
 use craq_door::CallDoor;
 use craq_front::{Stream, serve};
@@ -113,8 +114,9 @@ where
         }
     }
 
-    /// The next connection; none where the server is to end. A listener that fails is asked again after a pause, until it
-    /// gives one: what it lacks comes free where a connection ends.
+    /// The next connection, for which the system holds a bounded number of bytes; none where the server is to end. One for
+    /// which it takes no bound is closed. A listener that fails is asked again after a pause, until it gives one: what it
+    /// lacks comes free where a connection ends.
     pub(crate) fn next_connection(&self, listener: &TcpListener) -> Option<TcpStream> {
         for _ in self.rt.forever() {
             let accepted = listener.accept();
@@ -122,7 +124,9 @@ where
                 drop(accepted);
                 break;
             }
-            if let Ok((stream, _)) = accepted {
+            if let Ok((stream, _)) = accepted
+                && bound_buffers(&stream)
+            {
                 return Some(stream);
             }
             thread::sleep(&self.rt, Duration::from_millis(PAUSE_MILLISECONDS));
@@ -274,7 +278,9 @@ where
 /// many connections were made as `serving` says, or `connections` are to end, and all are over.
 ///
 /// A listener that fails is asked again every 10 milliseconds until it gives a connection; those that are open are served
-/// meanwhile. A connection that finds no thread or no memory is ended at once, and the answer tells so.
+/// meanwhile. A connection that finds no thread or no memory is ended at once, and the answer tells so. In each direction of a
+/// connection the system is asked to hold 65,536 bytes, what a client has not taken or the server has not read; where it
+/// refuses that, the connection is closed and counts among none.
 pub fn accept<'x, R, C, G>(
     rt: R,
     alloc: Global,

@@ -22,7 +22,7 @@ import time
 
 HERE = os.path.dirname(os.path.realpath(__file__))
 # What ./serve adds to the environment of craqd, unless it is set there.
-AS_SERVED = {"GLIBC_TUNABLES": "glibc.malloc.tcache_count=2000"}
+AS_SERVED = {"GLIBC_TUNABLES": "glibc.malloc.tcache_count=2000:glibc.malloc.mmap_threshold=33554432:glibc.malloc.trim_threshold=268435456"}
 # What is asked, and what it is called. Of redis reads are GET and puts SET.
 MIXES = {
     "reads-one": "strong reads at one node",

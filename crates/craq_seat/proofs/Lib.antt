@@ -5,3 +5,4 @@ pub mod Spoken
 pub mod Keeping
 pub mod Booking
 pub mod Own
+pub mod Moved

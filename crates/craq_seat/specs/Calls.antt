@@ -1,6 +1,7 @@
 -- Calls that wait at a desk, and what a step answers of them.
-use Rattle.std.specs.Prelude.{◌≡◌, ℕ, ◌==◌, not, Bool, true, false, List, [], ◌∷◌, ◌++◌, filter, find, flat_map, map, Option, Some, None, Result, Ok, Err, IsErr, Vec}
+use Rattle.std.specs.Prelude.{◌≡◌, ℕ, ◌==◌, not, if◌then◌else◌, Bool, true, false, List, [], ◌∷◌, ◌++◌, filter, find, flat_map, map, Option, Some, None, Result, Ok, Err, IsErr, Vec}
 use Rattle.std.specs.List.{list_any}
+use Rattle.std.specs.Set.{remove_key}
 use Rattle.std.specs.declared.alloc.AllocError.{AllocError}
 use Rattle.std.specs.declared.alloc.Global.{Global}
 use Rattle.craq_names.specs.declared.refusal.Refusal.{Refusal}
@@ -43,6 +44,10 @@ accepted (Some ask) (Some ticket) receipt pass = record { asked = receipt; ticke
 abbrev pub call_under : List Call → ℕ → Option Call
 call_under calls ticket = find (λ (call : Call). call.ticket == ticket) calls
 
+-- the calls without the one that waits under a ticket
+abbrev pub without_call : List Call → ℕ → List Call
+without_call calls ticket = remove_key (λ (call : Call). call.ticket == ticket) calls
+
 -- a call is answered, if there is one
 abbrev pub answered_call : Option Call → Receipt → Answer → List Called
 answered_call None receipt answer = []
@@ -64,6 +69,11 @@ answers_to ticket (outs.Answer t answer) = t == ticket
 abbrev pub is_answer : Out → Bool
 is_answer (outs.Send to m) = false
 is_answer (outs.Answer ticket answer) = true
+
+-- the calls that wait after an out: the one that it answers goes, unless a later one answers it too
+abbrev pub left_by : List Call → Out → List Out → List Call
+left_by calls (outs.Send to m) later = calls
+left_by calls (outs.Answer ticket answer) later = if list_any (answers_to ticket) later then calls else without_call calls ticket
 
 -- the calls that no out answers
 abbrev pub waiting_after : List Call → List Out → List Call

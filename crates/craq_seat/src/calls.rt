@@ -1,8 +1,8 @@
 //! Calls that wait at a desk, and their receipts once a step answers them; called by `desk`.
-ghost use Rattle.std.specs.Prelude.{◌≡◌, ◌++◌, IfOk, IfSome, OnErr, OnOk};
+ghost use Rattle.std.specs.Prelude.{◌≡◌, ◌++◌, [], if◌then◌else◌, IfOk, IfSome, OnErr, OnOk};
 ghost use Rattle.std.specs.List.{list_any};
 ghost use Rattle.std.specs.Option.{option_copied};
-ghost use Rattle.craq_seat.specs.Calls.{AnswersItself, ServesAsked, accepted, all_answered, answers_to, ask_of, call_under, called_in, is_answer, waiting_after};
+ghost use Rattle.craq_seat.specs.Calls.{AnswersItself, Serves, ServesAsked, accepted, all_answered, answers_to, ask_of, call_under, called_by, called_in, is_answer, left_by, waiting_after, without_call};
 
 use crate::Receipt;
 use craq_model::{Answer, Ask, Event, Out, Step};
@@ -142,6 +142,98 @@ fn called_in(
     Ok(receipts)
 }
 
+/// The call that waits under this ticket, which waits no more.
+fn take_call(waiting: &mut Vec<Call>, ticket: Ticket) -> Option<Call>
+    ensures call { result ≡ call_under waiting.old.items ticket }
+    ensures others { waiting.new.items ≡ without_call waiting.old.items ticket }
+{
+    let mut place = 0;
+    while place < waiting.len() {
+        if waiting[place].ticket == ticket {
+            return Some(waiting.remove(place));
+        }
+        place += 1;
+    }
+    None
+}
+
+/// The call that waits under this ticket, in memory of its own.
+fn copy_of_call(alloc: Global, waiting: &[Call], ticket: Ticket) -> Result<Option<Call>, AllocError>
+    ensures { IfOk result (λ call. call ≡ call_under waiting.now ticket) }
+{
+    match call_under(waiting, ticket) {
+        Some(call) => Ok(Some(call.copied(alloc)?)),
+        None => Ok(None),
+    }
+}
+
+/// The call under this ticket: it waits no more, and is moved, unless a later out answers it too.
+fn call_for(
+    alloc: Global,
+    waiting: &mut Vec<Call>,
+    ticket: Ticket,
+    later: &[Out],
+) -> Result<Option<Call>, AllocError>
+    ensures call { IfOk result (λ call. call ≡ call_under waiting.old.items ticket) }
+    ensures others { waiting.new.items ≡ (if list_any (answers_to ticket) later.now then waiting.old.items else without_call waiting.old.items ticket) }
+{
+    if is_answered(later, ticket) {
+        copy_of_call(alloc, waiting.as_slice(), ticket)
+    } else {
+        Ok(take_call(waiting, ticket))
+    }
+}
+
+/// The receipt of the call that an out answers, if one waits for it, behind the others.
+fn answer_call(
+    alloc: Global,
+    waiting: &mut Vec<Call>,
+    out: &Out,
+    later: &[Out],
+    answered: &Receipt,
+    receipts: &mut Vec<CallReceipt>,
+) -> Result<(), AllocError>
+    ensures receipts { OnOk result (receipts.new.items ≡ receipts.old.items ++ called_by waiting.old.items answered.now out.now) }
+    ensures others { waiting.new.items ≡ left_by waiting.old.items out.now later.now }
+{
+    let Out::Answer { ticket, answer } = out else {
+        return Ok(());
+    };
+    let Some(call) = call_for(alloc, waiting, *ticket, later)? else {
+        return Ok(());
+    };
+    let answer = answer.copied(alloc)?;
+    receipts.push(CallReceipt {
+        call,
+        answered: *answered,
+        answer,
+    })?;
+    Ok(())
+}
+
+/// The call receipts of the outs, in order. A call goes from those that wait into the last of its receipts; those before have
+/// copies of it.
+fn take_answered(
+    alloc: Global,
+    waiting: &mut Vec<Call>,
+    outs: &[Out],
+    answered: &Receipt,
+) -> Result<Vec<CallReceipt>, AllocError>
+    ensures receipts { IfOk result (λ receipts. receipts.items ≡ called_in waiting.old.items answered.now outs.now) }
+    ensures others { waiting_after waiting.new.items outs.now ≡ waiting_after waiting.old.items outs.now }
+{
+    let mut receipts = Vec::new(alloc);
+    if answers_any(outs) {
+        receipts.reserve(outs.len())?;
+    }
+    let mut rest = outs;
+    while let Some((out, later)) = rest.split_first() {
+        answer_call(alloc, waiting, out, later, answered, &mut receipts)?;
+        rest = later;
+    }
+    Ok(receipts)
+}
+
 /// Whether one of the outs answers the ticket.
 fn is_answered(outs: &[Out], ticket: Ticket) -> bool
     ensures { result ≡ list_any (answers_to ticket) outs.now }
@@ -271,9 +363,23 @@ fn answer_own(
     Ok(receipts)
 }
 
-/// The calls of a step: the accepted ask waits from now on, and each waiting call that the step answers has its
-/// receipt and waits no more. Without memory the calls that the step accepts or answers are dropped.
-pub(crate) fn serve(
+/// The calls of a step that accepts no ask: each that it answers has its receipt and waits no more. Without memory the calls
+/// that the step answers are dropped.
+fn serve_waiting(
+    alloc: Global,
+    waiting: &mut Vec<Call>,
+    receipt: &Receipt,
+    outs: &[Out],
+) -> Result<Vec<CallReceipt>, AllocError>
+    ensures { Serves waiting.old.items waiting.new.items [] receipt.now outs.now result }
+{
+    let receipts = take_answered(alloc, waiting, outs, receipt);
+    forget_answered(waiting, outs);
+    receipts
+}
+
+/// The calls of a step that accepts an ask, which waits from now on, unless the step answers it and nothing else.
+fn serve_accepted(
     alloc: Global,
     waiting: &mut Vec<Call>,
     asked: Result<Option<Ask>, AllocError>,
@@ -296,5 +402,23 @@ pub(crate) fn serve(
                 calls
             }
         },
+    }
+}
+
+/// The calls of a step: the accepted ask waits from now on, and each waiting call that the step answers has its
+/// receipt and waits no more. Without memory the calls that the step accepts or answers are dropped.
+pub(crate) fn serve(
+    alloc: Global,
+    waiting: &mut Vec<Call>,
+    asked: Result<Option<Ask>, AllocError>,
+    receipt: &Receipt,
+    pass: Pass,
+    step: &Step,
+) -> Result<Vec<CallReceipt>, AllocError>
+    ensures { ServesAsked waiting.old.items waiting.new.items asked step.now.ticket receipt.now pass step.now.outs result }
+{
+    match asked {
+        Ok(None) => serve_waiting(alloc, waiting, receipt, step.outs.as_slice()),
+        asked => serve_accepted(alloc, waiting, asked, receipt, pass, step),
     }
 }

@@ -1,6 +1,6 @@
 use Rattle.std.proofs.Common.{sym}
 use Rattle.craq_seat.proofs.Own.{own_served}
-use Rattle.craq_seat.proofs.calls.serve.Goals as goal
+use Rattle.craq_seat.proofs.calls.serve_accepted.Goals as goal
 
 pub returns-in-Some : goal.returns-in-Some
 returns-in-Some c =

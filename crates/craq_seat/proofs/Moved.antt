@@ -1,10 +1,9 @@
 -- Calls that are moved into their receipts: what is left of those that wait gives the receipts of later outs, and waits on.
-use Rattle.std.proofs.Common.{◌≡◌, ◌∙◌, ◌==◌, ◌++◌, if◌then◌else◌, append_assoc, append-nil, Result, Ok, Err, ℕ, List, [], ◌∷◌, Bool, true, false, refl, sym, ap, subst, arith, rules}
+use Rattle.std.proofs.Common.{◌≡◌, ◌∙◌, ◌==◌, ◌++◌, if◌then◌else◌, append_assoc, append-nil, Result, Ok, Err, ℕ, List, [], ◌∷◌, Bool, true, false, refl, ap, subst, arith, rules}
 use Rattle.std.specs.Prelude.{Vec, IfOk}
 use Rattle.std.specs.List.{list_any}
 use Rattle.std.specs.declared.alloc.AllocError.{AllocError}
 use Rattle.std.specs.declared.alloc.Global.{Global}
-use Rattle.craq_model.specs.declared.ask.Answer.{Answer}
 use Rattle.craq_model.specs.declared.step.Out.{Out}
 use Rattle.craq_model.specs.declared.step.Out.TheVariants as outs
 use Rattle.craq_seat.specs.declared.calls.Call.{Call}

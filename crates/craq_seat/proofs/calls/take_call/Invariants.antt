@@ -1,6 +1,4 @@
-use Rattle.std.proofs.Common.{◌≡◌, ◌++◌, ◌==◌, drop, take, length, ◌-◌}
-use Rattle.std.specs.Set.{remove_key}
-use Rattle.craq_seat.specs.declared.calls.Call.{Call}
+use Rattle.std.proofs.Common.{◌≡◌, ◌++◌, drop, take, length, ◌-◌}
 use Rattle.craq_seat.specs.Calls.{call_under, without_call}
 use Rattle.craq_seat.proofs.calls.take_call.Given as goal
 

@@ -6,6 +6,7 @@
 mod alike;
 mod laws;
 mod message;
+mod room;
 mod rules;
 mod wire;
 

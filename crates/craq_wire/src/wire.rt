@@ -7,14 +7,12 @@ ghost use Rattle.craq_wire.specs.Spelling.{Spells, renamed};
 
 use crate::LinkMessage;
 use crate::message::{read_message, write_message};
+use crate::room::room_of;
 use crate::rules::test_message;
 use bytes::{Bytes, BytesMut};
 use craq_codec::Unread;
 use craq_names::{NodeId, Refusal, Stamp};
 use std::alloc::{AllocError, Global};
-
-/// The bytes that most messages need at most.
-const USUAL_MESSAGE_SIZE: usize = 128;
 
 /// Whether the message can be spelled, that is, whether bytes exist that spell it (`messages_with_spellings`):
 /// its sender is 0 exactly under a membership, receiver, stamp and epoch are at least 1, and what it says keeps
@@ -45,7 +43,7 @@ pub fn encode_as(
     requires { IsSpelled (renamed message.now sender stamp index) }
     ensures { IfOk result (λ bytes. Spells (renamed message.now sender stamp index) bytes) }
 {
-    let mut out = BytesMut::with_capacity(alloc, USUAL_MESSAGE_SIZE)?;
+    let mut out = BytesMut::with_capacity(alloc, room_of(&message.body))?;
     write_message(&mut out, message, sender, stamp, index)?;
     Ok(out.freeze()?)
 }

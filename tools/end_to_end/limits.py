@@ -151,7 +151,7 @@ def logged(checks, craqd):
         checks.same("one connection more, with a log", rest_or_none(second), FULL)
         log = (f"connection 0 from 127.0.0.1:{port_of(first)}\n"
                "connection 0: refused 23, the chain has no such node, or the message is for another\n"
-               "connection 0: refused 13, a counter has no next number\n"
+               "connection 0: refused 13, a counter has no next number, or the pass is too far above the largest told\n"
                f"connection from 127.0.0.1:{port_of(second)} turned away\n"
                "connection 0 ended\n")
         first.shutdown(socket.SHUT_WR)

@@ -124,7 +124,7 @@ fn joined_write(
     let mut bytes = Vec::with_capacity(alloc, front.len() + back.len())?;
     bytes.extend_from_slice(front)?;
     bytes.extend_from_slice(back)?;
-    written(alloc, key, version, Value::of(bytes))
+    written(alloc, key, version, Value::of(bytes)?)
 }
 
 /// The number in a value; an absent object counts as 0.
@@ -156,7 +156,7 @@ fn number_written(
         alloc,
         key,
         version,
-        Value::of(Vec::from_slice(alloc, &bytes)?),
+        Value::of(Vec::from_slice(alloc, &bytes)?)?,
     )
 }
 
@@ -244,7 +244,7 @@ fn objects_read<L: Look>(
     let mut found = Vec::new(alloc);
     for object in objects {
         let (version, bytes) = look.look(&object.key);
-        let value = Value::of(Vec::from_slice(alloc, bytes)?);
+        let value = Value::of(Vec::from_slice(alloc, bytes)?)?;
         found.push((version, value))?;
     }
     Ok(found)

@@ -17,7 +17,9 @@ ghost use Rattle.craq_model.specs.Members.{first_of};
 ghost use Rattle.craq_names.specs.Limits.{greatest};
 ghost use Rattle.craq_model.specs.declared.ask.Ask.{Ask};
 ghost use Rattle.craq_model.specs.declared.message.LinkMessage.{LinkMessage};
+ghost use Rattle.craq_names.specs.declared.name.ObjectId.{ObjectId};
 ghost use Rattle.craq_names.specs.declared.refusal.Refusal.{Refusal};
+ghost use Rattle.craq_commands.specs.declared.read_mode.ReadMode.{ReadMode};
 ghost use Rattle.craq_commands.specs.Kept.{Window, is_new, said_of};
 ghost use Rattle.craq_commands.specs.declared.state.State.{State};
 ghost use Rattle.craq_commands.specs.SingleCopy.{apply, said, is_new_to, after, after_from, after_entry, with_writes};
@@ -97,6 +99,7 @@ pub fn refusals_in_order()
     ensures two_chains { (p : Plain) (a : Ask) → p.running ≡ true → p.ready ≡ true → all_of_chain p.name.chain (asked_objects a) ≡ false → node_step p (Event.Ask a) ≡ Err Refusal.TwoChains }
     ensures not_head { (p : Plain) (u : Update) → p.running ≡ true → p.ready ≡ true → all_of_chain p.name.chain (asked_objects (Ask.Update u)) ≡ true → is_first p ≡ false → node_step p (Event.Ask (Ask.Update u)) ≡ Err (Refusal.NotHead (first_of p.members)) }
     ensures no_ticket { (p : Plain) (u : Update) → p.running ≡ true → p.ready ≡ true → all_of_chain p.name.chain (asked_objects (Ask.Update u)) ≡ true → is_first p ≡ true → p.last_ticket ≡ greatest → node_step p (Event.Ask (Ask.Update u)) ≡ Err Refusal.Exhausted }
+    ensures no_ticket_to_read { (p : Plain) (mode : ReadMode) (o : ObjectId) → p.running ≡ true → p.ready ≡ true → all_of_chain p.name.chain (asked_objects (Ask.Read mode o)) ≡ true → p.last_ticket ≡ greatest → node_step p (Event.Ask (Ask.Read mode o)) ≡ Err Refusal.Exhausted }
     ensures wrong_node { (p : Plain) (m : LinkMessage) → p.running ≡ true → is_for p m ≡ false → node_step p (Event.Deliver m) ≡ Err Refusal.WrongNode }
 {}
 

@@ -1,13 +1,13 @@
-//! `Copied`: values that can be made again in other memory, each copy equal to its value. It stands here since types of
+//! `Copied`: values of which an equal one can be made, which stands by itself. It stands here since types of
 //! `craq_commands`, `craq_model` and `craq_runs` implement it too.
 ghost use Rattle.std.specs.Prelude.{◌≡◌, IfOk};
 
 use crate::{ClientId, Items, Key, NodeId, ObjectId, RequestNo, Value, Version};
 use std::alloc::{AllocError, Global};
 
-/// A value that can be made again in other memory.
+/// A value of which an equal one can be made, which stands by itself: they share at most what never changes.
 pub trait Copied: Drop {
-    /// The same value, in memory of its own. It fails for want of memory alone.
+    /// An equal value. It fails for want of memory alone.
     fn copied(&self, alloc: Global) -> Result<Self, AllocError>
         ensures { IfOk result (λ c. c ≡ self.now) };
 }
@@ -19,8 +19,8 @@ impl Copied for Key {
 }
 
 impl Copied for Value {
-    fn copied(&self, alloc: Global) -> Result<Self, AllocError> {
-        Value::copy_of(alloc, self)
+    fn copied(&self, _alloc: Global) -> Result<Self, AllocError> {
+        Value::copy_of(self)
     }
 }
 

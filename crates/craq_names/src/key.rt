@@ -2,6 +2,7 @@
 ghost use Rattle.std.specs.Prelude.{◌≡◌, ◌<◌, ◌≤◌, ◌⊎◌, ◌↔◌, ℕ, List, [], length, nat_eq, refl, Err, Some, IfOk, IfErr};
 ghost use Rattle.std.specs.Ordering.{nat_cmp};
 ghost use Rattle.std.specs.Cmp.{partial_equiv_from_equiv};
+ghost use Rattle.std.specs.Arc.{arc_slice_items};
 ghost use Rattle.craq_names.specs.Words.{first_word};
 ghost use Rattle.std.specs.Cmp.Lexicographic.{pointwise, slice_cmp, nat_list_eq_equiv, nat_list_cmp_total, texts_ties, texts_po};
 
@@ -10,6 +11,7 @@ use crate::order::{are_equal, first_word, order_by_word};
 use std::alloc::{AllocError, Global};
 use std::cmp::Ordering;
 use std::marker::Model;
+use std::sync::ArcSlice;
 
 /// The key of an object: 1 to 128 bytes. Keys stand in the order of their bytes. With the bytes a key has their first
 /// word, since mostly it tells two keys apart.
@@ -115,18 +117,18 @@ impl Ord for Key {
     }
 }
 
-/// The value of an object: 0 to 4,096 bytes.
+/// The value of an object: 0 to 4,096 bytes. They never change, so its copies share them.
 #[derive(Debug, Drop)]
 pub struct Value {
-    bytes: Vec<u8>,
+    bytes: ArcSlice<u8>,
 }
 
 impl Model for Value {
     ghost Value = { List ℕ };
 
-    ghost view = { λ k. k.bytes.items };
+    ghost view = { λ v. arc_slice_items v.bytes };
 
-    ghost invariant = { λ k. length k.bytes.items ≤ 4096 };
+    ghost invariant = { λ v. length (arc_slice_items v.bytes) ≤ 4096 };
 }
 
 impl Value {
@@ -142,9 +144,7 @@ impl Value {
         if bytes.len() > Value::MAX {
             return Err(Refusal::ValueTooLong);
         }
-        Ok(Value {
-            bytes: Vec::from_slice(alloc, bytes)?,
-        })
+        Ok(Value::of(Vec::from_slice(alloc, bytes)?)?)
     }
 
     /// The value's bytes.
@@ -155,29 +155,22 @@ impl Value {
         self.bytes.as_slice()
     }
 
-    /// The value of no bytes, as an absent object has it. It takes no memory.
-    pub fn empty(alloc: Global) -> Self
-        ensures { result ≡ [] }
-    {
-        Value {
-            bytes: Vec::new(alloc),
-        }
-    }
-
-    /// These bytes, of which the caller knows that there are at most 4,096.
-    pub fn of(bytes: Vec<u8>) -> Self
+    /// These bytes, of which the caller knows that there are at most 4,096. It fails for want of memory alone.
+    pub fn of(bytes: Vec<u8>) -> Result<Self, AllocError>
         requires { length bytes.items ≤ 4096 }
-        ensures { result ≡ bytes.items }
+        ensures { IfOk result (λ v. v ≡ bytes.items) }
     {
-        Value { bytes }
+        Ok(Value {
+            bytes: ArcSlice::from_vec(bytes)?,
+        })
     }
 
-    /// The same value, in memory of its own.
-    pub(crate) fn copy_of(alloc: Global, value: &Value) -> Result<Self, AllocError>
+    /// The same value, which shares its bytes. It fails only where more copies share them than can be counted.
+    pub(crate) fn copy_of(value: &Value) -> Result<Self, AllocError>
         ensures { IfOk result (λ v. v ≡ value.now) }
     {
         Ok(Value {
-            bytes: Vec::from_slice(alloc, value.bytes.as_slice())?,
+            bytes: value.bytes.clone()?,
         })
     }
 }

@@ -47,7 +47,7 @@ pub enum Refusal {
     #[error("too many asks wait at the node: 1024")]
     PendingFull,
     /// A counter stands at its greatest number. Of a server also: the pass is too far above the largest that it told.
-    #[error("a counter has no next number")]
+    #[error("a counter has no next number, or the pass is too far above the largest told")]
     Exhausted,
     /// A growth was refused.
     #[error("out of memory")]

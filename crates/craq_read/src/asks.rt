@@ -75,7 +75,7 @@ fn answered(
     ensures err { IfErr result (λ e. e ≡ Refusal.Memory) }
 {
     let ticket = Ticket::new(last.get() + 1);
-    let value = Value::of(Vec::from_slice(alloc, value)?);
+    let value = Value::of(Vec::from_slice(alloc, value)?)?;
     let mut outs = Vec::new(alloc);
     outs.push(Out::Answer {
         ticket,

@@ -96,7 +96,7 @@ fn told<H: History>(
     }
     let known = version.get().max(clean.0.get());
     let (version, bytes) = node.history.within(&read.key, known, 0);
-    let value = Value::of(Vec::from_slice(alloc, bytes)?);
+    let value = Value::of(Vec::from_slice(alloc, bytes)?)?;
     let mut outs = Vec::new(alloc);
     outs.push(Out::Answer {
         ticket: read.ticket,

@@ -12,5 +12,6 @@ returns c =
       two_chains = λ p a r d k. rw (r, d, k) refl;
       not_head = λ p u r d k f. rw (r, d, k, f) refl;
       no_ticket = λ p u r d k f t. rw (r, d, k, f, t) refl;
+      no_ticket_to_read = λ p mode o r d k t. rw (r, d, k, t) refl;
       wrong_node = λ p m r f. rw (r, f) refl;
     }

@@ -1,3 +1,4 @@
+pub mod Asked
 pub mod Dialogues
 pub mod Halves
 pub mod Turning

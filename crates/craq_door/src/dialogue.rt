@@ -4,7 +4,7 @@ ghost use Rattle.craq_door.specs.declared.dialogue.Phase.TheVariants.{Idle};
 ghost use Rattle.craq_door.specs.Dialogues.{KeepsRoom};
 
 use crate::phases::{advance, answered};
-use crate::{Callee, DoorCalls, Question};
+use crate::{CallDue, CallTaker, DoorCalls, Question, Reached};
 use craq_frames::ClientMessage;
 use craq_front::Conversation;
 use craq_names::Refusal;
@@ -34,27 +34,13 @@ pub(crate) enum Phase {
     Over(Ending),
 }
 
-/// The right to make the call that is under way. The step that comes to a call makes it (`Stepped::Calls`), and nothing else does;
-/// it is not copied, and whoever makes the call takes it. So no call is made twice, and none to which no step came.
-#[derive(Debug, Drop)]
-pub struct Permit {
-    _made: (),
-}
-
-impl Permit {
-    /// The right to make the call to which a step came.
-    pub(crate) fn new() -> Self {
-        Permit { _made: () }
-    }
-}
-
 /// What a step came to.
-#[derive(Debug, Drop)]
+#[derive(Debug)]
 pub enum Stepped {
     /// There may be another step to take.
     Goes,
-    /// The call of `question` is to be made, by this right alone, and its outcome to be given back by `answer`.
-    Calls(Permit),
+    /// The call of `question` is to be made, by `ask`, and its outcome to be given back by `answer`.
+    Calls(CallDue),
     /// Less than a frame is there: more bytes have to come.
     Starved,
     /// Nothing is done before bytes that are due are written or a call came back, or any more.
@@ -77,6 +63,7 @@ impl Dialogue {
     ghost use Rattle.std.specs.Prelude.{◌≤◌, ◌↔◌, ℕ, List, [], ◌++◌, take, drop, length, IsTrue, OnOk, OnErr};
     ghost use Rattle.std.specs.Option.{option_copied};
     ghost use Rattle.craq_front.specs.Talk.{History};
+    ghost use Rattle.craq_door.specs.Asking.{IsAsked};
     ghost use Rattle.craq_door.specs.Turns.{kept};
     ghost use Rattle.craq_door.specs.Dialogues.{Answers, Holds, IsUnderWay, Took, ending_of};
 
@@ -162,7 +149,7 @@ impl Dialogue {
 
     /// Takes a step, if there is one to take: looks for the next frame, or begins the turn of its next message. It is over
     /// (`ending`) behind a length above 1,048,576, whose refusal is due then, and where memory lacks, and no more is due then.
-    pub fn step<C: Callee>(&mut self, alloc: Global, callee: &C) -> Stepped
+    pub fn step<C: Reached>(&mut self, alloc: Global, callee: &C) -> Stepped
         ensures took { Took (C.tells callee.now) self.old.phase result self.new.phase self.old.talk self.new.talk self.old.calls self.new.calls }
         ensures keeps { self.new.calls.keeps ≡ self.old.calls.keeps }
     {
@@ -170,6 +157,30 @@ impl Dialogue {
         let (phase, stepped) = advance(alloc, callee, &mut self.talk, &mut self.calls, phase);
         self.phase = phase;
         stepped
+    }
+
+    /// Makes the call that is under way and due, under this token: what came of it at once, its receipt or why it is refused, or
+    /// nothing, where a letter with this token will come (`CallTaker::submit`). Where no call is under way none is made, and
+    /// nothing came. `few` tells that few connections have something to do just now.
+    #[tactic(auto, using(crate::proofs::Asked::asked_and_waits, crate::proofs::Asked::asked_and_answered, crate::proofs::Asked::asked_and_refused))]
+    pub fn ask<T: CallTaker>(
+        &self,
+        due: CallDue,
+        taker: &T,
+        token: usize,
+        few: bool,
+    ) -> Option<Result<CallReceipt, Refusal>>
+        ensures { IsAsked (T.refuses taker.now) (T.submits taker.now token) self.now.phase result }
+    {
+        let permit = due.make();
+        let Phase::Waits(question) = &self.phase else {
+            return None;
+        };
+        match taker.submit(permit, question, token, few) {
+            Ok(None) => None,
+            Ok(Some(receipt)) => Some(Ok(receipt)),
+            Err(refusal) => Some(Err(refusal)),
+        }
     }
 
     /// The call that is under way came back: its turn ends with the call's reply, or with its refusal as it came back, and the

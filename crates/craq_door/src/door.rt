@@ -15,22 +15,25 @@ use craq_names::{NodeId, NodeName, Pass, Refusal};
 use craq_seat::CallReceipt;
 use std::alloc::{AllocError, Global};
 
-/// What a door reaches: a store that is called.
-pub trait Callee: Drop {
+/// What a connection's calls reach: a store, of which this much is known however it is called.
+pub trait Reached {
     /// Which texts of a status it may tell.
     ghost tells: { Self → List ℕ → Type 0 };
 
     /// With what it may refuse a call of a node, with a pass.
     ghost refuses: { Self → NodeName → ℕ → Ask → Refusal → Type 0 };
 
-    /// Asks a node, with this pass: the answer, and the receipt of the call. Refused as the store refuses the call.
-    fn call(&self, node: NodeName, pass: Pass, ask: Ask) -> Result<(Answer, CallReceipt), Refusal>
-        ensures called { IfOk result (λ r. IsCallOf node ask pass r.0 r.1) }
-        ensures refused { IfErr result (λ e. refuses self.now node pass ask e) };
-
     /// The chains and their members. It fails for want of memory alone.
     fn status(&self) -> Result<Text, AllocError>
         ensures { IfOk result (λ text. tells self.now text) };
+}
+
+/// A store that is called, where whoever calls waits for the answer.
+pub trait Callee: Reached + Drop {
+    /// Asks a node, with this pass: the answer, and the receipt of the call. Refused as the store refuses the call.
+    fn call(&self, node: NodeName, pass: Pass, ask: Ask) -> Result<(Answer, CallReceipt), Refusal>
+        ensures called { IfOk result (λ r. IsCallOf node ask pass r.0 r.1) }
+        ensures refused { IfErr result (λ e. Self.refuses self.now node pass ask e) };
 }
 
 /// The door by which the client of one connection calls.

@@ -11,7 +11,7 @@ ghost use Rattle.craq_door.specs.declared.question.Begun.TheVariants.{Calls};
 ghost use Rattle.craq_door.specs.Halves.{BeginsTurn, ComesBack, EndsTurn, IsAnothers, IsRefusable, RefusesCall};
 ghost use Rattle.craq_door.specs.Turns.{IsTurn, kept, or_memory};
 
-use crate::Callee;
+use crate::Reached;
 
 /// Laws: a message whose call was made after the first half of its turn, and has its reply from the second half, had a turn.
 /// Whatever the call comes back with, the refusals that can come are those of the second half. Where it comes back with its
@@ -19,7 +19,7 @@ use crate::Callee;
 /// of memory. Where the callee may refuse it with all that the second half can, the turn is one of a door that refuses as the
 /// callee does, whatever receipt came. Where it comes back with another call's receipt, `Refused(Closed)` is told, and no receipt
 /// came. It has no body: the contract is the law.
-pub fn halves_are_a_turn<C: Callee>(callee: &C)
+pub fn halves_are_a_turn<C: Reached>(callee: &C)
     ensures turn { (keeps : Bool) (old mid new : List Called) (m : ClientMessage) (q : Question) (outcome : Result Called Refusal) (reply : ClientReply)
         → BeginsTurn (C.tells callee.now) keeps old m (Calls q) mid → EndsTurn q outcome mid reply new
         → IsTurn (C.tells callee.now) (λ node pass ask e. RefusesCall q outcome e) keeps old m reply new }

@@ -4,8 +4,8 @@ ghost use Rattle.craq_front.specs.Door.{IsAllowed};
 ghost use Rattle.craq_door.specs.Dialogues.{Answers, Continues, Found, HasNoMore, HasOneMore, KeepsRoom, Took};
 ghost use Rattle.craq_frames.specs.declared.ask.ClientMessage.{ClientMessage};
 
-use crate::dialogue::{Ending, Permit, Phase, Stepped};
-use crate::{Begun, Callee, DoorCalls, begin_turn, end_turn};
+use crate::dialogue::{Ending, Phase, Stepped};
+use crate::{Begun, CallDue, DoorCalls, Reached, begin_turn, end_turn};
 use craq_frames::{ClientMessage, ClientReply};
 use craq_front::{Conversation, Step};
 use craq_names::Refusal;
@@ -48,7 +48,7 @@ fn find(alloc: Global, talk: &mut Conversation) -> (Phase, Stepped)
 }
 
 /// Begins the turn of a message.
-fn begin<C: Callee>(
+fn begin<C: Reached>(
     alloc: Global,
     callee: &C,
     talk: &mut Conversation,
@@ -62,12 +62,12 @@ fn begin<C: Callee>(
 {
     match begin_turn(callee, calls, message) {
         Begun::Told(reply) => (next_phase(alloc, talk, reply), Stepped::Goes),
-        Begun::Calls(question) => (Phase::Waits(question), Stepped::Calls(Permit::new())),
+        Begun::Calls(question) => (Phase::Waits(question), Stepped::Calls(CallDue::new())),
     }
 }
 
 /// Takes a step: the phase after it, and what it came to.
-pub(crate) fn advance<C: Callee>(
+pub(crate) fn advance<C: Reached>(
     alloc: Global,
     callee: &C,
     talk: &mut Conversation,

@@ -5,7 +5,7 @@ ghost use Rattle.craq_front.specs.Door.{IsAllowed};
 ghost use Rattle.craq_door.specs.Turns.{IsCalled, name_of};
 ghost use Rattle.craq_door.specs.Halves.{Asks, BeginsTurn, EndsTurn, HasRoom, IsClosed, MakesRoom, RefusesCall, asked_by};
 
-use crate::{Callee, DoorCalls, told};
+use crate::{DoorCalls, Reached, told};
 use craq_calls::answer_of_call;
 use craq_frames::{ClientMessage, ClientReply};
 use craq_model::Ask;
@@ -69,7 +69,7 @@ fn demand_of(message: ClientMessage) -> Demand
 }
 
 /// The text of a status, as a reply.
-fn status_of<C: Callee>(callee: &C) -> Result<ClientReply, Refusal>
+fn status_of<C: Reached>(callee: &C) -> Result<ClientReply, Refusal>
     ensures ok { IfOk result (λ reply. (text : List ℕ) × (reply ≡ ClientReply.Status text) × C.tells callee.now text) }
     ensures err { IfErr result (λ e. e ≡ Refusal.Memory) }
 {
@@ -79,7 +79,7 @@ fn status_of<C: Callee>(callee: &C) -> Result<ClientReply, Refusal>
 /// Begins a turn: a status is told at once. For a call the room for its receipt is made, and is there when the call comes back;
 /// where there was none and a growth is refused, `Refused(Memory)` is told, and the call is not made.
 #[tactic(auto, using(crate::proofs::Halves::status_told, crate::proofs::Halves::memory_told))]
-pub fn begin_turn<C: Callee>(callee: &C, calls: &mut DoorCalls, message: ClientMessage) -> Begun
+pub fn begin_turn<C: Reached>(callee: &C, calls: &mut DoorCalls, message: ClientMessage) -> Begun
     ensures begun { BeginsTurn (C.tells callee.now) calls.old.keeps calls.old.receipts.items message result calls.new.receipts.items }
     ensures keeps { calls.new.keeps ≡ calls.old.keeps }
     ensures room { MakesRoom calls.old message result calls.new }

@@ -1,65 +1,44 @@
 -- A dialogue whose host is asked, one that takes steps, one step on, and the turns of connections.
 use Rattle.std.proofs.Common.{◌≡◌, ◌⊎◌, ◌+◌, ◌<◌, ℕ, Bool, true, false, List, [], ◌∷◌, ◌++◌, length, take, get_or, Some, None, Result, Ok, Err, inl, inr, sym, refl, subst}
-use Rattle.std.proofs.lemmas.List.{take_more}
 use Rattle.slab.specs.Slab.{Slab, get, with_value}
 use Rattle.slab.proofs.SlabLemmas.{Updates-with_value}
 use Rattle.craq_names.specs.declared.refusal.Refusal.{Refusal}
 use Rattle.craq_seat.specs.Calls.{Called}
-use Rattle.craq_door.specs.Dialogues.{IsUnderWay, Took}
+use Rattle.craq_door.specs.Asking.{IsAsked, IsRefusedAtOnce, Submitting}
+use Rattle.craq_door.specs.Dialogues.{Took}
 use Rattle.craq_door.specs.Halves.{IsRefusable}
 use Rattle.craq_door.specs.Turns.{Refusing}
+use Rattle.craq_door.specs.declared.asking.CallDue.{CallDue}
 use Rattle.craq_door.specs.declared.dialogue.Dialogue.{Dialogue}
-use Rattle.craq_door.specs.declared.dialogue.Permit.{Permit}
 use Rattle.craq_door.specs.declared.dialogue.Phase.{Phase}
 use Rattle.craq_door.specs.declared.dialogue.Phase.TheVariants as phases
 use Rattle.craq_door.specs.declared.dialogue.Stepped.TheVariants as steps
 use Rattle.craq_door.specs.declared.question.Question.{Question}
 use Rattle.craq_ready.specs.declared.connection.Connection.{Connection}
-use Rattle.craq_ready.specs.Advancing.{AsksHost, TakesSteps, none, step, call, TakesTurn, rests, gives_way, HasTurn, HasTurnAt, TurnsAlone, TakeTurns}
-use Rattle.craq_ready.specs.Belonging.{CameBack, OthersStay, StaysVacant}
-use Rattle.craq_ready.specs.Letters.{MayHaveAny, Submitting}
+use Rattle.craq_ready.specs.Advancing.{AsksHost, TakesSteps, none, step, call, TakesTurn, rests, gives_way, HasTurn, HasTurnAt}
+use Rattle.craq_ready.specs.Belonging.{CameBack}
 use Rattle.craq_ready.proofs.Letters.{receipt_refusable, refusal_refusable}
 
 module _ (refuses : Refusing) (submits : Submitting) where
-  -- no call was under way
-  pub none_asked : (phase : Phase) (old new : Dialogue) → IsUnderWay phase None → new ≡ old → AsksHost refuses submits phase old new
-  none_asked phases.Idle old new is same = same
-  none_asked (phases.Asks m) old new is same = same
-  none_asked (phases.Waits q) old new is same = cc
-  none_asked (phases.Over why) old new is same = same
+  -- nothing came at once: a letter will come, or no call was under way
+  pub nothing_came : (phase : Phase) (old new : Dialogue) → IsAsked refuses submits phase None → new ≡ old → AsksHost refuses submits phase old new
+  nothing_came phases.Idle old new is same = same
+  nothing_came (phases.Asks m) old new is same = same
+  nothing_came (phases.Waits q) old new is same = inl (is.0, is.1, same)
+  nothing_came (phases.Over why) old new is same = same
 
-  -- what came of a call
-  CameSo : Question → Dialogue → Dialogue → Type 0
-  CameSo q old new =
-      (submits q None × MayHaveAny refuses q × (new ≡ old))
-      ⊎ ((outcome : Result Called Refusal) × submits q (Some outcome) × IsRefusable refuses q outcome × CameBack outcome old new)
+  -- what comes at once may be refused as it came
+  refusable : (q : Question) (outcome : Result Called Refusal) → IsRefusedAtOnce refuses q (Some outcome) → IsRefusable refuses q outcome
+  refusable q (Ok c) may = receipt_refusable refuses q c may
+  refusable q (Err e) may = refusal_refusable refuses q e may
 
-  asked : (phase : Phase) (old new : Dialogue) (found : Question) → IsUnderWay phase (Some found) → CameSo found old new → AsksHost refuses submits phase old new
-  unfolding CameSo
-  asked phases.Idle old new found is came = cc
-  asked (phases.Asks m) old new found is came = cc
-  asked (phases.Waits q) old new found is came =
-      let same : found ≡ q = cc in
-      subst (λ (x : Question). CameSo x old new) same came
-  asked (phases.Over why) old new found is came = cc
-
-  -- a call that waits for its letter
-  pub asked_and_waits : (phase : Phase) (old new : Dialogue) (found : Question)
-      → IsUnderWay phase (Some found) → submits found None → MayHaveAny refuses found → new ≡ old → AsksHost refuses submits phase old new
-  unfolding CameSo
-  asked_and_waits phase old new found is so may same = asked phase old new found is (inl (so, may, same))
-
-  -- a call whose receipt was in hand
-  pub asked_and_answered : (phase : Phase) (old new : Dialogue) (found : Question) (c : Called)
-      → IsUnderWay phase (Some found) → submits found (Some (Ok c)) → MayHaveAny refuses found → CameBack (Ok c) old new → AsksHost refuses submits phase old new
-  unfolding CameSo
-  asked_and_answered phase old new found c is so may came = asked phase old new found is (inr (Ok c, so, receipt_refusable refuses found c may, came))
-
-  -- a call that was refused
-  pub asked_and_refused : (phase : Phase) (old new : Dialogue) (found : Question) (e : Refusal)
-      → IsUnderWay phase (Some found) → submits found (Some (Err e)) → refuses found.node found.pass found.ask e → CameBack (Err e) old new → AsksHost refuses submits phase old new
-  unfolding CameSo
-  asked_and_refused phase old new found e is so may came = asked phase old new found is (inr (Err e, so, refusal_refusable refuses found e may, came))
+  -- this came at once
+  pub came_at_once : (phase : Phase) (old new : Dialogue) (outcome : Result Called Refusal)
+      → IsAsked refuses submits phase (Some outcome) → CameBack outcome old new → AsksHost refuses submits phase old new
+  came_at_once phases.Idle old new outcome is came = cc
+  came_at_once (phases.Asks m) old new outcome is came = cc
+  came_at_once (phases.Waits q) old new outcome is came = inr (outcome, is.0, refusable q outcome is.1, came)
+  came_at_once (phases.Over why) old new outcome is came = cc
 
 module _ (tells : List ℕ → Type 0) (refuses : Refusing) (submits : Submitting) (old : Dialogue) where
   pub none_taken : TakesSteps tells refuses submits old 0 old
@@ -69,10 +48,10 @@ module _ (tells : List ℕ → Type 0) (refuses : Refusing) (submits : Submittin
       → Took tells mid.phase steps.Goes new.phase mid.talk new.talk mid.calls new.calls → TakesSteps tells refuses submits old (count + 1) new
   went count mid new before took = step count mid new steps.Goes before tt took
 
-  pub called : (count : ℕ) (mid made new : Dialogue) (permit : Permit) → TakesSteps tells refuses submits old count mid
-      → Took tells mid.phase (steps.Calls permit) made.phase mid.talk made.talk mid.calls made.calls → AsksHost refuses submits made.phase made new
+  pub called : (count : ℕ) (mid made new : Dialogue) (due : CallDue) → TakesSteps tells refuses submits old count mid
+      → Took tells mid.phase (steps.Calls due) made.phase mid.talk made.talk mid.calls made.calls → AsksHost refuses submits made.phase made new
       → TakesSteps tells refuses submits old (count + 1) new
-  called count mid made new permit before took asked = call count mid made new permit before took asked
+  called count mid made new due before took asked = call count mid made new due before took asked
 
   -- the turn of a connection that is not over
   turn_of : (over : Bool) (new : Dialogue) → over ≡ false → TakesTurn tells refuses submits old new → HasTurn tells refuses submits over old new
@@ -103,19 +82,3 @@ module _ {S : Type 0} (tells : List ℕ → Type 0) (refuses : Refusing) where
       let e : c' ≡ c = cc in
       let is : get (with_value s token d) token ≡ Some d = (Updates-with_value s token d (rw was refl)).changed in
       rw e (d, is, took, same)
-
-  -- one more had its turn, behind all before
-  pub one_more : (submits : ℕ → Submitting) (tokens : List ℕ) (one : ℕ) (s t u : Slab (Connection S)) → TakeTurns tells refuses submits tokens s t
-      → TurnsAlone tells refuses (submits one) t u one → TakeTurns tells refuses submits (tokens ++ one ∷ []) s u
-  one_more submits [] one s t u before turn = (u, subst (λ (x : Slab (Connection S)). TurnsAlone tells refuses (submits one) x u one) before turn, refl)
-  one_more submits (token ∷ tokens) one s t u before turn = (before.0, before.1, one_more submits tokens one before.0 t u before.2 turn)
-
-  pub one_more_at : (submits : ℕ → Submitting) (tokens : List ℕ) (index : ℕ) (s t u : Slab (Connection S)) → index < length tokens
-      → TakeTurns tells refuses submits (take index tokens) s t
-      → HasTurnAt tells refuses (submits (get_or tokens index 0)) t u (get_or tokens index 0)
-      → StaysVacant t u (get_or tokens index 0) → OthersStay t u (get_or tokens index 0)
-      → TakeTurns tells refuses submits (take (index + 1) tokens) s u
-  one_more_at submits tokens index s t u there before turn vacant others =
-      subst (λ (x : List ℕ). TakeTurns tells refuses submits x s u)
-      (sym (take_more tokens index 0 there))
-      (one_more submits (take index tokens) (get_or tokens index 0) s t u before (turn, vacant, others))

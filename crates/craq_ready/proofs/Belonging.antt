@@ -1,7 +1,7 @@
--- What belongs to a connection, where nothing was read or written, and in a slab.
-use Rattle.std.proofs.Common.{◌≡◌, ◌≤◌, ℕ, ◌+◌, length, arith, length-append, true, List, [], ◌∷◌, ◌++◌, Option, Some, None, Result, sym, refl, subst, ◌∙◌}
+-- What belongs to a connection, where nothing was read or written, and in a slab; and what happens under one token after another.
+use Rattle.std.proofs.Common.{◌≡◌, ◌≤◌, ◌<◌, ℕ, ◌+◌, length, take, get_or, arith, length-append, true, List, [], ◌∷◌, ◌++◌, Option, Some, None, Result, sym, refl, subst, ◌∙◌}
 use Rattle.std.specs.Io.KnownBytes.{Appends, Consumes}
-use Rattle.std.proofs.lemmas.List.{append-nil, append_assoc}
+use Rattle.std.proofs.lemmas.List.{append-nil, append_assoc, take_more}
 use Rattle.craq_door.specs.Dialogues.{Holds}
 use Rattle.craq_door.specs.declared.dialogue.Dialogue.{Dialogue}
 use Rattle.craq_names.specs.declared.refusal.Refusal.{Refusal}
@@ -10,7 +10,7 @@ use Rattle.craq_letters.specs.declared.pile.Letter.{Letter}
 use Rattle.slab.specs.Slab.{Slab, get, with_value}
 use Rattle.slab.proofs.SlabLemmas.{Updates-with_value}
 use Rattle.craq_ready.specs.declared.connection.Connection.{Connection}
-use Rattle.craq_ready.specs.Belonging.{CameByLetter, Delivers, DeliversAll, DeliversLetter, Reads, Wakes, Writes}
+use Rattle.craq_ready.specs.Belonging.{Alone, CameByLetter, Delivers, DeliversAll, DeliversLetter, OneByOne, OthersStay, Reads, StaysVacant, Wakes, Writes}
 
 none_came : (a b : Option (List ℕ)) → b ≡ a → Consumes a b []
 none_came None b e = tt
@@ -88,3 +88,17 @@ none_long (letter ∷ rest) index all long reached = absurd (omega (arith, long,
 -- the last letter that was left, behind those that are left now
 pub last_left : (left popped rest : List Letter) (letter : Letter) → left ≡ popped ++ letter ∷ [] → rest ≡ popped → left ≡ rest ++ letter ∷ []
 last_left left popped rest letter is same = is ∙ subst (λ (x : List Letter). popped ++ letter ∷ [] ≡ x ++ letter ∷ []) (sym same) refl
+
+module _ {S : Type 0} (happens : Slab (Connection S) → Slab (Connection S) → ℕ → Type 0) where
+  -- it happened under one token more, behind all before
+  pub one_more : (tokens : List ℕ) (one : ℕ) (s t u : Slab (Connection S)) → OneByOne happens tokens s t → Alone happens t u one → OneByOne happens (tokens ++ one ∷ []) s u
+  one_more [] one s t u before now = (u, subst (λ (x : Slab (Connection S)). Alone happens x u one) before now, refl)
+  one_more (token ∷ tokens) one s t u before now = (before.0, before.1, one_more tokens one before.0 t u before.2 now)
+
+  pub one_more_at : (tokens : List ℕ) (index : ℕ) (s t u : Slab (Connection S)) → index < length tokens → OneByOne happens (take index tokens) s t
+      → happens t u (get_or tokens index 0) → StaysVacant t u (get_or tokens index 0) → OthersStay t u (get_or tokens index 0)
+      → OneByOne happens (take (index + 1) tokens) s u
+  one_more_at tokens index s t u there before now vacant others =
+      subst (λ (x : List ℕ). OneByOne happens x s u)
+      (sym (take_more tokens index 0 there))
+      (one_more (take index tokens) (get_or tokens index 0) s t u before (now, vacant, others))

@@ -7,7 +7,8 @@ use Rattle.craq_door.specs.Halves.{CanComeBack, IsRefusable}
 use Rattle.craq_door.specs.Turns.{Refusing}
 use Rattle.craq_door.specs.declared.dialogue.Phase.TheVariants.{Waits}
 use Rattle.craq_door.specs.declared.question.Question.{Question}
-use Rattle.craq_ready.specs.Letters.{IsOutcome, MayHaveAny}
+use Rattle.craq_door.specs.Asking.{MayHaveAny}
+use Rattle.craq_ready.specs.Letters.{IsOutcome}
 
 -- an answer that came back may be refused as any ask may be
 answer_refusable : (refuses : Refusing) (q : Question) (e : Refusal) → MayHaveAny refuses q → CanComeBack e → refuses q.node q.pass q.ask e

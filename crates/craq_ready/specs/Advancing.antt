@@ -1,20 +1,20 @@
 -- What taking the steps of a connection's dialogue comes to, and under which token its calls are asked.
-use Rattle.std.specs.Prelude.{◌≡◌, ◌⊎◌, ◌+◌, ⊤, ℕ, Bool, true, false, List, [], ◌∷◌, None, Some, Result}
+use Rattle.std.specs.Prelude.{◌≡◌, ◌⊎◌, ◌+◌, ⊤, ℕ, Bool, true, false, List, None, Some, Result}
 use Rattle.slab.specs.Slab.{Slab, get}
 use Rattle.craq_names.specs.declared.refusal.Refusal.{Refusal}
 use Rattle.craq_seat.specs.Calls.{Called}
+use Rattle.craq_door.specs.Asking.{MayHaveAny, Submitting}
 use Rattle.craq_door.specs.Dialogues.{Took}
 use Rattle.craq_door.specs.Halves.{IsRefusable}
 use Rattle.craq_door.specs.Turns.{Refusing}
+use Rattle.craq_door.specs.declared.asking.CallDue.{CallDue}
 use Rattle.craq_door.specs.declared.dialogue.Dialogue.{Dialogue}
-use Rattle.craq_door.specs.declared.dialogue.Permit.{Permit}
 use Rattle.craq_door.specs.declared.dialogue.Phase.{Phase}
 use Rattle.craq_door.specs.declared.dialogue.Phase.TheVariants as phases
 use Rattle.craq_door.specs.declared.dialogue.Stepped.{Stepped}
 use Rattle.craq_door.specs.declared.dialogue.Stepped.TheVariants as steps
 use Rattle.craq_ready.specs.declared.connection.Connection.{Connection}
-use Rattle.craq_ready.specs.Belonging.{CameBack, OthersStay, StaysVacant}
-use Rattle.craq_ready.specs.Letters.{MayHaveAny, Submitting}
+use Rattle.craq_ready.specs.Belonging.{CameBack, OneByOne}
 
 -- the host was asked the call that is under way. Nothing came at once: it still is under way, and may be refused with whatever a
 -- letter can refuse it with; or this came at once: the call came back so, and is refused only as it may be. Where none was under
@@ -27,7 +27,7 @@ AsksHost refuses submits phase old new = new ≡ old
 
 -- a step after which no call is to be made
 abbrev pub IsNoCall : Stepped → Type 0
-IsNoCall (steps.Calls permit) = ⊥
+IsNoCall (steps.Calls due) = ⊥
 IsNoCall stepped = ⊤
 
 -- the dialogue took so many steps, its host was asked each call as soon as a step made it, and else nothing happened to it
@@ -35,8 +35,8 @@ pub data TakesSteps (tells : List ℕ → Type 0) (refuses : Refusing) (submits 
   none : TakesSteps tells refuses submits old 0 old
   step : (count : ℕ) (mid new : Dialogue) (stepped : Stepped) → TakesSteps tells refuses submits old count mid
       → IsNoCall stepped → Took tells mid.phase stepped new.phase mid.talk new.talk mid.calls new.calls → TakesSteps tells refuses submits old (count + 1) new
-  call : (count : ℕ) (mid made new : Dialogue) (permit : Permit) → TakesSteps tells refuses submits old count mid
-      → Took tells mid.phase (steps.Calls permit) made.phase mid.talk made.talk mid.calls made.calls → AsksHost refuses submits made.phase made new
+  call : (count : ℕ) (mid made new : Dialogue) (due : CallDue) → TakesSteps tells refuses submits old count mid
+      → Took tells mid.phase (steps.Calls due) made.phase mid.talk made.talk mid.calls made.calls → AsksHost refuses submits made.phase made new
       → TakesSteps tells refuses submits old (count + 1) new
 
 -- so many steps a dialogue takes at most before others have their turn
@@ -66,14 +66,7 @@ HasTurnAt {S} tells refuses submits old new token =
     (c : Connection S) → get old token ≡ Some c
     → (d : Connection S) × (get new token ≡ Some d) × HasTurn tells refuses submits c.over c.dialogue d.dialogue × (d.stream ≡ c.stream)
 
--- under this token, the connection had its turn, and no connection under another token changes
-abbrev pub TurnsAlone : {S : Type 0} → (List ℕ → Type 0) → Refusing → Submitting → Slab (Connection S) → Slab (Connection S) → ℕ → Type 0
-TurnsAlone tells refuses submits old new token =
-    HasTurnAt tells refuses submits old new token × StaysVacant old new token × OthersStay old new token
-
 -- the connections under these tokens have their turns, one after another, in which the host is asked under their own tokens; and
 -- no other connection changes
 abbrev pub TakeTurns : {S : Type 0} → (List ℕ → Type 0) → Refusing → (ℕ → Submitting) → List ℕ → Slab (Connection S) → Slab (Connection S) → Type 0
-TakeTurns tells refuses submits [] old new = new ≡ old
-TakeTurns {S} tells refuses submits (token ∷ tokens) old new =
-    (mid : Slab (Connection S)) × TurnsAlone tells refuses (submits token) old mid token × TakeTurns tells refuses submits tokens mid new
+TakeTurns tells refuses submits tokens old new = OneByOne (λ mid next token. HasTurnAt tells refuses (submits token) mid next token) tokens old new

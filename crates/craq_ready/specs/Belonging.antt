@@ -58,6 +58,15 @@ StaysVacant old new token = get old token ≡ None → get new token ≡ None
 abbrev pub OthersStay : {S : Type 0} → Slab (Connection S) → Slab (Connection S) → ℕ → Type 0
 OthersStay old new token = (other : ℕ) → other ≢ token → get new other ≡ get old other
 
+-- under this token, and no connection under another token changes; where none is under this token, none is afterwards
+abbrev pub Alone : {S : Type 0} → (Slab (Connection S) → Slab (Connection S) → ℕ → Type 0) → Slab (Connection S) → Slab (Connection S) → ℕ → Type 0
+Alone happens old new token = happens old new token × StaysVacant old new token × OthersStay old new token
+
+-- it happens under each of these tokens, one after another, and no other connection changes
+abbrev pub OneByOne : {S : Type 0} → (Slab (Connection S) → Slab (Connection S) → ℕ → Type 0) → List ℕ → Slab (Connection S) → Slab (Connection S) → Type 0
+OneByOne happens [] old new = new ≡ old
+OneByOne {S} happens (token ∷ tokens) old new = (mid : Slab (Connection S)) × Alone happens old mid token × OneByOne happens tokens mid new
+
 -- the letter is delivered under its token; and no connection under another token changes
 abbrev pub DeliversLetter : {S : Type 0} → Letter → Slab (Connection S) → Slab (Connection S) → Type 0
 DeliversLetter letter old new = Delivers old new letter.token letter.reply × StaysVacant old new letter.token × OthersStay old new letter.token

@@ -1,14 +1,12 @@
--- How a call comes back, at once or by a letter, and with what it is then refused.
-use Rattle.std.specs.Prelude.{◌≡◌, Option, None, Some, Result, Ok, Err}
+-- How a call comes back by a letter, and with what it is then refused.
+use Rattle.std.specs.Prelude.{◌≡◌, Result, Err}
 use Rattle.craq_names.specs.declared.refusal.Refusal.{Refusal}
 use Rattle.craq_names.specs.declared.refusal.Refusal.TheVariants.{Closed}
 use Rattle.craq_model.specs.declared.ask.Ask.{Ask}
 use Rattle.craq_calls.specs.Refused.{CanRefuse}
 use Rattle.craq_seat.specs.Calls.{Called}
-use Rattle.craq_door.specs.Turns.{Refusing}
 use Rattle.craq_door.specs.declared.dialogue.Phase.{Phase}
 use Rattle.craq_door.specs.declared.dialogue.Phase.TheVariants as phases
-use Rattle.craq_door.specs.declared.question.Question.{Question}
 
 -- a call of this ask that came back refused is refused just so, where such an ask may be refused so; else what came back is
 -- another call's, and it is refused as Closed
@@ -21,17 +19,3 @@ pub record IsRefusedAs (ask : Ask) (came told : Refusal) : Type 0 where
 abbrev pub IsOutcome : Phase → Result Called Refusal → Result Called Refusal → Type 0
 IsOutcome (phases.Waits q) (Err came) outcome = (told : Refusal) × (outcome ≡ Err told) × IsRefusedAs q.ask came told
 IsOutcome phase reply outcome = outcome ≡ reply
-
--- a call may be refused with whatever an ask of its kind may be refused with
-abbrev pub MayHaveAny : Refusing → Question → Type 0
-MayHaveAny refuses q = (e : Refusal) → CanRefuse q.ask e → refuses q.node q.pass q.ask e
-
--- which calls were asked, and what came of each at once
-abbrev pub Submitting : Type 1
-Submitting = Question → Option (Result Called Refusal) → Type 0
-
--- what came at once of a call that was asked: its receipt, its refusal, or nothing, where a letter will come
-abbrev pub at_once : Result (Option Called) Refusal → Option (Result Called Refusal)
-at_once (Ok None) = None
-at_once (Ok (Some c)) = Some (Ok c)
-at_once (Err e) = Some (Err e)

@@ -1,3 +1,4 @@
 pub mod Advancing
 pub mod Belonging
 pub mod Letters
+pub mod Serving

@@ -1,12 +1,12 @@
 //! A connection of a thread that serves many: its socket and its `Dialogue`, and what goes between them; called by `crowd`.
-ghost use Rattle.std.specs.Prelude.{◌≡◌, ◌≤◌, true, length, take, IsTrue};
+ghost use Rattle.std.specs.Prelude.{◌≡◌, ◌≤◌, ◌↔◌, true, length, take, IsTrue};
 ghost use Rattle.craq_door.specs.declared.dialogue.Phase.TheVariants.{Idle, Waits};
 ghost use Rattle.craq_door.specs.declared.question.Question.{Question};
 
 use crate::host::{Arrival, Host};
 use crate::socket::Socket;
 use craq_calls::refusal_of_call;
-use craq_door::{Dialogue, Permit, Stepped};
+use craq_door::{CallDue, Dialogue, Stepped};
 use craq_letters::Outcome;
 use mio::event::Event;
 use mio::unix::SourceFd;
@@ -109,6 +109,7 @@ impl<S: Socket> Connection<S> {
     ghost use Rattle.craq_ready.specs.Advancing.{AsksHost, HasTurn};
     ghost use Rattle.craq_ready.specs.Belonging.{CameBack, CameByLetter, Gives, Hears, Reads, Writes};
     ghost use Rattle.craq_ready.specs.Letters.{IsOutcome};
+    ghost use Rattle.craq_ready.specs.Serving.{IsDone, is_waiting};
 
     /// What is told of the connection's readiness.
     pub(crate) fn notice(&mut self, event: &Event) {
@@ -124,12 +125,17 @@ impl<S: Socket> Connection<S> {
     }
 
     /// Whether its call is under way: a letter will come.
-    fn waits(&self) -> bool {
+    #[tactic(auto, using(crate::proofs::Serving::found_waiting))]
+    fn waits(&self) -> bool
+        ensures { result ≡ is_waiting self.now.dialogue.phase }
+    {
         self.dialogue.question().is_some()
     }
 
     /// Whether it has ended, and no letter comes to it any more.
-    pub(crate) fn is_done(&self) -> bool {
+    pub(crate) fn is_done(&self) -> bool
+        ensures { IsTrue result ↔ IsDone self.now }
+    {
         self.over && !self.waits()
     }
 
@@ -151,7 +157,9 @@ impl<S: Socket> Connection<S> {
     }
 
     /// After its turn: whether it has something left to do of which no event and no letter will tell.
-    pub(crate) fn stays_busy(&mut self) -> bool {
+    pub(crate) fn stays_busy(&mut self) -> bool
+        ensures { self.new ≡ record self.old { busy = result } }
+    {
         self.busy = self.is_behind();
         self.busy
     }
@@ -308,19 +316,14 @@ impl<S: Socket> Connection<S> {
         self.answer(alloc, host, outcome);
     }
 
-    /// The call that is under way is submitted, under this token, by the right of the step that came to it.
-    #[tactic(auto, using(crate::proofs::Advancing::none_asked, crate::proofs::Advancing::asked_and_waits, crate::proofs::Advancing::asked_and_answered, crate::proofs::Advancing::asked_and_refused))]
-    fn submit<H: Host>(&mut self, alloc: Global, host: &H, permit: Permit, token: usize, few: bool)
+    /// The call that is due is asked, under this token. What comes of it at once, the dialogue is told.
+    #[tactic(auto, using(crate::proofs::Advancing::nothing_came, crate::proofs::Advancing::came_at_once))]
+    fn submit<H: Host>(&mut self, alloc: Global, host: &H, due: CallDue, token: usize, few: bool)
         ensures asked { AsksHost (H.refuses host.now) (H.submits host.now token) self.old.dialogue.phase self.old.dialogue self.new.dialogue }
         ensures stream { self.new.stream ≡ self.old.stream }
     {
-        let Some(question) = self.dialogue.question() else {
-            return;
-        };
-        match host.submit(permit, question, token, few) {
-            Ok(None) => {}
-            Ok(Some(receipt)) => self.answer(alloc, host, Ok(receipt)),
-            Err(refusal) => self.answer(alloc, host, Err(refusal)),
+        if let Some(outcome) = self.dialogue.ask(due, host, token, few) {
+            self.answer(alloc, host, outcome);
         }
     }
 
@@ -338,7 +341,7 @@ impl<S: Socket> Connection<S> {
         for _step in 0..MOST_STEPS {
             match self.dialogue.step(alloc, host) {
                 Stepped::Goes => {}
-                Stepped::Calls(permit) => self.submit(alloc, host, permit, token, few),
+                Stepped::Calls(due) => self.submit(alloc, host, due, token, few),
                 Stepped::Starved => {
                     self.more = false;
                     return;

@@ -2,10 +2,12 @@
 //! connection that has something to do, and sleeps where none has.
 ghost use Rattle.std.specs.Prelude.{◌≡◌, []};
 ghost use Rattle.craq_ready.specs.Advancing.{HasTurnAt, TakeTurns};
-ghost use Rattle.craq_ready.specs.Belonging.{Delivers, DeliversAll, DeliversBrought, OthersStay, StaysVacant, Wakes};
+ghost use Rattle.craq_ready.specs.Belonging.{Delivers, DeliversAll, DeliversBrought, OneByOne, OthersStay, StaysVacant, Wakes};
+ghost use Rattle.craq_ready.specs.Serving.{ReadsAt, Serves, WritesAt};
 
 use crate::connection::Connection;
 use crate::host::{Arrival, Host};
+use crate::socket::Socket;
 use craq_letters::{Letter, Outcome};
 use mio::event::Events;
 use mio::{Poll, Registry, Token, Waker};
@@ -48,6 +50,49 @@ fn advance_at<H: Host>(
         return;
     };
     connection.advance(alloc, host, token, few);
+}
+
+/// The connection under a token reads. No other connection changes; where none is under the token nothing does.
+fn read_at<S: Socket>(
+    connections: &mut Slab<Connection<S>>,
+    token: usize,
+    chunk: &mut [u8],
+    now: u64,
+)
+    ensures reads { ReadsAt S.remaining S.contents connections.old connections.new token }
+    ensures vacant { StaysVacant connections.old connections.new token }
+    ensures others { OthersStay connections.old connections.new token }
+{
+    let Some(connection) = connections.get_mut(token) else {
+        return;
+    };
+    connection.read(chunk, now);
+}
+
+/// What is due to the connection under a token is written. It is let go exactly where it is done, and no other connection changes;
+/// where none is under the token nothing does. Tells whether it has something left to do of which no event and no letter will tell.
+fn give_at<H: Host>(
+    connections: &mut Slab<Connection<Arc<TcpStream>>>,
+    registry: &Registry,
+    host: &H,
+    token: usize,
+    now: u64,
+) -> bool
+    ensures writes { WritesAt ⟦<Arc<TcpStream> as Socket>⟧.remaining ⟦<Arc<TcpStream> as Socket>⟧.contents connections.old connections.new token }
+    ensures vacant { StaysVacant connections.old connections.new token }
+    ensures others { OthersStay connections.old connections.new token }
+{
+    let Some(connection) = connections.get_mut(token) else {
+        return false;
+    };
+    connection.give(now);
+    if !connection.is_done() {
+        return connection.stays_busy();
+    }
+    if let Some(ended) = connections.try_remove(token) {
+        ended.close(registry, host);
+    }
+    false
 }
 
 /// The connections of a thread.
@@ -192,12 +237,19 @@ impl Members {
         }
     }
 
-    /// What has come on the busy connections is read.
-    fn read_all(&mut self) {
+    /// What has come on the busy connections is read: each reads under its own token, one after another, and no other connection
+    /// changes.
+    fn read_all(&mut self)
+        ensures reads { OneByOne (ReadsAt ⟦<Arc<TcpStream> as Socket>⟧.remaining ⟦<Arc<TcpStream> as Socket>⟧.contents) self.old.busy.items self.old.connections self.new.connections }
+        ensures busy { self.new.busy.items ≡ self.old.busy.items }
+    {
         for token in self.busy.iter() {
-            if let Some(connection) = self.connections.get_mut(*token) {
-                connection.read(self.chunk.as_mut_slice(), self.now);
-            }
+            read_at(
+                &mut self.connections,
+                *token,
+                self.chunk.as_mut_slice(),
+                self.now,
+            );
         }
     }
 
@@ -212,40 +264,26 @@ impl Members {
         }
     }
 
-    /// What is due to a connection is written. It is let go once it is done.
-    fn give<H: Host>(&mut self, registry: &Registry, host: &H, token: usize) {
-        let Some(connection) = self.connections.get_mut(token) else {
-            return;
-        };
-        connection.give(self.now);
-        if connection.is_done() {
-            self.let_go(registry, host, token);
-        } else if connection.stays_busy() {
-            let _ = self.later.push(token);
+    /// What is due to the busy connections is written, to one after another, and no other connection changes. Each is let go
+    /// exactly where it is done.
+    fn give_all<H: Host>(&mut self, registry: &Registry, host: &H)
+        ensures { OneByOne (WritesAt ⟦<Arc<TcpStream> as Socket>⟧.remaining ⟦<Arc<TcpStream> as Socket>⟧.contents) self.old.busy.items self.old.connections self.new.connections }
+    {
+        for token in self.busy.iter() {
+            if give_at(&mut self.connections, registry, host, *token, self.now) {
+                // There is room for the token of each connection.
+                let _ = self.later.push(*token);
+            }
         }
-    }
-
-    /// A connection has ended.
-    fn let_go<H: Host>(&mut self, registry: &Registry, host: &H, token: usize) {
-        if let Some(connection) = self.connections.try_remove(token) {
-            connection.close(registry, host);
-        }
-    }
-
-    /// What is due to the busy connections is written.
-    fn give_all<H: Host>(&mut self, registry: &Registry, host: &H) {
-        for _ in 0..self.busy.len() {
-            let Some(token) = self.busy.pop() else {
-                break;
-            };
-            self.give(registry, host, token);
-        }
+        self.busy.clear();
         mem::swap(&mut self.busy, &mut self.later);
     }
 
     /// Each connection that has something to do is served once. All are read before the first takes its steps, and all have taken
     /// them before the first is written to: so a processor does one kind of work for a while.
-    fn step_all<H: Host>(&mut self, registry: &Registry, host: &H) {
+    fn step_all<H: Host>(&mut self, registry: &Registry, host: &H)
+        ensures { Serves ⟦<Arc<TcpStream> as Socket>⟧.remaining ⟦<Arc<TcpStream> as Socket>⟧.contents (H.tells host.now) (H.refuses host.now) (H.submits host.now) self.old.busy.items self.old.connections self.new.connections }
+    {
         self.read_all();
         self.advance_all(host);
         self.give_all(registry, host);

@@ -3,11 +3,10 @@ use crate::accepting::{Served, Server, Serving};
 use crate::connections::Connections;
 use crate::door::ServedStore;
 use crate::logging::Log;
-use craq_door::{Callee, Permit, Question};
+use craq_door::{CallTaker, Permit, Question, Reached};
 use craq_frames::Text;
 use craq_letters::{Letter, Letterbox};
-use craq_model::{Answer, Ask};
-use craq_names::{NodeName, Pass, Refusal};
+use craq_names::Refusal;
 use craq_node::Core;
 use craq_ready::{Arrival, Crowd, Host};
 use craq_seat::CallReceipt;
@@ -34,7 +33,7 @@ struct Crew<'s, 'a, R: Wait, C: Core, G: Gate> {
     crowd: Mutex<Option<Crowd>>,
 }
 
-impl<'s, 'a, R, C, G> Callee for Crew<'s, 'a, R, C, G>
+impl<'s, 'a, R, C, G> Reached for Crew<'s, 'a, R, C, G>
 where
     R: Eprint + Threads + Wait + Clock + Copy + Drop + Send + Sync + 'static,
     C: Core + Send + 'static,
@@ -48,16 +47,12 @@ where
 
     ghost refuses = { λ crew node pass ask refusal. RefusesServed (length crew.callee.store.now.names) node ask refusal };
 
-    fn call(&self, node: NodeName, pass: Pass, ask: Ask) -> Result<(Answer, CallReceipt), Refusal> {
-        self.callee.call(node, pass, ask)
-    }
-
     fn status(&self) -> Result<Text, AllocError> {
         self.callee.status()
     }
 }
 
-impl<'s, 'a, R, C, G> Host for Crew<'s, 'a, R, C, G>
+impl<'s, 'a, R, C, G> CallTaker for Crew<'s, 'a, R, C, G>
 where
     R: Eprint + Threads + Wait + Clock + Copy + Drop + Send + Sync + 'static,
     C: Core + Send + 'static,
@@ -66,8 +61,6 @@ where
     ghost use Rattle.std.specs.Prelude.{⊤};
 
     ghost submits = { λ crew token question came. ⊤ };
-
-    ghost brings = { λ crew old new. ⊤ };
 
     fn submit(
         &self,
@@ -79,6 +72,17 @@ where
         drop(permit);
         self.callee.submit(question, &self.letters, token, few)
     }
+}
+
+impl<'s, 'a, R, C, G> Host for Crew<'s, 'a, R, C, G>
+where
+    R: Eprint + Threads + Wait + Clock + Copy + Drop + Send + Sync + 'static,
+    C: Core + Send + 'static,
+    G: Gate + Send + Sync + 'static,
+{
+    ghost use Rattle.std.specs.Prelude.{⊤};
+
+    ghost brings = { λ crew old new. ⊤ };
 
     fn take_letters(&self, into: &mut Vec<Letter>) {
         self.letters.take(&self.server.rt, into);

@@ -8,7 +8,7 @@ use crate::logging::Log;
 use crate::passes::Passes;
 use crate::status::status_text;
 use craq_calls::pass_after;
-use craq_door::{Callee, Question};
+use craq_door::{Callee, Question, Reached};
 use craq_frames::Text;
 use craq_letters::Letterbox;
 use craq_model::{Answer, Ask};
@@ -33,7 +33,7 @@ pub(crate) struct ServedStore<'a, R: Wait, C: Core, G: Gate> {
     pub(crate) place: usize,
 }
 
-impl<'a, R, C, G> Callee for ServedStore<'a, R, C, G>
+impl<'a, R, C, G> Reached for ServedStore<'a, R, C, G>
 where
     R: Eprint + Wait + Drop,
     C: Core,
@@ -43,16 +43,23 @@ where
 
     ghost refuses = { λ store node pass ask refusal. RefusesServed (length store.store.now.names) node ask refusal };
 
-    fn call(&self, node: NodeName, pass: Pass, ask: Ask) -> Result<(Answer, CallReceipt), Refusal> {
-        let called = self.ask(node, pass, ask);
-        self.tell(&called);
-        called
-    }
-
     fn status(&self) -> Result<Text, AllocError> {
         let chains = self.store.status(&self.rt)?;
         let text = status_text(self.alloc, chains.as_slice())?;
         Ok(Text::of(text))
+    }
+}
+
+impl<'a, R, C, G> Callee for ServedStore<'a, R, C, G>
+where
+    R: Eprint + Wait + Drop,
+    C: Core,
+    G: Gate,
+{
+    fn call(&self, node: NodeName, pass: Pass, ask: Ask) -> Result<(Answer, CallReceipt), Refusal> {
+        let called = self.ask(node, pass, ask);
+        self.tell(&called);
+        called
     }
 }
 

@@ -24,7 +24,8 @@ fn held_bytes() -> [u8; 16]
 }
 
 /// Bounds what the system holds for a connection, in each direction; by itself Linux lets both grow to megabytes. Where it
-/// holds so much of what was written, a write waits for the client. Tells whether the system takes both bounds.
+/// holds so much of what was written, a write waits for the client. Tells whether the system takes both bounds. No contract of the
+/// kit says what the system is asked, so none stands here: `./hostile` measures what it holds.
 pub(crate) fn bound_buffers(stream: &TcpStream) -> bool {
     let (fd, level, value) = (stream.as_raw_fd(), net::SOL_SOCKET, held_bytes());
     let sends = unsafe { net::setsockopt(fd, level, net::SO_SNDBUF, &value, INT_BYTES) };

@@ -2,13 +2,13 @@ use Rattle.craq_door.proofs.TwoHalves.{halves_closed, halves_door, halves_refusa
 use Rattle.craq_door.proofs.laws.halves_are_a_turn.Goals as goal
 
 pub returns-clause-turn : goal.returns-clause-turn
-returns-clause-turn g c = halves_turn (g.C.Callee.tells c.args.callee.now)
+returns-clause-turn g c = halves_turn (g.C.Reached.tells c.args.callee.now)
 
 pub returns-clause-door : goal.returns-clause-door
-returns-clause-door g c = halves_door (g.C.Callee.tells c.args.callee.now) (g.C.Callee.refuses c.args.callee.now)
+returns-clause-door g c = halves_door (g.C.Reached.tells c.args.callee.now) (g.C.Reached.refuses c.args.callee.now)
 
 pub returns-clause-refusable : goal.returns-clause-refusable
-returns-clause-refusable g c = halves_refusable (g.C.Callee.tells c.args.callee.now) (g.C.Callee.refuses c.args.callee.now)
+returns-clause-refusable g c = halves_refusable (g.C.Reached.tells c.args.callee.now) (g.C.Reached.refuses c.args.callee.now)
 
 pub returns-clause-or_closed : goal.returns-clause-or_closed
-returns-clause-or_closed g c = halves_closed (g.C.Callee.tells c.args.callee.now)
+returns-clause-or_closed g c = halves_closed (g.C.Reached.tells c.args.callee.now)

@@ -6,10 +6,10 @@ use Rattle.craq_door.proofs.door.CallDoorDoor.ask.Goals as goal
 
 pub returns-clause-turn : goal.returns-clause-turn
 returns-clause-turn g c =
-    let refuses = g.C.Callee.refuses c.args.self.now.callee in
+    let refuses = g.C.Reached.refuses c.args.self.now.callee in
     let full : HasNoRoom c.begin.new.self → IsFull c.args.self.now.calls = begun_full _ _ _ _ c.begin.ensures.capacity c.begin.ensures.receipts in
     let refused = all_lacks_too (HasNoRoom c.begin.new.self) (IsFull c.args.self.now.calls) refuses c.args.message c.reply.result full c.reply.ensures.refused in (
-      came_turn (g.C.Callee.tells c.args.self.now.callee) (or_memory_where (IsFull c.args.self.now.calls) refuses) _ _ c.args.message c.reply.result c.told.result _ c.begin.ensures.receipts c.reply.ensures.replied refused c.reply.ensures.same c.told.ensures.told,
+      came_turn (g.C.Reached.tells c.args.self.now.callee) (or_memory_where (IsFull c.args.self.now.calls) refuses) _ _ c.args.message c.reply.result c.told.result _ c.begin.ensures.receipts c.reply.ensures.replied refused c.reply.ensures.same c.told.ensures.told,
       c.reply.ensures.keeps ∙ c.begin.ensures.keeps,
       c.reply.ensures.callee,
     )

@@ -7,4 +7,4 @@ invariant-loop-step g l =
     (l.self.stream ≡ l.fn.self.stream)
     × (l.fn.self.over ≡ false)
     × (l._step ≤ 64)
-    × TakesSteps (g.H.Callee.tells l.fn.host) (g.H.Callee.refuses l.fn.host) (g.H.Host.submits l.fn.host l.fn.token) l.fn.self.dialogue l._step l.self.dialogue
+    × TakesSteps (g.H.Reached.tells l.fn.host) (g.H.Reached.refuses l.fn.host) (g.H.CallTaker.submits l.fn.host l.fn.token) l.fn.self.dialogue l._step l.self.dialogue

@@ -4,4 +4,4 @@ use Rattle.craq_ready.proofs.crowd.Members.advance_all.Given as goal
 
 abbrev pub invariant-loop-token : goal.invariant-loop-token
 invariant-loop-token g l =
-    TakeTurns (g.H.Callee.tells l.fn.host) (g.H.Callee.refuses l.fn.host) (g.H.Host.submits l.fn.host) (take l.token-index l.token-items) l.fn.self.connections l.self.1.1.0
+    TakeTurns (g.H.Reached.tells l.fn.host) (g.H.Reached.refuses l.fn.host) (g.H.CallTaker.submits l.fn.host) (take l.token-index l.token-items) l.fn.self.connections l.self.1.1.0

@@ -1,0 +1,46 @@
+-- Connections in a slab that read, or have what is due to them written.
+use Rattle.std.proofs.Common.{◌≡◌, ◌↔◌, ℕ, Bool, true, false, IsTrue, List, is_some, Option, Some, None, sym, refl, subst}
+use Rattle.slab.specs.Slab.{Slab, get, with_value}
+use Rattle.slab.proofs.SlabLemmas.{Updates-with_value}
+use Rattle.craq_door.specs.Dialogues.{IsUnderWay}
+use Rattle.craq_door.specs.declared.dialogue.Phase.{Phase}
+use Rattle.craq_door.specs.declared.dialogue.Phase.TheVariants as phases
+use Rattle.craq_door.specs.declared.question.Question.{Question}
+use Rattle.craq_ready.specs.declared.connection.Connection.{Connection}
+use Rattle.craq_ready.specs.Serving.{HasRead, HasWritten, IsDone, ReadsAt, StaysUnlessDone, WritesAt, is_waiting}
+
+-- whether a call is found is whether one is under way
+pub found_waiting : (phase : Phase) (found : Option Question) → IsUnderWay phase found → is_some found ≡ is_waiting phase
+found_waiting phases.Idle found is = rw is refl
+found_waiting (phases.Asks m) found is = rw is refl
+found_waiting (phases.Waits q) found is = rw is refl
+found_waiting (phases.Over why) found is = rw is refl
+
+-- what does not hold is said not to
+pub told_not : {P : Type 0} (told : Bool) → IsTrue told ↔ P → told ≡ false → ¬ P
+told_not told says off = λ p. (let yes : told ≡ true = says.1 p in cc)
+
+module _ {S : Type 0} (remaining contents : S → Option (List ℕ)) where
+  -- a connection that read is what is under its token
+  pub read_at : (s : Slab (Connection S)) (token : ℕ) (c d : Connection S) → get s token ≡ Some c → HasRead remaining contents c d
+      → ReadsAt remaining contents s (with_value s token d) token
+  read_at s token c d was read c' here =
+      let e : c' ≡ c = cc in
+      let is : get (with_value s token d) token ≡ Some d = (Updates-with_value s token d (rw was refl)).changed in
+      rw e (d, is, read)
+
+  -- a connection that is not done stays under its token
+  pub kept_at : (s : Slab (Connection S)) (token : ℕ) (c d e : Connection S) (busy : Bool) → get s token ≡ Some c → HasWritten remaining contents c d
+      → ¬ IsDone d → e ≡ record d { busy = busy } → WritesAt remaining contents s (with_value s token e) token
+  kept_at s token c d e busy was written stays same c' here =
+      let e' : c' ≡ c = cc in
+      let is : get (with_value s token e) token ≡ Some e = (Updates-with_value s token e (rw was refl)).changed in
+      let kept : e ≡ record d { busy = e.busy } = rw same refl in
+      rw e' (d, written, subst (λ (x : Option (Connection S)). StaysUnlessDone d x) (sym is) (stays, kept))
+
+  -- a connection that is done is let go
+  pub gone_at : (s t : Slab (Connection S)) (token : ℕ) (c d : Connection S) → get s token ≡ Some c → HasWritten remaining contents c d
+      → IsDone d → get t token ≡ None → WritesAt remaining contents s t token
+  gone_at s t token c d was written done gone c' here =
+      let e' : c' ≡ c = cc in
+      rw e' (d, written, subst (λ (x : Option (Connection S)). StaysUnlessDone d x) (sym gone) done)

@@ -1,0 +1,8 @@
+use Rattle.std.proofs.Common.{take}
+use Rattle.craq_ready.specs.Belonging.{OneByOne}
+use Rattle.craq_ready.specs.contracts.socket.ArcTcpStreamSocket.TheImpl.{remaining-value, contents-value}
+use Rattle.craq_ready.specs.Serving.{ReadsAt}
+use Rattle.craq_ready.proofs.crowd.Members.read_all.Given as goal
+
+abbrev pub invariant-loop-token : goal.invariant-loop-token
+invariant-loop-token l = OneByOne (ReadsAt remaining-value.it contents-value.it) (take l.token-index l.token-items) l.fn.self.connections l.self.1.1.0

@@ -1,0 +1,15 @@
+use Rattle.std.proofs.Common.{sym}
+use Rattle.craq_ready.proofs.Serving.{gone_at, kept_at, told_not}
+use Rattle.craq_ready.proofs.crowd.give_at.Goals as goal
+
+pub returns-then-not-is_done-clause-writes : goal.returns-then-not-is_done-clause-writes
+returns-then-not-is_done-clause-writes g c =
+    kept_at _ _ c.args.connections.now c.args.token c.in-Some.connection.now c.give.new.self c.stays_busy.new.self c.stays_busy.result
+    (sym c.in-Some.ensures.value) (record { writes = c.give.ensures.writes; given = c.give.ensures.remaining })
+    (told_not c.is_done.result c.is_done.ensures c.if-not-is_done.true) c.stays_busy.ensures
+
+pub returns-in-Some-try_remove-clause-writes : goal.returns-in-Some-try_remove-clause-writes
+returns-in-Some-try_remove-clause-writes g c =
+    gone_at _ _ c.args.connections.now c.try_remove.new.self c.args.token c.in-Some.connection.now c.give.new.self
+    (sym c.in-Some.ensures.value) (record { writes = c.give.ensures.writes; given = c.give.ensures.remaining })
+    (c.is_done.ensures.0 c.if-not-is_done.false) c.try_remove.ensures.updates.changed

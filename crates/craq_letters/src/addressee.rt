@@ -1,14 +1,26 @@
 //! `Addressee`: the right to put one letter into a box, in which there is room for it; made and told by `craq_workers`.
+ghost use Rattle.std.specs.Prelude.{◌≡◌, IfOk};
+
 use crate::letterbox::Letterbox;
 use crate::pile::Outcome;
 use std::alloc::AllocError;
+use std::marker::Model;
 use std::sync::{Arc, Wait};
 
 /// Where the reply to one ask goes, and under which token. Whoever has it has to tell it a reply, or its owner waits for good.
+/// A contract sees its token.
 #[derive(Drop)]
 pub struct Addressee {
     letters: Arc<Letterbox>,
     token: usize,
+}
+
+impl Model for Addressee {
+    ghost use Rattle.std.specs.Prelude.{ℕ};
+
+    ghost Value = { ℕ };
+
+    ghost view = { λ a. a.token };
 }
 
 impl Addressee {
@@ -17,7 +29,9 @@ impl Addressee {
         rt: &R,
         letters: &Arc<Letterbox>,
         token: usize,
-    ) -> Result<Self, AllocError> {
+    ) -> Result<Self, AllocError>
+        ensures { IfOk result (λ a. a ≡ token) }
+    {
         let letters = Arc::try_clone(letters)?;
         letters.expect(rt)?;
         Ok(Addressee { letters, token })

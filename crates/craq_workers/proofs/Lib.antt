@@ -2,3 +2,4 @@ pub mod Answered
 pub mod Memberships
 pub mod Names
 pub mod Owed
+pub mod Telling

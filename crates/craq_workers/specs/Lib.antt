@@ -1,3 +1,4 @@
 pub mod Clients
 pub mod Stores
+pub mod Told
 pub mod Turns

@@ -7,11 +7,12 @@ use crate::bell::Bell;
 use crate::node::{Brought, Entrances, RunningNode, Waiting, Way};
 use crate::replies::Replies;
 use crate::steps::{QueuedAsk, dismiss};
+use crate::told::Unanswered;
 use craq_held::ChainBook;
 use craq_model::Config;
 use craq_names::{ChainId, NodeId, Refusal, Same};
 use craq_node::Core;
-use craq_seat::{Caller, Opening};
+use craq_seat::Opening;
 use crossbeam_channel::{SendError, Sender};
 use std::alloc::{AllocError, Global};
 use std::mem;
@@ -284,8 +285,7 @@ fn empty<R: Wait, C: Core>(rt: &R, alloc: Global, node: &RunningNode<C>) {
     drop(seated);
     let mut replies = Replies::new(alloc);
     for caller in callers {
-        let Caller { ticket: _, at } = caller;
-        replies.add(rt, at, Err(Refusal::Closed));
+        replies.add(rt, Unanswered::waited(caller), Err(Refusal::Closed));
     }
     replies.tell(rt);
     refuse_queued(rt, node, &Refusal::Closed);

@@ -16,6 +16,7 @@ mod replies;
 mod shared;
 mod steps;
 mod store;
+mod told;
 mod turn;
 mod unsent;
 mod work;

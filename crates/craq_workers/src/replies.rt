@@ -1,66 +1,115 @@
 //! What the callers that a step answers are told, kept until its lock is free; for whoever takes a step.
+ghost use Rattle.std.specs.Prelude.{◌≡◌, ◌++◌, ◌∷◌, [], None, Some, IfSome};
+ghost use Rattle.craq_workers.specs.Told.{IsReplyTo, Keeps, caller_under, reply_to, without_caller};
+
+use crate::told::{Told, Unanswered};
 use craq_letters::{Addressee, Outcome};
 use craq_names::Ticket;
 use craq_seat::Caller;
 use std::alloc::{AllocFailed, Global};
+use std::marker::Model;
 use std::sync::Wait;
-
-/// A reply, and where the caller waits for it.
-#[derive(Drop)]
-struct Told {
-    caller: Addressee,
-    reply: Outcome,
-}
 
 /// How many replies there is room for once there is one.
 const ROOM: usize = 16;
 
-/// The replies of a step, until they are told.
-#[derive(Drop)]
+/// The replies of a step, until they are told. It has no drop, so that they are. A contract sees them in order.
 pub(crate) struct Replies {
     waiting: Vec<Told>,
 }
 
-/// Tells a caller its reply.
-fn tell<R: Wait>(rt: &R, told: Told) {
-    let Told { caller, reply } = told;
-    caller.tell(rt, reply);
+impl Model for Replies {
+    ghost use Rattle.std.specs.Prelude.{List};
+    ghost use Rattle.craq_workers.specs.Told.{Reply};
+
+    ghost Value = { List Reply };
+
+    ghost view = { λ r. r.waiting.items };
 }
 
 impl Replies {
     /// No replies yet. It takes no memory.
-    pub(crate) fn new(alloc: Global) -> Self {
+    pub(crate) fn new(alloc: Global) -> Self
+        ensures { result ≡ [] }
+    {
         Replies {
             waiting: Vec::new(alloc),
         }
     }
 
-    /// A reply more. Where there is no room for it the caller is told at once.
-    pub(crate) fn add<R: Wait>(&mut self, rt: &R, caller: Addressee, reply: Outcome) {
+    /// Room for replies is made at the first. Without memory there is none.
+    fn make_room(&mut self)
+        ensures { self.new ≡ self.old }
+    {
         if self.waiting.is_empty() {
             drop(self.waiting.reserve(ROOM));
         }
-        if let Err(refused) = self.waiting.push(Told { caller, reply }) {
-            let AllocFailed { value } = refused;
-            tell(rt, value);
+    }
+
+    /// A reply is kept behind the others, or given back where there is no room for it.
+    fn keep(&mut self, told: Told) -> Option<Told>
+        ensures kept { result ≡ None → self.new ≡ self.old ++ told ∷ [] }
+        ensures back { IfSome result (λ t. (t ≡ told) × (self.new ≡ self.old)) }
+    {
+        match self.waiting.push(told) {
+            Ok(()) => None,
+            Err(refused) => {
+                let AllocFailed { value } = refused;
+                Some(value)
+            }
+        }
+    }
+
+    /// A reply more. Where there is no room for it the caller is told at once.
+    pub(crate) fn add<R: Wait>(&mut self, rt: &R, caller: Unanswered, outcome: Outcome)
+        requires { IsReplyTo caller.ticket outcome }
+        ensures { Keeps self.old (record { to = caller; outcome = outcome } ∷ []) self.new }
+    {
+        self.make_room();
+        if let Some(told) = self.keep(Told::new(caller, outcome)) {
+            told.tell(rt);
+        }
+    }
+
+    /// The reply for the caller that waits under this ticket, who then waits no more. Where none does, nobody is told.
+    pub(crate) fn add_under<R: Wait>(
+        &mut self,
+        rt: &R,
+        callers: &mut Vec<Caller<Addressee>>,
+        ticket: Ticket,
+        outcome: Outcome,
+    )
+        requires { IsReplyTo (Some ticket) outcome }
+        ensures told { Keeps self.old (reply_to (caller_under callers.old.items ticket) outcome) self.new }
+        ensures others { callers.new.items ≡ without_caller callers.old.items ticket }
+    {
+        match take_caller(callers, ticket) {
+            Some(caller) => self.add(rt, Unanswered::waited(caller), outcome),
+            None => drop(outcome),
         }
     }
 
     /// Tells all of them, in order.
     pub(crate) fn tell<R: Wait>(self, rt: &R) {
-        for told in self.waiting {
-            tell(rt, told);
+        let Replies { waiting } = self;
+        for told in waiting {
+            told.tell(rt);
         }
     }
 }
 
 /// The caller that waits under this ticket, who then waits no more. The others stay in their order: who asked first is answered
 /// first, and so found first.
-pub(crate) fn take_caller(
-    callers: &mut Vec<Caller<Addressee>>,
-    ticket: Ticket,
-) -> Option<Addressee> {
-    let place = callers.iter().position(|caller| caller.ticket == ticket)?;
-    let Caller { ticket: _, at } = callers.remove(place);
-    Some(at)
+fn take_caller(callers: &mut Vec<Caller<Addressee>>, ticket: Ticket) -> Option<Caller<Addressee>>
+    ensures caller { result ≡ caller_under callers.old.items ticket }
+    ensures others { callers.new.items ≡ without_caller callers.old.items ticket }
+{
+    let mut place = 0;
+    while place < callers.len() {
+        if callers[place].ticket == ticket {
+            return Some(callers.remove(place));
+        }
+        place += 1;
+    }
+    None
 }

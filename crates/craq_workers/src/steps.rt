@@ -1,22 +1,29 @@
 //! A step of a node whose seat is locked: an ask's or another event's, with its replies; and the messages of the last step.
 //! Called by `shared`, `work` and `store`, under the lock.
-ghost use Rattle.std.specs.Prelude.{◌≡◌, ◌∷◌, ◌⊎◌, ◌↔◌, [], None, IfSome, IsNone, IsTrue};
+ghost use Rattle.std.specs.Prelude.{◌≡◌, ◌∷◌, ◌⊎◌, ◌↔◌, [], None, Err, Ok, IfOk, IfSome, IsNone, IsTrue, OnErr, Result, Vec, List, ℕ, false, option_map};
 ghost use Rattle.std.specs.Option.{option_copied};
+ghost use Rattle.std.specs.declared.alloc.AllocError.{AllocError};
+ghost use Rattle.std.specs.declared.alloc.Global.{Global};
 ghost use Rattle.craq_node.specs.Represented.{CanArrive};
 ghost use Rattle.craq_runs.specs.Chain.{sent_in};
+ghost use Rattle.craq_names.specs.declared.refusal.Refusal.{Refusal};
+ghost use Rattle.craq_seat.specs.Calls.{Called};
 ghost use Rattle.craq_seat.specs.Cells.{receipt_of};
+ghost use Rattle.craq_seat.specs.declared.seat.Caller.{Caller};
 ghost use Rattle.craq_seat.specs.Numbered.{CanBeSent, numbered_from};
 ghost use Rattle.craq_sending.specs.declared.sending.Kind.TheVariants as kinds;
 ghost use Rattle.craq_sending.specs.Sent.{AreSentAs, OnlySends};
+ghost use Rattle.craq_workers.specs.Told.{IsReplyTo, IsTold, Keeps, Reply, Settles, TellsCallers, Waits, is_own, others_of, own_receipt, replies_to, said_by, said_to, ticket_of, waiting_after, without_memory};
 
-use crate::replies::{Replies, take_caller};
+use crate::replies::Replies;
+use crate::told::Unanswered;
 use craq_letters::{Addressee, Letterbox, Outcome};
 use craq_model::{Ask, Event, Out, Step};
 use craq_names::{Pass, Refusal, Ticket};
 use craq_node::Core;
 use craq_seat::{BookCell, CallReceipt, Caller, Cell, Receipt, Seated};
 use craq_sending::{Kind, LoneAck, Sent, encode_sent, only_sends};
-use std::alloc::{AllocError, AllocFailed, Global};
+use std::alloc::{AllocError, Global};
 use std::mem;
 use std::sync::{Arc, Wait};
 
@@ -109,36 +116,49 @@ fn answer<R: Wait>(
     receipts: Vec<CallReceipt>,
     ticket: Option<Ticket>,
     replies: &mut Replies,
-) -> Option<Outcome> {
+) -> Option<Outcome>
+    ensures own { result ≡ option_map Ok (own_receipt ticket receipts.items) }
+    ensures told { Keeps replies.old (replies_to callers.old.items (others_of ticket receipts.items)) replies.new }
+    ensures others { callers.new.items ≡ waiting_after callers.old.items (others_of ticket receipts.items) }
+{
     let mut own = None;
     for receipt in receipts {
-        if ticket == Some(receipt.ticket()) {
+        if is_own(&ticket, &receipt) {
             own = Some(Ok(receipt));
         } else {
-            match take_caller(callers, receipt.ticket()) {
-                Some(caller) => replies.add(rt, caller, Ok(receipt)),
-                None => drop(receipt),
-            }
+            let at = receipt.ticket();
+            replies.add_under(rt, callers, at, Ok(receipt));
         }
     }
     own
+}
+
+/// Whether a receipt is of the call under this ticket.
+fn is_own(ticket: &Option<Ticket>, receipt: &CallReceipt) -> bool
+    ensures { result ≡ is_own ticket.now receipt.now }
+{
+    match ticket {
+        Some(ticket) => receipt.ticket() == *ticket,
+        None => false,
+    }
 }
 
 /// The callers whose calls a step answered are refused for want of memory.
 fn give_up_step<R: Wait>(
     rt: &R,
     callers: &mut Vec<Caller<Addressee>>,
-    step: Option<&Step>,
+    outs: &[Out],
     replies: &mut Replies,
-) {
-    let Some(step) = step else {
-        return;
-    };
-    for out in step.outs.as_slice() {
-        if let Out::Answer { ticket, .. } = out {
-            if let Some(caller) = take_caller(callers, *ticket) {
-                replies.add(rt, caller, Err(Refusal::Memory));
+)
+    ensures told { Keeps replies.old (replies_to callers.old.items (without_memory outs.now)) replies.new }
+    ensures others { callers.new.items ≡ waiting_after callers.old.items (without_memory outs.now) }
+{
+    for out in outs {
+        match out {
+            Out::Answer { ticket, .. } => {
+                replies.add_under(rt, callers, *ticket, Err(Refusal::Memory));
             }
+            Out::Send { .. } => (),
         }
     }
 }
@@ -150,12 +170,18 @@ fn finish<R: Wait, C: Core>(
     calls: Result<Vec<CallReceipt>, AllocError>,
     ticket: Option<Ticket>,
     replies: &mut Replies,
-) -> Option<Outcome> {
+) -> Option<Outcome>
+    ensures own { result ≡ said_to ticket calls }
+    ensures told { Keeps replies.old (replies_to seated.old.callers.items (said_by calls seated.old.desk.cell.last ticket)) replies.new }
+    ensures others { seated.new.callers.items ≡ waiting_after seated.old.callers.items (said_by calls seated.old.desk.cell.last ticket) }
+    ensures desk { seated.new.desk ≡ seated.old.desk }
+{
     match calls {
         Ok(receipts) => answer(rt, &mut seated.callers, receipts, ticket, replies),
         Err(_) => {
-            let step = seated.desk.cell().last();
-            give_up_step(rt, &mut seated.callers, step, replies);
+            if let Some(step) = seated.desk.cell().last() {
+                give_up_step(rt, &mut seated.callers, step.outs.as_slice(), replies);
+            }
             Some(Err(Refusal::Memory))
         }
     }
@@ -171,6 +197,8 @@ pub(crate) fn take_event<R: Wait, C: Core>(
     replies: &mut Replies,
 ) -> bool
     requires { CanArrive event }
+    ensures taken { IsTrue result → (calls : Result (Vec Called Global) AllocError) × TellsCallers seated.old seated.new.desk seated.new.callers.items event 0 None calls replies.old replies.new }
+    ensures same { result ≡ false → (seated.new.callers.items ≡ seated.old.callers.items) × (replies.new ≡ replies.old) }
 {
     match seated.desk.take(alloc, event, Pass::start()) {
         Ok((_, calls)) => {
@@ -190,7 +218,12 @@ fn take_ask<R: Wait, C: Core>(
     ask: Ask,
     pass: Pass,
     replies: &mut Replies,
-) -> Result<Taken, Refusal> {
+) -> Result<Taken, Refusal>
+    ensures own { IfOk result (λ taken. IfSome taken.reply (λ reply. IsReplyTo taken.ticket reply)) }
+    ensures taken { IfOk result (λ taken. (calls : Result (Vec Called Global) AllocError) × TellsCallers seated.old seated.new.desk seated.new.callers.items (Event.Ask ask) pass taken.ticket calls replies.old replies.new × (taken.reply ≡ said_to taken.ticket calls)) }
+    ensures ticket { IfOk result (λ taken. taken.ticket ≡ ticket_of seated.new.desk.cell.last) }
+    ensures same { OnErr result ((seated.new.callers.items ≡ seated.old.callers.items) × (replies.new ≡ replies.old)) }
+{
     if seated.callers.reserve(1).is_err() {
         drop(ask);
         return Err(Refusal::Memory);
@@ -213,15 +246,21 @@ pub(crate) fn take_queued<R: Wait, C: Core>(
     seated: &mut SeatedNode<C>,
     asked: QueuedAsk,
     replies: &mut Replies,
-) -> bool {
+) -> bool
+    ensures taken { IsTrue result → (calls : Result (Vec Called Global) AllocError) × (callers : List (Caller ℕ)) × (mid : List Reply)
+        × TellsCallers seated.old seated.new.desk callers (Event.Ask asked.ask) asked.pass (ticket_of seated.new.desk.cell.last) calls replies.old mid
+        × Settles asked.caller (ticket_of seated.new.desk.cell.last) (said_to (ticket_of seated.new.desk.cell.last) calls) callers seated.new.callers.items mid replies.new }
+    ensures refused { result ≡ false → (e : Refusal) × IsTold (record { ticket = None; token = asked.caller }) (Err e) seated.old.callers.items seated.new.callers.items replies.old replies.new }
+{
     let QueuedAsk { ask, pass, caller } = asked;
+    let caller = Unanswered::of(caller);
     match take_ask(rt, alloc, seated, ask, pass, replies) {
         Err(refusal) => {
             replies.add(rt, caller, Err(refusal));
             false
         }
         Ok(taken) => {
-            settle(rt, seated, caller, taken, replies);
+            settle(rt, &mut seated.callers, caller, taken, replies);
             true
         }
     }
@@ -235,40 +274,43 @@ pub(crate) fn refuse_asked<R: Wait>(rt: &R, asked: QueuedAsk, replies: &mut Repl
         caller,
     } = asked;
     drop(ask);
-    replies.add(rt, caller, Err(Refusal::Closed));
+    replies.add(rt, Unanswered::of(caller), Err(Refusal::Closed));
 }
 
 /// The caller of an ask that was taken is told, where there is a reply, or waits.
-fn settle<R: Wait, C: Core>(
+fn settle<R: Wait>(
     rt: &R,
-    seated: &mut SeatedNode<C>,
-    caller: Addressee,
+    callers: &mut Vec<Caller<Addressee>>,
+    caller: Unanswered,
     taken: Taken,
     replies: &mut Replies,
-) {
+)
+    requires { IfSome taken.reply (λ reply. IsReplyTo taken.ticket reply) }
+    ensures { Settles caller.token taken.ticket taken.reply callers.old.items callers.new.items replies.old replies.new }
+{
     let Taken { ticket, reply } = taken;
     match reply {
-        Some(reply) => replies.add(rt, caller, reply),
-        None => wait_at(rt, seated, caller, ticket, replies),
+        Some(reply) => replies.add(rt, caller.accepted(ticket), reply),
+        None => wait_at(rt, callers, caller, ticket, replies),
     }
 }
 
 /// The caller waits under this ticket.
-fn wait_at<R: Wait, C: Core>(
+fn wait_at<R: Wait>(
     rt: &R,
-    seated: &mut SeatedNode<C>,
-    caller: Addressee,
+    callers: &mut Vec<Caller<Addressee>>,
+    caller: Unanswered,
     ticket: Option<Ticket>,
     replies: &mut Replies,
-) {
+)
+    ensures { Waits caller.token ticket callers.old.items callers.new.items replies.old replies.new }
+{
     let Some(ticket) = ticket else {
-        replies.add(rt, caller, Err(Refusal::Closed));
+        replies.add(rt, caller.accepted(None), Err(Refusal::Closed));
         return;
     };
-    if let Err(refused) = seated.callers.push(Caller { ticket, at: caller }) {
-        let AllocFailed { value } = refused;
-        let Caller { ticket: _, at } = value;
-        replies.add(rt, at, Err(Refusal::Memory));
+    if let Err(refused) = caller.wait(callers, ticket) {
+        replies.add(rt, refused, Err(Refusal::Memory));
     }
 }
 
@@ -293,39 +335,45 @@ pub(crate) fn take_own<R: Wait, C: Core>(
             }
             (
                 true,
-                expect_letter(rt, seated, ticket, letters, token, replies),
+                expect_letter(rt, &mut seated.callers, ticket, letters, token, replies),
             )
         }
     }
 }
 
 /// The caller's letter will come, under this ticket. Where there is no room for it, that is the reply.
-fn expect_letter<R: Wait, C: Core>(
+fn expect_letter<R: Wait>(
     rt: &R,
-    seated: &mut SeatedNode<C>,
+    callers: &mut Vec<Caller<Addressee>>,
     ticket: Option<Ticket>,
     letters: &Arc<Letterbox>,
     token: usize,
     replies: &mut Replies,
-) -> Option<Outcome> {
+) -> Option<Outcome>
+    ensures waits { result ≡ None → Waits token ticket callers.old.items callers.new.items replies.old replies.new }
+    ensures told { IfSome result (λ outcome. (outcome ≡ Err Refusal.Memory) × (callers.new.items ≡ callers.old.items) × (replies.new ≡ replies.old)) }
+{
     match Addressee::expect(rt, letters, token) {
         Err(_) => Some(Err(Refusal::Memory)),
         Ok(caller) => {
-            wait_at(rt, seated, caller, ticket, replies);
+            wait_at(rt, callers, Unanswered::of(caller), ticket, replies);
             None
         }
     }
 }
 
 /// The ticket of the ask that a step accepted.
-fn last_ticket(step: Option<&Step>) -> Option<Ticket> {
+fn last_ticket(step: Option<&Step>) -> Option<Ticket>
+    ensures { result ≡ ticket_of (option_copied step.entry) }
+{
     step?.ticket
 }
 
 /// All callers that wait, who then wait no more.
-pub(crate) fn dismiss<C: Core>(
-    alloc: Global,
-    seated: &mut SeatedNode<C>,
-) -> Vec<Caller<Addressee>> {
+pub(crate) fn dismiss<C: Core>(alloc: Global, seated: &mut SeatedNode<C>) -> Vec<Caller<Addressee>>
+    ensures all { result.items ≡ seated.old.callers.items }
+    ensures none { seated.new.callers.items ≡ [] }
+    ensures desk { seated.new.desk ≡ seated.old.desk }
+{
     mem::replace(&mut seated.callers, Vec::new(alloc))
 }

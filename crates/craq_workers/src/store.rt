@@ -14,6 +14,7 @@ use crate::opening::{Form, add_workers, open_chains, open_node};
 use crate::replies::Replies;
 use crate::shared::{Return, Shared};
 use crate::steps::{dismiss, sent_by_book};
+use crate::told::Unanswered;
 use crate::work::{Worker, master_of, work};
 use craq_epochs::{MEMBER_LIMIT, is_among};
 use craq_held::ChainBook;
@@ -260,14 +261,14 @@ impl<C: Core + Send + 'static, G: Gate + Send + Sync + 'static> Store<C, G> {
     /// refuses a stop.
     pub fn stop<R: Wait>(&self, rt: &R, chain: ChainId, node: NodeId) -> Result<Receipt, Refusal> {
         let node = self.shared.chain(chain)?.node(rt, node)?;
-        let mut replies = Replies::new(self.alloc);
         let mut seated = node.seat.lock(rt);
         let (receipt, _) = seated.desk.take(self.alloc, Event::Stop, Pass::start())?;
         let callers = dismiss(self.alloc, &mut seated);
         drop(seated);
         node.halt();
+        let mut replies = Replies::new(self.alloc);
         for caller in callers {
-            replies.add(rt, caller.at, Err(Refusal::Stopped));
+            replies.add(rt, Unanswered::waited(caller), Err(Refusal::Stopped));
         }
         replies.tell(rt);
         Ok(receipt)

@@ -1,0 +1,152 @@
+-- Who is told what while outcomes go to the callers under their tickets, one after another.
+use Rattle.std.proofs.Common.{◌≡◌, ◌⊎◌, ◌==◌, ◌∙◌, ◌++◌, append_assoc, append-nil, inl, inr, refl, sym, ap, subst, ℕ, Bool, true, false, List, [], ◌∷◌, Option, Some, None, option_map, Result, Ok, Err, IfOk, IfSome, arith, filter}
+use Rattle.std.proofs.lemmas.Bool.{eqb-true}
+use Rattle.std.specs.Prelude.{Vec}
+use Rattle.std.specs.List.{last_or}
+use Rattle.std.specs.declared.alloc.AllocError.{AllocError}
+use Rattle.std.specs.declared.alloc.Global.{Global}
+use Rattle.craq_names.specs.declared.refusal.Refusal.{Refusal}
+use Rattle.craq_model.specs.declared.ask.Event.{Event}
+use Rattle.craq_model.specs.declared.step.Step.{Step}
+use Rattle.craq_seat.specs.Calls.{Called, CallsOf, Desked}
+use Rattle.craq_seat.specs.Cells.{receipt_of}
+use Rattle.craq_seat.specs.declared.journal.Receipt.{Receipt}
+use Rattle.craq_seat.specs.declared.seat.Seated.{Seated}
+use Rattle.craq_seat.specs.declared.seat.Caller.{Caller}
+use Rattle.craq_workers.specs.Told.{AreSomeOf, Asked, IsReplyTo, Keeps, Reply, caller_under, is_own, others_of, own_receipt, replies_to, reply_to, said_by, said_to, TellsCallers, waiting_after, without_caller}
+
+abbrev pub Outcomes : Type 0
+Outcomes = List (ℕ × Result Called Refusal)
+
+-- who is found under a ticket has it
+pub found_under : (callers : List (Caller ℕ)) (ticket : ℕ) (c : Caller ℕ) → Some c ≡ caller_under callers ticket → c.ticket ≡ ticket
+found_under [] ticket c is = absurd cc
+found_under (d ∷ ds) ticket c is = grind (arith, found_under ds ticket c)
+
+-- a reply that may be given under a ticket may be given to who is found there
+pub to_found : (callers : List (Caller ℕ)) (ticket : ℕ) (c : Caller ℕ) (o : Result Called Refusal) → Some c ≡ caller_under callers ticket → IsReplyTo (Some ticket) o → IsReplyTo (Some c.ticket) o
+to_found callers ticket c o is may = subst (λ (n : ℕ). IsReplyTo (Some n) o) (sym (found_under callers ticket c is)) may
+
+pub keeps_none : (old : List Reply) → Keeps old [] old
+keeps_none old = ([], sym (append-nil old), tt)
+
+-- a reply is kept, or given back and so told at once
+pub kept_or_told : (old new : List Reply) (t : Reply) (left : Option Reply) → (left ≡ None → new ≡ old ++ t ∷ []) → IfSome left (λ (u : Reply). (u ≡ t) × (new ≡ old)) → Keeps old (t ∷ []) new
+kept_or_told old new t None kept back = (t ∷ [], kept refl, inl (refl, tt))
+kept_or_told old new t (Some u) kept back = ([], back.1 ∙ sym (append-nil old), tt)
+
+-- nobody is told where nobody is found
+pub none_told : (old : List Reply) (found : Option (Caller ℕ)) (o : Result Called Refusal) → None ≡ found → Keeps old (reply_to found o) old
+none_told old found o is = subst (λ (f : Option (Caller ℕ)). Keeps old (reply_to f o) old) is (keeps_none old)
+
+some_behind : (xs before all : List Reply) → AreSomeOf xs all → AreSomeOf xs (before ++ all)
+some_behind xs [] all h = h
+some_behind [] (b ∷ bs) all h = tt
+some_behind (x ∷ xs) (b ∷ bs) all h = inr (some_behind (x ∷ xs) bs all h)
+
+some_both : (xs all ys more : List Reply) → AreSomeOf xs all → AreSomeOf ys more → AreSomeOf (xs ++ ys) (all ++ more)
+some_both [] all ys more h k = some_behind ys all more k
+some_both (x ∷ xs) [] ys more h k = absurd h
+some_both (x ∷ xs) (a ∷ all) ys more (inl h) k = inl (h.0, some_both xs all ys more h.1 k)
+some_both (x ∷ xs) (a ∷ all) ys more (inr h) k = inr (some_both (x ∷ xs) all ys more h k)
+
+pub keeps_both : (old first more mid new : List Reply) → Keeps old first mid → Keeps mid more new → Keeps old (first ++ more) new
+keeps_both old first more mid new (xs, is, some) (ys, so, others) =
+    (xs ++ ys, so ∙ ap (λ (r : List Reply). r ++ ys) is ∙ append_assoc old xs ys, some_both xs first ys more some others)
+
+-- these outcomes are left of all: the replies so far and those to come are all replies, and the callers that will wait are the same
+abbrev pub Left : List (Caller ℕ) → List (Caller ℕ) → List Reply → List Reply → Outcomes → Outcomes → Type 0
+Left first now before after all rest =
+    (done : List Reply) × (done ++ replies_to now rest ≡ replies_to first all) × Keeps before done after × (waiting_after now rest ≡ waiting_after first all)
+
+pub left_first : (callers : List (Caller ℕ)) (replies : List Reply) (all : Outcomes) → Left callers callers replies replies all all
+left_first callers replies all = ([], refl, keeps_none replies, refl)
+
+-- one goes to the caller under its ticket
+pub left_next : (first now new : List (Caller ℕ)) (before mid after : List Reply) (all rest : Outcomes) (ticket : ℕ) (o : Result Called Refusal)
+    → Left first now before mid all ((ticket, o) ∷ rest) → new ≡ without_caller now ticket → Keeps mid (reply_to (caller_under now ticket) o) after → Left first new before after all rest
+left_next first now new before mid after all rest ticket o (done, replied, kept, waits) goes more =
+    let one = reply_to (caller_under now ticket) o in (
+      done ++ one,
+      append_assoc done one (replies_to new rest) ∙ ap (λ (cs : List (Caller ℕ)). done ++ (one ++ replies_to cs rest)) goes ∙ replied,
+      keeps_both before done one mid after kept more,
+      ap (λ (cs : List (Caller ℕ)). waiting_after cs rest) goes ∙ waits,
+    )
+
+pub left_told : (first now : List (Caller ℕ)) (before after : List Reply) (all : Outcomes) → Left first now before after all [] → Keeps before (replies_to first all) after
+left_told first now before after all (done, replied, kept, waits) = subst (λ (rs : List Reply). Keeps before rs after) (sym (append-nil done) ∙ replied) kept
+
+pub left_waits : (first now : List (Caller ℕ)) (before after : List Reply) (all : Outcomes) → Left first now before after all [] → now ≡ waiting_after first all
+left_waits first now before after all (done, replied, kept, waits) = waits
+
+-- the own receipt is the last one of these, if any is, else the one before them
+abbrev pub Owns : Option ℕ → Option (Result Called Refusal) → List Called → List Called → Type 0
+Owns ticket own all rest = (o : Option Called) × (own ≡ option_map Ok o) × (last_or o (filter (is_own ticket) rest) ≡ own_receipt ticket all)
+
+pub owns_first : (ticket : Option ℕ) (all : List Called) → Owns ticket None all all
+owns_first ticket all = (None, refl, refl)
+
+pub owns_last : (ticket : Option ℕ) (own : Option (Result Called Refusal)) (all : List Called) → Owns ticket own all [] → own ≡ option_map Ok (own_receipt ticket all)
+owns_last ticket own all (o, is, last) = is ∙ ap (λ (p : Option Called). option_map Ok p) last
+
+-- of a receipt more: it is the own one, or another caller's
+pub owns_this : (ticket : Option ℕ) (own : Option (Result Called Refusal)) (all rest : List Called) (r : Called) → is_own ticket r ≡ true → Owns ticket own all (r ∷ rest) → Owns ticket (Some (Ok r)) all rest
+owns_this ticket own all rest r mine (o, is, last) = (Some r, refl, grind (arith, mine, last))
+
+pub owns_other : (ticket : Option ℕ) (own : Option (Result Called Refusal)) (all rest : List Called) (r : Called) → is_own ticket r ≡ false → Owns ticket own all (r ∷ rest) → Owns ticket own all rest
+owns_other ticket own all rest r theirs (o, is, last) = (o, is, grind (arith, theirs, last))
+
+pub others_without : (ticket : Option ℕ) (rest : List Called) (r : Called) → is_own ticket r ≡ true → others_of ticket (r ∷ rest) ≡ others_of ticket rest
+others_without ticket rest r mine = grind (arith, mine)
+
+pub others_with : (ticket : Option ℕ) (rest : List Called) (r : Called) → is_own ticket r ≡ false → others_of ticket (r ∷ rest) ≡ (r.call.ticket, Ok r) ∷ others_of ticket rest
+others_with ticket rest r theirs = grind (arith, theirs)
+
+abbrev IsOwn : Option ℕ → Called → Type 0
+IsOwn ticket r = is_own ticket r ≡ true
+
+owned_step : (ticket : Option ℕ) (o : Option Called) (rs : List Called) (r : Called) (b : Bool) → is_own ticket r ≡ b → IfSome o (IsOwn ticket)
+    → ((p : Option Called) → IfSome p (IsOwn ticket) → IfSome (last_or p (filter (is_own ticket) rs)) (IsOwn ticket))
+    → IfSome (last_or o (filter (is_own ticket) (r ∷ rs))) (IsOwn ticket)
+owned_step ticket o rs r true is h on = rw is (on (Some r) is)
+owned_step ticket o rs r false is h on = rw is (on o h)
+
+owned : (ticket : Option ℕ) (receipts : List Called) (o : Option Called) → IfSome o (IsOwn ticket) → IfSome (last_or o (filter (is_own ticket) receipts)) (IsOwn ticket)
+owned ticket [] o h = h
+owned ticket (r ∷ rs) o h = owned_step ticket o rs r (is_own ticket r) refl h (owned ticket rs)
+
+its_ticket : (ticket : Option ℕ) (r : Called) → is_own ticket r ≡ true → ticket ≡ Some r.call.ticket
+its_ticket None r is = absurd cc
+its_ticket (Some t) r is = ap (λ (n : ℕ). Some n) (sym (eqb-true r.call.ticket t is))
+
+may_be : (ticket : Option ℕ) (o : Option Called) → IfSome o (IsOwn ticket) → IfSome (option_map Ok o) (λ (reply : Result Called Refusal). IsReplyTo ticket reply)
+may_be ticket None h = tt
+may_be ticket (Some r) h = its_ticket ticket r h
+
+-- what a step has to say to the caller whose ask it took is a reply to it
+pub says_own : (ticket : Option ℕ) (calls : Result (Vec Called Global) AllocError) → IfSome (said_to ticket calls) (λ (reply : Result Called Refusal). IsReplyTo ticket reply)
+says_own ticket (Ok receipts) = may_be ticket (own_receipt ticket receipts.items) (owned ticket receipts.items None tt)
+says_own ticket (Err e) = tt
+
+-- nobody is told in between
+pub left_same : (first now new : List (Caller ℕ)) (before mid after : List Reply) (all rest : Outcomes) → new ≡ now → after ≡ mid → Left first now before mid all rest → Left first new before after all rest
+left_same first now new before mid after all rest callers replies left =
+    subst (λ (cs : List (Caller ℕ)). Left first cs before after all rest) (sym callers) (subst (λ (rs : List Reply). Left first now before rs all rest) (sym replies) left)
+
+-- so the callers of a step were told
+pub told_callers : {C : Type 0} (old : Seated C ℕ) (took new : Desked C) (callers : List (Caller ℕ)) (event : Event) (receipt : Receipt) (shown pass : ℕ) (ticket : Option ℕ) (calls : Result (Vec Called Global) AllocError) (before after : List Reply)
+    → new ≡ took → receipt ≡ receipt_of took.cell → shown ≡ pass
+    → IfSome took.cell.last (λ (step : Step). CallsOf old.desk.waiting took.waiting event receipt shown step calls)
+    → callers ≡ waiting_after old.callers.items (said_by calls took.cell.last ticket)
+    → Keeps before (replies_to old.callers.items (said_by calls took.cell.last ticket)) after
+    → TellsCallers old new callers event pass ticket calls before after
+told_callers {C} old took new callers event receipt shown pass ticket calls before after same is alike served waits kept =
+    let by_receipt = subst (λ (r : Receipt). IfSome took.cell.last (λ (step : Step). CallsOf old.desk.waiting took.waiting event r shown step calls)) is served in
+    let by_pass = subst (λ (p : ℕ). IfSome took.cell.last (λ (step : Step). CallsOf old.desk.waiting took.waiting event (receipt_of took.cell) p step calls)) alike by_receipt in
+    subst (λ (d : Desked C). TellsCallers old d callers event pass ticket calls before after) (sym same) (by_pass, waits, kept)
+
+-- the caller whose ask was taken may be told what the step has to say to it
+pub says_it : (own ticket : Option ℕ) (calls : Result (Vec Called Global) AllocError) (reply : Option (Result Called Refusal)) → own ≡ ticket → reply ≡ said_to own calls → IfSome reply (λ (o : Result Called Refusal). IsReplyTo ticket o)
+says_it own ticket calls reply same says =
+    subst (λ (t : Option ℕ). IfSome reply (λ (o : Result Called Refusal). IsReplyTo t o)) same
+    (subst (λ (r : Option (Result Called Refusal)). IfSome r (λ (o : Result Called Refusal). IsReplyTo own o)) (sym says) (says_own own calls))

@@ -1,0 +1,116 @@
+//! `Unanswered` and `Told`: a caller that has asked, and what it is told; for `replies` and `steps`.
+ghost use Rattle.std.specs.Prelude.{◌≡◌, ◌++◌, ◌∷◌, [], None, Some, Err, IfErr, OnErr, OnOk};
+ghost use Rattle.craq_workers.specs.Told.{IsReplyTo, asked_by, waits_as};
+
+use craq_letters::{Addressee, Outcome};
+use craq_names::Ticket;
+use craq_seat::Caller;
+use std::alloc::AllocFailed;
+use std::marker::Model;
+use std::sync::Wait;
+
+/// A caller that has asked, and neither waits nor was told: where its reply goes, and the ticket of its ask once a node has
+/// accepted that. It has no drop, so each is told or waits. A contract sees the ticket and the addressee's token.
+pub(crate) struct Unanswered {
+    ticket: Option<Ticket>,
+    at: Addressee,
+}
+
+impl Model for Unanswered {
+    ghost use Rattle.craq_workers.specs.Told.{Asked};
+
+    ghost Value = { Asked };
+
+    ghost view = { λ u. record { ticket = u.ticket; token = u.at } };
+}
+
+impl Unanswered {
+    /// A caller whose ask no node has accepted yet.
+    pub(crate) fn of(at: Addressee) -> Self
+        ensures { result ≡ record { ticket = None; token = at } }
+    {
+        Unanswered { ticket: None, at }
+    }
+
+    /// A caller that waited.
+    pub(crate) fn waited(caller: Caller<Addressee>) -> Self
+        ensures { result ≡ asked_by caller }
+    {
+        let Caller { ticket, at } = caller;
+        Unanswered {
+            ticket: Some(ticket),
+            at,
+        }
+    }
+
+    /// The caller once its ask was accepted under this ticket, if it was.
+    pub(crate) fn accepted(self, ticket: Option<Ticket>) -> Self
+        ensures { result ≡ record { ticket = ticket; token = self.token } }
+    {
+        let Unanswered { ticket: _, at } = self;
+        Unanswered { ticket, at }
+    }
+
+    /// The caller waits under this ticket, behind the others. Without room it is given back, and they are as they were.
+    pub(crate) fn wait(
+        self,
+        callers: &mut Vec<Caller<Addressee>>,
+        ticket: Ticket,
+    ) -> Result<(), Unanswered>
+        ensures waits { OnOk result (callers.new.items ≡ callers.old.items ++ waits_as ticket self.token ∷ []) }
+        ensures others { OnErr result (callers.new.items ≡ callers.old.items) }
+        ensures back { IfErr result (λ caller. caller ≡ record { ticket = Some ticket; token = self.token }) }
+    {
+        let Unanswered { ticket: _, at } = self;
+        match callers.push(Caller { ticket, at }) {
+            Ok(()) => Ok(()),
+            Err(refused) => {
+                let AllocFailed { value } = refused;
+                Err(Unanswered::waited(value))
+            }
+        }
+    }
+}
+
+/// A reply on its way to who asked. A receipt is always that of the call under the caller's own ticket.
+#[derive(Drop)]
+pub(crate) struct Told {
+    ticket: Option<Ticket>,
+    at: Addressee,
+    outcome: Outcome,
+}
+
+impl Model for Told {
+    ghost use Rattle.craq_workers.specs.Told.{IsReplyTo, Reply};
+
+    ghost Value = { Reply };
+
+    ghost view = { λ t. record { to = record { ticket = t.ticket; token = t.at }; outcome = t.outcome } };
+
+    ghost invariant = { λ t. IsReplyTo t.ticket t.outcome };
+}
+
+impl Told {
+    /// The reply to this caller.
+    pub(crate) fn new(caller: Unanswered, outcome: Outcome) -> Self
+        requires { IsReplyTo caller.ticket outcome }
+        ensures { result ≡ record { to = caller; outcome = outcome } }
+    {
+        let Unanswered { ticket, at } = caller;
+        Told {
+            ticket,
+            at,
+            outcome,
+        }
+    }
+
+    /// The caller is told. It takes no memory.
+    pub(crate) fn tell<R: Wait>(self, rt: &R) {
+        let Told {
+            ticket: _,
+            at,
+            outcome,
+        } = self;
+        at.tell(rt, outcome);
+    }
+}

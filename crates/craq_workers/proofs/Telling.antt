@@ -6,6 +6,7 @@ use Rattle.std.specs.List.{last_or}
 use Rattle.std.specs.declared.alloc.AllocError.{AllocError}
 use Rattle.std.specs.declared.alloc.Global.{Global}
 use Rattle.craq_names.specs.declared.refusal.Refusal.{Refusal}
+use Rattle.craq_names.specs.declared.refusal.Refusal.TheVariants as refusals
 use Rattle.craq_model.specs.declared.ask.Event.{Event}
 use Rattle.craq_model.specs.declared.step.Step.{Step}
 use Rattle.craq_seat.specs.Calls.{Called, CallsOf, Desked}
@@ -13,7 +14,7 @@ use Rattle.craq_seat.specs.Cells.{receipt_of}
 use Rattle.craq_seat.specs.declared.journal.Receipt.{Receipt}
 use Rattle.craq_seat.specs.declared.seat.Seated.{Seated}
 use Rattle.craq_seat.specs.declared.seat.Caller.{Caller}
-use Rattle.craq_workers.specs.Told.{AreSomeOf, Asked, IsReplyTo, Keeps, Reply, caller_under, is_own, others_of, own_receipt, replies_to, reply_to, said_by, said_to, TellsCallers, waiting_after, without_caller}
+use Rattle.craq_workers.specs.Told.{AreSomeOf, Asked, HasInHand, IsReplyTo, Keeps, Reply, caller_under, is_own, others_of, own_receipt, replies_to, reply_to, said_by, said_to, TellsCallers, Waits, waiting_after, without_caller}
 
 abbrev pub Outcomes : Type 0
 Outcomes = List (ℕ × Result Called Refusal)
@@ -150,3 +151,19 @@ pub says_it : (own ticket : Option ℕ) (calls : Result (Vec Called Global) Allo
 says_it own ticket calls reply same says =
     subst (λ (t : Option ℕ). IfSome reply (λ (o : Result Called Refusal). IsReplyTo t o)) same
     (subst (λ (r : Option (Result Called Refusal)). IfSome r (λ (o : Result Called Refusal). IsReplyTo own o)) (sym says) (says_own own calls))
+
+-- what there is to tell is in hand
+pub in_hand : (token : ℕ) (ticket : Option ℕ) (said : Option (Result Called Refusal)) (o : Result Called Refusal) (callers : List (Caller ℕ)) (replies : List Reply) → said ≡ Some o → HasInHand token ticket said (Some o) callers callers replies replies
+in_hand token ticket said o callers replies is =
+    subst (λ (r : Option (Result Called Refusal)). HasInHand token ticket r (Some o) callers callers replies replies) (sym is) (refl, refl, refl)
+
+expects_now : (token : ℕ) (ticket : Option ℕ) (hand : Option (Result Called Refusal)) (old new : List (Caller ℕ)) (before after : List Reply)
+    → (hand ≡ None → Waits token ticket old new before after) → IfSome hand (λ (o : Result Called Refusal). (o ≡ Err refusals.Memory) × (new ≡ old) × (after ≡ before)) → HasInHand token ticket None hand old new before after
+expects_now token ticket None old new before after waits told = waits refl
+expects_now token ticket (Some o) old new before after waits told = told
+
+-- where there is nothing to tell, the caller waits, or has in hand that there is no room
+pub expects : (token : ℕ) (ticket : Option ℕ) (said hand : Option (Result Called Refusal)) (old new : List (Caller ℕ)) (before after : List Reply)
+    → said ≡ None → (hand ≡ None → Waits token ticket old new before after) → IfSome hand (λ (o : Result Called Refusal). (o ≡ Err refusals.Memory) × (new ≡ old) × (after ≡ before)) → HasInHand token ticket said hand old new before after
+expects token ticket said hand old new before after is waits told =
+    subst (λ (r : Option (Result Called Refusal)). HasInHand token ticket r hand old new before after) (sym is) (expects_now token ticket hand old new before after waits told)

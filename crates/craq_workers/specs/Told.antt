@@ -120,6 +120,12 @@ abbrev pub Settles : ℕ → Option ℕ → Option (Result Called Refusal) → L
 Settles token ticket (Some outcome) old new before after = IsTold (record { ticket = ticket; token = token }) outcome old new before after
 Settles token ticket None old new before after = Waits token ticket old new before after
 
+-- a caller that took the step of its ask itself has in hand what there is to tell; else it waits, or has in hand that there is no room
+abbrev pub HasInHand : ℕ → Option ℕ → Option (Result Called Refusal) → Option (Result Called Refusal) → List (Caller ℕ) → List (Caller ℕ) → List Reply → List Reply → Type 0
+HasInHand token ticket (Some outcome) hand old new before after = (hand ≡ Some outcome) × (new ≡ old) × (after ≡ before)
+HasInHand token ticket None (Some outcome) old new before after = (outcome ≡ Err refusals.Memory) × (new ≡ old) × (after ≡ before)
+HasInHand token ticket None None old new before after = Waits token ticket old new before after
+
 -- the ticket of the ask that a step accepted
 abbrev pub ticket_of : Option Step → Option ℕ
 ticket_of None = None

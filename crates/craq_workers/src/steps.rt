@@ -1,6 +1,6 @@
 //! A step of a node whose seat is locked: an ask's or another event's, with its replies; and the messages of the last step.
 //! Called by `shared`, `work` and `store`, under the lock.
-ghost use Rattle.std.specs.Prelude.{◌≡◌, ◌∷◌, ◌⊎◌, ◌↔◌, [], None, Err, Ok, IfOk, IfSome, IsNone, IsTrue, OnErr, Result, Vec, List, ℕ, false, option_map};
+ghost use Rattle.std.specs.Prelude.{◌≡◌, ◌∷◌, ◌⊎◌, ◌↔◌, [], None, Some, Err, Ok, IfOk, IfSome, IsNone, IsTrue, OnErr, Result, Vec, List, ℕ, false, option_map};
 ghost use Rattle.std.specs.Option.{option_copied};
 ghost use Rattle.std.specs.declared.alloc.AllocError.{AllocError};
 ghost use Rattle.std.specs.declared.alloc.Global.{Global};
@@ -13,7 +13,7 @@ ghost use Rattle.craq_seat.specs.declared.seat.Caller.{Caller};
 ghost use Rattle.craq_seat.specs.Numbered.{CanBeSent, numbered_from};
 ghost use Rattle.craq_sending.specs.declared.sending.Kind.TheVariants as kinds;
 ghost use Rattle.craq_sending.specs.Sent.{AreSentAs, OnlySends};
-ghost use Rattle.craq_workers.specs.Told.{IsReplyTo, IsTold, Keeps, Reply, Settles, TellsCallers, Waits, is_own, others_of, own_receipt, replies_to, said_by, said_to, ticket_of, waiting_after, without_memory};
+ghost use Rattle.craq_workers.specs.Told.{HasInHand, IsReplyTo, IsTold, Keeps, Reply, Settles, TellsCallers, Waits, is_own, others_of, own_receipt, replies_to, said_by, said_to, ticket_of, waiting_after, without_memory};
 
 use crate::replies::Replies;
 use crate::told::Unanswered;
@@ -325,18 +325,21 @@ pub(crate) fn take_own<R: Wait, C: Core>(
     letters: &Arc<Letterbox>,
     token: usize,
     replies: &mut Replies,
-) -> (bool, Option<Outcome>) {
+) -> (bool, Option<Outcome>)
+    ensures taken { IsTrue result.0 → (calls : Result (Vec Called Global) AllocError) × (callers : List (Caller ℕ)) × (mid : List Reply)
+        × TellsCallers seated.old seated.new.desk callers (Event.Ask ask) pass (ticket_of seated.new.desk.cell.last) calls replies.old mid
+        × HasInHand token (ticket_of seated.new.desk.cell.last) (said_to (ticket_of seated.new.desk.cell.last) calls) result.1 callers seated.new.callers.items mid replies.new }
+    ensures refused { result.0 ≡ false → (e : Refusal) × (result.1 ≡ Some (Err e)) × (seated.new.callers.items ≡ seated.old.callers.items) × (replies.new ≡ replies.old) }
+{
     match take_ask(rt, alloc, seated, ask, pass, replies) {
         Err(refusal) => (false, Some(Err(refusal))),
         Ok(taken) => {
             let Taken { ticket, reply } = taken;
-            if reply.is_some() {
-                return (true, reply);
-            }
-            (
-                true,
-                expect_letter(rt, &mut seated.callers, ticket, letters, token, replies),
-            )
+            let hand = match reply {
+                Some(reply) => Some(reply),
+                None => expect_letter(rt, &mut seated.callers, ticket, letters, token, replies),
+            };
+            (true, hand)
         }
     }
 }

@@ -5,7 +5,7 @@ use craq_model::{Out, Step};
 use craq_names::{Copied, Items};
 use std::alloc::{AllocError, Global};
 
-/// What a step says, in memory of its own.
+/// What a step says, as a value of its own.
 fn copied_out(alloc: Global, out: &Out) -> Result<Out, AllocError>
     ensures { IfOk result (λ copy. copy ≡ out.now) }
 {
@@ -32,7 +32,7 @@ fn copied_outs(alloc: Global, outs: &[Out]) -> Result<Vec<Out>, AllocError>
     Ok(copy)
 }
 
-/// The step in memory of its own.
+/// The step as a value of its own.
 pub(crate) fn copied_step(alloc: Global, step: &Step) -> Result<Step, AllocError>
     ensures { IfOk result (λ copy. copy ≡ step.now) }
 {

@@ -19,7 +19,7 @@ fn is_of(receipt: &CallReceipt, node: &NodeName, ask: &Ask, pass: Pass) -> bool
         && receipt.ask().is_same(ask)
 }
 
-/// The answer to this ask at this node, shown with this pass, as the receipt of the call has it, in memory of its own.
+/// A copy of the answer to this ask at this node, shown with this pass, as the receipt of the call has it.
 ///
 /// Refused: `Closed` exactly where the receipt is another call's, as `IsCallOf` says; then `Memory` where a growth was refused.
 pub fn answer_of_call(

@@ -1,11 +1,11 @@
-//! A step in memory of its own: what a lock has cannot be lent once the lock is free; called by `stepping`.
+//! A step as a value of its own: what a lock has cannot be lent once the lock is free; called by `stepping`.
 ghost use Rattle.std.specs.Prelude.{◌≡◌, IfOk};
 
 use craq_model::{Out, Step};
 use craq_names::{Copied, Items};
 use std::alloc::{AllocError, Global};
 
-/// The out in memory of its own.
+/// The out as a value of its own.
 fn out_copy(alloc: Global, out: &Out) -> Result<Out, AllocError>
     ensures { IfOk result (λ copy. copy ≡ out.now) }
 {
@@ -32,7 +32,7 @@ fn outs_copy(alloc: Global, outs: &[Out]) -> Result<Vec<Out>, AllocError>
     Ok(copies)
 }
 
-/// The step in memory of its own.
+/// The step as a value of its own.
 pub fn copy_of(alloc: Global, step: &Step) -> Result<Step, AllocError>
     ensures { IfOk result (λ copy. copy ≡ step.now) }
 {

@@ -70,7 +70,7 @@ fn put_kept(
     Ok(())
 }
 
-/// The state after these entries, in memory of its own.
+/// The state after these entries, as a value of its own.
 #[tactic(auto, unfolding(craq_commands::specs::SingleCopy::after_entry, craq_commands::specs::SingleCopy::kept_with, craq_commands::specs::SingleCopy::window_of))]
 pub fn state_after(alloc: Global, state: &State, entries: &[Entry]) -> Result<State, AllocError>
     ensures { IfOk result (λ s. s ≡ after_entries state.now entries.now) }

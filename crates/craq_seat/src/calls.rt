@@ -91,7 +91,7 @@ impl CallReceipt {
     }
 }
 
-/// What an event asks, if it does, in memory of its own.
+/// What an event asks, if it does, as a value of its own.
 pub(crate) fn ask_of(alloc: Global, event: &Event) -> Result<Option<Ask>, AllocError>
     ensures { IfOk result (λ ask. ask ≡ ask_of event.now) }
 {
@@ -157,7 +157,7 @@ fn take_call(waiting: &mut Vec<Call>, ticket: Ticket) -> Option<Call>
     None
 }
 
-/// The call that waits under this ticket, in memory of its own.
+/// The call that waits under this ticket, as a value of its own.
 fn copy_of_call(alloc: Global, waiting: &[Call], ticket: Ticket) -> Result<Option<Call>, AllocError>
     ensures { IfOk result (λ call. call ≡ call_under waiting.now ticket) }
 {

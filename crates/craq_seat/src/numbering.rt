@@ -10,7 +10,7 @@ use craq_model::{LinkMessage, Out, Step};
 use craq_names::Copied;
 use std::alloc::{AllocError, Global};
 
-/// The message in memory of its own, named by its sender, stamp and index.
+/// The message as a value of its own, named by its sender, stamp and index.
 fn named(
     alloc: Global,
     message: &LinkMessage,

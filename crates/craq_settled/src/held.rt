@@ -216,7 +216,7 @@ impl HeldPast {
         )
     }
 
-    /// The state after the entries that are folded, in memory of its own.
+    /// The state after the entries that are folded, as a value of its own.
     pub fn copied(&self, alloc: Global) -> Result<State, AllocError>
         ensures { IfOk result (λ s. s ≡ self.now.state) }
     {

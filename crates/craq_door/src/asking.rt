@@ -1,11 +1,13 @@
 //! `CallTaker`: a store that takes a call without waiting, and by what right it is asked; for `dialogue` and for whoever serves many.
-ghost use Rattle.std.specs.Prelude.{ℕ, IfErr, IfOk, Option, Result};
+ghost use Rattle.std.specs.Prelude.{IfErr, IfOk, Option, Result};
+ghost use Rattle.craq_letters.specs.declared.token.Token.{Token};
 ghost use Rattle.craq_names.specs.declared.refusal.Refusal.{Refusal};
 ghost use Rattle.craq_seat.specs.Calls.{Called};
 ghost use Rattle.craq_door.specs.Asking.{MayHaveAny, at_once};
 ghost use Rattle.craq_door.specs.declared.question.Question.{Question};
 
 use crate::{Question, Reached};
+use craq_letters::Token;
 use craq_names::Refusal;
 use craq_seat::CallReceipt;
 
@@ -39,7 +41,7 @@ pub struct Permit {
 /// A store that takes a call without waiting: what comes of it comes at once, or later by a letter.
 pub trait CallTaker: Reached {
     /// Which calls were asked of it under which token, and what came of each at once.
-    ghost submits: { Self → ℕ → Question → Option (Result Called Refusal) → Type 0 };
+    ghost submits: { Self → Token → Question → Option (Result Called Refusal) → Type 0 };
 
     /// Makes the call of a question. `Some`: its receipt. `None`: a letter with this token will come, and no other call may
     /// have that token until then. Refused as the store refuses the call, and then no letter comes. `few` tells that few
@@ -52,7 +54,7 @@ pub trait CallTaker: Reached {
         &self,
         permit: Permit,
         question: &Question,
-        token: usize,
+        token: Token,
         few: bool,
     ) -> Result<Option<CallReceipt>, Refusal>
         ensures refused { IfErr result (λ e. Self.refuses self.now question.now.node question.now.pass question.now.ask e) }

@@ -7,6 +7,7 @@ use crate::phases::{advance, answered};
 use crate::{CallDue, CallTaker, DoorCalls, Question, Reached};
 use craq_frames::ClientMessage;
 use craq_front::Conversation;
+use craq_letters::Token;
 use craq_names::Refusal;
 use craq_seat::CallReceipt;
 use std::alloc::{AllocError, Global};
@@ -167,7 +168,7 @@ impl Dialogue {
         &self,
         due: CallDue,
         taker: &T,
-        token: usize,
+        token: Token,
         few: bool,
     ) -> Option<Result<CallReceipt, Refusal>>
         ensures { IsAsked (T.refuses taker.now) (T.submits taker.now token) self.now.phase result }

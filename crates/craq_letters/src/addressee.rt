@@ -3,22 +3,23 @@ ghost use Rattle.std.specs.Prelude.{◌≡◌, IfOk};
 
 use crate::letterbox::Letterbox;
 use crate::pile::Outcome;
+use crate::token::Token;
 use std::alloc::AllocError;
 use std::marker::Model;
 use std::sync::{Arc, Wait};
 
-/// Where the reply to one ask goes, and under which token. Whoever has it has to tell it a reply, or its owner waits for good.
+/// Where the reply to one call goes, and under which token. Whoever has it has to tell it a reply, or its owner waits for good.
 /// A contract sees its token.
 #[derive(Drop)]
 pub struct Addressee {
     letters: Arc<Letterbox>,
-    token: usize,
+    token: Token,
 }
 
 impl Model for Addressee {
-    ghost use Rattle.std.specs.Prelude.{ℕ};
+    ghost use Rattle.craq_letters.specs.declared.token.Token.{Token};
 
-    ghost Value = { ℕ };
+    ghost Value = { Token };
 
     ghost view = { λ a. a.token };
 }
@@ -28,7 +29,7 @@ impl Addressee {
     pub fn expect<R: Wait>(
         rt: &R,
         letters: &Arc<Letterbox>,
-        token: usize,
+        token: Token,
     ) -> Result<Self, AllocError>
         ensures { IfOk result (λ a. a ≡ token) }
     {

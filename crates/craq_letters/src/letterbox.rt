@@ -1,6 +1,7 @@
 //! `Letterbox`: where the replies to the asks of one thread, or of one client, come together; made by the clients of
 //! `craq_workers` and the crews of `craq_server`.
 use crate::pile::{Letter, Outcome, Pile};
+use crate::token::Token;
 use mio::Waker;
 use std::alloc::{AllocError, Global};
 use std::sync::{Condvar, Mutex, Wait};
@@ -31,7 +32,7 @@ impl Letterbox {
     }
 
     /// A letter for which room was made comes. One that nobody expects is let go.
-    pub(crate) fn put<R: Wait>(&self, rt: &R, token: usize, reply: Outcome) {
+    pub(crate) fn put<R: Wait>(&self, rt: &R, token: Token, reply: Outcome) {
         let mut pile = self.pile.lock(rt);
         if !pile.expects() {
             return;

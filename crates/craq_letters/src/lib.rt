@@ -7,7 +7,9 @@
 mod addressee;
 mod letterbox;
 mod pile;
+mod token;
 
 pub use addressee::Addressee;
 pub use letterbox::Letterbox;
 pub use pile::{Letter, Outcome};
+pub use token::Token;

@@ -1,6 +1,7 @@
 //! The letters that lie in a box, with room for each that is expected; called by `letterbox`, under its lock.
 ghost use Rattle.std.specs.Prelude.{◌≡◌, ◌≤◌, ◌↔◌, ◌+◌, ◌-◌, ◌++◌, [], ◌∷◌, None, IfSome, IsTrue, OnErr, OnOk};
 
+use crate::token::Token;
 use craq_names::Refusal;
 use craq_seat::CallReceipt;
 use std::alloc::{AllocError, Global};
@@ -9,10 +10,10 @@ use std::marker::Model;
 /// What a caller is told: the receipt of its answered call, or why it was refused.
 pub type Outcome = Result<CallReceipt, Refusal>;
 
-/// A reply, under the token by which its reader knows the ask.
+/// A reply, under the token by which its reader knows the call.
 #[derive(Drop)]
 pub struct Letter {
-    pub token: usize,
+    pub token: Token,
     pub reply: Outcome,
 }
 

@@ -1,6 +1,7 @@
 -- What it comes to when what came on some connections is read, and what is due to them is written.
 use Rattle.std.specs.Prelude.{◌≡◌, ℕ, Bool, true, false, List, Option, None, Some}
 use Rattle.slab.specs.Slab.{Slab, get}
+use Rattle.craq_letters.specs.declared.token.Token.{Token}
 use Rattle.craq_door.specs.Asking.{Submitting}
 use Rattle.craq_door.specs.Turns.{Refusing}
 use Rattle.craq_door.specs.declared.dialogue.Phase.{Phase}
@@ -50,7 +51,7 @@ WritesAt {S} remaining contents old new key =
     (c : Connection S) → get old key ≡ Some c → (d : Connection S) × HasWritten remaining contents c d × StaysUnlessDone d (get new key)
 
 -- the connections under these keys are served: all read, then all have their turns, then all write
-abbrev pub Serves : {S : Type 0} → (S → Option (List ℕ)) → (S → Option (List ℕ)) → (List ℕ → Type 0) → Refusing → (ℕ → Submitting) → List ℕ → Slab (Connection S) → Slab (Connection S) → Type 0
+abbrev pub Serves : {S : Type 0} → (S → Option (List ℕ)) → (S → Option (List ℕ)) → (List ℕ → Type 0) → Refusing → (Token → Submitting) → List ℕ → Slab (Connection S) → Slab (Connection S) → Type 0
 Serves {S} remaining contents tells refuses submits keys old new =
     (read stepped : Slab (Connection S)) × OneByOne (ReadsAt remaining contents) keys old read
     × TakeTurns tells refuses submits keys read stepped × OneByOne (WritesAt remaining contents) keys stepped new

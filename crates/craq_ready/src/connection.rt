@@ -320,9 +320,8 @@ impl<S: Socket> Connection<S> {
         }
     }
 
-    /// A letter under this number says this. Where it is the number of the call that was asked last, that call came back so, if it
-    /// is still under way. Under another number none comes while a call is under way, since the call before it came back before
-    /// it was asked; such a letter would be another call's, and is let go.
+    /// A letter with this number says this. Where the call that was asked last has this number, it came back so. A letter with
+    /// another number is let go: none comes, since a call is asked only once the one before it came back.
     pub(crate) fn take_reply<H: Host>(&mut self, alloc: Global, host: &H, call: u64, reply: Outcome)
         ensures { TakesLetter call reply self.old self.new }
     {
@@ -352,8 +351,8 @@ impl<S: Socket> Connection<S> {
     }
 
     /// Its turn: takes the steps of the dialogue, until one finds nothing to do, or 64. Its calls are asked under this key, each under
-    /// the next number. What comes of the steps is then due. A connection that is over takes none. `few` tells that few connections have something to do
-    /// just now.
+    /// the next number. What comes of the steps is then due. A connection that is over takes none. `few` tells that few connections
+    /// have something to do just now.
     #[tactic(auto, using(crate::proofs::Advancing::none_taken, crate::proofs::Advancing::went, crate::proofs::Advancing::called, crate::proofs::Advancing::starved, crate::proofs::Advancing::stayed))]
     pub(crate) fn advance<H: Host>(&mut self, alloc: Global, host: &H, key: usize, few: bool)
         ensures turn { HasTurn (H.tells host.now) (H.refuses host.now) (under_key (H.submits host.now) key) self.old.over self.old.dialogue self.old.calls self.new.dialogue self.new.calls }

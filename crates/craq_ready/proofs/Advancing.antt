@@ -4,6 +4,7 @@ use Rattle.slab.specs.Slab.{Slab, get, with_value}
 use Rattle.slab.proofs.SlabLemmas.{Updates-with_value}
 use Rattle.craq_names.specs.declared.refusal.Refusal.{Refusal}
 use Rattle.craq_seat.specs.Calls.{Called}
+use Rattle.craq_letters.specs.declared.token.Token.{Token}
 use Rattle.craq_door.specs.Asking.{IsAsked, IsRefusedAtOnce, Submitting}
 use Rattle.craq_door.specs.Dialogues.{Took}
 use Rattle.craq_door.specs.Halves.{IsRefusable}
@@ -15,7 +16,7 @@ use Rattle.craq_door.specs.declared.dialogue.Phase.TheVariants as phases
 use Rattle.craq_door.specs.declared.dialogue.Stepped.TheVariants as steps
 use Rattle.craq_door.specs.declared.question.Question.{Question}
 use Rattle.craq_ready.specs.declared.connection.Connection.{Connection}
-use Rattle.craq_ready.specs.Advancing.{AsksHost, TakesSteps, none, step, call, TakesTurn, rests, gives_way, HasTurn, HasTurnAt}
+use Rattle.craq_ready.specs.Advancing.{AsksHost, TakesSteps, none, step, call, TakesTurn, rests, gives_way, HasTurn, HasTurnAt, next_call, under_key}
 use Rattle.craq_ready.specs.Belonging.{CameBack}
 use Rattle.craq_ready.proofs.Letters.{receipt_refusable, refusal_refusable}
 
@@ -40,45 +41,49 @@ module _ (refuses : Refusing) (submits : Submitting) where
   came_at_once (phases.Waits q) old new outcome is came = inr (outcome, is.0, refusable q outcome is.1, came)
   came_at_once (phases.Over why) old new outcome is came = cc
 
-module _ (tells : List ℕ → Type 0) (refuses : Refusing) (submits : Submitting) (old : Dialogue) where
-  pub none_taken : TakesSteps tells refuses submits old 0 old
+module _ (tells : List ℕ → Type 0) (refuses : Refusing) (submits : ℕ → Submitting) (old : Dialogue) (before : ℕ) where
+  pub none_taken : TakesSteps tells refuses submits old before 0 old before
   none_taken = none
 
-  pub went : (count : ℕ) (mid new : Dialogue) → TakesSteps tells refuses submits old count mid
-      → Took tells mid.phase steps.Goes new.phase mid.talk new.talk mid.calls new.calls → TakesSteps tells refuses submits old (count + 1) new
-  went count mid new before took = step count mid new steps.Goes before tt took
+  pub went : (count : ℕ) (mid new : Dialogue) (number : ℕ) → TakesSteps tells refuses submits old before count mid number
+      → Took tells mid.phase steps.Goes new.phase mid.talk new.talk mid.calls new.calls → TakesSteps tells refuses submits old before (count + 1) new number
+  went count mid new number taken took = step count mid new number steps.Goes taken tt took
 
-  pub called : (count : ℕ) (mid made new : Dialogue) (due : CallDue) → TakesSteps tells refuses submits old count mid
-      → Took tells mid.phase (steps.Calls due) made.phase mid.talk made.talk mid.calls made.calls → AsksHost refuses submits made.phase made new
-      → TakesSteps tells refuses submits old (count + 1) new
-  called count mid made new due before took asked = call count mid made new due before took asked
+  pub called : (count : ℕ) (mid made new : Dialogue) (number after : ℕ) (due : CallDue) → TakesSteps tells refuses submits old before count mid number
+      → Took tells mid.phase (steps.Calls due) made.phase mid.talk made.talk mid.calls made.calls → after ≡ next_call number
+      → AsksHost refuses (submits (next_call number)) made.phase made new
+      → TakesSteps tells refuses submits old before (count + 1) new after
+  called count mid made new number after due taken took is asked =
+      subst (λ (x : ℕ). TakesSteps tells refuses submits old before (count + 1) new x) (sym is) (call count mid made new number due taken took asked)
 
   -- the turn of a connection that is not over
-  turn_of : (over : Bool) (new : Dialogue) → over ≡ false → TakesTurn tells refuses submits old new → HasTurn tells refuses submits over old new
-  turn_of over new is turn = subst (λ (x : Bool). HasTurn tells refuses submits x old new) (sym is) turn
+  turn_of : (over : Bool) (new : Dialogue) (after : ℕ) → over ≡ false → TakesTurn tells refuses submits old before new after
+      → HasTurn tells refuses submits over old before new after
+  turn_of over new after is turn = subst (λ (x : Bool). HasTurn tells refuses submits x old before new after) (sym is) turn
 
-  pub starved : (over : Bool) (count : ℕ) (mid new : Dialogue) → over ≡ false → TakesSteps tells refuses submits old count mid
-      → Took tells mid.phase steps.Starved new.phase mid.talk new.talk mid.calls new.calls → HasTurn tells refuses submits over old new
-  starved over count mid new is before took = turn_of over new is (rests count mid steps.Starved before tt took)
+  pub starved : (over : Bool) (count : ℕ) (mid new : Dialogue) (after : ℕ) → over ≡ false → TakesSteps tells refuses submits old before count mid after
+      → Took tells mid.phase steps.Starved new.phase mid.talk new.talk mid.calls new.calls → HasTurn tells refuses submits over old before new after
+  starved over count mid new after is taken took = turn_of over new after is (rests count mid steps.Starved taken tt took)
 
-  pub stayed : (over : Bool) (count : ℕ) (mid new : Dialogue) → over ≡ false → TakesSteps tells refuses submits old count mid
-      → Took tells mid.phase steps.Stays new.phase mid.talk new.talk mid.calls new.calls → HasTurn tells refuses submits over old new
-  stayed over count mid new is before took = turn_of over new is (rests count mid steps.Stays before tt took)
+  pub stayed : (over : Bool) (count : ℕ) (mid new : Dialogue) (after : ℕ) → over ≡ false → TakesSteps tells refuses submits old before count mid after
+      → Took tells mid.phase steps.Stays new.phase mid.talk new.talk mid.calls new.calls → HasTurn tells refuses submits over old before new after
+  stayed over count mid new after is taken took = turn_of over new after is (rests count mid steps.Stays taken tt took)
 
-  pub gave_way : (over : Bool) (count : ℕ) (new : Dialogue) → over ≡ false → count ≡ 64 → TakesSteps tells refuses submits old count new
-      → HasTurn tells refuses submits over old new
-  gave_way over count new is all taken = turn_of over new is (gives_way (subst (λ (x : ℕ). TakesSteps tells refuses submits old x new) all taken))
+  pub gave_way : (over : Bool) (count : ℕ) (new : Dialogue) (after : ℕ) → over ≡ false → count ≡ 64 → TakesSteps tells refuses submits old before count new after
+      → HasTurn tells refuses submits over old before new after
+  gave_way over count new after is all taken =
+      turn_of over new after is (gives_way (subst (λ (x : ℕ). TakesSteps tells refuses submits old before x new after) all taken))
 
   -- a connection that is over
-  pub over_already : (over : Bool) (new : Dialogue) → over ≡ true → new ≡ old → HasTurn tells refuses submits over old new
-  over_already over new is same = subst (λ (x : Bool). HasTurn tells refuses submits x old new) (sym is) same
+  pub over_already : (over : Bool) (new : Dialogue) (after : ℕ) → over ≡ true → new ≡ old → after ≡ before → HasTurn tells refuses submits over old before new after
+  over_already over new after is same none = subst (λ (x : Bool). HasTurn tells refuses submits x old before new after) (sym is) (same, none)
 
 module _ {S : Type 0} (tells : List ℕ → Type 0) (refuses : Refusing) where
-  -- what a connection became is what is under its token
-  pub turned_at : (submits : Submitting) (s : Slab (Connection S)) (token : ℕ) (c d : Connection S)
-      → get s token ≡ Some c → HasTurn tells refuses submits c.over c.dialogue d.dialogue → d.stream ≡ c.stream
-      → HasTurnAt tells refuses submits s (with_value s token d) token
-  turned_at submits s token c d was took same c' here =
+  -- what a connection became is what is under its key
+  pub turned_at : (submits : Token → Submitting) (s : Slab (Connection S)) (key : ℕ) (c d : Connection S)
+      → get s key ≡ Some c → HasTurn tells refuses (under_key submits key) c.over c.dialogue c.calls d.dialogue d.calls → d.stream ≡ c.stream
+      → HasTurnAt tells refuses submits s (with_value s key d) key
+  turned_at submits s key c d was took same c' here =
       let e : c' ≡ c = cc in
-      let is : get (with_value s token d) token ≡ Some d = (Updates-with_value s token d (rw was refl)).changed in
+      let is : get (with_value s key d) key ≡ Some d = (Updates-with_value s key d (rw was refl)).changed in
       rw e (d, is, took, same)

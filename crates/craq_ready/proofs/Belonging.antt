@@ -1,4 +1,4 @@
--- What belongs to a connection, where nothing was read or written, and in a slab; and what happens under one token after another.
+-- What belongs to a connection, where nothing was read or written, and in a slab; and what happens under one key after another.
 use Rattle.std.proofs.Common.{◌≡◌, ◌≤◌, ◌<◌, ℕ, ◌+◌, length, take, get_or, arith, length-append, true, List, [], ◌∷◌, ◌++◌, Option, Some, None, Result, sym, refl, subst, ◌∙◌}
 use Rattle.std.specs.Io.KnownBytes.{Appends, Consumes}
 use Rattle.std.proofs.lemmas.List.{append-nil, append_assoc, take_more}
@@ -7,10 +7,11 @@ use Rattle.craq_door.specs.declared.dialogue.Dialogue.{Dialogue}
 use Rattle.craq_names.specs.declared.refusal.Refusal.{Refusal}
 use Rattle.craq_seat.specs.Calls.{Called}
 use Rattle.craq_letters.specs.declared.pile.Letter.{Letter}
+use Rattle.craq_letters.specs.declared.token.Token.{Token}
 use Rattle.slab.specs.Slab.{Slab, get, with_value}
 use Rattle.slab.proofs.SlabLemmas.{Updates-with_value}
 use Rattle.craq_ready.specs.declared.connection.Connection.{Connection}
-use Rattle.craq_ready.specs.Belonging.{Alone, CameByLetter, Delivers, DeliversAll, DeliversLetter, OneByOne, OthersStay, Reads, StaysVacant, Wakes, Writes}
+use Rattle.craq_ready.specs.Belonging.{Alone, Delivers, DeliversAll, DeliversLetter, OneByOne, OthersStay, Reads, StaysVacant, TakesLetter, Wakes, Writes}
 
 none_came : (a b : Option (List ℕ)) → b ≡ a → Consumes a b []
 none_came None b e = tt
@@ -45,13 +46,17 @@ nothing_written a b d e same is = rw is (
   },
 )
 
--- the connection under the token is told, and then has something to do
-pub delivered : {S : Type 0} (s t : Slab (Connection S)) (token : ℕ) (c d : Connection S) (reply : Result Called Refusal)
-    → get s token ≡ Some c → CameByLetter reply c.dialogue d.dialogue → d.stream ≡ c.stream → Wakes (with_value s token d) t token → Delivers s t token reply
-delivered s t token c d reply was told same wakes c' here =
+-- what a connection takes is taken, whether it has something to do or not
+taken_busy : {S : Type 0} (number : ℕ) (reply : Result Called Refusal) (c d : Connection S) → TakesLetter number reply c d → TakesLetter number reply c (record d { busy = true })
+taken_busy number reply c d takes = record { own = takes.own; another = takes.another; calls = takes.calls; stream = takes.stream }
+
+-- the connection under the token's key takes the letter, and then has something to do
+pub delivered : {S : Type 0} (s t : Slab (Connection S)) (token : Token) (c d : Connection S) (reply : Result Called Refusal)
+    → get s token.connection ≡ Some c → TakesLetter token.call reply c d → Wakes (with_value s token.connection d) t token.connection → Delivers s t token reply
+delivered s t token c d reply was takes wakes c' here =
     let e : c' ≡ c = cc in
-    let is : get (with_value s token d) token ≡ Some d = (Updates-with_value s token d (rw was refl)).changed in
-    rw e (record d { busy = true }, wakes d is, told, same)
+    let is : get (with_value s token.connection d) token.connection ≡ Some d = (Updates-with_value s token.connection d (rw was refl)).changed in
+    rw e (record d { busy = true }, wakes d is, taken_busy token.call reply c d takes)
 
 module _ {S : Type 0} where
   -- of all letters these are left, and those behind them are delivered
@@ -90,15 +95,15 @@ pub last_left : (left popped rest : List Letter) (letter : Letter) → left ≡ 
 last_left left popped rest letter is same = is ∙ subst (λ (x : List Letter). popped ++ letter ∷ [] ≡ x ++ letter ∷ []) (sym same) refl
 
 module _ {S : Type 0} (happens : Slab (Connection S) → Slab (Connection S) → ℕ → Type 0) where
-  -- it happened under one token more, behind all before
-  pub one_more : (tokens : List ℕ) (one : ℕ) (s t u : Slab (Connection S)) → OneByOne happens tokens s t → Alone happens t u one → OneByOne happens (tokens ++ one ∷ []) s u
+  -- it happened under one key more, behind all before
+  pub one_more : (keys : List ℕ) (one : ℕ) (s t u : Slab (Connection S)) → OneByOne happens keys s t → Alone happens t u one → OneByOne happens (keys ++ one ∷ []) s u
   one_more [] one s t u before now = (u, subst (λ (x : Slab (Connection S)). Alone happens x u one) before now, refl)
-  one_more (token ∷ tokens) one s t u before now = (before.0, before.1, one_more tokens one before.0 t u before.2 now)
+  one_more (key ∷ keys) one s t u before now = (before.0, before.1, one_more keys one before.0 t u before.2 now)
 
-  pub one_more_at : (tokens : List ℕ) (index : ℕ) (s t u : Slab (Connection S)) → index < length tokens → OneByOne happens (take index tokens) s t
-      → happens t u (get_or tokens index 0) → StaysVacant t u (get_or tokens index 0) → OthersStay t u (get_or tokens index 0)
-      → OneByOne happens (take (index + 1) tokens) s u
-  one_more_at tokens index s t u there before now vacant others =
+  pub one_more_at : (keys : List ℕ) (index : ℕ) (s t u : Slab (Connection S)) → index < length keys → OneByOne happens (take index keys) s t
+      → happens t u (get_or keys index 0) → StaysVacant t u (get_or keys index 0) → OthersStay t u (get_or keys index 0)
+      → OneByOne happens (take (index + 1) keys) s u
+  one_more_at keys index s t u there before now vacant others =
       subst (λ (x : List ℕ). OneByOne happens x s u)
-      (sym (take_more tokens index 0 there))
-      (one_more (take index tokens) (get_or tokens index 0) s t u before (now, vacant, others))
+      (sym (take_more keys index 0 there))
+      (one_more (take index keys) (get_or keys index 0) s t u before (now, vacant, others))

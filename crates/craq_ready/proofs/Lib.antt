@@ -1,4 +1,5 @@
 pub mod Advancing
 pub mod Belonging
 pub mod Letters
+pub mod Numbers
 pub mod Serving

@@ -21,26 +21,26 @@ pub told_not : {P : Type 0} (told : Bool) → IsTrue told ↔ P → told ≡ fal
 told_not told says off = λ p. (let yes : told ≡ true = says.1 p in cc)
 
 module _ {S : Type 0} (remaining contents : S → Option (List ℕ)) where
-  -- a connection that read is what is under its token
-  pub read_at : (s : Slab (Connection S)) (token : ℕ) (c d : Connection S) → get s token ≡ Some c → HasRead remaining contents c d
-      → ReadsAt remaining contents s (with_value s token d) token
-  read_at s token c d was read c' here =
+  -- a connection that read is what is under its key
+  pub read_at : (s : Slab (Connection S)) (key : ℕ) (c d : Connection S) → get s key ≡ Some c → HasRead remaining contents c d
+      → ReadsAt remaining contents s (with_value s key d) key
+  read_at s key c d was read c' here =
       let e : c' ≡ c = cc in
-      let is : get (with_value s token d) token ≡ Some d = (Updates-with_value s token d (rw was refl)).changed in
+      let is : get (with_value s key d) key ≡ Some d = (Updates-with_value s key d (rw was refl)).changed in
       rw e (d, is, read)
 
-  -- a connection that is not done stays under its token
-  pub kept_at : (s : Slab (Connection S)) (token : ℕ) (c d e : Connection S) (busy : Bool) → get s token ≡ Some c → HasWritten remaining contents c d
-      → ¬ IsDone d → e ≡ record d { busy = busy } → WritesAt remaining contents s (with_value s token e) token
-  kept_at s token c d e busy was written stays same c' here =
+  -- a connection that is not done stays under its key
+  pub kept_at : (s : Slab (Connection S)) (key : ℕ) (c d e : Connection S) (busy : Bool) → get s key ≡ Some c → HasWritten remaining contents c d
+      → ¬ IsDone d → e ≡ record d { busy = busy } → WritesAt remaining contents s (with_value s key e) key
+  kept_at s key c d e busy was written stays same c' here =
       let e' : c' ≡ c = cc in
-      let is : get (with_value s token e) token ≡ Some e = (Updates-with_value s token e (rw was refl)).changed in
+      let is : get (with_value s key e) key ≡ Some e = (Updates-with_value s key e (rw was refl)).changed in
       let kept : e ≡ record d { busy = e.busy } = rw same refl in
       rw e' (d, written, subst (λ (x : Option (Connection S)). StaysUnlessDone d x) (sym is) (stays, kept))
 
   -- a connection that is done is let go
-  pub gone_at : (s t : Slab (Connection S)) (token : ℕ) (c d : Connection S) → get s token ≡ Some c → HasWritten remaining contents c d
-      → IsDone d → get t token ≡ None → WritesAt remaining contents s t token
-  gone_at s t token c d was written done gone c' here =
+  pub gone_at : (s t : Slab (Connection S)) (key : ℕ) (c d : Connection S) → get s key ≡ Some c → HasWritten remaining contents c d
+      → IsDone d → get t key ≡ None → WritesAt remaining contents s t key
+  gone_at s t key c d was written done gone c' here =
       let e' : c' ≡ c = cc in
       rw e' (d, written, subst (λ (x : Option (Connection S)). StaysUnlessDone d x) (sym gone) done)

@@ -1,8 +1,9 @@
--- What taking the steps of a connection's dialogue comes to, and under which token its calls are asked.
-use Rattle.std.specs.Prelude.{◌≡◌, ◌⊎◌, ◌+◌, ⊤, ℕ, Bool, true, false, List, None, Some, Result}
+-- What taking the steps of a connection's dialogue comes to, and under which key and number its calls are asked.
+use Rattle.std.specs.Prelude.{◌≡◌, ◌⊎◌, ◌+◌, ◌%◌, ◌^◌, ⊤, ℕ, zero, suc, Bool, true, false, List, [], ◌∷◌, ◌++◌, None, Some, Result}
 use Rattle.slab.specs.Slab.{Slab, get}
 use Rattle.craq_names.specs.declared.refusal.Refusal.{Refusal}
 use Rattle.craq_seat.specs.Calls.{Called}
+use Rattle.craq_letters.specs.declared.token.Token.{Token}
 use Rattle.craq_door.specs.Asking.{MayHaveAny, Submitting}
 use Rattle.craq_door.specs.Dialogues.{Took}
 use Rattle.craq_door.specs.Halves.{IsRefusable}
@@ -15,6 +16,19 @@ use Rattle.craq_door.specs.declared.dialogue.Stepped.{Stepped}
 use Rattle.craq_door.specs.declared.dialogue.Stepped.TheVariants as steps
 use Rattle.craq_ready.specs.declared.connection.Connection.{Connection}
 use Rattle.craq_ready.specs.Belonging.{CameBack, OneByOne}
+
+-- the number of the call after that of this number; after 2^64 - 1 comes 0, so a number comes again only after 2^64 calls
+abbrev pub next_call : ℕ → ℕ
+next_call number = (number + 1) % 2 ^ 64
+
+-- the numbers of so many calls after that of this number, in order
+abbrev pub numbers_after : ℕ → ℕ → List ℕ
+numbers_after number zero = []
+numbers_after number (suc count) = next_call number ∷ numbers_after (next_call number) count
+
+-- what was asked under the key of a connection, by the number of its call
+abbrev pub under_key : (Token → Submitting) → ℕ → ℕ → Submitting
+under_key submits key number = submits (record { connection = key; call = number })
 
 -- the host was asked the call that is under way. Nothing came at once: it still is under way, and may be refused with whatever a
 -- letter can refuse it with; or this came at once: the call came back so, and is refused only as it may be. Where none was under
@@ -30,14 +44,25 @@ abbrev pub IsNoCall : Stepped → Type 0
 IsNoCall (steps.Calls due) = ⊥
 IsNoCall stepped = ⊤
 
--- the dialogue took so many steps, its host was asked each call as soon as a step made it, and else nothing happened to it
-pub data TakesSteps (tells : List ℕ → Type 0) (refuses : Refusing) (submits : Submitting) (old : Dialogue) : ℕ → Dialogue → Type 0 where
-  none : TakesSteps tells refuses submits old 0 old
-  step : (count : ℕ) (mid new : Dialogue) (stepped : Stepped) → TakesSteps tells refuses submits old count mid
-      → IsNoCall stepped → Took tells mid.phase stepped new.phase mid.talk new.talk mid.calls new.calls → TakesSteps tells refuses submits old (count + 1) new
-  call : (count : ℕ) (mid made new : Dialogue) (due : CallDue) → TakesSteps tells refuses submits old count mid
-      → Took tells mid.phase (steps.Calls due) made.phase mid.talk made.talk mid.calls made.calls → AsksHost refuses submits made.phase made new
-      → TakesSteps tells refuses submits old (count + 1) new
+-- the dialogue took so many steps, its host was asked each call as soon as a step made it, under the number after that of the call
+-- asked before, and else nothing happened to it. `before` is the number of the call asked last before these steps, the last number
+-- that of the call asked last after them
+pub data TakesSteps (tells : List ℕ → Type 0) (refuses : Refusing) (submits : ℕ → Submitting) (old : Dialogue) (before : ℕ) : ℕ → Dialogue → ℕ → Type 0 where
+  none : TakesSteps tells refuses submits old before 0 old before
+  step : (count : ℕ) (mid new : Dialogue) (number : ℕ) (stepped : Stepped) → TakesSteps tells refuses submits old before count mid number
+      → IsNoCall stepped → Took tells mid.phase stepped new.phase mid.talk new.talk mid.calls new.calls
+      → TakesSteps tells refuses submits old before (count + 1) new number
+  call : (count : ℕ) (mid made new : Dialogue) (number : ℕ) (due : CallDue) → TakesSteps tells refuses submits old before count mid number
+      → Took tells mid.phase (steps.Calls due) made.phase mid.talk made.talk mid.calls made.calls
+      → AsksHost refuses (submits (next_call number)) made.phase made new
+      → TakesSteps tells refuses submits old before (count + 1) new (next_call number)
+
+-- the numbers of the calls that were asked in these steps, in order
+abbrev pub asked_in : {tells : List ℕ → Type 0} {refuses : Refusing} {submits : ℕ → Submitting} {old : Dialogue} {before : ℕ} {count : ℕ} {new : Dialogue} {after : ℕ}
+    → TakesSteps tells refuses submits old before count new after → List ℕ
+asked_in none = []
+asked_in (step count mid new number stepped taken no_call took) = asked_in taken
+asked_in (call count mid made new number due taken took asked) = asked_in taken ++ next_call number ∷ []
 
 -- so many steps a dialogue takes at most before others have their turn
 abbrev pub most_steps : ℕ
@@ -49,24 +74,26 @@ IsLast steps.Starved = ⊤
 IsLast steps.Stays = ⊤
 IsLast stepped = ⊥
 
--- the dialogue had its turn: it took steps until one found nothing more to do, or as many as are taken at most
-pub data TakesTurn (tells : List ℕ → Type 0) (refuses : Refusing) (submits : Submitting) (old new : Dialogue) : Type 0 where
-  rests : (count : ℕ) (mid : Dialogue) (stepped : Stepped) → TakesSteps tells refuses submits old count mid
-      → IsLast stepped → Took tells mid.phase stepped new.phase mid.talk new.talk mid.calls new.calls → TakesTurn tells refuses submits old new
-  gives_way : TakesSteps tells refuses submits old most_steps new → TakesTurn tells refuses submits old new
+-- the dialogue had its turn: it took steps until one found nothing more to do, or as many as are taken at most; before and after it
+-- the call asked last had these numbers
+pub data TakesTurn (tells : List ℕ → Type 0) (refuses : Refusing) (submits : ℕ → Submitting) (old : Dialogue) (before : ℕ) (new : Dialogue) (after : ℕ) : Type 0 where
+  rests : (count : ℕ) (mid : Dialogue) (stepped : Stepped) → TakesSteps tells refuses submits old before count mid after
+      → IsLast stepped → Took tells mid.phase stepped new.phase mid.talk new.talk mid.calls new.calls → TakesTurn tells refuses submits old before new after
+  gives_way : TakesSteps tells refuses submits old before most_steps new after → TakesTurn tells refuses submits old before new after
 
--- the turn of a connection: where it is over its dialogue is as it was
-abbrev pub HasTurn : (List ℕ → Type 0) → Refusing → Submitting → Bool → Dialogue → Dialogue → Type 0
-HasTurn tells refuses submits true old new = new ≡ old
-HasTurn tells refuses submits false old new = TakesTurn tells refuses submits old new
+-- the turn of a connection: where it is over it asks nothing, and its dialogue is as it was
+abbrev pub HasTurn : (List ℕ → Type 0) → Refusing → (ℕ → Submitting) → Bool → Dialogue → ℕ → Dialogue → ℕ → Type 0
+HasTurn tells refuses submits true old before new after = (new ≡ old) × (after ≡ before)
+HasTurn tells refuses submits false old before new after = TakesTurn tells refuses submits old before new after
 
--- under this token, the connection had its turn, in which its host was asked so; its socket is as it was
-abbrev pub HasTurnAt : {S : Type 0} → (List ℕ → Type 0) → Refusing → Submitting → Slab (Connection S) → Slab (Connection S) → ℕ → Type 0
-HasTurnAt {S} tells refuses submits old new token =
-    (c : Connection S) → get old token ≡ Some c
-    → (d : Connection S) × (get new token ≡ Some d) × HasTurn tells refuses submits c.over c.dialogue d.dialogue × (d.stream ≡ c.stream)
+-- under this key, the connection had its turn, in which its host was asked each call under this key and the number after that of
+-- the call before; its socket is as it was
+abbrev pub HasTurnAt : {S : Type 0} → (List ℕ → Type 0) → Refusing → (Token → Submitting) → Slab (Connection S) → Slab (Connection S) → ℕ → Type 0
+HasTurnAt {S} tells refuses submits old new key =
+    (c : Connection S) → get old key ≡ Some c
+    → (d : Connection S) × (get new key ≡ Some d) × HasTurn tells refuses (under_key submits key) c.over c.dialogue c.calls d.dialogue d.calls × (d.stream ≡ c.stream)
 
--- the connections under these tokens have their turns, one after another, in which the host is asked under their own tokens; and
+-- the connections under these keys have their turns, one after another, in which the host is asked under their own keys; and
 -- no other connection changes
-abbrev pub TakeTurns : {S : Type 0} → (List ℕ → Type 0) → Refusing → (ℕ → Submitting) → List ℕ → Slab (Connection S) → Slab (Connection S) → Type 0
-TakeTurns tells refuses submits tokens old new = OneByOne (λ mid next token. HasTurnAt tells refuses (submits token) mid next token) tokens old new
+abbrev pub TakeTurns : {S : Type 0} → (List ℕ → Type 0) → Refusing → (Token → Submitting) → List ℕ → Slab (Connection S) → Slab (Connection S) → Type 0
+TakeTurns tells refuses submits keys old new = OneByOne (λ mid next key. HasTurnAt tells refuses submits mid next key) keys old new

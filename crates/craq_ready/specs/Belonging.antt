@@ -6,6 +6,7 @@ use Rattle.craq_names.specs.declared.refusal.Refusal.{Refusal}
 use Rattle.craq_front.specs.Talk.{History}
 use Rattle.craq_seat.specs.Calls.{Called}
 use Rattle.craq_letters.specs.declared.pile.Letter.{Letter}
+use Rattle.craq_letters.specs.declared.token.Token.{Token}
 use Rattle.craq_door.specs.Dialogues.{Answers, Holds}
 use Rattle.craq_door.specs.declared.dialogue.Dialogue.{Dialogue}
 use Rattle.craq_ready.specs.declared.connection.Connection.{Connection}
@@ -40,36 +41,44 @@ CameBack outcome old new = Answers old.phase outcome new.phase old.talk new.talk
 abbrev pub CameByLetter : Result Called Refusal → Dialogue → Dialogue → Type 0
 CameByLetter reply old new = (outcome : Result Called Refusal) × IsOutcome old.phase reply outcome × CameBack outcome old new
 
--- under this token, the dialogue of the connection is told that its call came back by this letter; its socket is as it was
-abbrev pub Delivers : {S : Type 0} → Slab (Connection S) → Slab (Connection S) → ℕ → Result Called Refusal → Type 0
+-- a letter under this number says this: where it is the number of the call that the connection asked last, the dialogue is told
+-- that its call came back so; under another number the letter tells it nothing
+pub record TakesLetter {S : Type 0} (number : ℕ) (reply : Result Called Refusal) (old new : Connection S) : Type 0 where
+  pub own : number ≡ old.calls → CameByLetter reply old.dialogue new.dialogue
+  pub another : number ≢ old.calls → new.dialogue ≡ old.dialogue
+  pub calls : new.calls ≡ old.calls
+  pub stream : new.stream ≡ old.stream
+
+-- the connection whose key is in this token takes the letter under the number that is there
+abbrev pub Delivers : {S : Type 0} → Slab (Connection S) → Slab (Connection S) → Token → Result Called Refusal → Type 0
 Delivers {S} old new token reply =
-    (c : Connection S) → get old token ≡ Some c
-    → (d : Connection S) × (get new token ≡ Some d) × CameByLetter reply c.dialogue d.dialogue × (d.stream ≡ c.stream)
+    (c : Connection S) → get old token.connection ≡ Some c
+    → (d : Connection S) × (get new token.connection ≡ Some d) × TakesLetter token.call reply c d
 
--- under this token, the connection has something to do from now on
+-- under this key, the connection has something to do from now on
 abbrev pub Wakes : {S : Type 0} → Slab (Connection S) → Slab (Connection S) → ℕ → Type 0
-Wakes {S} old new token = (c : Connection S) → get old token ≡ Some c → get new token ≡ Some (record c { busy = true })
+Wakes {S} old new key = (c : Connection S) → get old key ≡ Some c → get new key ≡ Some (record c { busy = true })
 
--- where no connection is under this token, none is afterwards
+-- where no connection is under this key, none is afterwards
 abbrev pub StaysVacant : {S : Type 0} → Slab (Connection S) → Slab (Connection S) → ℕ → Type 0
-StaysVacant old new token = get old token ≡ None → get new token ≡ None
+StaysVacant old new key = get old key ≡ None → get new key ≡ None
 
--- each connection under another token is as it was
+-- each connection under another key is as it was
 abbrev pub OthersStay : {S : Type 0} → Slab (Connection S) → Slab (Connection S) → ℕ → Type 0
-OthersStay old new token = (other : ℕ) → other ≢ token → get new other ≡ get old other
+OthersStay old new key = (other : ℕ) → other ≢ key → get new other ≡ get old other
 
--- under this token, and no connection under another token changes; where none is under this token, none is afterwards
+-- under this key, and no connection under another key changes; where none is under this key, none is afterwards
 abbrev pub Alone : {S : Type 0} → (Slab (Connection S) → Slab (Connection S) → ℕ → Type 0) → Slab (Connection S) → Slab (Connection S) → ℕ → Type 0
-Alone happens old new token = happens old new token × StaysVacant old new token × OthersStay old new token
+Alone happens old new key = happens old new key × StaysVacant old new key × OthersStay old new key
 
--- it happens under each of these tokens, one after another, and no other connection changes
+-- it happens under each of these keys, one after another, and no other connection changes
 abbrev pub OneByOne : {S : Type 0} → (Slab (Connection S) → Slab (Connection S) → ℕ → Type 0) → List ℕ → Slab (Connection S) → Slab (Connection S) → Type 0
 OneByOne happens [] old new = new ≡ old
-OneByOne {S} happens (token ∷ tokens) old new = (mid : Slab (Connection S)) × Alone happens old mid token × OneByOne happens tokens mid new
+OneByOne {S} happens (key ∷ keys) old new = (mid : Slab (Connection S)) × Alone happens old mid key × OneByOne happens keys mid new
 
--- the letter is delivered under its token; and no connection under another token changes
+-- the letter is delivered to the connection whose key is in its token, and no connection under another key changes
 abbrev pub DeliversLetter : {S : Type 0} → Letter → Slab (Connection S) → Slab (Connection S) → Type 0
-DeliversLetter letter old new = Delivers old new letter.token letter.reply × StaysVacant old new letter.token × OthersStay old new letter.token
+DeliversLetter letter old new = Delivers old new letter.token letter.reply × StaysVacant old new letter.token.connection × OthersStay old new letter.token.connection
 
 -- each of these letters is delivered, the last one first
 abbrev pub DeliversAll : {S : Type 0} → List Letter → Slab (Connection S) → Slab (Connection S) → Type 0

@@ -7,10 +7,10 @@ use crate::host::{Arrival, Host};
 use crate::socket::Socket;
 use craq_calls::refusal_of_call;
 use craq_door::{CallDue, Dialogue, Stepped};
-use craq_letters::Outcome;
+use craq_letters::{Outcome, Token};
 use mio::event::Event;
 use mio::unix::SourceFd;
-use mio::{Interest, Registry, Token};
+use mio::{Interest, Registry};
 use std::alloc::Global;
 use std::io;
 use std::io::ErrorKind;
@@ -37,6 +37,9 @@ struct Readiness {
 pub(crate) struct Connection<S> {
     stream: S,
     dialogue: Dialogue,
+    /// The number of the call that was asked last: its first call has 1, each later one the next, and after 2^64 - 1 comes 0. So a
+    /// number comes again only after 2^64 calls. 0 where none was asked.
+    calls: u64,
     place: usize,
     receipts: usize,
     readiness: Readiness,
@@ -51,11 +54,11 @@ pub(crate) struct Connection<S> {
 }
 
 impl Connection<Arc<TcpStream>> {
-    /// A connection that came, of which readiness is told under this token.
+    /// A connection that came, of which readiness is told under this token. None of its calls was asked.
     pub(crate) fn open(
         alloc: Global,
         registry: &Registry,
-        token: Token,
+        token: mio::Token,
         arrival: Arrival,
         keeps: bool,
         now: u64,
@@ -72,6 +75,7 @@ impl Connection<Arc<TcpStream>> {
         Ok(Connection {
             stream,
             dialogue: Dialogue::new(alloc, keeps),
+            calls: 0,
             place,
             receipts,
             readiness: Readiness {
@@ -92,6 +96,7 @@ impl Connection<Arc<TcpStream>> {
         let Connection {
             stream,
             dialogue,
+            calls: _,
             place,
             receipts,
             readiness: _,
@@ -106,8 +111,8 @@ impl Connection<Arc<TcpStream>> {
 }
 
 impl<S: Socket> Connection<S> {
-    ghost use Rattle.craq_ready.specs.Advancing.{AsksHost, HasTurn};
-    ghost use Rattle.craq_ready.specs.Belonging.{CameBack, CameByLetter, Gives, Hears, Reads, Writes};
+    ghost use Rattle.craq_ready.specs.Advancing.{AsksHost, HasTurn, next_call, under_key};
+    ghost use Rattle.craq_ready.specs.Belonging.{CameBack, Gives, Hears, Reads, TakesLetter, Writes};
     ghost use Rattle.craq_ready.specs.Letters.{IsOutcome};
     ghost use Rattle.craq_ready.specs.Serving.{IsDone, is_waiting};
 
@@ -191,6 +196,7 @@ impl<S: Socket> Connection<S> {
         requires { self.old.dialogue.phase ≡ Idle }
         ensures hears { Hears bytes.now self.old.dialogue self.new.dialogue }
         ensures stream { self.new.stream ≡ self.old.stream }
+        ensures calls { self.new.calls ≡ self.old.calls }
     {
         self.more = true;
         self.heard = now;
@@ -207,6 +213,7 @@ impl<S: Socket> Connection<S> {
     fn read_failed(&mut self, error: ErrorKind)
         ensures dialogue { self.new.dialogue ≡ self.old.dialogue }
         ensures stream { self.new.stream ≡ self.old.stream }
+        ensures calls { self.new.calls ≡ self.old.calls }
     {
         match error {
             ErrorKind::WouldBlock => self.readiness.readable = false,
@@ -221,6 +228,7 @@ impl<S: Socket> Connection<S> {
         requires { self.old.dialogue.phase ≡ Idle }
         ensures reads { Reads (S.remaining self.old.stream) (S.remaining self.new.stream) self.old.dialogue self.new.dialogue }
         ensures contents { S.contents self.new.stream ≡ S.contents self.old.stream }
+        ensures calls { self.new.calls ≡ self.old.calls }
     {
         match self.stream.take(chunk) {
             Ok(0) => self.over = true,
@@ -238,6 +246,7 @@ impl<S: Socket> Connection<S> {
         ensures waits { (q : Question) → self.old.dialogue.phase ≡ Waits q → self.new.dialogue ≡ self.old.dialogue }
         ensures reads { Reads (S.remaining self.old.stream) (S.remaining self.new.stream) self.old.dialogue self.new.dialogue }
         ensures contents { S.contents self.new.stream ≡ S.contents self.old.stream }
+        ensures calls { self.new.calls ≡ self.old.calls }
     {
         if self.may_read() {
             self.take(chunk, now);
@@ -248,6 +257,7 @@ impl<S: Socket> Connection<S> {
     fn write_failed(&mut self, error: ErrorKind)
         ensures dialogue { self.new.dialogue ≡ self.old.dialogue }
         ensures stream { self.new.stream ≡ self.old.stream }
+        ensures calls { self.new.calls ≡ self.old.calls }
     {
         match error {
             ErrorKind::WouldBlock => self.readiness.writable = false,
@@ -261,6 +271,7 @@ impl<S: Socket> Connection<S> {
         requires { count ≤ length self.old.dialogue.talk.buffers.output.items }
         ensures gives { Gives (take count self.old.dialogue.talk.buffers.output.items) self.old.dialogue self.new.dialogue }
         ensures stream { self.new.stream ≡ self.old.stream }
+        ensures calls { self.new.calls ≡ self.old.calls }
     {
         self.heard = now;
         self.dialogue.wrote(count);
@@ -271,6 +282,7 @@ impl<S: Socket> Connection<S> {
     fn write(&mut self, now: u64)
         ensures writes { Writes (S.contents self.old.stream) (S.contents self.new.stream) self.old.dialogue self.new.dialogue }
         ensures remaining { S.remaining self.new.stream ≡ S.remaining self.old.stream }
+        ensures calls { self.new.calls ≡ self.old.calls }
     {
         if self.over || !self.readiness.writable || self.dialogue.due().is_empty() {
             return;
@@ -286,6 +298,7 @@ impl<S: Socket> Connection<S> {
     fn answer<H: Host>(&mut self, alloc: Global, host: &H, outcome: Outcome)
         ensures told { CameBack outcome self.old.dialogue self.new.dialogue }
         ensures stream { self.new.stream ≡ self.old.stream }
+        ensures calls { self.new.calls ≡ self.old.calls }
     {
         if let Err(refusal) = &outcome {
             host.refused(self.place, *refusal);
@@ -307,32 +320,42 @@ impl<S: Socket> Connection<S> {
         }
     }
 
-    /// The call that is under way came back by a letter that says this.
-    pub(crate) fn take_reply<H: Host>(&mut self, alloc: Global, host: &H, reply: Outcome)
-        ensures told { CameByLetter reply self.old.dialogue self.new.dialogue }
-        ensures stream { self.new.stream ≡ self.old.stream }
+    /// A letter with this number says this. Where the call that was asked last has this number, it came back so. A letter with
+    /// another number is let go: none comes, since a call is asked only once the one before it came back.
+    pub(crate) fn take_reply<H: Host>(&mut self, alloc: Global, host: &H, call: u64, reply: Outcome)
+        ensures { TakesLetter call reply self.old self.new }
     {
+        if call != self.calls {
+            return;
+        }
         let outcome = self.outcome_of(reply);
         self.answer(alloc, host, outcome);
     }
 
-    /// The call that is due is asked, under this token. What comes of it at once, the dialogue is told.
+    /// The call that is due is asked, under this key and the number after that of the call before it. What comes of it at once, the
+    /// dialogue is told.
     #[tactic(auto, using(crate::proofs::Advancing::nothing_came, crate::proofs::Advancing::came_at_once))]
-    fn submit<H: Host>(&mut self, alloc: Global, host: &H, due: CallDue, token: usize, few: bool)
-        ensures asked { AsksHost (H.refuses host.now) (H.submits host.now token) self.old.dialogue.phase self.old.dialogue self.new.dialogue }
+    fn submit<H: Host>(&mut self, alloc: Global, host: &H, due: CallDue, key: usize, few: bool)
+        ensures asked { AsksHost (H.refuses host.now) (under_key (H.submits host.now) key (next_call self.old.calls)) self.old.dialogue.phase self.old.dialogue self.new.dialogue }
+        ensures calls { self.new.calls ≡ next_call self.old.calls }
         ensures stream { self.new.stream ≡ self.old.stream }
     {
+        self.calls = self.calls.wrapping_add(1);
+        let token = Token {
+            connection: key,
+            call: self.calls,
+        };
         if let Some(outcome) = self.dialogue.ask(due, host, token, few) {
             self.answer(alloc, host, outcome);
         }
     }
 
-    /// Its turn: takes the steps of the dialogue, until one finds nothing to do, or 64. Its calls are asked under this token. What
-    /// comes of the steps is then due. A connection that is over takes none. `few` tells that few connections have something to do
-    /// just now.
+    /// Its turn: takes the steps of the dialogue, until one finds nothing to do, or 64. Its calls are asked under this key, each under
+    /// the next number. What comes of the steps is then due. A connection that is over takes none. `few` tells that few connections
+    /// have something to do just now.
     #[tactic(auto, using(crate::proofs::Advancing::none_taken, crate::proofs::Advancing::went, crate::proofs::Advancing::called, crate::proofs::Advancing::starved, crate::proofs::Advancing::stayed))]
-    pub(crate) fn advance<H: Host>(&mut self, alloc: Global, host: &H, token: usize, few: bool)
-        ensures turn { HasTurn (H.tells host.now) (H.refuses host.now) (H.submits host.now token) self.old.over self.old.dialogue self.new.dialogue }
+    pub(crate) fn advance<H: Host>(&mut self, alloc: Global, host: &H, key: usize, few: bool)
+        ensures turn { HasTurn (H.tells host.now) (H.refuses host.now) (under_key (H.submits host.now) key) self.old.over self.old.dialogue self.old.calls self.new.dialogue self.new.calls }
         ensures stream { self.new.stream ≡ self.old.stream }
     {
         if self.over {
@@ -341,7 +364,7 @@ impl<S: Socket> Connection<S> {
         for _step in 0..MOST_STEPS {
             match self.dialogue.step(alloc, host) {
                 Stepped::Goes => {}
-                Stepped::Calls(due) => self.submit(alloc, host, due, token, few),
+                Stepped::Calls(due) => self.submit(alloc, host, due, key, few),
                 Stepped::Starved => {
                     self.more = false;
                     return;
@@ -355,6 +378,7 @@ impl<S: Socket> Connection<S> {
     pub(crate) fn give(&mut self, now: u64)
         ensures writes { Writes (S.contents self.old.stream) (S.contents self.new.stream) self.old.dialogue self.new.dialogue }
         ensures remaining { S.remaining self.new.stream ≡ S.remaining self.old.stream }
+        ensures calls { self.new.calls ≡ self.old.calls }
     {
         self.write(now);
         if self.dialogue.ending().is_some() && self.dialogue.due().is_empty() {

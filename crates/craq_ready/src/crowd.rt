@@ -8,7 +8,7 @@ ghost use Rattle.craq_ready.specs.Serving.{ReadsAt, Serves, WritesAt};
 use crate::connection::Connection;
 use crate::host::{Arrival, Host};
 use crate::socket::Socket;
-use craq_letters::{Letter, Outcome};
+use craq_letters::Letter;
 use mio::event::Events;
 use mio::{Poll, Registry, Token, Waker};
 use slab::Slab;
@@ -33,63 +33,58 @@ const FEW_CONNECTIONS: usize = 2;
 /// So often a thread of few connections looks again for something to do, before it sleeps: some 60 microseconds.
 const MOST_LOOKS: u32 = 200;
 
-/// The connection under a token has its turn. Its calls are asked under this token, and no other connection changes; where none is
-/// under the token nothing does.
+/// The connection under a key has its turn. Its calls are asked under this key, each under the next number, and no other connection
+/// changes; where none is under the key nothing does.
 fn advance_at<H: Host>(
     alloc: Global,
     connections: &mut Slab<Connection<Arc<TcpStream>>>,
     host: &H,
-    token: usize,
+    key: usize,
     few: bool,
 )
-    ensures turn { HasTurnAt (H.tells host.now) (H.refuses host.now) (H.submits host.now token) connections.old connections.new token }
-    ensures vacant { StaysVacant connections.old connections.new token }
-    ensures others { OthersStay connections.old connections.new token }
+    ensures turn { HasTurnAt (H.tells host.now) (H.refuses host.now) (H.submits host.now) connections.old connections.new key }
+    ensures vacant { StaysVacant connections.old connections.new key }
+    ensures others { OthersStay connections.old connections.new key }
 {
-    let Some(connection) = connections.get_mut(token) else {
+    let Some(connection) = connections.get_mut(key) else {
         return;
     };
-    connection.advance(alloc, host, token, few);
+    connection.advance(alloc, host, key, few);
 }
 
-/// The connection under a token reads. No other connection changes; where none is under the token nothing does.
-fn read_at<S: Socket>(
-    connections: &mut Slab<Connection<S>>,
-    token: usize,
-    chunk: &mut [u8],
-    now: u64,
-)
-    ensures reads { ReadsAt S.remaining S.contents connections.old connections.new token }
-    ensures vacant { StaysVacant connections.old connections.new token }
-    ensures others { OthersStay connections.old connections.new token }
+/// The connection under a key reads. No other connection changes; where none is under the key nothing does.
+fn read_at<S: Socket>(connections: &mut Slab<Connection<S>>, key: usize, chunk: &mut [u8], now: u64)
+    ensures reads { ReadsAt S.remaining S.contents connections.old connections.new key }
+    ensures vacant { StaysVacant connections.old connections.new key }
+    ensures others { OthersStay connections.old connections.new key }
 {
-    let Some(connection) = connections.get_mut(token) else {
+    let Some(connection) = connections.get_mut(key) else {
         return;
     };
     connection.read(chunk, now);
 }
 
-/// What is due to the connection under a token is written. It is let go exactly where it is done, and no other connection changes;
-/// where none is under the token nothing does. Tells whether it has something left to do of which no event and no letter will tell.
+/// What is due to the connection under a key is written. It is let go exactly where it is done, and no other connection changes;
+/// where none is under the key nothing does. Tells whether it has something left to do of which no event and no letter will tell.
 fn give_at<H: Host>(
     connections: &mut Slab<Connection<Arc<TcpStream>>>,
     registry: &Registry,
     host: &H,
-    token: usize,
+    key: usize,
     now: u64,
 ) -> bool
-    ensures writes { WritesAt ⟦<Arc<TcpStream> as Socket>⟧.remaining ⟦<Arc<TcpStream> as Socket>⟧.contents connections.old connections.new token }
-    ensures vacant { StaysVacant connections.old connections.new token }
-    ensures others { OthersStay connections.old connections.new token }
+    ensures writes { WritesAt ⟦<Arc<TcpStream> as Socket>⟧.remaining ⟦<Arc<TcpStream> as Socket>⟧.contents connections.old connections.new key }
+    ensures vacant { StaysVacant connections.old connections.new key }
+    ensures others { OthersStay connections.old connections.new key }
 {
-    let Some(connection) = connections.get_mut(token) else {
+    let Some(connection) = connections.get_mut(key) else {
         return false;
     };
     connection.give(now);
     if !connection.is_done() {
         return connection.stays_busy();
     }
-    if let Some(ended) = connections.try_remove(token) {
+    if let Some(ended) = connections.try_remove(key) {
         ended.close(registry, host);
     }
     false
@@ -138,40 +133,40 @@ impl Members {
     }
 
     /// A connection has something to do.
-    fn wake(&mut self, token: usize)
+    fn wake(&mut self, key: usize)
         ensures letters { self.new.letters.items ≡ self.old.letters.items }
-        ensures wakes { Wakes self.old.connections self.new.connections token }
-        ensures vacant { StaysVacant self.old.connections self.new.connections token }
-        ensures others { OthersStay self.old.connections self.new.connections token }
+        ensures wakes { Wakes self.old.connections self.new.connections key }
+        ensures vacant { StaysVacant self.old.connections self.new.connections key }
+        ensures others { OthersStay self.old.connections self.new.connections key }
     {
         self.looks = 0;
-        if let Some(connection) = self.connections.get_mut(token) {
-            // There is room for the token of each connection.
+        if let Some(connection) = self.connections.get_mut(key) {
+            // There is room for the key of each connection.
             if connection.is_newly_busy() {
-                let _ = self.busy.push(token);
+                let _ = self.busy.push(key);
             }
         }
     }
 
-    /// A connection is taken in, with room for its token in both lists.
+    /// A connection is taken in, with room for its key in both lists.
     fn take_in(&mut self, registry: &Registry, arrival: Arrival) -> Result<(), AllocError> {
         let count = self.connections.len().saturating_add(1);
         self.busy.reserve(count)?;
         self.later.reserve(count)?;
         self.connections.reserve(1)?;
-        let token = self.connections.vacant_key();
+        let key = self.connections.vacant_key();
         let Ok(connection) = Connection::open(
             self.alloc,
             registry,
-            Token(token),
+            Token(key),
             arrival,
             self.keeps,
             self.now,
         ) else {
             return Err(AllocError);
         };
-        let token = self.connections.insert_reserved(connection);
-        self.wake(token);
+        let key = self.connections.insert_reserved(connection);
+        self.wake(key);
         Ok(())
     }
 
@@ -207,60 +202,63 @@ impl Members {
             let Some(letter) = self.letters.pop() else {
                 break;
             };
-            let Letter { token, reply } = letter;
-            self.deliver(host, token, reply);
+            self.deliver(host, letter);
         }
     }
 
-    /// A connection's call came back. Its dialogue is told, and no other connection changes; where it has gone nothing does.
-    fn deliver<H: Host>(&mut self, host: &H, token: usize, reply: Outcome)
+    /// A letter came. Where it bears the number of the call that its connection asked last, the connection's dialogue is told that
+    /// its call came back so. No other connection changes; where it has gone nothing does.
+    fn deliver<H: Host>(&mut self, host: &H, letter: Letter)
         ensures letters { self.new.letters.items ≡ self.old.letters.items }
-        ensures told { Delivers self.old.connections self.new.connections token reply }
-        ensures vacant { StaysVacant self.old.connections self.new.connections token }
-        ensures others { OthersStay self.old.connections self.new.connections token }
+        ensures told { Delivers self.old.connections self.new.connections letter.token letter.reply }
+        ensures vacant { StaysVacant self.old.connections self.new.connections letter.token.connection }
+        ensures others { OthersStay self.old.connections self.new.connections letter.token.connection }
     {
-        let Some(addressee) = self.connections.get_mut(token) else {
+        let Letter { token, reply } = letter;
+        let key = token.connection;
+        let Some(addressee) = self.connections.get_mut(key) else {
             return;
         };
-        addressee.take_reply(self.alloc, host, reply);
-        self.wake(token);
+        addressee.take_reply(self.alloc, host, token.call, reply);
+        self.wake(key);
     }
 
     /// What is told of readiness.
     fn notice(&mut self, events: &Events) {
         for event in events.iter() {
-            let Token(token) = event.token();
-            if let Some(connection) = self.connections.get_mut(token) {
+            let Token(key) = event.token();
+            if let Some(connection) = self.connections.get_mut(key) {
                 connection.notice(event);
             }
-            self.wake(token);
+            self.wake(key);
         }
     }
 
-    /// What has come on the busy connections is read: each reads under its own token, one after another, and no other connection
+    /// What has come on the busy connections is read: each reads under its own key, one after another, and no other connection
     /// changes.
     fn read_all(&mut self)
         ensures reads { OneByOne (ReadsAt ⟦<Arc<TcpStream> as Socket>⟧.remaining ⟦<Arc<TcpStream> as Socket>⟧.contents) self.old.busy.items self.old.connections self.new.connections }
         ensures busy { self.new.busy.items ≡ self.old.busy.items }
     {
-        for token in self.busy.iter() {
+        for key in self.busy.iter() {
             read_at(
                 &mut self.connections,
-                *token,
+                *key,
                 self.chunk.as_mut_slice(),
                 self.now,
             );
         }
     }
 
-    /// Each busy connection has its turn, in which it asks its calls under its own token, and no other connection changes.
+    /// Each busy connection has its turn, in which it asks its calls under its own key, each under the next of its numbers, and no other
+    /// connection changes.
     fn advance_all<H: Host>(&mut self, host: &H)
         ensures turns { TakeTurns (H.tells host.now) (H.refuses host.now) (H.submits host.now) self.old.busy.items self.old.connections self.new.connections }
         ensures busy { self.new.busy.items ≡ self.old.busy.items }
     {
         let few = self.busy.len() <= FEW_CONNECTIONS;
-        for token in self.busy.iter() {
-            advance_at(self.alloc, &mut self.connections, host, *token, few);
+        for key in self.busy.iter() {
+            advance_at(self.alloc, &mut self.connections, host, *key, few);
         }
     }
 
@@ -269,10 +267,10 @@ impl Members {
     fn give_all<H: Host>(&mut self, registry: &Registry, host: &H)
         ensures { OneByOne (WritesAt ⟦<Arc<TcpStream> as Socket>⟧.remaining ⟦<Arc<TcpStream> as Socket>⟧.contents) self.old.busy.items self.old.connections self.new.connections }
     {
-        for token in self.busy.iter() {
-            if give_at(&mut self.connections, registry, host, *token, self.now) {
-                // There is room for the token of each connection.
-                let _ = self.later.push(*token);
+        for key in self.busy.iter() {
+            if give_at(&mut self.connections, registry, host, *key, self.now) {
+                // There is room for the key of each connection.
+                let _ = self.later.push(*key);
             }
         }
         self.busy.clear();
@@ -295,13 +293,13 @@ impl Members {
             return;
         }
         self.now = now;
-        for token in 0..self.connections.capacity() {
-            let is_left = match self.connections.get_mut(token) {
+        for key in 0..self.connections.capacity() {
+            let is_left = match self.connections.get_mut(key) {
                 Some(connection) => connection.is_left(now, self.idle),
                 None => false,
             };
             if is_left {
-                self.wake(token);
+                self.wake(key);
             }
         }
     }

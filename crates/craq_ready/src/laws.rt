@@ -1,11 +1,15 @@
-//! A law: with what a call may be refused whose letter came, so that what its dialogue then tells is a turn of its host's door.
-ghost use Rattle.std.specs.Prelude.{Result};
+//! Laws: with what a call may be refused whose letter came, so that what its dialogue then tells is a turn of its host's door; and
+//! that each call of a connection has a number of its own.
+ghost use Rattle.std.specs.Prelude.{◌≡◌, ◌≢◌, ◌≤◌, ◌+◌, ◌^◌, ◌++◌, ℕ, length, Result};
+ghost use Rattle.std.specs.List.{AllPairs};
 ghost use Rattle.craq_names.specs.declared.refusal.Refusal.{Refusal};
 ghost use Rattle.craq_seat.specs.Calls.{Called};
 ghost use Rattle.craq_door.specs.Halves.{IsRefusable};
+ghost use Rattle.craq_door.specs.declared.dialogue.Dialogue.{Dialogue};
 ghost use Rattle.craq_door.specs.declared.dialogue.Phase.TheVariants.{Waits};
 ghost use Rattle.craq_door.specs.declared.question.Question.{Question};
 ghost use Rattle.craq_door.specs.Asking.{MayHaveAny};
+ghost use Rattle.craq_ready.specs.Advancing.{TakesSteps, asked_in, numbers_after, under_key};
 ghost use Rattle.craq_ready.specs.Letters.{IsOutcome};
 
 use crate::Host;
@@ -16,4 +20,14 @@ use crate::Host;
 pub fn letters_refuse_as_hosts_may<H: Host>(host: &H)
     ensures { (q : Question) (reply outcome : Result Called Refusal)
         → MayHaveAny (H.refuses host.now) q → IsOutcome (Waits q) reply outcome → IsRefusable (H.refuses host.now) q outcome }
+{}
+
+/// Law: the calls that a connection asks in some steps have the numbers after that of the call asked last before them, one by one,
+/// and those of later calls go on from there; and of so many calls in a row, up to 2^64, no two have the same number. So what comes
+/// under one number is not taken for what comes of another call, until 2^64 calls later. It has no body: the contract is the law.
+pub fn each_call_has_its_number<H: Host>(host: &H)
+    ensures in_order { (key before after count more : ℕ) (old new : Dialogue)
+        → (taken : TakesSteps (H.tells host.now) (H.refuses host.now) (under_key (H.submits host.now) key) old before count new after)
+        → asked_in taken ++ numbers_after after more ≡ numbers_after before (length (asked_in taken) + more) }
+    ensures none_twice { (before count : ℕ) → count ≤ 2 ^ 64 → AllPairs (λ x y. x ≢ y) (numbers_after before count) }
 {}

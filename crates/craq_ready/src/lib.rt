@@ -11,4 +11,4 @@ mod socket;
 
 pub use crowd::Crowd;
 pub use host::{Arrival, Host};
-pub use laws::letters_refuse_as_hosts_may;
+pub use laws::{each_call_has_its_number, letters_refuse_as_hosts_may};

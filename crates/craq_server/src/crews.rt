@@ -5,7 +5,7 @@ use crate::door::ServedStore;
 use crate::logging::Log;
 use craq_door::{CallTaker, Permit, Question, Reached};
 use craq_frames::Text;
-use craq_letters::{Letter, Letterbox};
+use craq_letters::{Letter, Letterbox, Token};
 use craq_names::Refusal;
 use craq_node::Core;
 use craq_ready::{Arrival, Crowd, Host};
@@ -66,7 +66,7 @@ where
         &self,
         permit: Permit,
         question: &Question,
-        token: usize,
+        token: Token,
         few: bool,
     ) -> Result<Option<CallReceipt>, Refusal> {
         drop(permit);

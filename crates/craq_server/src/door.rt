@@ -10,7 +10,7 @@ use crate::status::status_text;
 use craq_calls::pass_after;
 use craq_door::{Callee, Question, Reached};
 use craq_frames::Text;
-use craq_letters::Letterbox;
+use craq_letters::{Letterbox, Token};
 use craq_model::{Answer, Ask};
 use craq_names::{NodeName, Pass, Refusal};
 use craq_node::Core;
@@ -104,7 +104,7 @@ where
         &self,
         question: &Question,
         letters: &Arc<Letterbox>,
-        token: usize,
+        token: Token,
         few: bool,
     ) -> Result<Option<CallReceipt>, Refusal>
         ensures refused { IfErr result (λ e. RefusesServed (length self.now.store.now.names) question.now.node question.now.ask e) }

@@ -1,5 +1,5 @@
 use Rattle.std.proofs.Common.{◌≡◌, ◌≤◌, false}
-use Rattle.craq_ready.specs.Advancing.{TakesSteps}
+use Rattle.craq_ready.specs.Advancing.{TakesSteps, under_key}
 use Rattle.craq_ready.proofs.connection.Connection.advance.Given as goal
 
 abbrev pub invariant-loop-step : goal.invariant-loop-step
@@ -7,4 +7,4 @@ invariant-loop-step g l =
     (l.self.stream ≡ l.fn.self.stream)
     × (l.fn.self.over ≡ false)
     × (l._step ≤ 64)
-    × TakesSteps (g.H.Reached.tells l.fn.host) (g.H.Reached.refuses l.fn.host) (g.H.CallTaker.submits l.fn.host l.fn.token) l.fn.self.dialogue l._step l.self.dialogue
+    × TakesSteps (g.H.Reached.tells l.fn.host) (g.H.Reached.refuses l.fn.host) (under_key (g.H.CallTaker.submits l.fn.host) l.fn.key) l.fn.self.dialogue l.fn.self.calls l._step l.self.dialogue l.self.calls

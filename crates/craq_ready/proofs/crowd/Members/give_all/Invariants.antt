@@ -4,5 +4,5 @@ use Rattle.craq_ready.specs.contracts.socket.ArcTcpStreamSocket.TheImpl.{remaini
 use Rattle.craq_ready.specs.Serving.{WritesAt}
 use Rattle.craq_ready.proofs.crowd.Members.give_all.Given as goal
 
-abbrev pub invariant-loop-token : goal.invariant-loop-token
-invariant-loop-token g l = OneByOne (WritesAt remaining-value.it contents-value.it) (take l.token-index l.token-items) l.fn.self.connections l.self.1.1.0
+abbrev pub invariant-loop-key : goal.invariant-loop-key
+invariant-loop-key g l = OneByOne (WritesAt remaining-value.it contents-value.it) (take l.key-index l.key-items) l.fn.self.connections l.self.1.1.0

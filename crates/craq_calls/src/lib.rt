@@ -5,6 +5,8 @@
 
 mod answering;
 mod refusing;
+mod sorting;
 
 pub use answering::{answer_of_call, pass_after};
 pub use refusing::refusal_of_call;
+pub use sorting::receipts_by_chain;

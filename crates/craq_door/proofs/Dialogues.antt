@@ -95,13 +95,19 @@ then_lost read written o n i due a b m r refusal turns e f (within k payload ear
       begun payload i refl cut.1,
     )
 
--- more bytes came
+-- more bytes came, and wait
 pub then_received : (read written o n i j more : List ℕ) (a b : Option Asking) (turns : History)
-    → n ≡ o → j ≡ i ++ more → b ≡ a → Stands read (written ++ o) i a None turns → Stands (read ++ more) (written ++ n) j b None turns
-then_received read written o n i j more a b turns out input asking s =
+    → n ≡ o → j ≡ i ++ more → Stands read (written ++ o) i a None turns → Stands (read ++ more) (written ++ n) j b None turns
+then_received read written o n i j more a b turns out input s =
     subst (λ (x : List ℕ). Stands (read ++ more) (written ++ x) j b None turns) (sym out)
     (subst (λ (x : List ℕ). Stands (read ++ more) (written ++ o) x b None turns) (sym input)
     (no_matter (read ++ more) (written ++ o) (i ++ more) a b turns (stands_received read (written ++ o) i more a None turns s)))
+
+-- more bytes came, and a message is asked
+pub then_heard : (read written o n i j more : List ℕ) (a b : Option Asking) (m : ClientMessage) (turns : History)
+    → n ≡ o → Advances (i ++ more) j [] b (Ok (Ask m)) → Stands read (written ++ o) i a None turns → Stands (read ++ more) (written ++ n) j b (Some m) turns
+then_heard read written o n i j more a b m turns out h s =
+    then_asked (read ++ more) written o n (i ++ more) j [] a b m turns (out ∙ sym (append-nil o)) h (stands_received read (written ++ o) i more a None turns s)
 
 -- bytes came that are lost
 pub then_deaf : (read written o n i more : List ℕ) (a : Option Asking) (turns : History)

@@ -61,8 +61,9 @@ pub struct Dialogue {
 }
 
 impl Dialogue {
-    ghost use Rattle.std.specs.Prelude.{◌≤◌, ◌↔◌, ℕ, List, [], ◌++◌, take, drop, length, IsTrue, OnOk, OnErr};
+    ghost use Rattle.std.specs.Prelude.{◌≤◌, ◌⊎◌, ◌↔◌, ℕ, List, [], ◌++◌, take, drop, length, IsTrue, OnOk, OnErr};
     ghost use Rattle.std.specs.Option.{option_copied};
+    ghost use Rattle.craq_frames.specs.declared.ask.ClientMessage.{ClientMessage};
     ghost use Rattle.craq_front.specs.Talk.{History};
     ghost use Rattle.craq_door.specs.Asking.{IsAsked};
     ghost use Rattle.craq_door.specs.Turns.{kept};
@@ -99,20 +100,25 @@ impl Dialogue {
         }
     }
 
-    /// These bytes came. It fails for want of memory alone; then they are lost, and it is over.
-    pub fn receive(&mut self, bytes: &[u8]) -> Result<(), AllocError>
+    /// These bytes came. The first message of the payload in front may be asked at once; else the next frame is to be looked for,
+    /// as before. It fails for want of memory alone; then the bytes are lost, and it is over.
+    pub fn receive(&mut self, alloc: Global, bytes: &[u8]) -> Result<(), AllocError>
         requires { self.old.phase ≡ Phase.Idle }
         ensures holds { (read written : List ℕ) (turns : History)
             → Holds self.old.phase self.old.talk read written turns → Holds self.new.phase self.new.talk (read ++ bytes.now) written turns }
-        ensures ok { OnOk result (self.new.phase ≡ Phase.Idle) }
+        ensures ok { OnOk result ((self.new.phase ≡ Phase.Idle) ⊎ ((m : ClientMessage) × (self.new.phase ≡ Phase.Asks m))) }
         ensures err { OnErr result (self.new.phase ≡ Phase.Over Ending.Memory) }
         ensures output { self.new.talk.buffers.output.items ≡ self.old.talk.buffers.output.items }
         ensures calls { self.new.calls ≡ self.old.calls }
     {
-        match self.talk.receive(bytes) {
-            Ok(()) => Ok(()),
+        match self.talk.receive(alloc, bytes) {
+            Ok(None) => Ok(()),
+            Ok(Some(message)) => {
+                self.phase = Phase::Asks(message);
+                Ok(())
+            }
             Err(error) => {
-                drop(mem::replace(&mut self.phase, Phase::Over(Ending::Memory)));
+                self.phase = Phase::Over(Ending::Memory);
                 Err(error)
             }
         }

@@ -1,7 +1,8 @@
 -- Known bytes of readers and writers, over two calls in a row.
-use Rattle.std.proofs.Common.{◌≡◌, ℕ, ◌+◌, List, [], ◌++◌, Option, Some, None, take, drop, sym, refl, ap, subst, ◌∙◌, append_assoc, arith}
+use Rattle.std.proofs.Common.{◌≡◌, ◌≤◌, ℕ, ◌+◌, List, [], ◌++◌, Option, Some, None, length, take, drop, sym, refl, ap, subst, ◌∙◌, append_assoc, arith}
 use Rattle.std.specs.Io.KnownBytes.{Appends, Consumes, Keeps}
-use Rattle.std.proofs.lemmas.List.{append-nil, take-append-drop, take-take, drop-take}
+use Rattle.std.proofs.lemmas.List.{append-nil, take-append-drop, take-append-le, take-take, take_at, drop_at, drop-take}
+use borrow.Rule.Slice.PartMut.{put_mid, post_of}
 
 pub consumes_none : (a : Option (List ℕ)) → Consumes a a []
 consumes_none None = tt
@@ -44,3 +45,17 @@ take_more n m xs =
 -- a read that gave nothing
 pub consumes_end : (a b c : Option (List ℕ)) (x y : List ℕ) → Consumes a b x → Consumes b c y → y ≡ [] → Consumes a c x
 consumes_end a b c x y h k e = subst (λ (t : List ℕ). Consumes a c t) (ap (λ (t : List ℕ). x ++ t) e ∙ append-nil x) (consumes_then a b c x y h k)
+
+-- bytes that were read into the room behind those that were there, of which the first n are kept
+pub read_behind : (was now got over : List ℕ) (at n k all : ℕ) → at ≡ length was → take at now ≡ was → at + n ≤ all → n ≤ length got
+    → take (at + n) (take all (put_mid at k now got ++ over)) ≡ was ++ take n got
+read_behind was now got over at n k all long front within few =
+    let post = post_of at k now in
+    let whole : put_mid at k now got ++ over ≡ was ++ (got ++ (post ++ over)) =
+    append_assoc (take at now) (got ++ post) over ∙ ap (λ (x : List ℕ). x ++ ((got ++ post) ++ over)) front ∙ ap (λ (x : List ℕ). was ++ x) (append_assoc got post over) in
+    take-take (at + n) all (put_mid at k now got ++ over) within
+    ∙ ap (take (at + n)) whole
+    ∙ take_more at n (was ++ (got ++ (post ++ over)))
+    ∙ ap (λ (x : List ℕ). x ++ take n (drop at (was ++ (got ++ (post ++ over))))) (take_at was (got ++ (post ++ over)) at (sym long))
+    ∙ ap (λ (x : List ℕ). was ++ take n x) (drop_at was (got ++ (post ++ over)) at (sym long))
+    ∙ ap (λ (x : List ℕ). was ++ x) (take-append-le n got (post ++ over) few)

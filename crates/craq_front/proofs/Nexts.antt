@@ -1,34 +1,22 @@
 -- What is done with the next frame, by the steps of a conversation.
-use Rattle.std.proofs.Common.{◌≡◌, ◌≤◌, ◌+◌, ℕ, List, [], ◌∷◌, ◌++◌, length, drop, true, false, Option, Some, Result, Ok, Err, refl, sym, ap, subst, ◌∙◌}
+use Rattle.std.proofs.Common.{◌≡◌, ◌≤◌, ◌+◌, ℕ, List, [], ◌++◌, length, drop, true, Option, Result, Ok, Err, refl, sym, ap, subst, ◌∙◌}
 use Rattle.std.proofs.lemmas.List.{append-nil}
 use Rattle.craq_names.specs.declared.refusal.Refusal.{Refusal}
 use Rattle.craq_names.specs.declared.refusal.Refusal.TheVariants as refusals
 use Rattle.craq_frames.specs.declared.ask.ClientMessage.{ClientMessage}
-use Rattle.craq_frames.specs.declared.answer.ClientReply.{ClientReply}
-use Rattle.craq_frames.specs.declared.versions.PayloadVersion.{PayloadVersion}
-use Rattle.craq_frames.specs.declared.versions.Payload.TheVariants as payloads
 use Rattle.craq_frames.specs.Frame.{frame, payload_limit}
-use Rattle.craq_frames.specs.Versions.{SpellsPayload}
 use Rattle.craq_front.specs.declared.conversation.Asking.{Asking}
-use Rattle.craq_front.specs.declared.conversation.Asking.TheVariants.{One, Many}
 use Rattle.craq_front.specs.declared.conversation.Step.{Step}
-use Rattle.craq_front.specs.declared.conversation.Step.TheVariants.{Ask, Refused, Nothing}
+use Rattle.craq_front.specs.declared.conversation.Step.TheVariants.{Ask, Refused}
 use Rattle.craq_front.specs.Serving.{Turn, Replies, nothing, Begins, idle, begun, Next}
 use Rattle.craq_front.specs.Steps.{IsFirst, Advances}
 use Rattle.craq_front.proofs.Lengths.{behind_frame}
 use Rattle.craq_front.proofs.Sessions.{served_one}
 
--- the message of the payload in front is asked
-pub one_asked : (version : PayloadVersion) (m : ClientMessage) (payload : List ℕ) → length payload ≤ payload_limit → SpellsPayload (payloads.One version m) payload
-    → (rest : List ℕ) → Advances (frame payload ++ rest) rest [] (Some (One version)) (Ok (Ask m))
-one_asked version m payload few s rest = (payload, refl, few, refl, record { p = payloads.One version m; spelled = s; form = (m, refl); first = refl; none = refl })
-
--- the first of several
-pub several_asked : (ms : List ClientMessage) (m : ClientMessage) (several : List ClientMessage × List ClientReply) (payload : List ℕ) → length payload ≤ payload_limit
-    → SpellsPayload (payloads.Many ms) payload → ms ≡ m ∷ several.0 → several.1 ≡ []
-    → (rest : List ℕ) → Advances (frame payload ++ rest) rest [] (Some (Many several)) (Ok (Ask m))
-several_asked ms m several payload few s waiting none rest =
-    (payload, refl, few, refl, record { p = payloads.Many ms; spelled = s; form = (ms, refl); first = waiting; none = none })
+-- the first message of the payload in front is asked
+pub first_asked : (asking : Option Asking) (m : ClientMessage) (payload : List ℕ) → length payload ≤ payload_limit → IsFirst asking m payload
+    → (rest : List ℕ) → Advances (frame payload ++ rest) rest [] asking (Ok (Ask m))
+first_asked asking m payload few first rest = (payload, refl, few, refl, first)
 
 -- what came of a payload, once its frame is taken off the bytes in which it lay
 pub taken_off : (input left due payload rest : List ℕ) (asking : Option Asking) (r : Result Step Refusal) → input ≡ frame payload ++ rest → left ≡ drop (length payload + 4) input

@@ -58,6 +58,12 @@ Advances input rest due asking (Err refusals.FrameTooLong) = RefusesLength input
 Advances input rest due asking (Err refusals.Memory) = due ≡ []
 Advances input rest due asking (Err _) = ⊥
 
+-- what bytes that came come to, behind which `input` is all that is there: the first message of the payload in front is asked, and
+-- `rest` is left behind that payload; or no message is asked, and all of it is left
+abbrev pub Receives : List ℕ → List ℕ → Option Asking → Option ClientMessage → Type 0
+Receives input rest asking (Some m) = Advances input rest [] asking (Ok (Ask m))
+Receives input rest asking None = (rest ≡ input) × (asking ≡ None)
+
 -- all replies of the payload, with the reply to the message that is asked
 abbrev pub all_replies : Asking → ClientReply → Answered
 all_replies (One version) r = replies.One version r

@@ -77,14 +77,18 @@ impl Buffers {
         ensures err { IfErr result (λ e. (e ≡ Refusal.Io) ⊎ (e ≡ Refusal.Memory)) }
         ensures output { self.new.output.items ≡ [] }
     {
+        let length = self.input.len();
         self.input.reserve(MOST_AT_ONCE)?;
-        let mut chunk = [0u8; MOST_AT_ONCE];
-        match reader.read(&mut chunk) {
+        self.input.advance_mut(MOST_AT_ONCE);
+        match reader.read(&mut self.input.as_mut_slice()[length..]) {
             Ok(n) => {
-                self.input.extend_reserved(&chunk[..n]);
+                self.input.truncate(length + n);
                 Ok(n)
             }
-            Err(Failed) => Err(Refusal::Io),
+            Err(Failed) => {
+                self.input.truncate(length);
+                Err(Refusal::Io)
+            }
         }
     }
 

@@ -1,9 +1,11 @@
 //! `Conversation`: what serving one client comes to, without a stream and without a door: bytes in, messages to ask, their
 //! replies, bytes out. `serve` drives one over a stream, a loop over readiness drives many.
-ghost use Rattle.std.specs.Prelude.{◌≡◌, ◌≤◌, ◌↔◌, ℕ, List, false, None, Some, [], ◌++◌, drop, length, IsTrue, OnOk, OnErr};
+ghost use Rattle.std.specs.Prelude.{◌≡◌, ◌≤◌, ◌↔◌, ℕ, List, false, None, Some, Ok, [], ◌++◌, drop, length, IsTrue, IfOk, IfSome, OnErr};
 ghost use Rattle.craq_frames.specs.Frame.{frame, payload_limit};
+ghost use Rattle.craq_frames.specs.Versions.{IsPayload, SpellsPayload};
+ghost use Rattle.craq_front.specs.declared.conversation.Step.TheVariants.{Ask};
 ghost use Rattle.craq_front.specs.Door.{IsAllowed};
-ghost use Rattle.craq_front.specs.Steps.{Advances, Follows};
+ghost use Rattle.craq_front.specs.Steps.{Advances, Follows, IsFirst, Receives};
 
 use crate::buffers::{Buffers, MOST_DUE};
 use crate::replying::{make_due, refuse};
@@ -43,6 +45,20 @@ pub struct Conversation {
     pub(crate) asking: Option<Asking>,
 }
 
+/// The first message of a payload, and the payload as it stands while that message is asked.
+fn first_of(alloc: Global, payload: Payload) -> (ClientMessage, Asking)
+    requires { IsPayload payload }
+    ensures { (bytes : List ℕ) → SpellsPayload payload bytes → IsFirst (Some result.1) result.0 bytes }
+{
+    match payload {
+        Payload::One(version, message) => (message, Asking::One(version)),
+        Payload::Many(messages) => {
+            let (message, several) = Several::begin(alloc, messages);
+            (message, Asking::Many(several))
+        }
+    }
+}
+
 /// A payload that came: its first message is asked, or its refusal is due.
 fn open(
     alloc: Global,
@@ -56,13 +72,9 @@ fn open(
         × ((rest : List ℕ) → Advances (frame payload.now ++ rest) rest due asking.new result) }
 {
     match Payload::decode(alloc, payload) {
-        Ok(Payload::One(version, message)) => {
-            *asking = Some(Asking::One(version));
-            Ok(Step::Ask(message))
-        }
-        Ok(Payload::Many(messages)) => {
-            let (message, several) = Several::begin(alloc, messages);
-            *asking = Some(Asking::Many(several));
+        Ok(decoded) => {
+            let (message, first) = first_of(alloc, decoded);
+            *asking = Some(first);
             Ok(Step::Ask(message))
         }
         Err(Refusal::BadFrame) => {
@@ -86,14 +98,54 @@ impl Conversation {
         }
     }
 
-    /// These bytes came behind those before. It fails for want of memory alone, and nothing is changed then.
-    pub fn receive(&mut self, bytes: &[u8]) -> Result<(), AllocError>
-        ensures ok { OnOk result (self.new.buffers.input.items ≡ self.old.buffers.input.items ++ bytes.now) }
-        ensures same { OnErr result (self.new.buffers.input.items ≡ self.old.buffers.input.items) }
+    /// These bytes came behind those before, where no message is asked. The first message of the payload in front of them may be
+    /// asked at once, and is given then; else all of them wait, and `next` says what comes of them. It fails for want of memory
+    /// alone, and nothing is changed then.
+    pub fn receive(
+        &mut self,
+        alloc: Global,
+        bytes: &[u8],
+    ) -> Result<Option<ClientMessage>, AllocError>
+        requires { self.old.asking ≡ None }
+        ensures ok { IfOk result (Receives (self.old.buffers.input.items ++ bytes.now) self.new.buffers.input.items self.new.asking) }
+        ensures same { OnErr result ((self.new.buffers.input.items ≡ self.old.buffers.input.items) × (self.new.asking ≡ None)) }
         ensures output { self.new.buffers.output.items ≡ self.old.buffers.output.items }
-        ensures asking { self.new.asking ≡ self.old.asking }
     {
-        self.buffers.input.extend_from_slice(bytes)
+        if let Some(message) = self.receive_in_place(alloc, bytes)? {
+            return Ok(Some(message));
+        }
+        self.buffers.input.extend_from_slice(bytes)?;
+        Ok(None)
+    }
+
+    /// A payload in front of these bytes is decoded where it lies, where no bytes wait before them: only what is behind it waits then.
+    /// Where there is none, or it does not decode, nothing is changed.
+    fn receive_in_place(
+        &mut self,
+        alloc: Global,
+        bytes: &[u8],
+    ) -> Result<Option<ClientMessage>, AllocError>
+        requires { self.old.asking ≡ None }
+        ensures asks { IfOk result (λ found. IfSome found (λ m. Advances (self.old.buffers.input.items ++ bytes.now) self.new.buffers.input.items [] self.new.asking (Ok (Ask m)))) }
+        ensures none { result ≡ Ok None → self.new ≡ self.old }
+        ensures same { OnErr result ((self.new.buffers.input.items ≡ self.old.buffers.input.items) × (self.new.asking ≡ None)) }
+        ensures output { self.new.buffers.output.items ≡ self.old.buffers.output.items }
+    {
+        if !self.buffers.input.is_empty() {
+            return Ok(None);
+        }
+        let Ok(Some(payload)) = payload_in_front(bytes) else {
+            return Ok(None);
+        };
+        let Ok(decoded) = Payload::decode(alloc, payload) else {
+            return Ok(None);
+        };
+        self.buffers
+            .input
+            .extend_from_slice(&bytes[payload.len() + 4..])?;
+        let (message, first) = first_of(alloc, decoded);
+        self.asking = Some(first);
+        Ok(Some(message))
     }
 
     /// Whether no more messages are to be asked before what is due is written: 65,536 bytes or more are.

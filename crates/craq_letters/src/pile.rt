@@ -1,5 +1,5 @@
 //! The letters that lie in a box, with room for each that is expected; called by `letterbox`, under its lock.
-ghost use Rattle.std.specs.Prelude.{◌≡◌, ◌≤◌, ◌↔◌, ◌+◌, ◌-◌, ◌++◌, [], ◌∷◌, None, IfSome, IsTrue, OnErr, OnOk};
+ghost use Rattle.std.specs.Prelude.{◌≡◌, ◌≤◌, ◌↔◌, ◌+◌, ◌-◌, ◌++◌, [], ◌∷◌, None, false, true, IfSome, IsTrue, OnErr, OnOk};
 
 use crate::token::Token;
 use craq_names::Refusal;
@@ -29,12 +29,12 @@ pub(crate) struct Pile {
 }
 
 impl Model for Pile {
-    ghost use Rattle.std.specs.Prelude.{◌≤◌, ◌+◌, ℕ, List, vec_capacity, vec_len};
-    ghost use Rattle.craq_letters.specs.declared.pile.Letter.{Letter};
+    ghost use Rattle.std.specs.Prelude.{◌≤◌, ◌+◌, vec_capacity, vec_len};
+    ghost use Rattle.craq_letters.specs.Piles.{Piled};
 
-    ghost Value = { List Letter × ℕ };
+    ghost Value = { Piled };
 
-    ghost view = { λ p. (p.letters.items, p.expected) };
+    ghost view = { λ p. record { letters = p.letters.items; expected = p.expected; told = p.told; sleeps = p.sleeps } };
 
     ghost invariant = { λ p. vec_len p.letters + p.expected ≤ vec_capacity p.letters };
 }
@@ -42,7 +42,7 @@ impl Model for Pile {
 impl Pile {
     /// No letters yet, and none expected. It takes no memory.
     pub(crate) fn new(alloc: Global) -> Self
-        ensures { result ≡ ([], 0) }
+        ensures { result ≡ record { letters = []; expected = 0; told = false; sleeps = false } }
     {
         Pile {
             letters: Vec::new(alloc),
@@ -54,7 +54,7 @@ impl Pile {
 
     /// One letter more is expected, and there is room for it.
     pub(crate) fn expect(&mut self) -> Result<(), AllocError>
-        ensures ok { OnOk result (self.new ≡ (self.old.0, self.old.1 + 1)) }
+        ensures ok { OnOk result (self.new ≡ record self.old { expected = self.old.expected + 1 }) }
         ensures err { OnErr result (self.new ≡ self.old) }
     {
         if self.expected == usize::MAX {
@@ -67,17 +67,19 @@ impl Pile {
 
     /// An expected letter will not come.
     pub(crate) fn forgo(&mut self)
-        ensures { self.new ≡ (self.old.0, self.old.1 - 1) }
+        ensures { self.new ≡ record self.old { expected = self.old.expected - 1 } }
     {
         if self.expected > 0 {
             self.expected -= 1;
         }
     }
 
-    /// An expected letter comes, into the room that there is for it. The answer tells whether the owner has to be woken.
+    /// An expected letter comes, into the room that there is for it. The owner is to look before it sleeps. The answer tells
+    /// whether it sleeps, and so has to be woken.
     pub(crate) fn put(&mut self, letter: Letter) -> bool
-        requires { 1 ≤ self.old.1 }
-        ensures { self.new ≡ (self.old.0 ++ letter ∷ [], self.old.1 - 1) }
+        requires { 1 ≤ self.old.expected }
+        ensures comes { self.new ≡ record { letters = self.old.letters ++ letter ∷ []; expected = self.old.expected - 1; told = true; sleeps = false } }
+        ensures wakes { result ≡ self.old.sleeps }
     {
         self.expected -= 1;
         self.letters.push_reserved(letter);
@@ -86,14 +88,15 @@ impl Pile {
 
     /// Whether a letter is expected.
     pub(crate) fn expects(&self) -> bool
-        ensures { IsTrue result ↔ (1 ≤ self.now.1) }
+        ensures { IsTrue result ↔ (1 ≤ self.now.expected) }
     {
         self.expected >= 1
     }
 
     /// The owner is to look before it sleeps. The answer tells whether it sleeps, and so has to be woken.
     pub(crate) fn tell(&mut self) -> bool
-        ensures { self.new ≡ self.old }
+        ensures told { self.new ≡ record self.old { told = true; sleeps = false } }
+        ensures wakes { result ≡ self.old.sleeps }
     {
         let sleeps = self.sleeps;
         self.sleeps = false;
@@ -103,25 +106,27 @@ impl Pile {
 
     /// All letters go to the end of these, or none where there is no room. From then on only what comes later is news.
     pub(crate) fn take(&mut self, into: &mut Vec<Letter>)
-        ensures none_lost { into.new.items ++ self.new.0 ≡ into.old.items ++ self.old.0 }
-        ensures expected { self.new.1 ≡ self.old.1 }
+        ensures none_lost { into.new.items ++ self.new.letters ≡ into.old.items ++ self.old.letters }
+        ensures news { self.new.told ≡ false → self.new.letters ≡ [] }
+        ensures others { self.new ≡ record self.old { letters = self.new.letters; told = self.new.told } }
     {
         self.told = into.append(&mut self.letters).is_err();
     }
 
     /// The letter that came last, if there is one.
     pub(crate) fn pop(&mut self) -> Option<Letter>
-        ensures some { IfSome result (λ letter. self.old.0 ≡ self.new.0 ++ letter ∷ []) }
-        ensures none { result ≡ None → self.old.0 ≡ [] }
-        ensures expected { self.new.1 ≡ self.old.1 }
+        ensures some { IfSome result (λ letter. self.old.letters ≡ self.new.letters ++ letter ∷ []) }
+        ensures none { result ≡ None → self.old.letters ≡ [] }
+        ensures others { self.new ≡ record self.old { letters = self.new.letters } }
     {
         self.letters.pop()
     }
 
-    /// Whether there is no news, and the owner may sleep; it then counts as asleep.
+    /// Whether there is no news and no letter, and the owner may sleep; it then counts as asleep, and the next letter or `tell`
+    /// wakes it.
     pub(crate) fn may_sleep(&mut self) -> bool
-        ensures same { self.new ≡ self.old }
-        ensures empty { IsTrue result → self.new.0 ≡ [] }
+        ensures sleeps { IsTrue result ↔ ((self.old.told ≡ false) × (self.old.letters ≡ [])) }
+        ensures asleep { self.new ≡ record self.old { told = false; sleeps = result } }
     {
         self.sleeps = !self.told && self.letters.is_empty();
         self.told = false;

@@ -54,6 +54,7 @@ fn advance_at<H: Host>(
 
 /// The connection under a token reads. No other connection changes; where none is under the token nothing does.
 fn read_at<S: Socket>(
+    alloc: Global,
     connections: &mut Slab<Connection<S>>,
     token: usize,
     chunk: &mut [u8],
@@ -66,7 +67,7 @@ fn read_at<S: Socket>(
     let Some(connection) = connections.get_mut(token) else {
         return;
     };
-    connection.read(chunk, now);
+    connection.read(alloc, chunk, now);
 }
 
 /// What is due to the connection under a token is written. It is let go exactly where it is done, and no other connection changes;
@@ -245,6 +246,7 @@ impl Members {
     {
         for token in self.busy.iter() {
             read_at(
+                self.alloc,
                 &mut self.connections,
                 *token,
                 self.chunk.as_mut_slice(),

@@ -192,7 +192,7 @@ impl<S: Socket> Connection<S> {
     }
 
     /// These bytes came. They go to the dialogue.
-    fn hear(&mut self, bytes: &[u8], now: u64)
+    fn hear(&mut self, alloc: Global, bytes: &[u8], now: u64)
         requires { self.old.dialogue.phase ≡ Idle }
         ensures hears { Hears bytes.now self.old.dialogue self.new.dialogue }
         ensures stream { self.new.stream ≡ self.old.stream }
@@ -201,7 +201,7 @@ impl<S: Socket> Connection<S> {
         self.more = true;
         self.heard = now;
         // Where memory lacks the dialogue is over, as `give` sees.
-        let _ = self.dialogue.receive(bytes);
+        let _ = self.dialogue.receive(alloc, bytes);
     }
 
     /// So many bytes came where there was room for so many: where there was more room, no more are there.
@@ -224,7 +224,7 @@ impl<S: Socket> Connection<S> {
 
     /// Reads once. What came goes to the dialogue.
     #[tactic(auto, using(crate::proofs::Belonging::nothing_read))]
-    fn take(&mut self, chunk: &mut [u8], now: u64)
+    fn take(&mut self, alloc: Global, chunk: &mut [u8], now: u64)
         requires { self.old.dialogue.phase ≡ Idle }
         ensures reads { Reads (S.remaining self.old.stream) (S.remaining self.new.stream) self.old.dialogue self.new.dialogue }
         ensures contents { S.contents self.new.stream ≡ S.contents self.old.stream }
@@ -234,7 +234,7 @@ impl<S: Socket> Connection<S> {
             Ok(0) => self.over = true,
             Ok(count) => {
                 self.readiness.readable = !self.is_drained(count, chunk.len());
-                self.hear(&chunk[..count], now);
+                self.hear(alloc, &chunk[..count], now);
             }
             Err(error) => self.read_failed(error.kind()),
         }
@@ -242,14 +242,14 @@ impl<S: Socket> Connection<S> {
 
     /// Reads once, where nothing is asked and nothing is due. What its socket gave, and no other byte, goes to its dialogue.
     /// Where its call is under way nothing is read, and its dialogue is as it was.
-    pub(crate) fn read(&mut self, chunk: &mut [u8], now: u64)
+    pub(crate) fn read(&mut self, alloc: Global, chunk: &mut [u8], now: u64)
         ensures waits { (q : Question) → self.old.dialogue.phase ≡ Waits q → self.new.dialogue ≡ self.old.dialogue }
         ensures reads { Reads (S.remaining self.old.stream) (S.remaining self.new.stream) self.old.dialogue self.new.dialogue }
         ensures contents { S.contents self.new.stream ≡ S.contents self.old.stream }
         ensures calls { self.new.calls ≡ self.old.calls }
     {
         if self.may_read() {
-            self.take(chunk, now);
+            self.take(alloc, chunk, now);
         }
     }
 

@@ -53,7 +53,13 @@ fn advance_at<H: Host>(
 }
 
 /// The connection under a key reads. No other connection changes; where none is under the key nothing does.
-fn read_at<S: Socket>(connections: &mut Slab<Connection<S>>, key: usize, chunk: &mut [u8], now: u64)
+fn read_at<S: Socket>(
+    alloc: Global,
+    connections: &mut Slab<Connection<S>>,
+    key: usize,
+    chunk: &mut [u8],
+    now: u64,
+)
     ensures reads { ReadsAt S.remaining S.contents connections.old connections.new key }
     ensures vacant { StaysVacant connections.old connections.new key }
     ensures others { OthersStay connections.old connections.new key }
@@ -61,7 +67,7 @@ fn read_at<S: Socket>(connections: &mut Slab<Connection<S>>, key: usize, chunk: 
     let Some(connection) = connections.get_mut(key) else {
         return;
     };
-    connection.read(chunk, now);
+    connection.read(alloc, chunk, now);
 }
 
 /// What is due to the connection under a key is written. It is let go exactly where it is done, and no other connection changes;
@@ -242,6 +248,7 @@ impl Members {
     {
         for key in self.busy.iter() {
             read_at(
+                self.alloc,
                 &mut self.connections,
                 *key,
                 self.chunk.as_mut_slice(),

@@ -1,5 +1,5 @@
 -- Who is told what while outcomes go to the callers under their tickets, one after another.
-use Rattle.std.proofs.Common.{◌≡◌, ◌⊎◌, ◌==◌, ◌∙◌, ◌++◌, append_assoc, append-nil, inl, inr, refl, sym, ap, subst, ℕ, Bool, true, false, List, [], ◌∷◌, Option, Some, None, option_map, Result, Ok, Err, IfOk, IfSome, arith, filter}
+use Rattle.std.proofs.Common.{◌≡◌, ◌⊎◌, ◌==◌, ◌∙◌, ◌++◌, append_assoc, append-nil, true≢false, inl, inr, refl, sym, ap, subst, ℕ, Bool, true, false, List, [], ◌∷◌, Option, Some, None, option_map, Result, Ok, Err, IfOk, IfSome, arith, filter}
 use Rattle.std.proofs.lemmas.Bool.{eqb-true}
 use Rattle.std.specs.Prelude.{Vec}
 use Rattle.std.specs.List.{last_or}
@@ -7,6 +7,7 @@ use Rattle.std.specs.declared.alloc.AllocError.{AllocError}
 use Rattle.std.specs.declared.alloc.Global.{Global}
 use Rattle.craq_names.specs.declared.refusal.Refusal.{Refusal}
 use Rattle.craq_names.specs.declared.refusal.Refusal.TheVariants as refusals
+use Rattle.craq_letters.specs.declared.token.Token.{Token}
 use Rattle.craq_model.specs.declared.ask.Event.{Event}
 use Rattle.craq_model.specs.declared.step.Step.{Step}
 use Rattle.craq_seat.specs.Calls.{Called, CallsOf, Desked}
@@ -14,31 +15,31 @@ use Rattle.craq_seat.specs.Cells.{receipt_of}
 use Rattle.craq_seat.specs.declared.journal.Receipt.{Receipt}
 use Rattle.craq_seat.specs.declared.seat.Seated.{Seated}
 use Rattle.craq_seat.specs.declared.seat.Caller.{Caller}
-use Rattle.craq_workers.specs.Told.{AreSomeOf, Asked, HasInHand, IsReplyTo, Keeps, Reply, caller_under, is_own, others_of, own_receipt, replies_to, reply_to, said_by, said_to, TellsCallers, Waits, waiting_after, without_caller}
+use Rattle.craq_workers.specs.Told.{AreSomeOf, Asked, HasInHand, IsReplyTo, Keeps, Kept, Reply, caller_under, is_own, others_of, own_receipt, replies_to, reply_to, said_by, said_to, TellsCallers, Waits, waiting_after, without_caller}
 
 abbrev pub Outcomes : Type 0
 Outcomes = List (ℕ × Result Called Refusal)
 
 -- who is found under a ticket has it
-pub found_under : (callers : List (Caller ℕ)) (ticket : ℕ) (c : Caller ℕ) → Some c ≡ caller_under callers ticket → c.ticket ≡ ticket
+pub found_under : (callers : List (Caller Token)) (ticket : ℕ) (c : Caller Token) → Some c ≡ caller_under callers ticket → c.ticket ≡ ticket
 found_under [] ticket c is = absurd cc
 found_under (d ∷ ds) ticket c is = grind (arith, found_under ds ticket c)
 
 -- a reply that may be given under a ticket may be given to who is found there
-pub to_found : (callers : List (Caller ℕ)) (ticket : ℕ) (c : Caller ℕ) (o : Result Called Refusal) → Some c ≡ caller_under callers ticket → IsReplyTo (Some ticket) o → IsReplyTo (Some c.ticket) o
+pub to_found : (callers : List (Caller Token)) (ticket : ℕ) (c : Caller Token) (o : Result Called Refusal) → Some c ≡ caller_under callers ticket → IsReplyTo (Some ticket) o → IsReplyTo (Some c.ticket) o
 to_found callers ticket c o is may = subst (λ (n : ℕ). IsReplyTo (Some n) o) (sym (found_under callers ticket c is)) may
 
-pub keeps_none : (old : List Reply) → Keeps old [] old
-keeps_none old = ([], sym (append-nil old), tt)
+pub keeps_none : (old : Kept) → Keeps old [] old
+keeps_none old = ([], sym (append-nil old.replies), tt, λ room. (room, refl))
 
 -- a reply is kept, or given back and so told at once
-pub kept_or_told : (old new : List Reply) (t : Reply) (left : Option Reply) → (left ≡ None → new ≡ old ++ t ∷ []) → IfSome left (λ (u : Reply). (u ≡ t) × (new ≡ old)) → Keeps old (t ∷ []) new
-kept_or_told old new t None kept back = (t ∷ [], kept refl, inl (refl, tt))
-kept_or_told old new t (Some u) kept back = ([], back.1 ∙ sym (append-nil old), tt)
+pub kept_or_told : (old new : Kept) (t : Reply) (left : Option Reply) → (left ≡ None → (new.replies ≡ old.replies ++ t ∷ []) × (new.short ≡ old.short)) → IfSome left (λ (u : Reply). (new.replies ≡ old.replies) × (new.short ≡ true)) → Keeps old (t ∷ []) new
+kept_or_told old new t None kept back = (t ∷ [], (kept refl).0, inl (refl, tt), λ room. (sym (kept refl).1 ∙ room, refl))
+kept_or_told old new t (Some u) kept back = ([], back.0 ∙ sym (append-nil old.replies), tt, λ room. absurd (true≢false (sym back.1 ∙ room)))
 
 -- nobody is told where nobody is found
-pub none_told : (old : List Reply) (found : Option (Caller ℕ)) (o : Result Called Refusal) → None ≡ found → Keeps old (reply_to found o) old
-none_told old found o is = subst (λ (f : Option (Caller ℕ)). Keeps old (reply_to f o) old) is (keeps_none old)
+pub none_told : (old : Kept) (found : Option (Caller Token)) (o : Result Called Refusal) → None ≡ found → Keeps old (reply_to found o) old
+none_told old found o is = subst (λ (f : Option (Caller Token)). Keeps old (reply_to f o) old) is (keeps_none old)
 
 some_behind : (xs before all : List Reply) → AreSomeOf xs all → AreSomeOf xs (before ++ all)
 some_behind xs [] all h = h
@@ -51,33 +52,37 @@ some_both (x ∷ xs) [] ys more h k = absurd h
 some_both (x ∷ xs) (a ∷ all) ys more (inl h) k = inl (h.0, some_both xs all ys more h.1 k)
 some_both (x ∷ xs) (a ∷ all) ys more (inr h) k = inr (some_both (x ∷ xs) all ys more h k)
 
-pub keeps_both : (old first more mid new : List Reply) → Keeps old first mid → Keeps mid more new → Keeps old (first ++ more) new
-keeps_both old first more mid new (xs, is, some) (ys, so, others) =
-    (xs ++ ys, so ∙ ap (λ (r : List Reply). r ++ ys) is ∙ append_assoc old xs ys, some_both xs first ys more some others)
+pub keeps_both : (old : Kept) (first more : List Reply) (mid new : Kept) → Keeps old first mid → Keeps mid more new → Keeps old (first ++ more) new
+keeps_both old first more mid new (xs, is, some, all) (ys, so, others, rest) = (
+  xs ++ ys,
+  so ∙ ap (λ (r : List Reply). r ++ ys) is ∙ append_assoc old.replies xs ys,
+  some_both xs first ys more some others,
+  λ room. let left = rest room in let begun = all left.0 in (begun.0, ap (λ (r : List Reply). r ++ ys) begun.1 ∙ ap (λ (r : List Reply). first ++ r) left.1),
+)
 
 -- these outcomes are left of all: the replies so far and those to come are all replies, and the callers that will wait are the same
-abbrev pub Left : List (Caller ℕ) → List (Caller ℕ) → List Reply → List Reply → Outcomes → Outcomes → Type 0
+abbrev pub Left : List (Caller Token) → List (Caller Token) → Kept → Kept → Outcomes → Outcomes → Type 0
 Left first now before after all rest =
     (done : List Reply) × (done ++ replies_to now rest ≡ replies_to first all) × Keeps before done after × (waiting_after now rest ≡ waiting_after first all)
 
-pub left_first : (callers : List (Caller ℕ)) (replies : List Reply) (all : Outcomes) → Left callers callers replies replies all all
+pub left_first : (callers : List (Caller Token)) (replies : Kept) (all : Outcomes) → Left callers callers replies replies all all
 left_first callers replies all = ([], refl, keeps_none replies, refl)
 
 -- one goes to the caller under its ticket
-pub left_next : (first now new : List (Caller ℕ)) (before mid after : List Reply) (all rest : Outcomes) (ticket : ℕ) (o : Result Called Refusal)
+pub left_next : (first now new : List (Caller Token)) (before mid after : Kept) (all rest : Outcomes) (ticket : ℕ) (o : Result Called Refusal)
     → Left first now before mid all ((ticket, o) ∷ rest) → new ≡ without_caller now ticket → Keeps mid (reply_to (caller_under now ticket) o) after → Left first new before after all rest
 left_next first now new before mid after all rest ticket o (done, replied, kept, waits) goes more =
     let one = reply_to (caller_under now ticket) o in (
       done ++ one,
-      append_assoc done one (replies_to new rest) ∙ ap (λ (cs : List (Caller ℕ)). done ++ (one ++ replies_to cs rest)) goes ∙ replied,
+      append_assoc done one (replies_to new rest) ∙ ap (λ (cs : List (Caller Token)). done ++ (one ++ replies_to cs rest)) goes ∙ replied,
       keeps_both before done one mid after kept more,
-      ap (λ (cs : List (Caller ℕ)). waiting_after cs rest) goes ∙ waits,
+      ap (λ (cs : List (Caller Token)). waiting_after cs rest) goes ∙ waits,
     )
 
-pub left_told : (first now : List (Caller ℕ)) (before after : List Reply) (all : Outcomes) → Left first now before after all [] → Keeps before (replies_to first all) after
+pub left_told : (first now : List (Caller Token)) (before after : Kept) (all : Outcomes) → Left first now before after all [] → Keeps before (replies_to first all) after
 left_told first now before after all (done, replied, kept, waits) = subst (λ (rs : List Reply). Keeps before rs after) (sym (append-nil done) ∙ replied) kept
 
-pub left_waits : (first now : List (Caller ℕ)) (before after : List Reply) (all : Outcomes) → Left first now before after all [] → now ≡ waiting_after first all
+pub left_waits : (first now : List (Caller Token)) (before after : Kept) (all : Outcomes) → Left first now before after all [] → now ≡ waiting_after first all
 left_waits first now before after all (done, replied, kept, waits) = waits
 
 -- the own receipt is the last one of these, if any is, else the one before them
@@ -130,12 +135,12 @@ says_own ticket (Ok receipts) = may_be ticket (own_receipt ticket receipts.items
 says_own ticket (Err e) = tt
 
 -- nobody is told in between
-pub left_same : (first now new : List (Caller ℕ)) (before mid after : List Reply) (all rest : Outcomes) → new ≡ now → after ≡ mid → Left first now before mid all rest → Left first new before after all rest
+pub left_same : (first now new : List (Caller Token)) (before mid after : Kept) (all rest : Outcomes) → new ≡ now → after ≡ mid → Left first now before mid all rest → Left first new before after all rest
 left_same first now new before mid after all rest callers replies left =
-    subst (λ (cs : List (Caller ℕ)). Left first cs before after all rest) (sym callers) (subst (λ (rs : List Reply). Left first now before rs all rest) (sym replies) left)
+    subst (λ (cs : List (Caller Token)). Left first cs before after all rest) (sym callers) (subst (λ (rs : Kept). Left first now before rs all rest) (sym replies) left)
 
 -- so the callers of a step were told
-pub told_callers : {C : Type 0} (old : Seated C ℕ) (took new : Desked C) (callers : List (Caller ℕ)) (event : Event) (receipt : Receipt) (shown pass : ℕ) (ticket : Option ℕ) (calls : Result (Vec Called Global) AllocError) (before after : List Reply)
+pub told_callers : {C : Type 0} (old : Seated C Token) (took new : Desked C) (callers : List (Caller Token)) (event : Event) (receipt : Receipt) (shown pass : ℕ) (ticket : Option ℕ) (calls : Result (Vec Called Global) AllocError) (before after : Kept)
     → new ≡ took → receipt ≡ receipt_of took.cell → shown ≡ pass
     → IfSome took.cell.last (λ (step : Step). CallsOf old.desk.waiting took.waiting event receipt shown step calls)
     → callers ≡ waiting_after old.callers.items (said_by calls took.cell.last ticket)
@@ -153,17 +158,17 @@ says_it own ticket calls reply same says =
     (subst (λ (r : Option (Result Called Refusal)). IfSome r (λ (o : Result Called Refusal). IsReplyTo own o)) (sym says) (says_own own calls))
 
 -- what there is to tell is in hand
-pub in_hand : (token : ℕ) (ticket : Option ℕ) (said : Option (Result Called Refusal)) (o : Result Called Refusal) (callers : List (Caller ℕ)) (replies : List Reply) → said ≡ Some o → HasInHand token ticket said (Some o) callers callers replies replies
+pub in_hand : (token : Token) (ticket : Option ℕ) (said : Option (Result Called Refusal)) (o : Result Called Refusal) (callers : List (Caller Token)) (replies : Kept) → said ≡ Some o → HasInHand token ticket said (Some o) callers callers replies replies
 in_hand token ticket said o callers replies is =
     subst (λ (r : Option (Result Called Refusal)). HasInHand token ticket r (Some o) callers callers replies replies) (sym is) (refl, refl, refl)
 
-expects_now : (token : ℕ) (ticket : Option ℕ) (hand : Option (Result Called Refusal)) (old new : List (Caller ℕ)) (before after : List Reply)
+expects_now : (token : Token) (ticket : Option ℕ) (hand : Option (Result Called Refusal)) (old new : List (Caller Token)) (before after : Kept)
     → (hand ≡ None → Waits token ticket old new before after) → IfSome hand (λ (o : Result Called Refusal). (o ≡ Err refusals.Memory) × (new ≡ old) × (after ≡ before)) → HasInHand token ticket None hand old new before after
 expects_now token ticket None old new before after waits told = waits refl
 expects_now token ticket (Some o) old new before after waits told = told
 
 -- where there is nothing to tell, the caller waits, or has in hand that there is no room
-pub expects : (token : ℕ) (ticket : Option ℕ) (said hand : Option (Result Called Refusal)) (old new : List (Caller ℕ)) (before after : List Reply)
+pub expects : (token : Token) (ticket : Option ℕ) (said hand : Option (Result Called Refusal)) (old new : List (Caller Token)) (before after : Kept)
     → said ≡ None → (hand ≡ None → Waits token ticket old new before after) → IfSome hand (λ (o : Result Called Refusal). (o ≡ Err refusals.Memory) × (new ≡ old) × (after ≡ before)) → HasInHand token ticket said hand old new before after
 expects token ticket said hand old new before after is waits told =
     subst (λ (r : Option (Result Called Refusal)). HasInHand token ticket r hand old new before after) (sym is) (expects_now token ticket hand old new before after waits told)

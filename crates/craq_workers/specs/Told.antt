@@ -6,7 +6,10 @@ use Rattle.std.specs.declared.alloc.AllocError.{AllocError}
 use Rattle.std.specs.declared.alloc.Global.{Global}
 use Rattle.craq_names.specs.declared.refusal.Refusal.{Refusal}
 use Rattle.craq_names.specs.declared.refusal.Refusal.TheVariants as refusals
+use Rattle.craq_letters.specs.declared.token.Token.{Token}
+use Rattle.craq_model.specs.declared.ask.Ask.{Ask}
 use Rattle.craq_model.specs.declared.ask.Event.{Event}
+use Rattle.craq_model.specs.declared.ask.Event.TheVariants as events
 use Rattle.craq_model.specs.declared.step.Out.{Out}
 use Rattle.craq_model.specs.declared.step.Out.TheVariants as outs
 use Rattle.craq_model.specs.declared.step.Step.{Step}
@@ -18,7 +21,7 @@ use Rattle.craq_seat.specs.declared.seat.Seated.{Seated}
 -- who asked: the token of its letters, and the ticket of its ask once a node has accepted that
 pub record Asked : Type 0 where
   pub ticket : Option ℕ
-  pub token : ℕ
+  pub token : Token
 
 -- a reply on its way
 pub record Reply : Type 0 where
@@ -31,33 +34,33 @@ IsReplyTo ticket (Ok receipt) = ticket ≡ Some receipt.call.ticket
 IsReplyTo ticket (Err refusal) = Unit {0}
 
 -- a caller that waits, by its ticket and its token
-abbrev pub waits_as : ℕ → ℕ → Caller ℕ
+abbrev pub waits_as : ℕ → Token → Caller Token
 waits_as ticket token = record { ticket = ticket; at = token }
 
 -- the same caller as one that has to be told
-abbrev pub asked_by : Caller ℕ → Asked
+abbrev pub asked_by : Caller Token → Asked
 asked_by caller = record { ticket = Some caller.ticket; token = caller.at }
 
 -- the first caller that waits under a ticket
-abbrev pub caller_under : List (Caller ℕ) → ℕ → Option (Caller ℕ)
-caller_under callers ticket = find (λ (caller : Caller ℕ). caller.ticket == ticket) callers
+abbrev pub caller_under : List (Caller Token) → ℕ → Option (Caller Token)
+caller_under callers ticket = find (λ (caller : Caller Token). caller.ticket == ticket) callers
 
 -- the callers without that one
-abbrev pub without_caller : List (Caller ℕ) → ℕ → List (Caller ℕ)
-without_caller callers ticket = remove_key (λ (caller : Caller ℕ). caller.ticket == ticket) callers
+abbrev pub without_caller : List (Caller Token) → ℕ → List (Caller Token)
+without_caller callers ticket = remove_key (λ (caller : Caller Token). caller.ticket == ticket) callers
 
 -- the reply to a caller, if there is one
-abbrev pub reply_to : Option (Caller ℕ) → Result Called Refusal → List Reply
+abbrev pub reply_to : Option (Caller Token) → Result Called Refusal → List Reply
 reply_to None outcome = []
 reply_to (Some caller) outcome = record { to = asked_by caller; outcome = outcome } ∷ []
 
 -- outcomes by their tickets, each told to the first caller that waits under its ticket, who then waits no more: the replies
-abbrev pub replies_to : List (Caller ℕ) → List (ℕ × Result Called Refusal) → List Reply
+abbrev pub replies_to : List (Caller Token) → List (ℕ × Result Called Refusal) → List Reply
 replies_to callers [] = []
 replies_to callers (o ∷ os) = reply_to (caller_under callers o.0) o.1 ++ replies_to (without_caller callers o.0) os
 
 -- and the callers that still wait
-abbrev pub waiting_after : List (Caller ℕ) → List (ℕ × Result Called Refusal) → List (Caller ℕ)
+abbrev pub waiting_after : List (Caller Token) → List (ℕ × Result Called Refusal) → List (Caller Token)
 waiting_after callers [] = callers
 waiting_after callers (o ∷ os) = waiting_after (without_caller callers o.0) os
 
@@ -67,9 +70,15 @@ AreSomeOf [] all = Unit {0}
 AreSomeOf (r ∷ rs) [] = ⊥
 AreSomeOf (r ∷ rs) (a ∷ all) = ((r ≡ a) × AreSomeOf rs all) ⊎ AreSomeOf (r ∷ rs) all
 
--- replies go behind those that are kept, but for such as are told at once
-abbrev pub Keeps : List Reply → List Reply → List Reply → Type 0
-Keeps old more new = (kept : List Reply) × (new ≡ old ++ kept) × AreSomeOf kept more
+-- the replies that are kept to be told later, in order, and whether room was ever short, so that one was told at once
+pub record Kept : Type 0 where
+  pub replies : List Reply
+  pub short : Bool
+
+-- replies go behind those that are kept: all of them while room was never short, else all but such as are told at once
+abbrev pub Keeps : Kept → List Reply → Kept → Type 0
+Keeps old more new =
+    (kept : List Reply) × (new.replies ≡ old.replies ++ kept) × AreSomeOf kept more × (new.short ≡ false → (old.short ≡ false) × (kept ≡ more))
 
 -- the receipt is of the call under this ticket
 abbrev pub is_own : Option ℕ → Called → Bool
@@ -105,23 +114,23 @@ said_to ticket (Ok receipts) = option_map Ok (own_receipt ticket receipts.items)
 said_to ticket (Err e) = Some (Err refusals.Memory)
 
 -- a caller is told this outcome, and the others wait as before
-abbrev pub IsTold : Asked → Result Called Refusal → List (Caller ℕ) → List (Caller ℕ) → List Reply → List Reply → Type 0
+abbrev pub IsTold : Asked → Result Called Refusal → List (Caller Token) → List (Caller Token) → Kept → Kept → Type 0
 IsTold caller outcome old new before after = (new ≡ old) × Keeps before (record { to = caller; outcome = outcome } ∷ []) after
 
 -- a caller waits behind the others under this ticket, and nobody is told; or, where there is no room or no ticket, it is told so
-abbrev pub Waits : ℕ → Option ℕ → List (Caller ℕ) → List (Caller ℕ) → List Reply → List Reply → Type 0
+abbrev pub Waits : Token → Option ℕ → List (Caller Token) → List (Caller Token) → Kept → Kept → Type 0
 Waits token None old new before after = IsTold (record { ticket = None; token = token }) (Err refusals.Closed) old new before after
 Waits token (Some ticket) old new before after =
     ((new ≡ old ++ waits_as ticket token ∷ []) × (after ≡ before))
     ⊎ IsTold (record { ticket = Some ticket; token = token }) (Err refusals.Memory) old new before after
 
 -- a caller whose ask was accepted is told what there is to tell, else it waits
-abbrev pub Settles : ℕ → Option ℕ → Option (Result Called Refusal) → List (Caller ℕ) → List (Caller ℕ) → List Reply → List Reply → Type 0
+abbrev pub Settles : Token → Option ℕ → Option (Result Called Refusal) → List (Caller Token) → List (Caller Token) → Kept → Kept → Type 0
 Settles token ticket (Some outcome) old new before after = IsTold (record { ticket = ticket; token = token }) outcome old new before after
 Settles token ticket None old new before after = Waits token ticket old new before after
 
 -- a caller that took the step of its ask itself has in hand what there is to tell; else it waits, or has in hand that there is no room
-abbrev pub HasInHand : ℕ → Option ℕ → Option (Result Called Refusal) → Option (Result Called Refusal) → List (Caller ℕ) → List (Caller ℕ) → List Reply → List Reply → Type 0
+abbrev pub HasInHand : Token → Option ℕ → Option (Result Called Refusal) → Option (Result Called Refusal) → List (Caller Token) → List (Caller Token) → Kept → Kept → Type 0
 HasInHand token ticket (Some outcome) hand old new before after = (hand ≡ Some outcome) × (new ≡ old) × (after ≡ before)
 HasInHand token ticket None (Some outcome) old new before after = (outcome ≡ Err refusals.Memory) × (new ≡ old) × (after ≡ before)
 HasInHand token ticket None None old new before after = Waits token ticket old new before after
@@ -133,8 +142,31 @@ ticket_of (Some step) = step.ticket
 
 -- after a step on this event, which accepted an ask under this ticket or none: the receipts of its calls as the desk has them, or
 -- no memory for these; and the callers that wait are told so, but for the caller of this ticket, who does not wait yet
-abbrev pub TellsCallers : {C : Type 0} → Seated C ℕ → Desked C → List (Caller ℕ) → Event → ℕ → Option ℕ → Result (Vec Called Global) AllocError → List Reply → List Reply → Type 0
+abbrev pub TellsCallers : {C : Type 0} → Seated C Token → Desked C → List (Caller Token) → Event → ℕ → Option ℕ → Result (Vec Called Global) AllocError → Kept → Kept → Type 0
 TellsCallers old desk callers event pass ticket calls before after =
     IfSome desk.cell.last (λ (step : Step). CallsOf old.desk.waiting desk.waiting event (receipt_of desk.cell) pass step calls)
     × (callers ≡ waiting_after old.callers.items (said_by calls desk.cell.last ticket))
     × Keeps before (replies_to old.callers.items (said_by calls desk.cell.last ticket)) after
+
+-- the step of a queued ask was taken: the callers that waited are told what it answers, and this one is told or waits
+abbrev pub TakesQueued : {C : Type 0} → Seated C Token → Seated C Token → Ask → ℕ → Token → Kept → Kept → Type 0
+TakesQueued old new ask pass token before after =
+    (calls : Result (Vec Called Global) AllocError) × (callers : List (Caller Token)) × (mid : Kept)
+    × TellsCallers old new.desk callers (events.Ask ask) pass (ticket_of new.desk.cell.last) calls before mid
+    × Settles token (ticket_of new.desk.cell.last) (said_to (ticket_of new.desk.cell.last) calls) callers new.callers.items mid after
+
+-- it was refused: this caller alone is told, and the others wait on
+abbrev pub RefusesQueued : {C : Type 0} → Seated C Token → Seated C Token → Token → Kept → Kept → Type 0
+RefusesQueued old new token before after =
+    (e : Refusal) × IsTold (record { ticket = None; token = token }) (Err e) old.callers.items new.callers.items before after
+
+-- the step of an ask was taken by its caller: the callers that waited are told what it answers, and this one has its reply in hand or waits
+abbrev pub TakesOwn : {C : Type 0} → Seated C Token → Seated C Token → Ask → ℕ → Token → Option (Result Called Refusal) → Kept → Kept → Type 0
+TakesOwn old new ask pass token hand before after =
+    (calls : Result (Vec Called Global) AllocError) × (callers : List (Caller Token)) × (mid : Kept)
+    × TellsCallers old new.desk callers (events.Ask ask) pass (ticket_of new.desk.cell.last) calls before mid
+    × HasInHand token (ticket_of new.desk.cell.last) (said_to (ticket_of new.desk.cell.last) calls) hand callers new.callers.items mid after
+
+-- it was refused: this caller has the refusal in hand, nobody is told, and the others wait on
+abbrev pub RefusesOwn : {C : Type 0} → Seated C Token → Seated C Token → Option (Result Called Refusal) → Kept → Kept → Type 0
+RefusesOwn old new hand before after = (e : Refusal) × (hand ≡ Some (Err e)) × (new.callers.items ≡ old.callers.items) × (after ≡ before)

@@ -8,7 +8,7 @@ use crate::chain::Chain;
 use crate::gate::Gate;
 use crate::shared::{Return, Shared};
 use craq_calls::{answer_of_call, pass_after, refusal_of_call};
-use craq_letters::{Letter, Letterbox, Outcome};
+use craq_letters::{Letter, Letterbox, Outcome, Token};
 use craq_model::{Answer, Ask};
 use craq_names::{NodeName, Pass, Refusal};
 use craq_node::Core;
@@ -16,6 +16,12 @@ use craq_seat::CallReceipt;
 use std::alloc::Global;
 use std::marker::Model;
 use std::sync::{Arc, Wait};
+
+/// The token of the one call whose letter a client's box is made for.
+const ONLY: Token = Token {
+    connection: 0,
+    call: 0,
+};
 
 /// A client of a store, with the largest stamp that it has seen: its pass. A contract sees it, and how many chains the store
 /// has.
@@ -119,7 +125,10 @@ impl<C: Core, G: Gate> Client<C, G> {
     ) -> Outcome
         ensures { IfErr result (λ e. CanRefuse ask.now e) }
     {
-        let back = Return { letters, token: 0 };
+        let back = Return {
+            letters,
+            token: ONLY,
+        };
         let found = self
             .shared
             .submit(rt, self.alloc, chain, node, ask, self.pass, back, true)?;

@@ -1,5 +1,5 @@
 //! What the callers that a step answers are told, kept until its lock is free; for whoever takes a step.
-ghost use Rattle.std.specs.Prelude.{◌≡◌, ◌++◌, ◌∷◌, [], None, Some, IfSome};
+ghost use Rattle.std.specs.Prelude.{◌≡◌, ◌++◌, ◌∷◌, [], None, Some, IfSome, IsTrue, false};
 ghost use Rattle.craq_workers.specs.Told.{IsReplyTo, Keeps, caller_under, reply_to, without_caller};
 
 use crate::told::{Told, Unanswered};
@@ -13,27 +13,30 @@ use std::sync::Wait;
 /// How many replies there is room for once there is one.
 const ROOM: usize = 16;
 
-/// The replies of a step, until they are told. It has no drop, so that they are. A contract sees them in order.
+/// The replies of a step, until they are told. Neither it nor a reply has a drop, so that each is told. A contract sees them in order,
+/// and whether room was ever short.
 pub(crate) struct Replies {
     waiting: Vec<Told>,
+    /// There was no room for a reply, which was told at once.
+    short: bool,
 }
 
 impl Model for Replies {
-    ghost use Rattle.std.specs.Prelude.{List};
-    ghost use Rattle.craq_workers.specs.Told.{Reply};
+    ghost use Rattle.craq_workers.specs.Told.{Kept};
 
-    ghost Value = { List Reply };
+    ghost Value = { Kept };
 
-    ghost view = { λ r. r.waiting.items };
+    ghost view = { λ r. record { replies = r.waiting.items; short = r.short } };
 }
 
 impl Replies {
     /// No replies yet. It takes no memory.
     pub(crate) fn new(alloc: Global) -> Self
-        ensures { result ≡ [] }
+        ensures { result ≡ record { replies = []; short = false } }
     {
         Replies {
             waiting: Vec::new(alloc),
+            short: false,
         }
     }
 
@@ -46,15 +49,16 @@ impl Replies {
         }
     }
 
-    /// A reply is kept behind the others, or given back where there is no room for it.
+    /// A reply is kept behind the others, or given back where there is no room for it, and then room was short.
     fn keep(&mut self, told: Told) -> Option<Told>
-        ensures kept { result ≡ None → self.new ≡ self.old ++ told ∷ [] }
-        ensures back { IfSome result (λ t. (t ≡ told) × (self.new ≡ self.old)) }
+        ensures kept { result ≡ None → (self.new.replies ≡ self.old.replies ++ told ∷ []) × (self.new.short ≡ self.old.short) }
+        ensures back { IfSome result (λ t. (t ≡ told) × (self.new.replies ≡ self.old.replies) × IsTrue self.new.short) }
     {
         match self.waiting.push(told) {
             Ok(()) => None,
             Err(refused) => {
                 let AllocFailed { value } = refused;
+                self.short = true;
                 Some(value)
             }
         }
@@ -91,10 +95,12 @@ impl Replies {
 
     /// Tells all of them, in order.
     pub(crate) fn tell<R: Wait>(self, rt: &R) {
-        let Replies { waiting } = self;
-        for told in waiting {
+        let Replies { waiting, short: _ } = self;
+        let mut left = waiting.into_iter();
+        while let Some(told) = left.next() {
             told.tell(rt);
         }
+        left.destroy_empty();
     }
 }
 

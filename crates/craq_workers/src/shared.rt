@@ -1,5 +1,5 @@
 //! What all threads of a store share, how a step's messages go out, and how one ask is served; called by workers and clients.
-ghost use Rattle.std.specs.Prelude.{◌≡◌, ◌<◌, ◌≤◌, IfErr, IfOk, OnOk, length, slice_get};
+ghost use Rattle.std.specs.Prelude.{◌≡◌, ◌<◌, ◌≤◌, Err, IfErr, IfOk, Ok, OnOk, Some, length, option_map, slice_get};
 ghost use Rattle.craq_calls.specs.Refused.{CanRefuse};
 
 use crate::carrying::carry_on;
@@ -10,7 +10,7 @@ use crate::steps::QueuedAsk;
 use crate::turn::Turn;
 use bytes::Bytes;
 use craq_calls::refusal_of_call;
-use craq_letters::{Addressee, Letterbox, Outcome};
+use craq_letters::{Addressee, Letterbox, Outcome, Token};
 use craq_model::Ask;
 use craq_names::{ChainId, Copied, NodeId, NodeName, Pass, Refusal};
 use craq_node::Core;
@@ -31,11 +31,14 @@ pub(crate) struct Shared<C: Core, G: Gate> {
 #[derive(Clone, Copy)]
 pub(crate) struct Return<'a> {
     pub letters: &'a Arc<Letterbox>,
-    pub token: usize,
+    pub token: Token,
 }
 
 /// The reply in hand, or none where a letter will come.
-fn in_hand(reply: Option<Outcome>) -> Result<Option<CallReceipt>, Refusal> {
+fn in_hand(reply: Option<Outcome>) -> Result<Option<CallReceipt>, Refusal>
+    ensures ok { IfOk result (λ found. reply ≡ option_map Ok found) }
+    ensures err { IfErr result (λ e. reply ≡ Some (Err e)) }
+{
     match reply {
         None => Ok(None),
         Some(Ok(receipt)) => Ok(Some(receipt)),

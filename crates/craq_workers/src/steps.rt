@@ -6,6 +6,7 @@ ghost use Rattle.std.specs.declared.alloc.AllocError.{AllocError};
 ghost use Rattle.std.specs.declared.alloc.Global.{Global};
 ghost use Rattle.craq_node.specs.Represented.{CanArrive};
 ghost use Rattle.craq_runs.specs.Chain.{sent_in};
+ghost use Rattle.craq_letters.specs.declared.token.Token.{Token};
 ghost use Rattle.craq_names.specs.declared.refusal.Refusal.{Refusal};
 ghost use Rattle.craq_seat.specs.Calls.{Called};
 ghost use Rattle.craq_seat.specs.Cells.{receipt_of};
@@ -13,11 +14,11 @@ ghost use Rattle.craq_seat.specs.declared.seat.Caller.{Caller};
 ghost use Rattle.craq_seat.specs.Numbered.{CanBeSent, numbered_from};
 ghost use Rattle.craq_sending.specs.declared.sending.Kind.TheVariants as kinds;
 ghost use Rattle.craq_sending.specs.Sent.{AreSentAs, OnlySends};
-ghost use Rattle.craq_workers.specs.Told.{HasInHand, IsReplyTo, IsTold, Keeps, Reply, Settles, TellsCallers, Waits, is_own, others_of, own_receipt, replies_to, said_by, said_to, ticket_of, waiting_after, without_memory};
+ghost use Rattle.craq_workers.specs.Told.{IsReplyTo, Keeps, RefusesOwn, RefusesQueued, Settles, TakesOwn, TakesQueued, TellsCallers, Waits, is_own, others_of, own_receipt, replies_to, said_by, said_to, ticket_of, waiting_after, without_memory};
 
 use crate::replies::Replies;
 use crate::told::Unanswered;
-use craq_letters::{Addressee, Letterbox, Outcome};
+use craq_letters::{Addressee, Letterbox, Outcome, Token};
 use craq_model::{Ask, Event, Out, Step};
 use craq_names::{Pass, Refusal, Ticket};
 use craq_node::Core;
@@ -247,10 +248,8 @@ pub(crate) fn take_queued<R: Wait, C: Core>(
     asked: QueuedAsk,
     replies: &mut Replies,
 ) -> bool
-    ensures taken { IsTrue result → (calls : Result (Vec Called Global) AllocError) × (callers : List (Caller ℕ)) × (mid : List Reply)
-        × TellsCallers seated.old seated.new.desk callers (Event.Ask asked.ask) asked.pass (ticket_of seated.new.desk.cell.last) calls replies.old mid
-        × Settles asked.caller (ticket_of seated.new.desk.cell.last) (said_to (ticket_of seated.new.desk.cell.last) calls) callers seated.new.callers.items mid replies.new }
-    ensures refused { result ≡ false → (e : Refusal) × IsTold (record { ticket = None; token = asked.caller }) (Err e) seated.old.callers.items seated.new.callers.items replies.old replies.new }
+    ensures taken { IsTrue result → TakesQueued seated.old seated.new asked.ask asked.pass asked.caller replies.old replies.new }
+    ensures refused { result ≡ false → RefusesQueued seated.old seated.new asked.caller replies.old replies.new }
 {
     let QueuedAsk { ask, pass, caller } = asked;
     let caller = Unanswered::of(caller);
@@ -267,7 +266,9 @@ pub(crate) fn take_queued<R: Wait, C: Core>(
 }
 
 /// An ask that was queued is refused, since the store is closed.
-pub(crate) fn refuse_asked<R: Wait>(rt: &R, asked: QueuedAsk, replies: &mut Replies) {
+pub(crate) fn refuse_asked<R: Wait>(rt: &R, asked: QueuedAsk, replies: &mut Replies)
+    ensures { Keeps replies.old (record { to = record { ticket = None; token = asked.caller }; outcome = Err Refusal.Closed } ∷ []) replies.new }
+{
     let QueuedAsk {
         ask,
         pass: _,
@@ -323,13 +324,11 @@ pub(crate) fn take_own<R: Wait, C: Core>(
     ask: Ask,
     pass: Pass,
     letters: &Arc<Letterbox>,
-    token: usize,
+    token: Token,
     replies: &mut Replies,
 ) -> (bool, Option<Outcome>)
-    ensures taken { IsTrue result.0 → (calls : Result (Vec Called Global) AllocError) × (callers : List (Caller ℕ)) × (mid : List Reply)
-        × TellsCallers seated.old seated.new.desk callers (Event.Ask ask) pass (ticket_of seated.new.desk.cell.last) calls replies.old mid
-        × HasInHand token (ticket_of seated.new.desk.cell.last) (said_to (ticket_of seated.new.desk.cell.last) calls) result.1 callers seated.new.callers.items mid replies.new }
-    ensures refused { result.0 ≡ false → (e : Refusal) × (result.1 ≡ Some (Err e)) × (seated.new.callers.items ≡ seated.old.callers.items) × (replies.new ≡ replies.old) }
+    ensures taken { IsTrue result.0 → TakesOwn seated.old seated.new ask pass token result.1 replies.old replies.new }
+    ensures refused { result.0 ≡ false → RefusesOwn seated.old seated.new result.1 replies.old replies.new }
 {
     match take_ask(rt, alloc, seated, ask, pass, replies) {
         Err(refusal) => (false, Some(Err(refusal))),
@@ -350,7 +349,7 @@ fn expect_letter<R: Wait>(
     callers: &mut Vec<Caller<Addressee>>,
     ticket: Option<Ticket>,
     letters: &Arc<Letterbox>,
-    token: usize,
+    token: Token,
     replies: &mut Replies,
 ) -> Option<Outcome>
     ensures waits { result ≡ None → Waits token ticket callers.old.items callers.new.items replies.old replies.new }

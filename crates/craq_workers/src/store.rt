@@ -20,7 +20,7 @@ use crate::told::Unanswered;
 use crate::work::{Worker, master_of, work};
 use craq_epochs::{MEMBER_LIMIT, is_among};
 use craq_held::ChainBook;
-use craq_letters::Letterbox;
+use craq_letters::{Letterbox, Token};
 use craq_model::{Ask, Config, Event};
 use craq_names::{ChainId, Copied, NodeId, NodeName, Pass, Refusal, Stamp};
 use craq_node::Core;
@@ -179,7 +179,7 @@ impl<C: Core, G: Gate> Store<C, G> {
         ask: &Ask,
         pass: Pass,
         letters: &Arc<Letterbox>,
-        token: usize,
+        token: Token,
         few: bool,
     ) -> Result<Option<CallReceipt>, Refusal>
         ensures unknown { (result ≡ Err Refusal.UnknownChain) ↔ (length self.now.names ≤ node.now.chain) }

@@ -72,8 +72,8 @@ impl Unanswered {
     }
 }
 
-/// A reply on its way to who asked. A receipt is always that of the call under the caller's own ticket.
-#[derive(Drop)]
+/// A reply on its way to who asked. A receipt is always that of the call under the caller's own ticket. It has no drop, so that it
+/// is kept until its caller is told (`tell`), and nothing else becomes of it.
 pub(crate) struct Told {
     ticket: Option<Ticket>,
     at: Addressee,

@@ -1,9 +1,11 @@
 //! `Turn`: a node whose lock is held, the steps that it takes until the lock is let go, and what these send; begun by `work`,
 //! `carrying` and `shared`.
-ghost use Rattle.std.specs.Prelude.{◌≡◌, None, Some};
+ghost use Rattle.std.specs.Sync.Mutex.{mutex_guard_value};
+ghost use Rattle.std.specs.Prelude.{◌≡◌, ◌⊎◌, None, Some};
 ghost use Rattle.craq_held.specs.Held.{cell_in};
 ghost use Rattle.craq_node.specs.Represented.{CanArrive};
 ghost use Rattle.craq_workers.specs.declared.unsent.Unsent.TheVariants as unsent;
+ghost use Rattle.craq_workers.specs.Told.{RefusesOwn, RefusesQueued, TakesOwn, TakesQueued};
 ghost use Rattle.craq_workers.specs.Turns.{HoldsBack, OwesLast, OwesStill};
 
 use crate::gate::Gate;
@@ -188,7 +190,9 @@ impl<'a, C: Core, G: Gate> Turn<'a, C, G> {
     }
 
     /// The step of a queued ask. A node that is closed takes none, since nobody would answer it.
-    pub(crate) fn take_asked<R: Wait>(&mut self, rt: &R, asked: QueuedAsk) {
+    pub(crate) fn take_asked<R: Wait>(&mut self, rt: &R, asked: QueuedAsk)
+        ensures { TakesQueued (mutex_guard_value self.old.seated) (mutex_guard_value self.new.seated) asked.ask asked.pass asked.caller self.old.replies self.new.replies ⊎ RefusesQueued (mutex_guard_value self.old.seated) (mutex_guard_value self.new.seated) asked.caller self.old.replies self.new.replies }
+    {
         if self.exit.node.is_closed() {
             refuse_asked(rt, asked, &mut self.replies);
         } else if take_queued(
@@ -209,7 +213,9 @@ impl<'a, C: Core, G: Gate> Turn<'a, C, G> {
         ask: Ask,
         pass: Pass,
         back: Return<'_>,
-    ) -> Option<Outcome> {
+    ) -> Option<Outcome>
+        ensures { TakesOwn (mutex_guard_value self.old.seated) (mutex_guard_value self.new.seated) ask pass back.entry.token result self.old.replies self.new.replies ⊎ RefusesOwn (mutex_guard_value self.old.seated) (mutex_guard_value self.new.seated) result self.old.replies self.new.replies }
+    {
         if self.exit.node.is_closed() {
             drop(ask);
             return Some(Err(Refusal::Closed));
@@ -235,6 +241,8 @@ impl<'a, C: Core, G: Gate> Turn<'a, C, G> {
         ensures last { OwesLast (cell_in self.old.seated) self.new.owed }
         ensures still { OwesStill (cell_in self.old.seated) self.old.owed self.new.owed }
         ensures holds { HoldsBack (cell_in self.old.seated) self.old.unsent self.new.unsent }
+        ensures seated { self.new.seated ≡ self.old.seated }
+        ensures replies { self.new.replies ≡ self.old.replies }
     {
         let unsent = self.unsent;
         let cell = self.seated.desk.cell();
@@ -253,6 +261,8 @@ impl<'a, C: Core, G: Gate> Turn<'a, C, G> {
     fn send_step<R: Wait>(&mut self, rt: &R)
         ensures still { OwesStill (cell_in self.old.seated) self.old.owed self.new.owed }
         ensures same { self.new.unsent ≡ self.old.unsent }
+        ensures seated { self.new.seated ≡ self.old.seated }
+        ensures replies { self.new.replies ≡ self.old.replies }
     {
         let sent = sent_by_node(self.exit.alloc, self.seated.desk.cell());
         if sent.is_empty() {
@@ -266,7 +276,9 @@ impl<'a, C: Core, G: Gate> Turn<'a, C, G> {
 
     /// An acknowledgement is owed in place of the one before, if there was one.
     fn owe<R: Wait>(&mut self, rt: &R, ack: LoneAck)
-        ensures { self.new.owed ≡ Some ack }
+        ensures owed { self.new.owed ≡ Some ack }
+        ensures seated { self.new.seated ≡ self.old.seated }
+        ensures replies { self.new.replies ≡ self.old.replies }
     {
         if let Some(before) = self.owed.replace(ack) {
             self.follow(rt, before);

@@ -76,7 +76,7 @@ module _ (tells : List ℕ → Type 0) (refuses : Refusing) (submits : ℕ → S
 
   -- a connection that is over
   pub over_already : (over : Bool) (new : Dialogue) (after : ℕ) → over ≡ true → new ≡ old → after ≡ before → HasTurn tells refuses submits over old before new after
-  over_already over new after is same none = subst (λ (x : Bool). HasTurn tells refuses submits x old before new after) (sym is) (same, none)
+  over_already over new after is same unasked = subst (λ (x : Bool). HasTurn tells refuses submits x old before new after) (sym is) (same, unasked)
 
 module _ {S : Type 0} (tells : List ℕ → Type 0) (refuses : Refusing) where
   -- what a connection became is what is under its key

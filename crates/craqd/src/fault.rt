@@ -1,5 +1,7 @@
 //! Why `craqd` ends or serves nothing, with the text and the status of each reason; for `main`, `serving`, `plans`, `audits`
 //! and `closing`.
+ghost use Rattle.std.specs.Prelude.{◌≡◌};
+
 use craq_line::{BAD_INPUT, NO_MEMORY, report_memory};
 use craq_names::Refusal;
 use std::alloc::{AllocError, AllocFailed};
@@ -47,6 +49,17 @@ impl<T: Drop> From<AllocFailed<T>> for Fault {
 }
 
 impl Fault {
+    /// The fault of an audit that was refused so: one for want of memory is told as that, any other by the refusal's number.
+    pub fn of_audit(refusal: Refusal) -> Self
+        ensures memory { refusal ≡ Refusal.Memory → result ≡ Fault.Memory }
+        ensures other { ¬ (refusal ≡ Refusal.Memory) → result ≡ Fault.AuditRefused refusal }
+    {
+        match refusal {
+            Refusal::Memory => Fault::Memory,
+            _ => Fault::AuditRefused(refusal),
+        }
+    }
+
     /// Tells what was wrong of a server whose plan file has this name, and gives the status.
     pub fn report<R: Eprint>(self, rt: &R, plan: &str) -> io::Result<u8> {
         match self {

@@ -16,7 +16,7 @@ use Rattle.craq_door.specs.declared.dialogue.Phase.TheVariants as phases
 use Rattle.craq_door.specs.declared.dialogue.Stepped.TheVariants as steps
 use Rattle.craq_door.specs.declared.question.Question.{Question}
 use Rattle.craq_ready.specs.declared.connection.Connection.{Connection}
-use Rattle.craq_ready.specs.Advancing.{AsksHost, TakesSteps, none, step, call, TakesTurn, rests, gives_way, HasTurn, HasTurnAt, next_call, under_key}
+use Rattle.craq_ready.specs.Advancing.{AsksHost, TakesSteps, none, step, call, TakesTurn, rests, HasTurn, HasTurnAt, next_call, under_key}
 use Rattle.craq_ready.specs.Belonging.{CameBack}
 use Rattle.craq_ready.proofs.Letters.{receipt_refusable, refusal_refusable}
 
@@ -68,15 +68,6 @@ module _ (tells : List ℕ → Type 0) (refuses : Refusing) (submits : ℕ → S
   pub stayed : (over : Bool) (count : ℕ) (mid new : Dialogue) (after : ℕ) → over ≡ false → TakesSteps tells refuses submits old before count mid after
       → Took tells mid.phase steps.Stays new.phase mid.talk new.talk mid.calls new.calls → HasTurn tells refuses submits over old before new after
   stayed over count mid new after is taken took = turn_of over new after is (rests count mid steps.Stays taken tt took)
-
-  pub gave_way : (over : Bool) (count : ℕ) (new : Dialogue) (after : ℕ) → over ≡ false → count ≡ 64 → TakesSteps tells refuses submits old before count new after
-      → HasTurn tells refuses submits over old before new after
-  gave_way over count new after is all taken =
-      turn_of over new after is (gives_way (subst (λ (x : ℕ). TakesSteps tells refuses submits old before x new after) all taken))
-
-  -- a connection that is over
-  pub over_already : (over : Bool) (new : Dialogue) (after : ℕ) → over ≡ true → new ≡ old → after ≡ before → HasTurn tells refuses submits over old before new after
-  over_already over new after is same unasked = subst (λ (x : Bool). HasTurn tells refuses submits x old before new after) (sym is) (same, unasked)
 
 module _ {S : Type 0} (tells : List ℕ → Type 0) (refuses : Refusing) where
   -- what a connection became is what is under its key

@@ -3,3 +3,4 @@ pub mod Memberships
 pub mod Names
 pub mod Owed
 pub mod Telling
+pub mod Ways

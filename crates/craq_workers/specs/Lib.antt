@@ -1,4 +1,6 @@
 pub mod Clients
+pub mod Moves
 pub mod Stores
 pub mod Told
 pub mod Turns
+pub mod Ways

@@ -1,5 +1,5 @@
 //! `Store::audit`: the audit of a chain whose nodes are all locked for it; for whoever has receipts of a store that runs.
-ghost use Rattle.std.specs.Prelude.{◌≡◌, IfOk};
+ghost use Rattle.std.specs.Prelude.{◌≡◌, IfOk, length};
 ghost use Rattle.craq_workers.specs.Stores.{Answers};
 
 use crate::gate::Gate;
@@ -20,7 +20,9 @@ fn lock_all<'a, R: Wait, C: Core>(
     rt: &R,
     alloc: Global,
     nodes: &'a [Arc<RunningNode<C>>],
-) -> Result<Vec<MutexGuard<'a, SeatedNode<C>>>, AllocError> {
+) -> Result<Vec<MutexGuard<'a, SeatedNode<C>>>, AllocError>
+    ensures { IfOk result (λ seats. length seats.items ≡ length nodes.now) }
+{
     let mut seats = Vec::new(alloc);
     for node in nodes {
         seats.push(node.seat.lock(rt))?;
@@ -36,7 +38,8 @@ fn lock_chain<'b, 's, R: Wait, C: Core>(
     book: &'b BookCell,
     nodes: &'s [Arc<RunningNode<C>>],
 ) -> Result<HeldChain<'b, 's, C, Addressee>, AllocError>
-    ensures { IfOk result (λ held. held.book ≡ book.now) }
+    ensures book { IfOk result (λ held. held.book ≡ book.now) }
+    ensures cells { IfOk result (λ held. length held.cells ≡ length nodes.now) }
 {
     let seats = lock_all(rt, alloc, nodes)?;
     HeldChain::new(alloc, book, seats)

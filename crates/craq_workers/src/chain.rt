@@ -1,7 +1,11 @@
 //! A chain that runs: the ways to its workers, through which all that asks, sends or ticks goes; for `shared` and `store`.
-ghost use Rattle.std.specs.Prelude.{◌≡◌, IsTrue};
+ghost use Rattle.std.specs.Prelude.{◌≡◌, ◌==◌, ◌⊎◌, Err, IfErr, IfOk, IsNone, IsTrue, MatchResult, None, Some, map};
+ghost use Rattle.std.specs.List.{filter_map, find};
+ghost use Rattle.std.specs.Option.{option_map};
 ghost use Rattle.craq_epochs.specs.Mastered.{opened};
 ghost use Rattle.craq_seat.specs.Books.{first_master};
+ghost use Rattle.craq_workers.specs.Moves.{IsMissed};
+ghost use Rattle.craq_workers.specs.Ways.{retired, shut};
 
 use crate::bell::Bell;
 use crate::node::{Brought, Entrances, RunningNode, Waiting, Way};
@@ -48,7 +52,9 @@ pub(crate) struct Chain<C: Core> {
 
 impl<C: Core> Ways<C> {
     /// What an open store has. `Closed` where it is not open.
-    pub(crate) fn open(&self) -> Result<&Open, Refusal> {
+    pub(crate) fn open(&self) -> Result<&Open, Refusal>
+        ensures { MatchResult result (λ o. self.now.open ≡ Some o.now) (λ e. (e ≡ Refusal.Closed) × IsNone self.now.open) }
+    {
         match &self.open {
             Some(open) => Ok(open),
             None => Err(Refusal::Closed),
@@ -56,7 +62,9 @@ impl<C: Core> Ways<C> {
     }
 
     /// All nodes that the chain has. It fails for want of memory alone.
-    fn all(&self, alloc: Global) -> Result<Vec<Arc<RunningNode<C>>>, AllocError> {
+    fn all(&self, alloc: Global) -> Result<Vec<Arc<RunningNode<C>>>, AllocError>
+        ensures { IfOk result (λ nodes. map (λ n. n.value) nodes.items ≡ filter_map (λ way. option_map (λ n. n.value) way.node) self.now.nodes.items) }
+    {
         let mut nodes = Vec::new(alloc);
         for way in self.nodes.as_slice() {
             if let Some(node) = &way.node {
@@ -67,13 +75,38 @@ impl<C: Core> Ways<C> {
     }
 
     /// The way to the node of this id. `WrongNode` where the chain never had it.
-    pub(crate) fn to(&self, id: NodeId) -> Result<&Way<C>, Refusal> {
+    pub(crate) fn to(&self, id: NodeId) -> Result<&Way<C>, Refusal>
+        ensures found { IfOk result (λ way. find (λ w. w.name.node == id) self.now.nodes.items ≡ Some way.now) }
+        ensures err { IfErr result (λ e. (e ≡ Refusal.WrongNode) × (find (λ w. w.name.node == id) self.now.nodes.items ≡ None)) }
+    {
         for way in self.nodes.as_slice() {
             if way.name.node == id {
                 return Ok(way);
             }
         }
         Err(Refusal::WrongNode)
+    }
+
+    /// Nothing more goes to the workers of the node of this id, and unless the node is kept it is let go. The ways to the others
+    /// stay as they are, and so does what an open store has.
+    fn retire(&mut self, id: NodeId, keep: bool)
+        ensures nodes { self.new.nodes.items ≡ map (retired id keep) self.old.nodes.items }
+        ensures open { self.new.open ≡ self.old.open }
+    {
+        for way in self.nodes.iter_mut() {
+            way.retire(id, keep);
+        }
+    }
+
+    /// Nothing more goes in. The nodes stay.
+    fn close(&mut self)
+        ensures nodes { self.new.nodes.items ≡ map shut self.old.nodes.items }
+        ensures open { IsNone self.new.open }
+    {
+        self.open = None;
+        for way in self.nodes.iter_mut() {
+            way.entrances = None;
+        }
     }
 }
 
@@ -103,7 +136,9 @@ fn put_on_link<R: Wait, C: Core>(
 }
 
 /// An ask goes into a queue. Where it cannot its caller is told.
-fn put_in<R: Wait>(rt: &R, entrances: &Entrances, asked: QueuedAsk) -> Result<(), Refusal> {
+fn put_in<R: Wait>(rt: &R, entrances: &Entrances, asked: QueuedAsk) -> Result<(), Refusal>
+    ensures { IfErr result (λ e. (e ≡ Refusal.Memory) ⊎ (e ≡ Refusal.Closed)) }
+{
     match entrances.asks.send(rt, asked) {
         Ok(()) => Ok(()),
         Err(SendError::OutOfMemory(asked)) => take_back(rt, asked, Refusal::Memory),
@@ -112,11 +147,9 @@ fn put_in<R: Wait>(rt: &R, entrances: &Entrances, asked: QueuedAsk) -> Result<()
 }
 
 /// An ask that was not queued is refused in hand, so no letter comes.
-pub(crate) fn take_back<R: Wait>(
-    rt: &R,
-    asked: QueuedAsk,
-    refusal: Refusal,
-) -> Result<(), Refusal> {
+pub(crate) fn take_back<R: Wait>(rt: &R, asked: QueuedAsk, refusal: Refusal) -> Result<(), Refusal>
+    ensures { result ≡ Err refusal }
+{
     let QueuedAsk {
         ask,
         pass: _,
@@ -140,7 +173,9 @@ impl<C: Core> Chain<C> {
 
     /// The node of this id: `Closed` where the store is, `WrongNode` where the chain never had it, `Stopped` where it was
     /// removed and let go.
-    pub(crate) fn node<R: Wait>(&self, rt: &R, id: NodeId) -> Result<Arc<RunningNode<C>>, Refusal> {
+    pub(crate) fn node<R: Wait>(&self, rt: &R, id: NodeId) -> Result<Arc<RunningNode<C>>, Refusal>
+        ensures { IfErr result (λ e. IsMissed e) }
+    {
         let ways = self.ways.read(rt);
         let _ = ways.open()?;
         match &ways.to(id)?.node {
@@ -156,7 +191,9 @@ impl<C: Core> Chain<C> {
         rt: &R,
         id: NodeId,
         asked: QueuedAsk,
-    ) -> Result<(), Refusal> {
+    ) -> Result<(), Refusal>
+        ensures { IfErr result (λ e. IsMissed e) }
+    {
         let ways = self.ways.read(rt);
         if ways.open.is_none() {
             return take_back(rt, asked, Refusal::Closed);
@@ -191,7 +228,9 @@ impl<C: Core> Chain<C> {
     }
 
     /// A sender for a worker to keep as long as it works. `Closed` where the store is.
-    pub(crate) fn alive<R: Wait>(&self, rt: &R) -> Result<Sender<()>, Refusal> {
+    pub(crate) fn alive<R: Wait>(&self, rt: &R) -> Result<Sender<()>, Refusal>
+        ensures { IfErr result (λ e. (e ≡ Refusal.Closed) ⊎ (e ≡ Refusal.Memory)) }
+    {
         let ways = self.ways.read(rt);
         Ok(ways.open()?.alive.clone()?)
     }
@@ -221,14 +260,18 @@ impl<C: Core> Chain<C> {
 
     /// There is room for the way to one more node. It stays for whoever has the master's lock: a join alone takes it, under
     /// that lock. `Closed` where the store is, `Memory`.
-    pub(crate) fn make_room<R: Wait>(&self, rt: &R) -> Result<(), Refusal> {
+    pub(crate) fn make_room<R: Wait>(&self, rt: &R) -> Result<(), Refusal>
+        ensures { IfErr result (λ e. (e ≡ Refusal.Closed) ⊎ (e ≡ Refusal.Memory)) }
+    {
         let mut ways = self.ways.write(rt);
         let _ = ways.open()?;
         Ok(ways.nodes.reserve(1)?)
     }
 
     /// The way to a node that joined goes behind the others. Where there was room for it that does not fail.
-    pub(crate) fn add<R: Wait>(&self, rt: &R, way: Way<C>) -> Result<(), Refusal> {
+    pub(crate) fn add<R: Wait>(&self, rt: &R, way: Way<C>) -> Result<(), Refusal>
+        ensures { IfErr result (λ e. e ≡ Refusal.Memory) }
+    {
         let mut ways = self.ways.write(rt);
         Ok(ways.nodes.push(way)?)
     }
@@ -236,25 +279,12 @@ impl<C: Core> Chain<C> {
     /// Nothing more goes to the workers of the node of this id. Once their queues are empty they end. Where no audit will
     /// want its cell, the node is let go by the chain.
     pub(crate) fn retire<R: Wait>(&self, rt: &R, id: NodeId, keep: bool) {
-        let mut ways = self.ways.write(rt);
-        for way in &mut ways.nodes {
-            if way.name.node == id {
-                way.entrances = None;
-                if !keep {
-                    way.node = None;
-                }
-            }
-        }
+        self.ways.write(rt).retire(id, keep);
     }
 
     /// From now on nothing goes in. Once their queues are empty the workers end.
     pub(crate) fn close<R: Wait>(&self, rt: &R) {
-        let mut ways = self.ways.write(rt);
-        ways.open = None;
-        for way in &mut ways.nodes {
-            way.entrances = None;
-        }
-        drop(ways);
+        self.ways.write(rt).close();
         self.bell.change();
     }
 

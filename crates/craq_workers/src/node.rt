@@ -1,10 +1,15 @@
 //! `RunningNode`: a node as its workers and its callers share it: the seat, what is known of its life, the ways to it.
+ghost use Rattle.std.specs.Prelude.{◌≡◌, ◌⊎◌, None, Some, if◌then◌else◌};
+ghost use Rattle.craq_model.specs.Plain.{Plain};
+ghost use Rattle.craq_seat.specs.Cells.{receipt_of};
+ghost use Rattle.craq_workers.specs.Ways.{retired};
+
 use crate::pending::Pending;
 use crate::steps::QueuedAsk;
 use bytes::Bytes;
 use craq_epochs::StopReceipt;
 use craq_letters::Addressee;
-use craq_names::NodeName;
+use craq_names::{NodeId, NodeName};
 use craq_node::Core;
 use craq_seat::{Cell, Desk, Receipt, Seat};
 use craq_sending::Kind;
@@ -28,7 +33,11 @@ pub(crate) enum Brought {
 
 impl Brought {
     /// An encoded message of this kind.
-    pub(crate) fn of(kind: Kind, bytes: Bytes) -> Self {
+    pub(crate) fn of(kind: Kind, bytes: Bytes) -> Self
+        ensures ack { kind ≡ Kind.Ack → result ≡ Brought.Ack bytes }
+        ensures blank { kind ≡ Kind.Blank → result ≡ Brought.Blank bytes }
+        ensures message { (kind ≡ Kind.Entry) ⊎ (kind ≡ Kind.Other) → result ≡ Brought.Message bytes }
+    {
         match kind {
             Kind::Ack => Brought::Ack(bytes),
             Kind::Blank => Brought::Blank(bytes),
@@ -74,7 +83,9 @@ pub(crate) struct RunningNode<C: Core> {
 }
 
 impl<C: Core> RunningNode<C> {
-    pub(crate) fn new(alloc: Global, name: NodeName, desk: Desk<C>, queues: Queues) -> Self {
+    pub(crate) fn new(alloc: Global, name: NodeName, desk: Desk<C>, queues: Queues) -> Self
+        ensures { result.name ≡ name }
+    {
         RunningNode {
             name,
             seat: Seat::new(alloc, desk),
@@ -167,8 +178,24 @@ pub(crate) struct Way<C: Core> {
     pub entrances: Option<Entrances>,
 }
 
+impl<C: Core> Way<C> {
+    /// If this is the way to the node of this id, nothing more goes to its workers; and unless the node is kept, it is let go.
+    pub(crate) fn retire(&mut self, id: NodeId, keep: bool)
+        ensures { self.new ≡ retired id keep self.old }
+    {
+        if self.name.node == id {
+            self.entrances = None;
+            if !keep {
+                self.node = None;
+            }
+        }
+    }
+}
+
 /// What shows that a cell's node has stopped, and the step in which it did: it took none after it. None where it runs.
-fn stop_of<C: Core>(cell: &Cell<C>) -> Option<(StopReceipt, Receipt)> {
+fn stop_of<C: Core>(cell: &Cell<C>) -> Option<(StopReceipt, Receipt)>
+    ensures { (p : Plain) → C.represents cell.now.inside p → result ≡ (if p.running then None else Some (p.name, receipt_of cell.now)) }
+{
     let stopped = cell.switch().receipt()?;
     let stop = Receipt {
         node: cell.opening().name.node,

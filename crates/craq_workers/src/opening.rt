@@ -1,6 +1,7 @@
 //! Chains and nodes before any step; called by `store` at a start and at a join.
-ghost use Rattle.std.specs.Prelude.{◌≡◌, IfErr, IfOk, OnOk, map, string_bytes};
-ghost use Rattle.std.specs.Option.{option_copied};
+ghost use Rattle.std.specs.Prelude.{◌≡◌, IfErr, IfOk, IsSome, OnOk, Some, map, string_bytes};
+ghost use Rattle.std.specs.List.{AllByRecursion};
+ghost use Rattle.std.specs.Option.{option_copied, option_map};
 ghost use Rattle.craq_epochs.specs.Mastered.{opened};
 ghost use Rattle.craq_model.specs.Members.{IsMembership};
 ghost use Rattle.craq_node.specs.Represented.{CanOpen};
@@ -31,7 +32,11 @@ pub(crate) struct Form {
 }
 
 /// The way to a node of this desk. It fails for want of memory alone.
-fn way_to<C: Core>(alloc: Global, name: &NodeName, desk: Desk<C>) -> Result<Way<C>, AllocError> {
+fn way_to<C: Core>(alloc: Global, name: &NodeName, desk: Desk<C>) -> Result<Way<C>, AllocError>
+    ensures name { IfOk result (λ way. way.name ≡ name.now) }
+    ensures node { IfOk result (λ way. option_map (λ n. n.value.name) way.node ≡ Some name.now) }
+    ensures entrances { IfOk result (λ way. IsSome way.entrances) }
+{
     let (to_asks, asks) = crossbeam_channel::unbounded(alloc)?;
     let (to_links, links) = crossbeam_channel::unbounded(alloc)?;
     let queues = Queues { asks, links };
@@ -56,7 +61,10 @@ pub(crate) fn open_node<C: Core>(
     stamp: Stamp,
 ) -> Result<Way<C>, Refusal>
     requires { CanOpen name.now (option_copied config) }
-    ensures { IfErr result (λ e. e ≡ Refusal.Memory) }
+    ensures name { IfOk result (λ way. way.name ≡ name.now) }
+    ensures node { IfOk result (λ way. option_map (λ n. n.value.name) way.node ≡ Some name.now) }
+    ensures entrances { IfOk result (λ way. IsSome way.entrances) }
+    ensures err { IfErr result (λ e. e ≡ Refusal.Memory) }
 {
     let cell = Cell::open(alloc, *name, config, journal, stamp)?;
     Ok(way_to(alloc, name, Desk::new(alloc, cell))?)
@@ -84,7 +92,9 @@ fn open_members<C: Core>(
     workers: &mut Vec<Worker<C>>,
 ) -> Result<Vec<Way<C>>, Refusal>
     requires { (config.now.epoch ≡ 1) × IsMembership config.now.members }
-    ensures { IfErr result (λ e. e ≡ Refusal.Memory) }
+    ensures names { IfOk result (λ ways. map (λ w. w.name) ways.items ≡ map (λ n. record { chain = chain; node = n }) config.now.members) }
+    ensures open { IfOk result (λ ways. AllByRecursion (λ w. (option_map (λ n. n.value.name) w.node ≡ Some w.name) × IsSome w.entrances) ways.items) }
+    ensures err { IfErr result (λ e. e ≡ Refusal.Memory) }
 {
     if form.carried {
         workers.push(Worker::Carrier(chain))?;

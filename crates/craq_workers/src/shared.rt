@@ -1,5 +1,5 @@
 //! What all threads of a store share, how a step's messages go out, and how one ask is served; called by workers and clients.
-ghost use Rattle.std.specs.Prelude.{◌≡◌, ◌<◌, ◌≤◌, Err, IfErr, IfOk, Ok, OnOk, Some, length, option_map};
+ghost use Rattle.std.specs.Prelude.{◌≡◌, ◌<◌, ◌≤◌, Err, IfErr, IfOk, Ok, OnOk, Some, length, option_map, slice_get};
 ghost use Rattle.craq_calls.specs.Refused.{CanRefuse};
 
 use crate::carrying::carry_on;
@@ -47,7 +47,9 @@ fn in_hand(reply: Option<Outcome>) -> Result<Option<CallReceipt>, Refusal>
 }
 
 /// The node of this id in the chain of another.
-fn beside(other: &NodeName, id: NodeId) -> NodeName {
+fn beside(other: &NodeName, id: NodeId) -> NodeName
+    ensures { result ≡ record { chain = other.now.chain; node = id } }
+{
     NodeName {
         chain: other.chain,
         node: id,
@@ -74,6 +76,7 @@ impl<C: Core, G: Gate> Shared<C, G> {
     /// The chain of this id, or `UnknownChain`.
     pub(crate) fn chain(&self, id: ChainId) -> Result<&Chain<C>, Refusal>
         ensures there { OnOk result (id < length self.now.chains.items) }
+        ensures found { IfOk result (λ c. slice_get self.now.chains.items id ≡ Some c.now) }
         ensures err { IfErr result (λ e. (e ≡ Refusal.UnknownChain) × (length self.now.chains.items ≤ id)) }
     {
         match self.chains.as_slice().get(id.get() as usize) {

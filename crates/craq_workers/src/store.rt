@@ -1,9 +1,11 @@
 //! `Store`, the primary object of the crate: it starts, stops, removes, joins and closes; for whoever runs a store.
-ghost use Rattle.std.specs.Prelude.{◌≡◌, ◌≤◌, ◌↔◌, Err, IfErr, IfOk, OnOk, length, map, string_bytes};
-ghost use Rattle.craq_epochs.specs.Mastered.{opened};
+ghost use Rattle.std.specs.Prelude.{◌≡◌, ◌+◌, ◌≤◌, ◌==◌, ◌↔◌, Err, IfErr, IfOk, IsOk, MatchResult, Ok, OnOk, if◌then◌else◌, length, map, string_bytes};
+ghost use Rattle.craq_epochs.specs.Mastered.{joined, opened};
+ghost use Rattle.craq_names.specs.Limits.{greatest};
 ghost use Rattle.craq_held.specs.Membered.{AreMembershipsOf, IsMembershipOf};
 ghost use Rattle.craq_place.specs.Plan.{IsPlan};
 ghost use Rattle.craq_workers.specs.Clients.{RefusesAsk};
+ghost use Rattle.craq_workers.specs.Moves.{CanJoin};
 ghost use Rattle.craq_workers.specs.Stores.{masters_of};
 
 use crate::chain::{Chain, refuse_queued};
@@ -117,7 +119,9 @@ where
 }
 
 /// The stamp after this one, or `Exhausted`.
-fn next(stamp: Stamp) -> Result<Stamp, Refusal> {
+fn next(stamp: Stamp) -> Result<Stamp, Refusal>
+    ensures { result ≡ (if stamp == greatest then Err Refusal.Exhausted else Ok (stamp + 1)) }
+{
     let stamp = stamp.get();
     if stamp == u64::MAX {
         return Err(Refusal::Exhausted);
@@ -127,8 +131,12 @@ fn next(stamp: Stamp) -> Result<Stamp, Refusal> {
 
 /// Whether the master would take this node in: `UsedId` where the id is 0 or ever was a member, `ChainFull` where there
 /// are 8 members, `Exhausted` in the last epoch.
+#[tactic(auto, unfolding(craq_epochs::specs::Mastered::joined))]
 fn test_join(book: &BookCell, node: NodeId) -> Result<(), Refusal>
-    ensures { OnOk result (1 ≤ node) }
+    ensures node { OnOk result (1 ≤ node) }
+    ensures refused { IfErr result (λ e. CanJoin e) }
+    ensures zero { node ≡ 0 → result ≡ Err Refusal.UsedId }
+    ensures joins { MatchResult result (λ _. IsOk (joined book.now.inside node)) (λ e. joined book.now.inside node ≡ Err e) }
 {
     if node.get() == 0 || is_among(book.used(), node) {
         return Err(Refusal::UsedId);

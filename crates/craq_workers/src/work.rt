@@ -1,4 +1,5 @@
 //! What each thread of a store does, from its start to its end; called in the threads that `store` makes.
+ghost use Rattle.std.specs.Prelude.{◌≡◌};
 
 use crate::carrying::carry;
 use crate::chain::Chain;
@@ -146,7 +147,9 @@ fn tick<R: Wait, C: Core, G: Gate>(
 }
 
 /// A chain's master by name.
-pub(crate) fn master_of(chain: ChainId) -> NodeName {
+pub(crate) fn master_of(chain: ChainId) -> NodeName
+    ensures { result ≡ record { chain = chain; node = 0 } }
+{
     NodeName {
         chain,
         node: NodeId::new(0),

@@ -1,5 +1,5 @@
 -- A dialogue whose host is asked, one that takes steps, one step on, and the turns of connections.
-use Rattle.std.proofs.Common.{◌≡◌, ◌+◌, ℕ, Bool, true, false, List, Some, None, Result, Ok, Err, inl, inr, sym, refl, subst}
+use Rattle.std.proofs.Common.{◌≡◌, ◌+◌, ℕ, Bool, false, List, Some, None, Result, Ok, Err, inl, inr, sym, refl, subst}
 use Rattle.slab.specs.Slab.{Slab, get, with_value}
 use Rattle.slab.proofs.SlabLemmas.{Updates-with_value}
 use Rattle.craq_names.specs.declared.refusal.Refusal.{Refusal}

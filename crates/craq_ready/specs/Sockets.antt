@@ -1,5 +1,5 @@
 -- What a read or a write of a connection's socket came to, and when a connection is over.
-use Rattle.std.specs.Prelude.{◌≡◌, ◌⊎◌, ℕ, Bool, true, [], IsSome}
+use Rattle.std.specs.Prelude.{◌≡◌, ◌⊎◌, ℕ, true, [], IsSome}
 use Rattle.craq_door.specs.Dialogues.{ending_of}
 use Rattle.craq_door.specs.declared.dialogue.Dialogue.{Dialogue}
 use Rattle.craq_ready.specs.declared.connection.Connection.{Connection}

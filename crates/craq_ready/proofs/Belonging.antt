@@ -23,10 +23,10 @@ none_went None b e = tt
 none_went (Some xs) None e = cc
 none_went (Some xs) (Some ys) e = let same : ys ≡ xs = cc in same ∙ sym (append-nil xs)
 
-pub nothing_read : (a b : Option (List ℕ)) (d e : Dialogue) → b ≡ a → e ≡ d → Reads a b d e
-nothing_read a b d e same is = rw is (
+pub nothing_came : (a b : Option (List ℕ)) (d e : Dialogue) → Consumes a b [] → e ≡ d → Reads a b d e
+nothing_came a b d e none is = rw is (
   [],
-  none_came a b same,
+  none,
   record {
     heard = λ read written turns h. subst (λ (x : List ℕ). Holds d.phase d.talk x written turns) (sym (append-nil read)) h;
     due = refl;
@@ -34,10 +34,13 @@ nothing_read a b d e same is = rw is (
   },
 )
 
-pub nothing_written : (a b : Option (List ℕ)) (d e : Dialogue) → b ≡ a → e ≡ d → Writes a b d e
-nothing_written a b d e same is = rw is (
+pub nothing_read : (a b : Option (List ℕ)) (d e : Dialogue) → b ≡ a → e ≡ d → Reads a b d e
+nothing_read a b d e same is = nothing_came a b d e (none_came a b same) is
+
+pub nothing_went : (a b : Option (List ℕ)) (d e : Dialogue) → Appends a b [] → e ≡ d → Writes a b d e
+nothing_went a b d e none is = rw is (
   [],
-  none_went a b same,
+  none,
   record {
     given = λ read written turns h. subst (λ (x : List ℕ). Holds d.phase d.talk read x turns) (sym (append-nil written)) h;
     due = refl;
@@ -46,9 +49,12 @@ nothing_written a b d e same is = rw is (
   },
 )
 
+pub nothing_written : (a b : Option (List ℕ)) (d e : Dialogue) → b ≡ a → e ≡ d → Writes a b d e
+nothing_written a b d e same is = nothing_went a b d e (none_went a b same) is
+
 -- what a connection takes is taken, whether it has something to do or not
 taken_busy : {S : Type 0} (number : ℕ) (reply : Result Called Refusal) (c d : Connection S) → TakesLetter number reply c d → TakesLetter number reply c (record d { busy = true })
-taken_busy number reply c d takes = record { own = takes.own; another = takes.another; calls = takes.calls; stream = takes.stream }
+taken_busy number reply c d takes = record { own = takes.own; another = takes.another; calls = takes.calls; stream = takes.stream; over = takes.over }
 
 -- the connection under the token's key takes the letter, and then has something to do
 pub delivered : {S : Type 0} (s t : Slab (Connection S)) (token : Token) (c d : Connection S) (reply : Result Called Refusal)

@@ -48,6 +48,7 @@ pub record TakesLetter {S : Type 0} (number : ℕ) (reply : Result Called Refusa
   pub another : number ≢ old.calls → new.dialogue ≡ old.dialogue
   pub calls : new.calls ≡ old.calls
   pub stream : new.stream ≡ old.stream
+  pub over : new.over ≡ old.over
 
 -- the connection whose key is in this token takes the letter under the number that is there
 abbrev pub Delivers : {S : Type 0} → Slab (Connection S) → Slab (Connection S) → Token → Result Called Refusal → Type 0

@@ -2,3 +2,4 @@ pub mod Advancing
 pub mod Belonging
 pub mod Letters
 pub mod Serving
+pub mod Sockets

@@ -1,10 +1,10 @@
 //! A connection of a thread that serves many: its socket and its `Dialogue`, and what goes between them; called by `crowd`.
-ghost use Rattle.std.specs.Prelude.{◌≡◌, ◌≤◌, ◌↔◌, true, length, take, IsTrue};
+ghost use Rattle.std.specs.Prelude.{◌≡◌, ◌≤◌, ◌<◌, ◌-◌, ◌↔◌, ◌⊎◌, true, false, length, take, IsTrue};
 ghost use Rattle.craq_door.specs.declared.dialogue.Phase.TheVariants.{Idle, Waits};
 ghost use Rattle.craq_door.specs.declared.question.Question.{Question};
 
 use crate::host::{Arrival, Host};
-use crate::socket::Socket;
+use crate::socket::{Moved, Socket};
 use craq_calls::refusal_of_call;
 use craq_door::{CallDue, Dialogue, Stepped};
 use craq_letters::{Outcome, Token};
@@ -13,7 +13,6 @@ use mio::unix::SourceFd;
 use mio::{Interest, Registry};
 use std::alloc::Global;
 use std::io;
-use std::io::ErrorKind;
 use std::net::TcpStream;
 use std::os::fd::AsRawFd;
 use std::sync::Arc;
@@ -89,10 +88,11 @@ impl Connection<Arc<TcpStream>> {
             over: false,
         })
     }
+}
 
+impl<S: Socket + Drop> Connection<S> {
     /// The connection ends, and is given back to its host.
     pub(crate) fn close<H: Host>(self, registry: &Registry, host: &H) {
-        let _ = registry.deregister(&mut SourceFd(&self.stream.as_raw_fd()));
         let Connection {
             stream,
             dialogue,
@@ -105,6 +105,7 @@ impl Connection<Arc<TcpStream>> {
             more: _,
             over: _,
         } = self;
+        stream.leave(registry);
         drop(stream);
         host.ended(place, receipts, dialogue.into_receipts());
     }
@@ -115,9 +116,12 @@ impl<S: Socket> Connection<S> {
     ghost use Rattle.craq_ready.specs.Belonging.{CameBack, Gives, Hears, Reads, TakesLetter, Writes};
     ghost use Rattle.craq_ready.specs.Letters.{IsOutcome};
     ghost use Rattle.craq_ready.specs.Serving.{IsDone, is_waiting};
+    ghost use Rattle.craq_ready.specs.Sockets.{EndsAsSocket, EndsInOrder, HasSaidAll};
 
     /// What is told of the connection's readiness.
-    pub(crate) fn notice(&mut self, event: &Event) {
+    pub(crate) fn notice(&mut self, event: &Event)
+        ensures { self.new ≡ record self.old { readiness = self.new.readiness } }
+    {
         if event.is_readable() || event.is_read_closed() || event.is_error() {
             self.readiness.readable = true;
         }
@@ -145,7 +149,10 @@ impl<S: Socket> Connection<S> {
     }
 
     /// The connection is over where nothing came, and nothing was taken, for more than so many seconds; whether it is.
-    pub(crate) fn is_left(&mut self, now: u64, idle: u64) -> bool {
+    pub(crate) fn is_left(&mut self, now: u64, idle: u64) -> bool
+        ensures left { IsTrue result ↔ ((self.old.over ≡ true) ⊎ ((is_waiting self.old.dialogue.phase ≡ false) × (idle < now - self.old.heard))) }
+        ensures over { self.new ≡ record self.old { over = result } }
+    {
         if !self.waits() && now.saturating_sub(self.heard) > idle {
             self.over = true;
         }
@@ -197,6 +204,7 @@ impl<S: Socket> Connection<S> {
         ensures hears { Hears bytes.now self.old.dialogue self.new.dialogue }
         ensures stream { self.new.stream ≡ self.old.stream }
         ensures calls { self.new.calls ≡ self.old.calls }
+        ensures over { self.new.over ≡ self.old.over }
     {
         self.more = true;
         self.heard = now;
@@ -209,60 +217,38 @@ impl<S: Socket> Connection<S> {
         count < room && !self.readiness.closing
     }
 
-    /// A read failed so.
-    fn read_failed(&mut self, error: ErrorKind)
-        ensures dialogue { self.new.dialogue ≡ self.old.dialogue }
-        ensures stream { self.new.stream ≡ self.old.stream }
-        ensures calls { self.new.calls ≡ self.old.calls }
-    {
-        match error {
-            ErrorKind::WouldBlock => self.readiness.readable = false,
-            ErrorKind::Interrupted => {}
-            _ => self.over = true,
-        }
-    }
-
     /// Reads once. What came goes to the dialogue.
-    #[tactic(auto, using(crate::proofs::Belonging::nothing_read))]
+    #[tactic(auto, using(crate::proofs::Belonging::nothing_came, crate::proofs::Ending::is_as_before, crate::proofs::Ending::ended))]
     fn take(&mut self, alloc: Global, chunk: &mut [u8], now: u64)
         requires { self.old.dialogue.phase ≡ Idle }
         ensures reads { Reads (S.remaining self.old.stream) (S.remaining self.new.stream) self.old.dialogue self.new.dialogue }
         ensures contents { S.contents self.new.stream ≡ S.contents self.old.stream }
         ensures calls { self.new.calls ≡ self.old.calls }
+        ensures over { EndsAsSocket S.is_over self.old self.new }
     {
         match self.stream.take(chunk) {
-            Ok(0) => self.over = true,
-            Ok(count) => {
+            Moved::Bytes(count) => {
                 self.readiness.readable = !self.is_drained(count, chunk.len());
                 self.hear(alloc, &chunk[..count], now);
             }
-            Err(error) => self.read_failed(error.kind()),
+            Moved::NotReady => self.readiness.readable = false,
+            Moved::Interrupted => {}
+            Moved::Over => self.over = true,
         }
     }
 
     /// Reads once, where nothing is asked and nothing is due. What its socket gave, and no other byte, goes to its dialogue.
-    /// Where its call is under way nothing is read, and its dialogue is as it was.
+    /// Where its call is under way nothing is read, and its dialogue is as it was. It is over only if it was, or its socket is.
+    #[tactic(auto, using(crate::proofs::Belonging::nothing_read, crate::proofs::Ending::is_as_before))]
     pub(crate) fn read(&mut self, alloc: Global, chunk: &mut [u8], now: u64)
         ensures waits { (q : Question) → self.old.dialogue.phase ≡ Waits q → self.new.dialogue ≡ self.old.dialogue }
         ensures reads { Reads (S.remaining self.old.stream) (S.remaining self.new.stream) self.old.dialogue self.new.dialogue }
         ensures contents { S.contents self.new.stream ≡ S.contents self.old.stream }
         ensures calls { self.new.calls ≡ self.old.calls }
+        ensures over { EndsAsSocket S.is_over self.old self.new }
     {
         if self.may_read() {
             self.take(alloc, chunk, now);
-        }
-    }
-
-    /// A write failed so.
-    fn write_failed(&mut self, error: ErrorKind)
-        ensures dialogue { self.new.dialogue ≡ self.old.dialogue }
-        ensures stream { self.new.stream ≡ self.old.stream }
-        ensures calls { self.new.calls ≡ self.old.calls }
-    {
-        match error {
-            ErrorKind::WouldBlock => self.readiness.writable = false,
-            ErrorKind::Interrupted => {}
-            _ => self.over = true,
         }
     }
 
@@ -272,25 +258,28 @@ impl<S: Socket> Connection<S> {
         ensures gives { Gives (take count self.old.dialogue.talk.buffers.output.items) self.old.dialogue self.new.dialogue }
         ensures stream { self.new.stream ≡ self.old.stream }
         ensures calls { self.new.calls ≡ self.old.calls }
+        ensures over { self.new.over ≡ self.old.over }
     {
         self.heard = now;
         self.dialogue.wrote(count);
     }
 
     /// Writes once what is due. What its socket took, and no other byte, is then written for its dialogue.
-    #[tactic(auto, using(crate::proofs::Belonging::nothing_written))]
+    #[tactic(auto, using(crate::proofs::Belonging::nothing_written, crate::proofs::Belonging::nothing_went, crate::proofs::Ending::is_as_before, crate::proofs::Ending::ended))]
     fn write(&mut self, now: u64)
         ensures writes { Writes (S.contents self.old.stream) (S.contents self.new.stream) self.old.dialogue self.new.dialogue }
         ensures remaining { S.remaining self.new.stream ≡ S.remaining self.old.stream }
         ensures calls { self.new.calls ≡ self.old.calls }
+        ensures over { EndsAsSocket S.is_over self.old self.new }
     {
         if self.over || !self.readiness.writable || self.dialogue.due().is_empty() {
             return;
         }
         match self.stream.put(self.dialogue.due()) {
-            Ok(0) => self.over = true,
-            Ok(count) => self.given(count, now),
-            Err(error) => self.write_failed(error.kind()),
+            Moved::Bytes(count) => self.given(count, now),
+            Moved::NotReady => self.readiness.writable = false,
+            Moved::Interrupted => {}
+            Moved::Over => self.over = true,
         }
     }
 
@@ -299,6 +288,7 @@ impl<S: Socket> Connection<S> {
         ensures told { CameBack outcome self.old.dialogue self.new.dialogue }
         ensures stream { self.new.stream ≡ self.old.stream }
         ensures calls { self.new.calls ≡ self.old.calls }
+        ensures over { self.new.over ≡ self.old.over }
     {
         if let Err(refusal) = &outcome {
             host.refused(self.place, *refusal);
@@ -339,6 +329,7 @@ impl<S: Socket> Connection<S> {
         ensures asked { AsksHost (H.refuses host.now) (under_key (H.submits host.now) key (next_call self.old.calls)) self.old.dialogue.phase self.old.dialogue self.new.dialogue }
         ensures calls { self.new.calls ≡ next_call self.old.calls }
         ensures stream { self.new.stream ≡ self.old.stream }
+        ensures over { self.new.over ≡ self.old.over }
     {
         self.calls = self.calls.wrapping_add(1);
         let token = Token {
@@ -357,6 +348,7 @@ impl<S: Socket> Connection<S> {
     pub(crate) fn advance<H: Host>(&mut self, alloc: Global, host: &H, key: usize, few: bool)
         ensures turn { HasTurn (H.tells host.now) (H.refuses host.now) (under_key (H.submits host.now) key) self.old.over self.old.dialogue self.old.calls self.new.dialogue self.new.calls }
         ensures stream { self.new.stream ≡ self.old.stream }
+        ensures over { self.new.over ≡ self.old.over }
     {
         if self.over {
             return;
@@ -374,14 +366,22 @@ impl<S: Socket> Connection<S> {
         }
     }
 
+    /// Whether its dialogue is over, and nothing that it made due is left to be written.
+    fn has_said_all(&self) -> bool
+        ensures { IsTrue result ↔ HasSaidAll self.now.dialogue }
+    {
+        self.dialogue.ending().is_some() && self.dialogue.due().is_empty()
+    }
+
     /// Writes what is due. It is over where that was the last.
     pub(crate) fn give(&mut self, now: u64)
         ensures writes { Writes (S.contents self.old.stream) (S.contents self.new.stream) self.old.dialogue self.new.dialogue }
         ensures remaining { S.remaining self.new.stream ≡ S.remaining self.old.stream }
         ensures calls { self.new.calls ≡ self.old.calls }
+        ensures over { EndsInOrder S.is_over self.old self.new }
     {
         self.write(now);
-        if self.dialogue.ending().is_some() && self.dialogue.due().is_empty() {
+        if self.has_said_all() {
             self.over = true;
         }
     }

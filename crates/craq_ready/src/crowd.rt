@@ -35,9 +35,9 @@ const MOST_LOOKS: u32 = 200;
 
 /// The connection under a key has its turn. Its calls are asked under this key, each under the next number, and no other connection
 /// changes; where none is under the key nothing does.
-fn advance_at<H: Host>(
+fn advance_at<S: Socket, H: Host>(
     alloc: Global,
-    connections: &mut Slab<Connection<Arc<TcpStream>>>,
+    connections: &mut Slab<Connection<S>>,
     host: &H,
     key: usize,
     few: bool,
@@ -60,7 +60,7 @@ fn read_at<S: Socket>(
     chunk: &mut [u8],
     now: u64,
 )
-    ensures reads { ReadsAt S.remaining S.contents connections.old connections.new key }
+    ensures reads { ReadsAt S.remaining S.contents S.is_over connections.old connections.new key }
     ensures vacant { StaysVacant connections.old connections.new key }
     ensures others { OthersStay connections.old connections.new key }
 {
@@ -72,14 +72,14 @@ fn read_at<S: Socket>(
 
 /// What is due to the connection under a key is written. It is let go exactly where it is done, and no other connection changes;
 /// where none is under the key nothing does. Tells whether it has something left to do of which no event and no letter will tell.
-fn give_at<H: Host>(
-    connections: &mut Slab<Connection<Arc<TcpStream>>>,
+fn give_at<S: Socket + Drop, H: Host>(
+    connections: &mut Slab<Connection<S>>,
     registry: &Registry,
     host: &H,
     key: usize,
     now: u64,
 ) -> bool
-    ensures writes { WritesAt ⟦<Arc<TcpStream> as Socket>⟧.remaining ⟦<Arc<TcpStream> as Socket>⟧.contents connections.old connections.new key }
+    ensures writes { WritesAt S.remaining S.contents S.is_over connections.old connections.new key }
     ensures vacant { StaysVacant connections.old connections.new key }
     ensures others { OthersStay connections.old connections.new key }
 {
@@ -98,9 +98,9 @@ fn give_at<H: Host>(
 
 /// The connections of a thread.
 #[derive(Drop)]
-struct Members {
+struct Members<S> {
     alloc: Global,
-    connections: Slab<Connection<Arc<TcpStream>>>,
+    connections: Slab<Connection<S>>,
     /// The connections that have something to do, each once.
     busy: Vec<usize>,
     /// Those of them that have something left to do after their turn.
@@ -119,7 +119,7 @@ struct Members {
     looks: u32,
 }
 
-impl Members {
+impl<S: Socket + Drop> Members<S> {
     /// No connections. It fails for want of memory alone.
     fn new(alloc: Global, keeps: bool, idle: u32) -> Result<Self, AllocError> {
         let mut chunk = Vec::new(alloc);
@@ -150,42 +150,6 @@ impl Members {
             // There is room for the key of each connection.
             if connection.is_newly_busy() {
                 let _ = self.busy.push(key);
-            }
-        }
-    }
-
-    /// A connection is taken in, with room for its key in both lists.
-    fn take_in(&mut self, registry: &Registry, arrival: Arrival) -> Result<(), AllocError> {
-        let count = self.connections.len().saturating_add(1);
-        self.busy.reserve(count)?;
-        self.later.reserve(count)?;
-        self.connections.reserve(1)?;
-        let key = self.connections.vacant_key();
-        let Ok(connection) = Connection::open(
-            self.alloc,
-            registry,
-            Token(key),
-            arrival,
-            self.keeps,
-            self.now,
-        ) else {
-            return Err(AllocError);
-        };
-        let key = self.connections.insert_reserved(connection);
-        self.wake(key);
-        Ok(())
-    }
-
-    /// The connections that came are taken in. One for which there is no room ends at once.
-    fn take_arrivals<H: Host>(&mut self, registry: &Registry, host: &H) {
-        for _ in 0..usize::MAX {
-            let Some(arrival) = host.arrival() else {
-                break;
-            };
-            let place = arrival.place;
-            let receipts = arrival.receipts;
-            if self.take_in(registry, arrival).is_err() {
-                host.ended(place, receipts, Vec::new(self.alloc));
             }
         }
     }
@@ -243,7 +207,7 @@ impl Members {
     /// What has come on the busy connections is read: each reads under its own key, one after another, and no other connection
     /// changes.
     fn read_all(&mut self)
-        ensures reads { OneByOne (ReadsAt ⟦<Arc<TcpStream> as Socket>⟧.remaining ⟦<Arc<TcpStream> as Socket>⟧.contents) self.old.busy.items self.old.connections self.new.connections }
+        ensures reads { OneByOne (ReadsAt S.remaining S.contents S.is_over) self.old.busy.items self.old.connections self.new.connections }
         ensures busy { self.new.busy.items ≡ self.old.busy.items }
     {
         for key in self.busy.iter() {
@@ -272,7 +236,7 @@ impl Members {
     /// What is due to the busy connections is written, to one after another, and no other connection changes. Each is let go
     /// exactly where it is done.
     fn give_all<H: Host>(&mut self, registry: &Registry, host: &H)
-        ensures { OneByOne (WritesAt ⟦<Arc<TcpStream> as Socket>⟧.remaining ⟦<Arc<TcpStream> as Socket>⟧.contents) self.old.busy.items self.old.connections self.new.connections }
+        ensures { OneByOne (WritesAt S.remaining S.contents S.is_over) self.old.busy.items self.old.connections self.new.connections }
     {
         for key in self.busy.iter() {
             if give_at(&mut self.connections, registry, host, *key, self.now) {
@@ -287,7 +251,7 @@ impl Members {
     /// Each connection that has something to do is served once. All are read before the first takes its steps, and all have taken
     /// them before the first is written to: so a processor does one kind of work for a while.
     fn step_all<H: Host>(&mut self, registry: &Registry, host: &H)
-        ensures { Serves ⟦<Arc<TcpStream> as Socket>⟧.remaining ⟦<Arc<TcpStream> as Socket>⟧.contents (H.tells host.now) (H.refuses host.now) (H.submits host.now) self.old.busy.items self.old.connections self.new.connections }
+        ensures { Serves S.remaining S.contents S.is_over (H.tells host.now) (H.refuses host.now) (H.submits host.now) self.old.busy.items self.old.connections self.new.connections }
     {
         self.read_all();
         self.advance_all(host);
@@ -311,25 +275,6 @@ impl Members {
         }
     }
 
-    /// What came is taken, and each connection that has something to do takes its steps.
-    fn round<H: Host>(&mut self, registry: &Registry, host: &H) {
-        // Letters first: what is told from then on keeps the thread awake, so no arrival is left behind.
-        self.take_letters(host);
-        self.take_arrivals(registry, host);
-        self.step_all(registry, host);
-    }
-
-    /// A round, and another one, for the replies that came to what was asked in the first: they are written before the next
-    /// look at readiness.
-    fn turn<H: Host>(&mut self, registry: &Registry, host: &H) {
-        self.looks = self.looks.saturating_add(1);
-        if self.idle > 0 {
-            self.look_for_idle(host.seconds());
-        }
-        self.round(registry, host);
-        self.round(registry, host);
-    }
-
     /// Whether it looks again soon: a client alone asks again as soon as it was answered, and a thread that sleeps takes longer to
     /// wake than that.
     fn looks_again(&self) -> bool {
@@ -349,12 +294,69 @@ impl Members {
     }
 }
 
+impl Members<Arc<TcpStream>> {
+    /// A connection is taken in, with room for its key in both lists.
+    fn take_in(&mut self, registry: &Registry, arrival: Arrival) -> Result<(), AllocError> {
+        let count = self.connections.len().saturating_add(1);
+        self.busy.reserve(count)?;
+        self.later.reserve(count)?;
+        self.connections.reserve(1)?;
+        let key = self.connections.vacant_key();
+        let Ok(connection) = Connection::open(
+            self.alloc,
+            registry,
+            Token(key),
+            arrival,
+            self.keeps,
+            self.now,
+        ) else {
+            return Err(AllocError);
+        };
+        let key = self.connections.insert_reserved(connection);
+        self.wake(key);
+        Ok(())
+    }
+
+    /// The connections that came are taken in. One for which there is no room ends at once.
+    fn take_arrivals<H: Host>(&mut self, registry: &Registry, host: &H) {
+        for _ in 0..usize::MAX {
+            let Some(arrival) = host.arrival() else {
+                break;
+            };
+            let place = arrival.place;
+            let receipts = arrival.receipts;
+            if self.take_in(registry, arrival).is_err() {
+                host.ended(place, receipts, Vec::new(self.alloc));
+            }
+        }
+    }
+
+    /// What came is taken, and each connection that has something to do takes its steps.
+    fn round<H: Host>(&mut self, registry: &Registry, host: &H) {
+        // Letters first: what is told from then on keeps the thread awake, so no arrival is left behind.
+        self.take_letters(host);
+        self.take_arrivals(registry, host);
+        self.step_all(registry, host);
+    }
+
+    /// A round, and another one, for the replies that came to what was asked in the first: they are written before the next
+    /// look at readiness.
+    fn turn<H: Host>(&mut self, registry: &Registry, host: &H) {
+        self.looks = self.looks.saturating_add(1);
+        if self.idle > 0 {
+            self.look_for_idle(host.seconds());
+        }
+        self.round(registry, host);
+        self.round(registry, host);
+    }
+}
+
 /// A thread's connections and what tells of their readiness.
 #[derive(Drop)]
 pub struct Crowd {
     poll: Poll,
     events: Events,
-    members: Members,
+    members: Members<Arc<TcpStream>>,
 }
 
 impl Crowd {

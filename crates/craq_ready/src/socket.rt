@@ -1,11 +1,28 @@
 //! `Socket`: the stream of a connection, as `Connection` knows it.
-ghost use Rattle.std.specs.Prelude.{◌≡◌, ◌≤◌, ℕ, List, Option, None, length, take, IfOk, OnErr};
+ghost use Rattle.std.specs.Prelude.{◌≡◌, ◌≤◌, ℕ, List, Option, None, Some, IfOk, OnErr, length, take, ⊤};
 ghost use Rattle.std.specs.Io.KnownBytes.{Appends, Consumes};
+ghost use Rattle.craq_ready.specs.Sockets.{moved_count};
 
+use mio::Registry;
+use mio::unix::SourceFd;
 use std::io;
-use std::io::{Read, Write};
+use std::io::{ErrorKind, Read, Write};
 use std::net::TcpStream;
+use std::os::fd::AsRawFd;
 use std::sync::Arc;
+
+/// What a read or a write of a socket came to.
+#[derive(Debug, Clone, Copy, PartialEq, Eq)]
+pub(crate) enum Moved {
+    /// So many bytes went.
+    Bytes(usize),
+    /// None went, and none will before readiness is told.
+    NotReady,
+    /// None went, and it may be tried again at once.
+    Interrupted,
+    /// None went, and none will any more: the stream is at its end, or has failed.
+    Over,
+}
 
 /// A stream that is read and written, where neither has to wait for the other.
 pub(crate) trait Socket {
@@ -15,19 +32,41 @@ pub(crate) trait Socket {
     /// The bytes that it took, where they are known.
     ghost contents: { Self → Option (List ℕ) };
 
-    /// Reads once into the front of the buffer, and tells how many bytes came. Where it fails no byte came.
-    fn take(&mut self, buffer: &mut [u8]) -> io::Result<usize>
-        ensures gave { IfOk result (λ n. (n ≤ length buffer.new)
-            × Consumes (remaining self.old) (remaining self.new) (take n buffer.new)) }
-        ensures failed { OnErr result (remaining self.new ≡ remaining self.old) }
+    /// That it gives or takes no more bytes.
+    ghost is_over: { Self → Type 0 };
+
+    /// Reads once into the front of the buffer, and tells how many bytes came.
+    fn take(&mut self, buffer: &mut [u8]) -> Moved
+        ensures few { moved_count result ≤ length buffer.new }
+        ensures gave { Consumes (remaining self.old) (remaining self.new) (take (moved_count result) buffer.new) }
+        ensures over { result ≡ Moved.Over → is_over self.new }
         ensures contents { contents self.new ≡ contents self.old };
 
-    /// Writes the front of the bytes, and tells how many were taken. Where it fails none was taken.
-    fn put(&mut self, bytes: &[u8]) -> io::Result<usize>
-        ensures took { IfOk result (λ n. (n ≤ length bytes.now)
-            × Appends (contents self.old) (contents self.new) (take n bytes.now)) }
-        ensures failed { OnErr result (contents self.new ≡ contents self.old) }
+    /// Writes the front of the bytes, and tells how many were taken.
+    fn put(&mut self, bytes: &[u8]) -> Moved
+        ensures few { moved_count result ≤ length bytes.now }
+        ensures took { Appends (contents self.old) (contents self.new) (take (moved_count result) bytes.now) }
+        ensures over { result ≡ Moved.Over → is_over self.new }
         ensures remaining { remaining self.new ≡ remaining self.old };
+
+    /// Its readiness is not told any more.
+    fn leave(&self, registry: &Registry);
+}
+
+/// What a system's read or write, which gives an error or so many bytes, came to: none that are there, or can be taken, is the end.
+fn moved_by(gone: io::Result<usize>) -> Moved
+    ensures went { IfOk gone (λ n. moved_count result ≡ n) }
+    ensures none { OnErr gone (moved_count result ≡ 0) }
+{
+    match gone {
+        Ok(0) => Moved::Over,
+        Ok(count) => Moved::Bytes(count),
+        Err(error) => match error.kind() {
+            ErrorKind::WouldBlock => Moved::NotReady,
+            ErrorKind::Interrupted => Moved::Interrupted,
+            _ => Moved::Over,
+        },
+    }
 }
 
 impl Socket for Arc<TcpStream> {
@@ -35,11 +74,17 @@ impl Socket for Arc<TcpStream> {
 
     ghost contents = { λ _. None };
 
-    fn take(&mut self, buffer: &mut [u8]) -> io::Result<usize> {
-        (&**self).read(buffer)
+    ghost is_over = { λ _. ⊤ };
+
+    fn take(&mut self, buffer: &mut [u8]) -> Moved {
+        moved_by((&**self).read(buffer))
     }
 
-    fn put(&mut self, bytes: &[u8]) -> io::Result<usize> {
-        (&**self).write(bytes)
+    fn put(&mut self, bytes: &[u8]) -> Moved {
+        moved_by((&**self).write(bytes))
+    }
+
+    fn leave(&self, registry: &Registry) {
+        let _ = registry.deregister(&mut SourceFd(&self.as_raw_fd()));
     }
 }

@@ -1,0 +1,25 @@
+-- What a read or a write of a connection's socket came to, and when a connection is over.
+use Rattle.std.specs.Prelude.{◌≡◌, ◌⊎◌, ℕ, true, [], IsSome}
+use Rattle.craq_door.specs.Dialogues.{ending_of}
+use Rattle.craq_door.specs.declared.dialogue.Dialogue.{Dialogue}
+use Rattle.craq_ready.specs.declared.connection.Connection.{Connection}
+use Rattle.craq_ready.specs.declared.socket.Moved.{Moved}
+use Rattle.craq_ready.specs.declared.socket.Moved.TheVariants as moves
+
+-- how many bytes went
+abbrev pub moved_count : Moved → ℕ
+moved_count (moves.Bytes count) = count
+moved_count moved = 0
+
+-- the dialogue is over, and nothing that it made due is left to be written
+abbrev pub HasSaidAll : Dialogue → Type 0
+HasSaidAll dialogue = IsSome (ending_of dialogue.phase) × (dialogue.talk.buffers.output.items ≡ [])
+
+-- the connection is over only if it was before, or its socket is
+abbrev pub EndsAsSocket : {S : Type 0} → (S → Type 0) → Connection S → Connection S → Type 0
+EndsAsSocket is_over old new = new.over ≡ true → (old.over ≡ true) ⊎ is_over new.stream
+
+-- the connection is over if its dialogue has said all, and only then, or if it was before, or its socket is
+pub record EndsInOrder {S : Type 0} (is_over : S → Type 0) (old new : Connection S) : Type 0 where
+  pub said : HasSaidAll new.dialogue → new.over ≡ true
+  pub else_on : new.over ≡ true → HasSaidAll new.dialogue ⊎ ((old.over ≡ true) ⊎ is_over new.stream)

@@ -17,6 +17,10 @@ use craq_frames::{
 use craq_names::Refusal;
 use std::alloc::{AllocError, Global};
 
+/// So many bytes are decoded where they lie rather than copied first. To copy fewer costs less than to decode them among the reads of
+/// other connections.
+const MANY_BYTES: usize = 1_024;
+
 /// The payload of which a message is asked just now.
 #[derive(Drop)]
 pub(crate) enum Asking {
@@ -118,8 +122,8 @@ impl Conversation {
         Ok(None)
     }
 
-    /// A payload in front of these bytes is decoded where it lies, where no bytes wait before them: only what is behind it waits then.
-    /// Where there is none, or it does not decode, nothing is changed.
+    /// A payload in front of these bytes is decoded where it lies, where they are many and no bytes wait before them: only what is
+    /// behind it waits then. Where they are few, there is none, or it does not decode, nothing is changed.
     fn receive_in_place(
         &mut self,
         alloc: Global,
@@ -131,7 +135,7 @@ impl Conversation {
         ensures same { OnErr result ((self.new.buffers.input.items ≡ self.old.buffers.input.items) × (self.new.asking ≡ None)) }
         ensures output { self.new.buffers.output.items ≡ self.old.buffers.output.items }
     {
-        if !self.buffers.input.is_empty() {
+        if !self.buffers.input.is_empty() || bytes.len() < MANY_BYTES {
             return Ok(None);
         }
         let Ok(Some(payload)) = payload_in_front(bytes) else {

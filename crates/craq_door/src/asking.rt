@@ -32,7 +32,7 @@ impl CallDue {
 }
 
 /// The right to ask a call. It is made of a call that is due (`CallDue`), by `Dialogue::ask` alone; it is not copied, and whoever
-/// is asked takes it. So no call is asked twice, and none to which no step came.
+/// is asked takes it. So no call is asked twice, and none to which no step came, as far as whoever is asked asks nothing without one.
 #[derive(Debug, Drop)]
 pub struct Permit {
     _made: (),
@@ -44,7 +44,7 @@ pub trait CallTaker: Reached {
     ghost submits: { Self → Token → Question → Option (Result Called Refusal) → Type 0 };
 
     /// Makes the call of a question. `Some`: its receipt. `None`: a letter with this token will come, and no other call may
-    /// have that token until then. Refused as the store refuses the call, and then no letter comes. `few` tells that few
+    /// have that token until then. Refused with one with which the store may refuse the call, and then no letter comes. `few` tells that few
     /// connections have something to do just now.
     ///
     /// What is refused is refused as this store may refuse the call, and a call that is not may be refused with whatever an ask

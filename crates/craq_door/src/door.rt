@@ -30,7 +30,8 @@ pub trait Reached {
 
 /// A store that is called, where whoever calls waits for the answer.
 pub trait Callee: Reached + Drop {
-    /// Asks a node, with this pass: the answer, and the receipt of the call. Refused as the store refuses the call.
+    /// Asks a node, with this pass: the answer, and the receipt of the call. Refused with one with which the store may refuse such a
+    /// call.
     fn call(&self, node: NodeName, pass: Pass, ask: Ask) -> Result<(Answer, CallReceipt), Refusal>
         ensures called { IfOk result (λ r. IsCallOf node ask pass r.0 r.1) }
         ensures refused { IfErr result (λ e. Self.refuses self.now node pass ask e) };

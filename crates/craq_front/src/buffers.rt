@@ -1,4 +1,4 @@
-//! The two buffers of a connection, filled only where nothing is due; for `serve` and `exchange`.
+//! The two buffers of a connection, filled only where nothing is due; for `Conversation`, `serve` and `exchange`.
 ghost use Rattle.std.specs.Prelude.{◌≡◌, ◌+◌, ◌-◌, ◌^◌, ◌<◌, ◌≤◌, ◌⊎◌, ◌↔◌, ℕ, List, [], ◌++◌, length, take, Ok, Err, IsTrue, IfOk, IfErr, OnOk, OnErr};
 ghost use Rattle.std.specs.Io.KnownBytes.{Appends, Consumes, IsAtEnd, Keeps};
 

@@ -1,6 +1,6 @@
 //! Replies on their way to those who wait for them: a box of letters, into which any thread puts, and its one owner, who
-//! looks into it between other work or sleeps until a letter comes. For `craq_workers`, `craq_server` and `craq_ready`; a crate
-//! apart, since `craq_ready` takes letters without knowing the store that puts them.
+//! looks into it between other work or sleeps until a letter comes. For `craq_workers`, `craq_door`, `craq_ready` and `craq_server`;
+//! a crate apart, since `craq_ready` takes letters without knowing the store that puts them.
 //! Code that runs in the programs.
 #![tactic(auto)]
 

@@ -282,7 +282,8 @@ impl<C: Core> Chain<C> {
         self.ways.write(rt).retire(id, keep);
     }
 
-    /// From now on nothing goes in. Once their queues are empty the workers end.
+    /// From now on nothing goes in. Once their queues are empty the workers end; a carrier ends after its visit, and `sweep`
+    /// refuses the asks that are queued then.
     pub(crate) fn close<R: Wait>(&self, rt: &R) {
         self.ways.write(rt).close();
         self.bell.change();

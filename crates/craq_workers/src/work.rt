@@ -29,7 +29,7 @@ pub(crate) enum Worker<C: Core> {
     Master(ChainId, Receiver<()>),
 }
 
-/// Works until no sender is left. Its sender `alive` is dropped last: `close` waits for it.
+/// Works until no sender is left, or as a carrier until the store is closed. Its sender `alive` is dropped last: `close` waits for it.
 pub(crate) fn work<R: Wait, C: Core, G: Gate>(
     rt: &R,
     alloc: Global,

@@ -1,5 +1,5 @@
 -- How a payload is answered, message by message.
-use Rattle.std.proofs.Common.{◌≡◌, ◌<◌, ℕ, ◌+◌, List, [], ◌∷◌, ◌++◌, length, Option, None, Some, Result, Ok, Err, refl, sym, ap, ◌∙◌, append_assoc, subst, arith}
+use Rattle.std.proofs.Common.{◌≡◌, ◌<◌, ℕ, ◌+◌, List, [], ◌∷◌, ◌++◌, length, Option, None, Some, Ok, Err, refl, sym, ap, ◌∙◌, append_assoc, subst, arith}
 use Rattle.std.proofs.lemmas.List.{append-nil}
 use Rattle.craq_names.specs.declared.refusal.Refusal.{Refusal}
 use Rattle.craq_names.specs.declared.refusal.Refusal.TheVariants as refusals
@@ -7,13 +7,12 @@ use Rattle.craq_frames.specs.declared.ask.ClientMessage.{ClientMessage}
 use Rattle.craq_frames.specs.declared.answer.ClientReply.{ClientReply}
 use Rattle.craq_frames.specs.declared.versions.Payload.{Payload}
 use Rattle.craq_frames.specs.declared.versions.Payload.TheVariants as payloads
-use Rattle.craq_frames.specs.declared.versions.PayloadVersion.{PayloadVersion}
 use Rattle.craq_frames.specs.Frame.{frame}
 use Rattle.craq_frames.specs.Versions.{SpellsPayload}
 use Rattle.craq_front.specs.declared.conversation.Asking.{Asking}
 use Rattle.craq_front.specs.declared.conversation.Asking.TheVariants.{One, Many}
 use Rattle.craq_front.specs.Serving.{Turn, Turns, Replies, one, many, Begins, asked, messages}
-use Rattle.craq_front.specs.Steps.{waiting, replied, IsForm, IsFirst, Follows}
+use Rattle.craq_front.specs.Steps.{waiting, replied, IsFirst, Follows}
 use Rattle.craq_front.specs.Talk.{UnderWay}
 use Rattle.craq_front.proofs.Turning.{one_more}
 

@@ -87,7 +87,7 @@ HasTurn tells refuses submits true old before new after = (new ≡ old) × (afte
 HasTurn tells refuses submits false old before new after = TakesTurn tells refuses submits old before new after
 
 -- under this key, the connection had its turn, in which its host was asked each call under this key and the number after that of
--- the call before; its socket is as it was, and it is over if it was
+-- the call before; its socket is as it was, and so is whether it is over
 abbrev pub HasTurnAt : {S : Type 0} → (List ℕ → Type 0) → Refusing → (Token → Submitting) → Slab (Connection S) → Slab (Connection S) → ℕ → Type 0
 HasTurnAt {S} tells refuses submits old new key =
     (c : Connection S) → get old key ≡ Some c

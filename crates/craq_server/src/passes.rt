@@ -20,7 +20,9 @@ pub fn is_taken(told: Pass, shown: Pass) -> bool
     shown <= told || shown - told <= MOST_LEAP
 }
 
-/// What a server knows of the passes that it told. A pass that was told is always taken.
+/// What a server knows of the passes that it told: `tell` keeps it no more than 524,288 below any of them, so that each of
+/// them is taken. That is read and not proved, since no contract sees what an atomic number holds; which passes are taken
+/// where so much is known, the contract of `is_taken` says.
 #[derive(Drop)]
 pub struct Passes {
     /// No pass was told that is more than 524,288 above.

@@ -1,5 +1,6 @@
 pub mod Answered
 pub mod Memberships
+pub mod Moves
 pub mod Names
 pub mod Owed
 pub mod Telling

@@ -1,5 +1,5 @@
 -- Who is told what while outcomes go to the callers under their tickets, one after another.
-use Rattle.std.proofs.Common.{◌≡◌, ◌⊎◌, ◌==◌, ◌∙◌, ◌++◌, append_assoc, append-nil, true≢false, inl, inr, refl, sym, ap, subst, ℕ, Bool, true, false, List, [], ◌∷◌, Option, Some, None, option_map, Result, Ok, Err, IfOk, IfSome, arith, filter}
+use Rattle.std.proofs.Common.{◌≡◌, ◌∙◌, ◌++◌, append_assoc, append-nil, true≢false, inl, inr, refl, sym, ap, subst, ℕ, Bool, true, false, List, [], ◌∷◌, Option, Some, None, option_map, Result, Ok, Err, IfSome, arith, filter}
 use Rattle.std.proofs.lemmas.Bool.{eqb-true}
 use Rattle.std.specs.Prelude.{Vec}
 use Rattle.std.specs.List.{last_or}
@@ -15,7 +15,7 @@ use Rattle.craq_seat.specs.Cells.{receipt_of}
 use Rattle.craq_seat.specs.declared.journal.Receipt.{Receipt}
 use Rattle.craq_seat.specs.declared.seat.Seated.{Seated}
 use Rattle.craq_seat.specs.declared.seat.Caller.{Caller}
-use Rattle.craq_workers.specs.Told.{AreSomeOf, Asked, HasInHand, IsReplyTo, Keeps, Kept, Reply, caller_under, is_own, others_of, own_receipt, replies_to, reply_to, said_by, said_to, TellsCallers, Waits, waiting_after, without_caller}
+use Rattle.craq_workers.specs.Told.{AreSomeOf, HasInHand, IsReplyTo, Keeps, Kept, Reply, caller_under, is_own, others_of, own_receipt, replies_to, reply_to, said_by, said_to, TellsCallers, Waits, waiting_after, without_caller}
 
 abbrev pub Outcomes : Type 0
 Outcomes = List (ℕ × Result Called Refusal)

@@ -1,5 +1,5 @@
 -- The ways into a chain one after another: one that is looked for, all nodes, and each changed in its place.
-use Rattle.std.proofs.Common.{add-zero, ◌≡◌, ◌<◌, ◌≤◌, ◌+◌, ◌-◌, ◌==◌, ◌∙◌, ℕ, Bool, true, false, cond, List, [], ◌∷◌, ◌++◌, map, take, drop, set, length, get_or, Option, Some, None, sym, ap, subst, refl, arith, append_assoc}
+use Rattle.std.proofs.Common.{add-zero, ◌≡◌, ◌<◌, ◌≤◌, ◌+◌, ◌-◌, ◌∙◌, ℕ, Bool, true, false, cond, List, [], ◌∷◌, ◌++◌, map, take, drop, set, length, get_or, Option, Some, None, sym, ap, refl, arith, append_assoc}
 use Rattle.std.specs.List.{AllByRecursion, cons_option, filter_map, find}
 use Rattle.std.proofs.lemmas.List.{append-nil, drop-drop, drop-set-lt, drop_all, drop_more, get_or-drop, length-drop, map-append, map_more, take_all, take_more_set}
 

@@ -1,31 +1,36 @@
 //! `Store`, the primary object of the crate: it starts, stops, removes, joins and closes; for whoever runs a store.
-ghost use Rattle.std.specs.Prelude.{◌≡◌, ◌+◌, ◌≤◌, ◌==◌, ◌↔◌, Err, IfErr, IfOk, IsOk, MatchResult, Ok, OnOk, if◌then◌else◌, length, map, string_bytes};
+ghost use Rattle.std.specs.Prelude.{◌≡◌, ◌+◌, ◌<◌, ◌≤◌, ◌==◌, ◌⊎◌, ◌↔◌, Err, IfErr, IfOk, IsOk, MatchResult, Ok, OnErr, OnOk, if◌then◌else◌, length, map, string_bytes};
 ghost use Rattle.craq_epochs.specs.Mastered.{joined, opened};
 ghost use Rattle.craq_names.specs.Limits.{greatest};
 ghost use Rattle.craq_held.specs.Membered.{AreMembershipsOf, IsMembershipOf};
 ghost use Rattle.craq_place.specs.Plan.{IsPlan};
+ghost use Rattle.craq_model.specs.Plain.{Plain};
+ghost use Rattle.craq_seat.specs.Books.{IsBook};
+ghost use Rattle.craq_seat.specs.Cells.{receipt_of, with_inside};
+ghost use Rattle.craq_seat.specs.Kept.{IsKept};
+ghost use Rattle.craq_seat.specs.Taken.{TakesEvent, TakesTurn};
 ghost use Rattle.craq_workers.specs.Clients.{RefusesAsk};
-ghost use Rattle.craq_workers.specs.Moves.{CanJoin};
+ghost use Rattle.craq_workers.specs.Moves.{CanJoin, CanRemove, CanStop, IsKeptIn};
 ghost use Rattle.craq_workers.specs.Stores.{masters_of};
 
 use crate::chain::{Chain, refuse_queued};
 use crate::client::Client;
 use crate::gate::Gate;
-use crate::node::Way;
+use crate::node::{RunningNode, Way};
 use crate::opening::{Form, add_workers, open_chains, open_node};
 use crate::replies::Replies;
 use crate::shared::{Return, Shared};
 use crate::steps::{dismiss, sent_by_book};
 use crate::told::Unanswered;
 use crate::work::{Worker, master_of, work};
-use craq_epochs::{MEMBER_LIMIT, is_among};
+use craq_epochs::{MEMBER_LIMIT, StopReceipt, is_among};
 use craq_held::ChainBook;
 use craq_letters::{Letterbox, Token};
 use craq_model::{Ask, Config, Event};
 use craq_names::{ChainId, Copied, NodeId, NodeName, Pass, Refusal, Stamp};
 use craq_node::Core;
 use craq_place::Plan;
-use craq_seat::{BookCell, BookEvent, CallReceipt, Receipt};
+use craq_seat::{BookCell, BookEvent, CallReceipt, Desk, Receipt};
 use craq_sending::Sent;
 use crossbeam_channel::{Receiver, Sender};
 use std::alloc::{AllocError, Global};
@@ -150,6 +155,80 @@ fn test_join(book: &BookCell, node: NodeId) -> Result<(), Refusal>
     Ok(())
 }
 
+/// A node's cell keeps what its type says. It does nothing.
+fn keeps_desk<C: Core>(desk: &Desk<C>)
+    ensures { IsKept C.represents desk.now.cell }
+{
+    let _ = desk.cell().journal();
+}
+
+/// A master's cell keeps what its type says. It does nothing.
+fn keeps_book(book: &ChainBook)
+    ensures { IsBook book.now }
+{
+    let _ = book.cell().journal();
+}
+
+/// A node's cell takes the step of a stop, or refuses it with nothing changed. What names the step is answered.
+fn stop_desk<C: Core>(alloc: Global, desk: &mut Desk<C>) -> Result<Receipt, Refusal>
+    ensures step { (p : Plain) → C.represents desk.old.cell.inside p → TakesEvent C.represents desk.new.cell (with_inside desk.old.cell p) Event.Stop 0 result }
+    ensures receipt { IfOk result (λ receipt. receipt ≡ receipt_of desk.new.cell) }
+    ensures refused { IfErr result (λ e. CanStop e) }
+    ensures same { OnErr result (desk.new.waiting ≡ desk.old.waiting) }
+{
+    keeps_desk(desk);
+    let (receipt, _) = desk.take(alloc, Event::Stop, Pass::start())?;
+    Ok(receipt)
+}
+
+/// A node halts, and the callers that wait at it are told so. What names the step is answered. A refused stop changes nothing.
+fn stop_node<R: Wait, C: Core>(
+    rt: &R,
+    alloc: Global,
+    node: &RunningNode<C>,
+) -> Result<Receipt, Refusal>
+    ensures { IfErr result (λ e. CanStop e) }
+{
+    let mut seated = node.seat.lock(rt);
+    let receipt = stop_desk(alloc, &mut seated.desk)?;
+    let callers = dismiss(alloc, &mut seated);
+    drop(seated);
+    node.halt();
+    let mut replies = Replies::new(alloc);
+    for caller in callers {
+        replies.add(rt, Unanswered::waited(caller), Err(Refusal::Stopped));
+    }
+    replies.tell(rt);
+    Ok(receipt)
+}
+
+/// The master takes a node in. What names the step is answered.
+fn join_book(alloc: Global, book: &mut ChainBook, id: NodeId) -> Result<Receipt, Refusal>
+    ensures step { TakesTurn book.old book.new (BookEvent.Join id) 0 result }
+    ensures master { IfOk result (λ receipt. receipt.node ≡ 0) }
+    ensures refused { IfErr result (λ e. CanJoin e) }
+{
+    let taken = book.take(alloc, BookEvent::Join(id), Pass::start());
+    keeps_book(book);
+    taken
+}
+
+/// The master takes a stopped node out. What names the step is answered.
+fn remove_from_book(
+    alloc: Global,
+    book: &mut ChainBook,
+    stopped: StopReceipt,
+    stop: Receipt,
+) -> Result<Receipt, Refusal>
+    ensures step { TakesTurn book.old book.new (BookEvent.Remove stopped stop) 0 result }
+    ensures master { IfOk result (λ receipt. receipt.node ≡ 0) }
+    ensures refused { IfErr result (λ e. IsKeptIn e) }
+{
+    let taken = book.take(alloc, BookEvent::Remove { stopped, stop }, Pass::start());
+    keeps_book(book);
+    taken
+}
+
 impl<C: Core, G: Gate> Store<C, G> {
     /// Whether the store keeps journals, so that it can be audited.
     pub fn has_journals(&self) -> bool
@@ -265,34 +344,30 @@ impl<C: Core + Send + 'static, G: Gate + Send + Sync + 'static> Store<C, G> {
     /// A node halts for good, in a step that is taken on this thread. The callers that wait at it are told `Stopped`. What
     /// names the step is answered.
     ///
-    /// Refused, with nothing changed: `UnknownChain`; `WrongNode` where the chain never had the node; as `Cell::take`
-    /// refuses a stop.
-    pub fn stop<R: Wait>(&self, rt: &R, chain: ChainId, node: NodeId) -> Result<Receipt, Refusal> {
+    /// Refused, with nothing changed, for the first of these that applies: `UnknownChain` exactly where the store has no such
+    /// chain; `WrongNode` where the chain never had the node, `Stopped` where it was removed and let go; `Memory` where a
+    /// growth was refused; then as `Cell::take` refuses a stop: `Exhausted` or `Memory`, `Stopped` where the node has stopped.
+    /// `Closed` never comes, since `close` takes the store.
+    pub fn stop<R: Wait>(&self, rt: &R, chain: ChainId, node: NodeId) -> Result<Receipt, Refusal>
+        ensures unknown { (result ≡ Err Refusal.UnknownChain) ↔ (length self.now.names ≤ chain) }
+        ensures refused { IfErr result (λ e. (e ≡ Refusal.UnknownChain) ⊎ CanStop e) }
+    {
         let node = self.shared.chain(chain)?.node(rt, node)?;
-        let mut seated = node.seat.lock(rt);
-        let (receipt, _) = seated.desk.take(self.alloc, Event::Stop, Pass::start())?;
-        let callers = dismiss(self.alloc, &mut seated);
-        drop(seated);
-        node.halt();
-        let mut replies = Replies::new(self.alloc);
-        for caller in callers {
-            replies.add(rt, Unanswered::waited(caller), Err(Refusal::Stopped));
-        }
-        replies.tell(rt);
-        Ok(receipt)
+        stop_node(rt, self.alloc, &node)
     }
 
     /// The master takes out a node that has stopped, and its threads end, where it has any of its own. What names the step is
     /// answered. A call at the node is refused as before.
     ///
-    /// Refused, with nothing changed: `UnknownChain`; `NotMember` where the node is no member, `NotStopped` where it runs;
-    /// as `BookCell::take` refuses a removal.
-    pub fn remove<R: Wait>(
-        &self,
-        rt: &R,
-        chain: ChainId,
-        node: NodeId,
-    ) -> Result<Receipt, Refusal> {
+    /// Refused, with nothing changed, for the first of these that applies: `UnknownChain` exactly where the store has no such
+    /// chain; `NotMember` where the node is no member; `Memory` where a growth was refused; `NotStopped` where it runs; then
+    /// as `BookCell::take` refuses a removal: `Exhausted` or `Memory`, `LastNode` where it is the only member. `Closed` never
+    /// comes, since `close` takes the store.
+    pub fn remove<R: Wait>(&self, rt: &R, chain: ChainId, node: NodeId) -> Result<Receipt, Refusal>
+        ensures unknown { (result ≡ Err Refusal.UnknownChain) ↔ (length self.now.names ≤ chain) }
+        ensures refused { IfErr result (λ e. (e ≡ Refusal.UnknownChain) ⊎ CanRemove e) }
+        ensures master { IfOk result (λ receipt. receipt.node ≡ 0) }
+    {
         let place = self.shared.chain(chain)?;
         let mut book = place.book.lock(rt);
         if !is_among(book.cell().config().members.as_slice(), node) {
@@ -302,8 +377,7 @@ impl<C: Core + Send + 'static, G: Gate + Send + Sync + 'static> Store<C, G> {
         let Some((stopped, stop)) = member.stopped(rt) else {
             return Err(Refusal::NotStopped);
         };
-        let event = BookEvent::Remove { stopped, stop };
-        let receipt = book.take(self.alloc, event, Pass::start())?;
+        let receipt = remove_from_book(self.alloc, &mut book, stopped, stop)?;
         let sent = sent_by_book(self.alloc, book.cell());
         drop(book);
         place.retire(rt, node, self.form.journal);
@@ -316,15 +390,21 @@ impl<C: Core + Send + 'static, G: Gate + Send + Sync + 'static> Store<C, G> {
     /// A new node joins after the last member, with two threads of its own where chains are not carried. What names the step is
     /// answered.
     ///
-    /// Refused, with the membership as it was and no thread left of that node: `UnknownChain`; `UsedId` where the id is 0
-    /// or ever was a member, `ChainFull` where there are 8 members, `Exhausted` where the master's stamps or epochs are;
-    /// `Memory` where a growth was refused or no thread can be made.
+    /// Refused, with the membership as it was and no thread left of that node, for the first of these that applies:
+    /// `UnknownChain` exactly where the store has no such chain; `UsedId` where the id is 0 or ever was a member, `ChainFull`
+    /// where there are 8 members, `Exhausted` where the master's epochs or stamps are; `Memory` where a growth was refused or
+    /// no thread can be made. `Closed` never comes, since `close` takes the store.
     pub fn join<R: Threads + Wait + Copy + Send + 'static>(
         &self,
         rt: R,
         chain: ChainId,
         node: NodeId,
-    ) -> Result<Receipt, Refusal> {
+    ) -> Result<Receipt, Refusal>
+        ensures unknown { (result ≡ Err Refusal.UnknownChain) ↔ (length self.now.names ≤ chain) }
+        ensures refused { IfErr result (λ e. (e ≡ Refusal.UnknownChain) ⊎ CanJoin e) }
+        ensures master { IfOk result (λ receipt. receipt.node ≡ 0) }
+        ensures zero { node ≡ 0 → chain < length self.now.names → result ≡ Err Refusal.UsedId }
+    {
         let place = self.shared.chain(chain)?;
         let mut book = place.book.lock(&rt);
         test_join(book.cell(), node)?;
@@ -356,7 +436,9 @@ impl<C: Core + Send + 'static, G: Gate + Send + Sync + 'static> Store<C, G> {
         place: &Chain<C>,
         way: &Way<C>,
         hired: &mut Vec<JoinHandle<()>>,
-    ) -> Result<(), Refusal> {
+    ) -> Result<(), Refusal>
+        ensures { IfErr result (λ e. (e ≡ Refusal.Closed) ⊎ (e ≡ Refusal.Memory)) }
+    {
         let mut workers = Vec::new(self.alloc);
         add_workers(way, &mut workers)?;
         for worker in workers {
@@ -377,12 +459,15 @@ impl<C: Core + Send + 'static, G: Gate + Send + Sync + 'static> Store<C, G> {
         id: NodeId,
         way: Way<C>,
         hired: &mut Vec<JoinHandle<()>>,
-    ) -> Result<Receipt, Refusal> {
+    ) -> Result<Receipt, Refusal>
+        ensures refused { IfErr result (λ e. CanJoin e) }
+        ensures master { IfOk result (λ receipt. receipt.node ≡ 0) }
+    {
         if !self.form.carried {
             self.hire_two(rt, place, &way, hired)?;
         }
         place.make_room(&rt)?;
-        let receipt = book.take(self.alloc, BookEvent::Join(id), Pass::start())?;
+        let receipt = join_book(self.alloc, book, id)?;
         place.add(&rt, way)?;
         Ok(receipt)
     }

@@ -1,4 +1,4 @@
-use Rattle.std.proofs.Common.{◌≡◌, ap, subst, sym, Option, ℕ, Result}
+use Rattle.std.proofs.Common.{◌≡◌, ap, subst, Option, ℕ, Result}
 use Rattle.craq_names.specs.declared.refusal.Refusal.{Refusal}
 use Rattle.craq_letters.specs.declared.token.Token.{Token}
 use Rattle.craq_model.specs.declared.ask.Event.TheVariants as events

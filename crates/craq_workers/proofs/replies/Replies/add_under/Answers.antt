@@ -1,4 +1,4 @@
-use Rattle.std.proofs.Common.{Some, sym, subst}
+use Rattle.std.proofs.Common.{sym, subst}
 use Rattle.craq_workers.specs.Told.{Asked, IsReplyTo, caller_under}
 use Rattle.craq_workers.proofs.Telling.{none_told, to_found}
 use Rattle.craq_workers.proofs.replies.Replies.add_under.Goals as goal

@@ -1,5 +1,7 @@
 -- What a read or a write of a connection's socket came to, and when a connection is over.
-use Rattle.std.specs.Prelude.{◌≡◌, ◌⊎◌, ℕ, true, [], IsSome}
+use Rattle.std.specs.Prelude.{◌≡◌, ◌⊎◌, ℕ, zero, suc, true, [], IsSome}
+use Rattle.std.specs.declared.io.ErrorKind.{ErrorKind}
+use Rattle.std.specs.declared.io.ErrorKind.TheVariants as errors
 use Rattle.craq_door.specs.Dialogues.{ending_of}
 use Rattle.craq_door.specs.declared.dialogue.Dialogue.{Dialogue}
 use Rattle.craq_ready.specs.declared.connection.Connection.{Connection}
@@ -10,6 +12,17 @@ use Rattle.craq_ready.specs.declared.socket.Moved.TheVariants as moves
 abbrev pub moved_count : Moved → ℕ
 moved_count (moves.Bytes count) = count
 moved_count moved = 0
+
+-- what so many bytes of a system's read or write come to: none that are there, or can be taken, is the end
+abbrev pub moved_of_count : ℕ → Moved
+moved_of_count zero = moves.Over
+moved_of_count (suc n) = moves.Bytes (suc n)
+
+-- what an error of it comes to: to wait for readiness, to try again, or the end
+abbrev pub moved_of_error : ErrorKind → Moved
+moved_of_error errors.WouldBlock = moves.NotReady
+moved_of_error errors.Interrupted = moves.Interrupted
+moved_of_error kind = moves.Over
 
 -- the dialogue is over, and nothing that it made due is left to be written
 abbrev pub HasSaidAll : Dialogue → Type 0

@@ -1,7 +1,8 @@
 //! `Socket`: the stream of a connection, as `Connection` knows it.
-ghost use Rattle.std.specs.Prelude.{◌≡◌, ◌≤◌, ℕ, List, Option, None, Some, IfOk, OnErr, length, take, ⊤};
+ghost use Rattle.std.specs.Prelude.{◌≡◌, ◌≤◌, ℕ, List, Option, None, Some, IfErr, IfOk, length, take, ⊤};
 ghost use Rattle.std.specs.Io.KnownBytes.{Appends, Consumes};
-ghost use Rattle.craq_ready.specs.Sockets.{moved_count};
+ghost use Rattle.std.specs.IoError.{error_kind};
+ghost use Rattle.craq_ready.specs.Sockets.{moved_count, moved_of_count, moved_of_error};
 
 use mio::Registry;
 use mio::unix::SourceFd;
@@ -55,8 +56,8 @@ pub(crate) trait Socket {
 
 /// What a system's read or write, which gives an error or so many bytes, came to: none that are there, or can be taken, is the end.
 fn moved_by(gone: io::Result<usize>) -> Moved
-    ensures went { IfOk gone (λ n. moved_count result ≡ n) }
-    ensures none { OnErr gone (moved_count result ≡ 0) }
+    ensures went { IfOk gone (λ n. (result ≡ moved_of_count n) × (moved_count result ≡ n)) }
+    ensures none { IfErr gone (λ e. (result ≡ moved_of_error (error_kind e)) × (moved_count result ≡ 0)) }
 {
     match gone {
         Ok(0) => Moved::Over,

@@ -1,5 +1,5 @@
 -- What serving one client comes to where its calls come back later.
-use Rattle.std.specs.Prelude.{◌≡◌, ◌≤◌, ⊤, ℕ, List, [], ◌∷◌, ◌++◌, length, Option, None, Some, Result, Err}
+use Rattle.std.specs.Prelude.{◌≡◌, ◌<◌, ◌≤◌, ⊤, ℕ, List, [], ◌∷◌, ◌++◌, length, Option, None, Some, Result, Err}
 use Rattle.craq_names.specs.declared.refusal.Refusal.{Refusal}
 use Rattle.craq_names.specs.declared.refusal.Refusal.TheVariants.{FrameTooLong, Memory}
 use Rattle.craq_frames.specs.declared.ask.ClientMessage.{ClientMessage}
@@ -57,11 +57,16 @@ Ends endings.TooLong old new =
     (due : List ℕ) × (new.buffers.output.items ≡ old.buffers.output.items ++ due) × RefusesLength old.buffers.input.items due
 Ends endings.Memory old new = new.buffers.output.items ≡ old.buffers.output.items
 
+-- fewer bytes were due than that, and a frame was cut off from those that came
+abbrev pub CutsOff : Conversation → Conversation → Type 0
+CutsOff old new =
+    (length old.buffers.output.items < most_due) × (payload : List ℕ) × (old.buffers.input.items ≡ frame payload ++ new.buffers.input.items)
+
 -- what came of a look for the next frame, by the phase after it: a frame was cut off, or there is less than a frame; many bytes
 -- are due; or it is over
 abbrev pub Found : Phase → Stepped → Conversation → Conversation → Type 0
-Found (phases.Asks m) steps.Goes old new = (payload : List ℕ) × (old.buffers.input.items ≡ frame payload ++ new.buffers.input.items)
-Found phases.Idle steps.Goes old new = (payload : List ℕ) × (old.buffers.input.items ≡ frame payload ++ new.buffers.input.items)
+Found (phases.Asks m) steps.Goes old new = CutsOff old new
+Found phases.Idle steps.Goes old new = CutsOff old new
 Found phases.Idle steps.Starved old new = IsPartial new.buffers.input.items
 Found phases.Idle steps.Stays old new = most_due ≤ length old.buffers.output.items
 Found (phases.Over why) steps.Stays old new = Ends why old new

@@ -13,13 +13,13 @@ use craq_seat::CallReceipt;
 use std::alloc::Global;
 
 /// The phase after the message that is asked had this reply.
-fn next_phase(alloc: Global, talk: &mut Conversation, reply: ClientReply) -> Phase
+fn next_phase(talk: &mut Conversation, reply: ClientReply) -> Phase
     requires { IsAllowed reply }
     ensures more { (m : ClientMessage) → HasOneMore (Phase.Asks m) talk.old result talk.new m reply }
     ensures idle { result ≡ Phase.Idle → talk.new.asking ≡ None }
     ensures continues { Continues result talk.old talk.new }
 {
-    match talk.reply(alloc, reply) {
+    match talk.reply(reply) {
         Ok(Some(message)) => Phase::Asks(message),
         Ok(None) => Phase::Idle,
         Err(_) => Phase::Over(Ending::Memory),
@@ -49,7 +49,6 @@ fn find(alloc: Global, talk: &mut Conversation) -> (Phase, Stepped)
 
 /// Begins the turn of a message.
 fn begin<C: Reached>(
-    alloc: Global,
     callee: &C,
     talk: &mut Conversation,
     calls: &mut DoorCalls,
@@ -61,7 +60,7 @@ fn begin<C: Reached>(
     ensures room { KeepsRoom result.0 calls.new }
 {
     match begin_turn(callee, calls, message) {
-        Begun::Told(reply) => (next_phase(alloc, talk, reply), Stepped::Goes),
+        Begun::Told(reply) => (next_phase(talk, reply), Stepped::Goes),
         Begun::Calls(question) => (Phase::Waits(question), Stepped::Calls(CallDue::new())),
     }
 }
@@ -83,7 +82,7 @@ pub(crate) fn advance<C: Reached>(
 {
     match phase {
         Phase::Idle => find(alloc, talk),
-        Phase::Asks(message) => begin(alloc, callee, talk, calls, message),
+        Phase::Asks(message) => begin(callee, talk, calls, message),
         Phase::Waits(question) => (Phase::Waits(question), Stepped::Stays),
         Phase::Over(ending) => (Phase::Over(ending), Stepped::Stays),
     }
@@ -108,7 +107,7 @@ pub(crate) fn answered(
         Phase::Waits(question) => {
             let reply = end_turn(alloc, calls, &question, outcome);
             drop(question);
-            next_phase(alloc, talk, reply)
+            next_phase(talk, reply)
         }
         other => other,
     }

@@ -220,11 +220,7 @@ impl Conversation {
     /// The message that is asked has this reply, which a door may give. The next message of the same payload is asked then
     /// and has to get its reply; behind the last, the frame of all replies of the payload is due. Where no message is asked
     /// nothing happens. `Memory` where a growth was refused: nothing more is due then, and the conversation is over.
-    pub fn reply(
-        &mut self,
-        _alloc: Global,
-        reply: ClientReply,
-    ) -> Result<Option<ClientMessage>, Refusal>
+    pub fn reply(&mut self, reply: ClientReply) -> Result<Option<ClientMessage>, Refusal>
         requires { IsAllowed reply }
         ensures follows { (due : List ℕ) × (self.new.buffers.output.items ≡ self.old.buffers.output.items ++ due)
             × Follows self.old.asking reply due self.new.asking result }

@@ -13,7 +13,6 @@ use std::alloc::Global;
 /// Asks the door the first message of a payload and those behind it, until the frame of their replies is due. `Memory` where
 /// a growth was refused, and then nothing more is due.
 fn answer_payload<D: Door>(
-    alloc: Global,
     talk: &mut Conversation,
     door: &mut D,
     first: ClientMessage,
@@ -30,7 +29,7 @@ fn answer_payload<D: Door>(
     let mut asked = Some(first);
     while let Some(message) = asked {
         let reply = door.ask(message);
-        asked = talk.reply(alloc, reply)?;
+        asked = talk.reply(reply)?;
     }
     Ok(())
 }
@@ -50,7 +49,7 @@ fn answer_next<D: Door>(
 {
     match talk.next(alloc)? {
         Step::Ask(message) => {
-            answer_payload(alloc, talk, door, message)?;
+            answer_payload(talk, door, message)?;
             Ok(true)
         }
         Step::Refused => Ok(true),

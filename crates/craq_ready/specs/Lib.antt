@@ -1,5 +1,6 @@
 pub mod Advancing
 pub mod Belonging
+pub mod Busy
 pub mod Letters
 pub mod Serving
 pub mod Sockets

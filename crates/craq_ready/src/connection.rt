@@ -114,8 +114,8 @@ impl<S: Socket + Drop> Connection<S> {
 impl<S: Socket> Connection<S> {
     ghost use Rattle.craq_ready.specs.Advancing.{AsksHost, HasTurn, next_call, under_key};
     ghost use Rattle.craq_ready.specs.Belonging.{CameBack, Gives, Hears, Reads, TakesLetter, Writes};
+    ghost use Rattle.craq_ready.specs.Busy.{IsBehind, IsDone, is_waiting};
     ghost use Rattle.craq_ready.specs.Letters.{IsOutcome};
-    ghost use Rattle.craq_ready.specs.Serving.{IsDone, is_waiting};
     ghost use Rattle.craq_ready.specs.Sockets.{EndsAsSocket, EndsInOrder, HasSaidAll};
 
     /// What is told of the connection's readiness.
@@ -170,14 +170,17 @@ impl<S: Socket> Connection<S> {
 
     /// After its turn: whether it has something left to do of which no event and no letter will tell.
     pub(crate) fn stays_busy(&mut self) -> bool
-        ensures { self.new ≡ record self.old { busy = result } }
+        ensures marked { self.new ≡ record self.old { busy = result } }
+        ensures behind { IsTrue result ↔ IsBehind self.old }
     {
         self.busy = self.is_behind();
         self.busy
     }
 
     /// Whether there is something to do of which no event and no letter will tell.
-    fn is_behind(&self) -> bool {
+    fn is_behind(&self) -> bool
+        ensures { IsTrue result ↔ IsBehind self.now }
+    {
         if self.over {
             !self.waits()
         } else if !self.dialogue.due().is_empty() {

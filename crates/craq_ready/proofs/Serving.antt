@@ -7,7 +7,7 @@ use Rattle.craq_door.specs.declared.dialogue.Phase.{Phase}
 use Rattle.craq_door.specs.declared.dialogue.Phase.TheVariants as phases
 use Rattle.craq_door.specs.declared.question.Question.{Question}
 use Rattle.craq_ready.specs.declared.connection.Connection.{Connection}
-use Rattle.craq_ready.specs.Busy.{IsBehind, IsDone, MayGive, MayGoOn, is_waiting}
+use Rattle.craq_ready.specs.Busy.{IsBehind, IsDone, is_waiting}
 use Rattle.craq_ready.specs.Serving.{HasRead, HasWritten, ReadsAt, StaysUnlessDone, WritesAt}
 
 -- whether a call is found is whether one is under way

@@ -18,17 +18,14 @@ abbrev pub IsDone : {S : Type 0} → Connection S → Type 0
 IsDone c = (c.over ≡ true) × (is_waiting c.dialogue.phase ≡ false)
 
 -- bytes are due, and the socket may take some
-pub record MayGive {S : Type 0} (c : Connection S) : Type 0 where
-  pub goes_on : c.over ≡ false
-  pub due : c.dialogue.talk.buffers.output.items ≢ []
-  pub writable : c.readiness.writable ≡ true
+abbrev pub MayGive : {S : Type 0} → Connection S → Type 0
+MayGive c = (c.over ≡ false) × (c.dialogue.talk.buffers.output.items ≢ []) × (c.readiness.writable ≡ true)
 
 -- no bytes are due and no call is under way, and there may be a whole frame in what was read, or more to be read
-pub record MayGoOn {S : Type 0} (c : Connection S) : Type 0 where
-  pub goes_on : c.over ≡ false
-  pub none_due : c.dialogue.talk.buffers.output.items ≡ []
-  pub no_call : is_waiting c.dialogue.phase ≡ false
-  pub came : (c.more ≡ true) ⊎ (c.readiness.readable ≡ true)
+abbrev pub MayGoOn : {S : Type 0} → Connection S → Type 0
+MayGoOn c =
+    (c.over ≡ false) × (c.dialogue.talk.buffers.output.items ≡ []) × (is_waiting c.dialogue.phase ≡ false)
+    × ((c.more ≡ true) ⊎ (c.readiness.readable ≡ true))
 
 -- there is something to do on the connection of which neither an event nor a letter will tell: it is to be let go, or bytes are to
 -- be written, or it may go on with what came

@@ -13,12 +13,13 @@ use Rattle.craq_ready.specs.Busy.{IsBehind, IsDone}
 use Rattle.craq_ready.specs.Sockets.{EndsAsSocket, EndsInOrder}
 
 -- what the socket of the connection gave, and no other byte, went to its dialogue, which is as it was where its call is under
--- way; what the socket took is as it was, and no call was asked; the connection is over only if it was, or its socket is
+-- way; what the socket took is as it was, and no call was asked; its mark is as it was; the connection is over only if it was, or its socket is
 pub record HasRead {S : Type 0} (remaining contents : S → Option (List ℕ)) (is_over : S → Type 0) (old new : Connection S) : Type 0 where
   pub reads : Reads (remaining old.stream) (remaining new.stream) old.dialogue new.dialogue
   pub waits : (q : Question) → old.dialogue.phase ≡ phases.Waits q → new.dialogue ≡ old.dialogue
   pub taken : contents new.stream ≡ contents old.stream
   pub calls : new.calls ≡ old.calls
+  pub busy : new.busy ≡ old.busy
   pub over : EndsAsSocket is_over old new
 
 -- what the socket of the connection took is the front of what its dialogue had due, and no other byte; what the socket will give

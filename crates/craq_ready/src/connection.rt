@@ -1,5 +1,5 @@
 //! A connection of a thread that serves many: its socket and its `Dialogue`, and what goes between them; called by `crowd`.
-ghost use Rattle.std.specs.Prelude.{◌≡◌, ◌≤◌, ◌<◌, ◌-◌, ◌↔◌, ◌⊎◌, true, false, length, take, IsTrue};
+ghost use Rattle.std.specs.Prelude.{◌≡◌, ◌≤◌, ◌<◌, ◌-◌, ◌↔◌, ◌⊎◌, true, false, length, take, not, IfOk, IsTrue};
 ghost use Rattle.craq_door.specs.declared.dialogue.Phase.TheVariants.{Idle, Waits};
 ghost use Rattle.craq_door.specs.declared.question.Question.{Question};
 
@@ -53,7 +53,10 @@ pub(crate) struct Connection<S> {
 }
 
 impl Connection<Arc<TcpStream>> {
-    /// A connection that came, of which readiness is told under this token. None of its calls was asked.
+    ghost use Rattle.craq_ready.specs.Belonging.{IsNew};
+
+    /// A connection that came, of which readiness is told under this token. Nothing came on it, nothing is due, none of its calls was
+    /// asked, and its socket is taken for ready.
     pub(crate) fn open(
         alloc: Global,
         registry: &Registry,
@@ -61,7 +64,9 @@ impl Connection<Arc<TcpStream>> {
         arrival: Arrival,
         keeps: bool,
         now: u64,
-    ) -> io::Result<Self> {
+    ) -> io::Result<Self>
+        ensures { IfOk result (λ c. IsNew c) }
+    {
         let Arrival {
             stream,
             place,
@@ -161,7 +166,8 @@ impl<S: Socket> Connection<S> {
 
     /// From now on it has something to do; whether it had not before.
     pub(crate) fn is_newly_busy(&mut self) -> bool
-        ensures { self.new ≡ record self.old { busy = true } }
+        ensures marked { self.new ≡ record self.old { busy = true } }
+        ensures was_not { result ≡ not self.old.busy }
     {
         let is_new = !self.busy;
         self.busy = true;
@@ -207,6 +213,7 @@ impl<S: Socket> Connection<S> {
         ensures hears { Hears bytes.now self.old.dialogue self.new.dialogue }
         ensures stream { self.new.stream ≡ self.old.stream }
         ensures calls { self.new.calls ≡ self.old.calls }
+        ensures busy { self.new.busy ≡ self.old.busy }
         ensures over { self.new.over ≡ self.old.over }
     {
         self.more = true;
@@ -227,6 +234,7 @@ impl<S: Socket> Connection<S> {
         ensures reads { Reads (S.remaining self.old.stream) (S.remaining self.new.stream) self.old.dialogue self.new.dialogue }
         ensures contents { S.contents self.new.stream ≡ S.contents self.old.stream }
         ensures calls { self.new.calls ≡ self.old.calls }
+        ensures busy { self.new.busy ≡ self.old.busy }
         ensures over { EndsAsSocket S.is_over self.old self.new }
     {
         match self.stream.take(chunk) {
@@ -248,6 +256,7 @@ impl<S: Socket> Connection<S> {
         ensures reads { Reads (S.remaining self.old.stream) (S.remaining self.new.stream) self.old.dialogue self.new.dialogue }
         ensures contents { S.contents self.new.stream ≡ S.contents self.old.stream }
         ensures calls { self.new.calls ≡ self.old.calls }
+        ensures busy { self.new.busy ≡ self.old.busy }
         ensures over { EndsAsSocket S.is_over self.old self.new }
     {
         if self.may_read() {
@@ -291,6 +300,7 @@ impl<S: Socket> Connection<S> {
         ensures told { CameBack outcome self.old.dialogue self.new.dialogue }
         ensures stream { self.new.stream ≡ self.old.stream }
         ensures calls { self.new.calls ≡ self.old.calls }
+        ensures busy { self.new.busy ≡ self.old.busy }
         ensures over { self.new.over ≡ self.old.over }
     {
         if let Err(refusal) = &outcome {
@@ -316,7 +326,8 @@ impl<S: Socket> Connection<S> {
     /// A letter with this number says this. Where the call that was asked last has this number, it came back so. A letter with
     /// another number is let go: none comes, since a call is asked only once the one before it came back.
     pub(crate) fn take_reply<H: Host>(&mut self, alloc: Global, host: &H, call: u64, reply: Outcome)
-        ensures { TakesLetter call reply self.old self.new }
+        ensures takes { TakesLetter call reply self.old self.new }
+        ensures busy { self.new.busy ≡ self.old.busy }
     {
         if call != self.calls {
             return;
@@ -332,6 +343,7 @@ impl<S: Socket> Connection<S> {
         ensures asked { AsksHost (H.refuses host.now) (under_key (H.submits host.now) key (next_call self.old.calls)) self.old.dialogue.phase self.old.dialogue self.new.dialogue }
         ensures calls { self.new.calls ≡ next_call self.old.calls }
         ensures stream { self.new.stream ≡ self.old.stream }
+        ensures busy { self.new.busy ≡ self.old.busy }
         ensures over { self.new.over ≡ self.old.over }
     {
         self.calls = self.calls.wrapping_add(1);
@@ -351,6 +363,7 @@ impl<S: Socket> Connection<S> {
     pub(crate) fn advance<H: Host>(&mut self, alloc: Global, host: &H, key: usize, few: bool)
         ensures turn { HasTurn (H.tells host.now) (H.refuses host.now) (under_key (H.submits host.now) key) self.old.over self.old.dialogue self.old.calls self.new.dialogue self.new.calls }
         ensures stream { self.new.stream ≡ self.old.stream }
+        ensures busy { self.new.busy ≡ self.old.busy }
         ensures over { self.new.over ≡ self.old.over }
     {
         if self.over {

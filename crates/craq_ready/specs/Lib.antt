@@ -2,5 +2,6 @@ pub mod Advancing
 pub mod Belonging
 pub mod Busy
 pub mod Letters
+pub mod Readiness
 pub mod Serving
 pub mod Sockets

@@ -121,11 +121,12 @@ impl<S: Socket> Connection<S> {
     ghost use Rattle.craq_ready.specs.Belonging.{CameBack, Gives, Hears, Reads, TakesLetter, Writes};
     ghost use Rattle.craq_ready.specs.Busy.{IsBehind, IsDone, is_waiting};
     ghost use Rattle.craq_ready.specs.Letters.{IsOutcome};
+    ghost use Rattle.craq_ready.specs.Readiness.{noticed};
     ghost use Rattle.craq_ready.specs.Sockets.{EndsAsSocket, EndsInOrder, HasSaidAll};
 
     /// What is told of the connection's readiness.
     pub(crate) fn notice(&mut self, event: &Event)
-        ensures { self.new ≡ record self.old { readiness = self.new.readiness } }
+        ensures { self.new ≡ record self.old { readiness = noticed self.old.readiness event.now } }
     {
         if event.is_readable() || event.is_read_closed() || event.is_error() {
             self.readiness.readable = true;

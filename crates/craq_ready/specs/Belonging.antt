@@ -53,6 +53,10 @@ CameBack outcome old new = Answers old.phase outcome new.phase old.talk new.talk
 abbrev pub CameByLetter : Result Called Refusal → Dialogue → Dialogue → Type 0
 CameByLetter reply old new = (outcome : Result Called Refusal) × IsOutcome old.phase reply outcome × CameBack outcome old new
 
+-- it is the connection of the same place, and the receipts of its calls go where they went
+abbrev pub KeepsPlace : {S : Type 0} → Connection S → Connection S → Type 0
+KeepsPlace old new = (new.place ≡ old.place) × (new.receipts ≡ old.receipts)
+
 -- a letter under this number says this: where it is the number of the call that the connection asked last, the dialogue is told
 -- that its call came back so; under another number the letter tells it nothing
 pub record TakesLetter {S : Type 0} (number : ℕ) (reply : Result Called Refusal) (old new : Connection S) : Type 0 where
@@ -61,6 +65,7 @@ pub record TakesLetter {S : Type 0} (number : ℕ) (reply : Result Called Refusa
   pub calls : new.calls ≡ old.calls
   pub stream : new.stream ≡ old.stream
   pub over : new.over ≡ old.over
+  pub place : KeepsPlace old new
 
 -- the connection whose key is in this token takes the letter under the number that is there
 abbrev pub Delivers : {S : Type 0} → Slab (Connection S) → Slab (Connection S) → Token → Result Called Refusal → Type 0

@@ -8,7 +8,7 @@ use Rattle.craq_door.specs.declared.question.Question.{Question}
 use Rattle.craq_letters.specs.declared.token.Token.{Token}
 use Rattle.craq_ready.specs.declared.connection.Connection.{Connection}
 use Rattle.craq_ready.specs.Advancing.{TakeTurns}
-use Rattle.craq_ready.specs.Belonging.{OneByOne, Reads, Writes}
+use Rattle.craq_ready.specs.Belonging.{KeepsPlace, OneByOne, Reads, Writes}
 use Rattle.craq_ready.specs.Busy.{IsBehind, IsDone}
 use Rattle.craq_ready.specs.Sockets.{EndsAsSocket, EndsInOrder}
 
@@ -21,6 +21,7 @@ pub record HasRead {S : Type 0} (remaining contents : S → Option (List ℕ)) (
   pub calls : new.calls ≡ old.calls
   pub busy : new.busy ≡ old.busy
   pub over : EndsAsSocket is_over old new
+  pub place : KeepsPlace old new
 
 -- what the socket of the connection took is the front of what its dialogue had due, and no other byte; what the socket will give
 -- is as it was, and no call was asked; the connection is over if its dialogue has said all, and only then, or if it was, or its socket is
@@ -29,6 +30,7 @@ pub record HasWritten {S : Type 0} (remaining contents : S → Option (List ℕ)
   pub given : remaining new.stream ≡ remaining old.stream
   pub calls : new.calls ≡ old.calls
   pub over : EndsInOrder is_over old new
+  pub place : KeepsPlace old new
 
 -- under this key, the connection has read
 abbrev pub ReadsAt : {S : Type 0} → (S → Option (List ℕ)) → (S → Option (List ℕ)) → (S → Type 0) → Slab (Connection S) → Slab (Connection S) → ℕ → Type 0

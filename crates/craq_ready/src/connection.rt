@@ -118,7 +118,7 @@ impl<S: Socket + Drop> Connection<S> {
 
 impl<S: Socket> Connection<S> {
     ghost use Rattle.craq_ready.specs.Advancing.{AsksHost, HasTurn, next_call, under_key};
-    ghost use Rattle.craq_ready.specs.Belonging.{CameBack, Gives, Hears, Reads, TakesLetter, Writes};
+    ghost use Rattle.craq_ready.specs.Belonging.{CameBack, Gives, Hears, KeepsPlace, Reads, TakesLetter, Writes};
     ghost use Rattle.craq_ready.specs.Busy.{IsBehind, IsDone, is_waiting};
     ghost use Rattle.craq_ready.specs.Letters.{IsOutcome};
     ghost use Rattle.craq_ready.specs.Readiness.{noticed};
@@ -216,6 +216,7 @@ impl<S: Socket> Connection<S> {
         ensures calls { self.new.calls ≡ self.old.calls }
         ensures busy { self.new.busy ≡ self.old.busy }
         ensures over { self.new.over ≡ self.old.over }
+        ensures place { KeepsPlace self.old self.new }
     {
         self.more = true;
         self.heard = now;
@@ -237,6 +238,7 @@ impl<S: Socket> Connection<S> {
         ensures calls { self.new.calls ≡ self.old.calls }
         ensures busy { self.new.busy ≡ self.old.busy }
         ensures over { EndsAsSocket S.is_over self.old self.new }
+        ensures place { KeepsPlace self.old self.new }
     {
         match self.stream.take(chunk) {
             Moved::Bytes(count) => {
@@ -259,6 +261,7 @@ impl<S: Socket> Connection<S> {
         ensures calls { self.new.calls ≡ self.old.calls }
         ensures busy { self.new.busy ≡ self.old.busy }
         ensures over { EndsAsSocket S.is_over self.old self.new }
+        ensures place { KeepsPlace self.old self.new }
     {
         if self.may_read() {
             self.take(alloc, chunk, now);
@@ -272,6 +275,7 @@ impl<S: Socket> Connection<S> {
         ensures stream { self.new.stream ≡ self.old.stream }
         ensures calls { self.new.calls ≡ self.old.calls }
         ensures over { self.new.over ≡ self.old.over }
+        ensures place { KeepsPlace self.old self.new }
     {
         self.heard = now;
         self.dialogue.wrote(count);
@@ -284,6 +288,7 @@ impl<S: Socket> Connection<S> {
         ensures remaining { S.remaining self.new.stream ≡ S.remaining self.old.stream }
         ensures calls { self.new.calls ≡ self.old.calls }
         ensures over { EndsAsSocket S.is_over self.old self.new }
+        ensures place { KeepsPlace self.old self.new }
     {
         if self.over || !self.readiness.writable || self.dialogue.due().is_empty() {
             return;
@@ -303,6 +308,7 @@ impl<S: Socket> Connection<S> {
         ensures calls { self.new.calls ≡ self.old.calls }
         ensures busy { self.new.busy ≡ self.old.busy }
         ensures over { self.new.over ≡ self.old.over }
+        ensures place { KeepsPlace self.old self.new }
     {
         if let Err(refusal) = &outcome {
             host.refused(self.place, *refusal);
@@ -346,6 +352,7 @@ impl<S: Socket> Connection<S> {
         ensures stream { self.new.stream ≡ self.old.stream }
         ensures busy { self.new.busy ≡ self.old.busy }
         ensures over { self.new.over ≡ self.old.over }
+        ensures place { KeepsPlace self.old self.new }
     {
         self.calls = self.calls.wrapping_add(1);
         let token = Token {
@@ -366,6 +373,7 @@ impl<S: Socket> Connection<S> {
         ensures stream { self.new.stream ≡ self.old.stream }
         ensures busy { self.new.busy ≡ self.old.busy }
         ensures over { self.new.over ≡ self.old.over }
+        ensures place { KeepsPlace self.old self.new }
     {
         if self.over {
             return;
@@ -396,6 +404,7 @@ impl<S: Socket> Connection<S> {
         ensures remaining { S.remaining self.new.stream ≡ S.remaining self.old.stream }
         ensures calls { self.new.calls ≡ self.old.calls }
         ensures over { EndsInOrder S.is_over self.old self.new }
+        ensures place { KeepsPlace self.old self.new }
     {
         self.write(now);
         if self.has_said_all() {

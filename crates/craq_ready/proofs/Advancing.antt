@@ -17,7 +17,7 @@ use Rattle.craq_door.specs.declared.dialogue.Stepped.TheVariants as steps
 use Rattle.craq_door.specs.declared.question.Question.{Question}
 use Rattle.craq_ready.specs.declared.connection.Connection.{Connection}
 use Rattle.craq_ready.specs.Advancing.{AsksHost, TakesSteps, none, step, call, TakesTurn, rests, HasTurn, HasTurnAt, next_call, under_key}
-use Rattle.craq_ready.specs.Belonging.{CameBack}
+use Rattle.craq_ready.specs.Belonging.{CameBack, KeepsPlace}
 use Rattle.craq_ready.proofs.Letters.{receipt_refusable, refusal_refusable}
 
 module _ (refuses : Refusing) (submits : Submitting) where
@@ -72,9 +72,9 @@ module _ (tells : List ℕ → Type 0) (refuses : Refusing) (submits : ℕ → S
 module _ {S : Type 0} (tells : List ℕ → Type 0) (refuses : Refusing) where
   -- what a connection became is what is under its key
   pub turned_at : (submits : Token → Submitting) (s : Slab (Connection S)) (key : ℕ) (c d : Connection S)
-      → get s key ≡ Some c → HasTurn tells refuses (under_key submits key) c.over c.dialogue c.calls d.dialogue d.calls → d.stream ≡ c.stream → d.over ≡ c.over
+      → get s key ≡ Some c → HasTurn tells refuses (under_key submits key) c.over c.dialogue c.calls d.dialogue d.calls → d.stream ≡ c.stream → d.over ≡ c.over → d.busy ≡ c.busy → KeepsPlace c d
       → HasTurnAt tells refuses submits s (with_value s key d) key
-  turned_at submits s key c d was took same ends c' here =
+  turned_at submits s key c d was took same ends marked place c' here =
       let e : c' ≡ c = cc in
       let is : get (with_value s key d) key ≡ Some d = (Updates-with_value s key d (rw was refl)).changed in
-      rw e (d, is, took, same, ends)
+      rw e (d, is, took, same, ends, marked, place)

@@ -7,7 +7,8 @@ use Rattle.craq_door.specs.declared.dialogue.Phase.{Phase}
 use Rattle.craq_door.specs.declared.dialogue.Phase.TheVariants as phases
 use Rattle.craq_door.specs.declared.question.Question.{Question}
 use Rattle.craq_ready.specs.declared.connection.Connection.{Connection}
-use Rattle.craq_ready.specs.Serving.{HasRead, HasWritten, IsDone, ReadsAt, StaysUnlessDone, WritesAt, is_waiting}
+use Rattle.craq_ready.specs.Busy.{IsBehind, IsDone, is_waiting}
+use Rattle.craq_ready.specs.Serving.{HasRead, HasWritten, ReadsAt, StaysUnlessDone, WritesAt}
 
 -- whether a call is found is whether one is under way
 pub found_waiting : (phase : Phase) (found : Option Question) → IsUnderWay phase found → is_some found ≡ is_waiting phase
@@ -31,12 +32,14 @@ module _ {S : Type 0} (remaining contents : S → Option (List ℕ)) (is_over : 
 
   -- a connection that is not done stays under its key
   pub kept_at : (s : Slab (Connection S)) (key : ℕ) (c d e : Connection S) (busy : Bool) → get s key ≡ Some c → HasWritten remaining contents is_over c d
-      → ¬ IsDone d → e ≡ record d { busy = busy } → WritesAt remaining contents is_over s (with_value s key e) key
-  kept_at s key c d e busy was written stays same c' here =
+      → ¬ IsDone d → e ≡ record d { busy = busy } → IsTrue busy ↔ IsBehind d → WritesAt remaining contents is_over s (with_value s key e) key
+  kept_at s key c d e busy was written stays same marks c' here =
       let e' : c' ≡ c = cc in
       let is : get (with_value s key e) key ≡ Some e = (Updates-with_value s key e (rw was refl)).changed in
       let kept : e ≡ record d { busy = e.busy } = rw same refl in
-      rw e' (d, written, subst (λ (x : Option (Connection S)). StaysUnlessDone d x) (sym is) (stays, kept))
+      let mark : busy ≡ e.busy = rw same refl in
+      let exact : e.busy ≡ true ↔ IsBehind d = subst (λ (b : Bool). b ≡ true ↔ IsBehind d) mark marks in
+      rw e' (d, written, subst (λ (x : Option (Connection S)). StaysUnlessDone d x) (sym is) (stays, kept, exact))
 
   -- a connection that is done is let go
   pub gone_at : (s t : Slab (Connection S)) (key : ℕ) (c d : Connection S) → get s key ≡ Some c → HasWritten remaining contents is_over c d

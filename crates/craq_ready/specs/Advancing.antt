@@ -15,7 +15,7 @@ use Rattle.craq_door.specs.declared.dialogue.Phase.TheVariants as phases
 use Rattle.craq_door.specs.declared.dialogue.Stepped.{Stepped}
 use Rattle.craq_door.specs.declared.dialogue.Stepped.TheVariants as steps
 use Rattle.craq_ready.specs.declared.connection.Connection.{Connection}
-use Rattle.craq_ready.specs.Belonging.{CameBack, OneByOne}
+use Rattle.craq_ready.specs.Belonging.{CameBack, KeepsPlace, OneByOne}
 
 -- the number of the call after that of this number; after 2^64 - 1 comes 0, so a number comes again only after 2^64 calls
 abbrev pub next_call : ℕ → ℕ
@@ -87,11 +87,11 @@ HasTurn tells refuses submits true old before new after = (new ≡ old) × (afte
 HasTurn tells refuses submits false old before new after = TakesTurn tells refuses submits old before new after
 
 -- under this key, the connection had its turn, in which its host was asked each call under this key and the number after that of
--- the call before; its socket is as it was, and so is whether it is over
+-- the call before; its socket, its mark and its place are as they were, and so is whether it is over
 abbrev pub HasTurnAt : {S : Type 0} → (List ℕ → Type 0) → Refusing → (Token → Submitting) → Slab (Connection S) → Slab (Connection S) → ℕ → Type 0
 HasTurnAt {S} tells refuses submits old new key =
     (c : Connection S) → get old key ≡ Some c
-    → (d : Connection S) × (get new key ≡ Some d) × HasTurn tells refuses (under_key submits key) c.over c.dialogue c.calls d.dialogue d.calls × (d.stream ≡ c.stream) × (d.over ≡ c.over)
+    → (d : Connection S) × (get new key ≡ Some d) × HasTurn tells refuses (under_key submits key) c.over c.dialogue c.calls d.dialogue d.calls × (d.stream ≡ c.stream) × (d.over ≡ c.over) × (d.busy ≡ c.busy) × KeepsPlace c d
 
 -- the connections under these keys have their turns, one after another, in which the host is asked under their own keys; and
 -- no other connection changes

@@ -1,5 +1,5 @@
 -- Which bytes and which letters belong to which connection.
-use Rattle.std.specs.Prelude.{◌≡◌, ◌≢◌, ℕ, true, List, [], ◌∷◌, ◌++◌, Option, None, Some, Result}
+use Rattle.std.specs.Prelude.{◌≡◌, ◌≢◌, ℕ, true, false, List, [], ◌∷◌, ◌++◌, Option, None, Some, Result}
 use Rattle.std.specs.Io.KnownBytes.{Appends, Consumes}
 use Rattle.slab.specs.Slab.{Slab, get}
 use Rattle.craq_names.specs.declared.refusal.Refusal.{Refusal}
@@ -9,8 +9,20 @@ use Rattle.craq_letters.specs.declared.pile.Letter.{Letter}
 use Rattle.craq_letters.specs.declared.token.Token.{Token}
 use Rattle.craq_door.specs.Dialogues.{Answers, Holds}
 use Rattle.craq_door.specs.declared.dialogue.Dialogue.{Dialogue}
+use Rattle.craq_door.specs.declared.dialogue.Phase.TheVariants as phases
 use Rattle.craq_ready.specs.declared.connection.Connection.{Connection}
 use Rattle.craq_ready.specs.Letters.{IsOutcome}
+
+-- the connection is new: nothing came and nothing is due, no call was asked, and its socket is taken for ready
+pub record IsNew {S : Type 0} (c : Connection S) : Type 0 where
+  pub nothing_came : Holds c.dialogue.phase c.dialogue.talk [] [] []
+  pub idle : c.dialogue.phase ≡ phases.Idle
+  pub calls : c.calls ≡ 0
+  pub readable : c.readiness.readable ≡ true
+  pub writable : c.readiness.writable ≡ true
+  pub unread : c.more ≡ false
+  pub unmarked : c.busy ≡ false
+  pub goes_on : c.over ≡ false
 
 -- just these bytes came to the dialogue, behind those before; what is due and its calls are as they were
 pub record Hears (came : List ℕ) (old new : Dialogue) : Type 0 where
@@ -41,6 +53,10 @@ CameBack outcome old new = Answers old.phase outcome new.phase old.talk new.talk
 abbrev pub CameByLetter : Result Called Refusal → Dialogue → Dialogue → Type 0
 CameByLetter reply old new = (outcome : Result Called Refusal) × IsOutcome old.phase reply outcome × CameBack outcome old new
 
+-- it is the connection of the same place, and the receipts of its calls go where they went
+abbrev pub KeepsPlace : {S : Type 0} → Connection S → Connection S → Type 0
+KeepsPlace old new = (new.place ≡ old.place) × (new.receipts ≡ old.receipts)
+
 -- a letter under this number says this: where it is the number of the call that the connection asked last, the dialogue is told
 -- that its call came back so; under another number the letter tells it nothing
 pub record TakesLetter {S : Type 0} (number : ℕ) (reply : Result Called Refusal) (old new : Connection S) : Type 0 where
@@ -49,6 +65,7 @@ pub record TakesLetter {S : Type 0} (number : ℕ) (reply : Result Called Refusa
   pub calls : new.calls ≡ old.calls
   pub stream : new.stream ≡ old.stream
   pub over : new.over ≡ old.over
+  pub place : KeepsPlace old new
 
 -- the connection whose key is in this token takes the letter under the number that is there
 abbrev pub Delivers : {S : Type 0} → Slab (Connection S) → Slab (Connection S) → Token → Result Called Refusal → Type 0

@@ -1,5 +1,7 @@
 pub mod Advancing
 pub mod Belonging
+pub mod Busy
 pub mod Letters
+pub mod Readiness
 pub mod Serving
 pub mod Sockets

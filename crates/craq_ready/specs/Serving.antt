@@ -1,34 +1,27 @@
 -- What it comes to when what came on some connections is read, and what is due to them is written.
-use Rattle.std.specs.Prelude.{◌≡◌, ℕ, Bool, true, false, List, Option, None, Some}
+use Rattle.std.specs.Prelude.{◌≡◌, ◌↔◌, ℕ, true, List, Option, None, Some}
 use Rattle.slab.specs.Slab.{Slab, get}
 use Rattle.craq_door.specs.Asking.{Submitting}
 use Rattle.craq_door.specs.Turns.{Refusing}
-use Rattle.craq_door.specs.declared.dialogue.Phase.{Phase}
 use Rattle.craq_door.specs.declared.dialogue.Phase.TheVariants as phases
 use Rattle.craq_door.specs.declared.question.Question.{Question}
 use Rattle.craq_letters.specs.declared.token.Token.{Token}
 use Rattle.craq_ready.specs.declared.connection.Connection.{Connection}
 use Rattle.craq_ready.specs.Advancing.{TakeTurns}
-use Rattle.craq_ready.specs.Belonging.{OneByOne, Reads, Writes}
+use Rattle.craq_ready.specs.Belonging.{KeepsPlace, OneByOne, Reads, Writes}
+use Rattle.craq_ready.specs.Busy.{IsBehind, IsDone}
 use Rattle.craq_ready.specs.Sockets.{EndsAsSocket, EndsInOrder}
 
--- a call is under way
-abbrev pub is_waiting : Phase → Bool
-is_waiting (phases.Waits q) = true
-is_waiting phase = false
-
--- the connection has ended, and no letter comes to it any more
-abbrev pub IsDone : {S : Type 0} → Connection S → Type 0
-IsDone c = (c.over ≡ true) × (is_waiting c.dialogue.phase ≡ false)
-
 -- what the socket of the connection gave, and no other byte, went to its dialogue, which is as it was where its call is under
--- way; what the socket took is as it was, and no call was asked; the connection is over only if it was, or its socket is
+-- way; what the socket took is as it was, and no call was asked; its mark is as it was; the connection is over only if it was, or its socket is
 pub record HasRead {S : Type 0} (remaining contents : S → Option (List ℕ)) (is_over : S → Type 0) (old new : Connection S) : Type 0 where
   pub reads : Reads (remaining old.stream) (remaining new.stream) old.dialogue new.dialogue
   pub waits : (q : Question) → old.dialogue.phase ≡ phases.Waits q → new.dialogue ≡ old.dialogue
   pub taken : contents new.stream ≡ contents old.stream
   pub calls : new.calls ≡ old.calls
+  pub busy : new.busy ≡ old.busy
   pub over : EndsAsSocket is_over old new
+  pub place : KeepsPlace old new
 
 -- what the socket of the connection took is the front of what its dialogue had due, and no other byte; what the socket will give
 -- is as it was, and no call was asked; the connection is over if its dialogue has said all, and only then, or if it was, or its socket is
@@ -37,16 +30,18 @@ pub record HasWritten {S : Type 0} (remaining contents : S → Option (List ℕ)
   pub given : remaining new.stream ≡ remaining old.stream
   pub calls : new.calls ≡ old.calls
   pub over : EndsInOrder is_over old new
+  pub place : KeepsPlace old new
 
 -- under this key, the connection has read
 abbrev pub ReadsAt : {S : Type 0} → (S → Option (List ℕ)) → (S → Option (List ℕ)) → (S → Type 0) → Slab (Connection S) → Slab (Connection S) → ℕ → Type 0
 ReadsAt {S} remaining contents is_over old new key =
     (c : Connection S) → get old key ≡ Some c → (d : Connection S) × (get new key ≡ Some d) × HasRead remaining contents is_over c d
 
--- where a connection was: it is let go exactly where it is done, and else nothing changes but whether it has something to do
+-- where a connection was: it is let go exactly where it is done, and else nothing changes but its mark, which it bears exactly where
+-- it is behind
 abbrev pub StaysUnlessDone : {S : Type 0} → Connection S → Option (Connection S) → Type 0
 StaysUnlessDone c None = IsDone c
-StaysUnlessDone c (Some d) = ¬ IsDone c × (d ≡ record c { busy = d.busy })
+StaysUnlessDone c (Some d) = ¬ IsDone c × (d ≡ record c { busy = d.busy }) × (d.busy ≡ true ↔ IsBehind c)
 
 -- under this key, the connection has written, and then is let go exactly where it is done
 abbrev pub WritesAt : {S : Type 0} → (S → Option (List ℕ)) → (S → Option (List ℕ)) → (S → Type 0) → Slab (Connection S) → Slab (Connection S) → ℕ → Type 0

@@ -1,5 +1,5 @@
 //! A connection of a thread that serves many: its socket and its `Dialogue`, and what goes between them; called by `crowd`.
-ghost use Rattle.std.specs.Prelude.{◌≡◌, ◌≤◌, ◌<◌, ◌-◌, ◌↔◌, ◌⊎◌, true, false, length, take, IsTrue};
+ghost use Rattle.std.specs.Prelude.{◌≡◌, ◌≤◌, ◌<◌, ◌-◌, ◌↔◌, ◌⊎◌, true, false, length, take, not, IfOk, IsTrue};
 ghost use Rattle.craq_door.specs.declared.dialogue.Phase.TheVariants.{Idle, Waits};
 ghost use Rattle.craq_door.specs.declared.question.Question.{Question};
 
@@ -53,7 +53,10 @@ pub(crate) struct Connection<S> {
 }
 
 impl Connection<Arc<TcpStream>> {
-    /// A connection that came, of which readiness is told under this token. None of its calls was asked.
+    ghost use Rattle.craq_ready.specs.Belonging.{IsNew};
+
+    /// A connection that came, of which readiness is told under this token. Nothing came on it, nothing is due, none of its calls was
+    /// asked, and its socket is taken for ready.
     pub(crate) fn open(
         alloc: Global,
         registry: &Registry,
@@ -61,7 +64,9 @@ impl Connection<Arc<TcpStream>> {
         arrival: Arrival,
         keeps: bool,
         now: u64,
-    ) -> io::Result<Self> {
+    ) -> io::Result<Self>
+        ensures { IfOk result (λ c. IsNew c) }
+    {
         let Arrival {
             stream,
             place,
@@ -113,14 +118,15 @@ impl<S: Socket + Drop> Connection<S> {
 
 impl<S: Socket> Connection<S> {
     ghost use Rattle.craq_ready.specs.Advancing.{AsksHost, HasTurn, next_call, under_key};
-    ghost use Rattle.craq_ready.specs.Belonging.{CameBack, Gives, Hears, Reads, TakesLetter, Writes};
+    ghost use Rattle.craq_ready.specs.Belonging.{CameBack, Gives, Hears, KeepsPlace, Reads, TakesLetter, Writes};
+    ghost use Rattle.craq_ready.specs.Busy.{IsBehind, IsDone, is_waiting};
     ghost use Rattle.craq_ready.specs.Letters.{IsOutcome};
-    ghost use Rattle.craq_ready.specs.Serving.{IsDone, is_waiting};
+    ghost use Rattle.craq_ready.specs.Readiness.{noticed};
     ghost use Rattle.craq_ready.specs.Sockets.{EndsAsSocket, EndsInOrder, HasSaidAll};
 
     /// What is told of the connection's readiness.
     pub(crate) fn notice(&mut self, event: &Event)
-        ensures { self.new ≡ record self.old { readiness = self.new.readiness } }
+        ensures { self.new ≡ record self.old { readiness = noticed self.old.readiness event.now } }
     {
         if event.is_readable() || event.is_read_closed() || event.is_error() {
             self.readiness.readable = true;
@@ -161,7 +167,8 @@ impl<S: Socket> Connection<S> {
 
     /// From now on it has something to do; whether it had not before.
     pub(crate) fn is_newly_busy(&mut self) -> bool
-        ensures { self.new ≡ record self.old { busy = true } }
+        ensures marked { self.new ≡ record self.old { busy = true } }
+        ensures was_not { result ≡ not self.old.busy }
     {
         let is_new = !self.busy;
         self.busy = true;
@@ -170,14 +177,17 @@ impl<S: Socket> Connection<S> {
 
     /// After its turn: whether it has something left to do of which no event and no letter will tell.
     pub(crate) fn stays_busy(&mut self) -> bool
-        ensures { self.new ≡ record self.old { busy = result } }
+        ensures marked { self.new ≡ record self.old { busy = result } }
+        ensures behind { IsTrue result ↔ IsBehind self.old }
     {
         self.busy = self.is_behind();
         self.busy
     }
 
     /// Whether there is something to do of which no event and no letter will tell.
-    fn is_behind(&self) -> bool {
+    fn is_behind(&self) -> bool
+        ensures { IsTrue result ↔ IsBehind self.now }
+    {
         if self.over {
             !self.waits()
         } else if !self.dialogue.due().is_empty() {
@@ -204,7 +214,9 @@ impl<S: Socket> Connection<S> {
         ensures hears { Hears bytes.now self.old.dialogue self.new.dialogue }
         ensures stream { self.new.stream ≡ self.old.stream }
         ensures calls { self.new.calls ≡ self.old.calls }
+        ensures busy { self.new.busy ≡ self.old.busy }
         ensures over { self.new.over ≡ self.old.over }
+        ensures place { KeepsPlace self.old self.new }
     {
         self.more = true;
         self.heard = now;
@@ -224,7 +236,9 @@ impl<S: Socket> Connection<S> {
         ensures reads { Reads (S.remaining self.old.stream) (S.remaining self.new.stream) self.old.dialogue self.new.dialogue }
         ensures contents { S.contents self.new.stream ≡ S.contents self.old.stream }
         ensures calls { self.new.calls ≡ self.old.calls }
+        ensures busy { self.new.busy ≡ self.old.busy }
         ensures over { EndsAsSocket S.is_over self.old self.new }
+        ensures place { KeepsPlace self.old self.new }
     {
         match self.stream.take(chunk) {
             Moved::Bytes(count) => {
@@ -245,7 +259,9 @@ impl<S: Socket> Connection<S> {
         ensures reads { Reads (S.remaining self.old.stream) (S.remaining self.new.stream) self.old.dialogue self.new.dialogue }
         ensures contents { S.contents self.new.stream ≡ S.contents self.old.stream }
         ensures calls { self.new.calls ≡ self.old.calls }
+        ensures busy { self.new.busy ≡ self.old.busy }
         ensures over { EndsAsSocket S.is_over self.old self.new }
+        ensures place { KeepsPlace self.old self.new }
     {
         if self.may_read() {
             self.take(alloc, chunk, now);
@@ -259,6 +275,7 @@ impl<S: Socket> Connection<S> {
         ensures stream { self.new.stream ≡ self.old.stream }
         ensures calls { self.new.calls ≡ self.old.calls }
         ensures over { self.new.over ≡ self.old.over }
+        ensures place { KeepsPlace self.old self.new }
     {
         self.heard = now;
         self.dialogue.wrote(count);
@@ -271,6 +288,7 @@ impl<S: Socket> Connection<S> {
         ensures remaining { S.remaining self.new.stream ≡ S.remaining self.old.stream }
         ensures calls { self.new.calls ≡ self.old.calls }
         ensures over { EndsAsSocket S.is_over self.old self.new }
+        ensures place { KeepsPlace self.old self.new }
     {
         if self.over || !self.readiness.writable || self.dialogue.due().is_empty() {
             return;
@@ -288,7 +306,9 @@ impl<S: Socket> Connection<S> {
         ensures told { CameBack outcome self.old.dialogue self.new.dialogue }
         ensures stream { self.new.stream ≡ self.old.stream }
         ensures calls { self.new.calls ≡ self.old.calls }
+        ensures busy { self.new.busy ≡ self.old.busy }
         ensures over { self.new.over ≡ self.old.over }
+        ensures place { KeepsPlace self.old self.new }
     {
         if let Err(refusal) = &outcome {
             host.refused(self.place, *refusal);
@@ -313,7 +333,8 @@ impl<S: Socket> Connection<S> {
     /// A letter with this number says this. Where the call that was asked last has this number, it came back so. A letter with
     /// another number is let go: none comes, since a call is asked only once the one before it came back.
     pub(crate) fn take_reply<H: Host>(&mut self, alloc: Global, host: &H, call: u64, reply: Outcome)
-        ensures { TakesLetter call reply self.old self.new }
+        ensures takes { TakesLetter call reply self.old self.new }
+        ensures busy { self.new.busy ≡ self.old.busy }
     {
         if call != self.calls {
             return;
@@ -329,7 +350,9 @@ impl<S: Socket> Connection<S> {
         ensures asked { AsksHost (H.refuses host.now) (under_key (H.submits host.now) key (next_call self.old.calls)) self.old.dialogue.phase self.old.dialogue self.new.dialogue }
         ensures calls { self.new.calls ≡ next_call self.old.calls }
         ensures stream { self.new.stream ≡ self.old.stream }
+        ensures busy { self.new.busy ≡ self.old.busy }
         ensures over { self.new.over ≡ self.old.over }
+        ensures place { KeepsPlace self.old self.new }
     {
         self.calls = self.calls.wrapping_add(1);
         let token = Token {
@@ -348,7 +371,9 @@ impl<S: Socket> Connection<S> {
     pub(crate) fn advance<H: Host>(&mut self, alloc: Global, host: &H, key: usize, few: bool)
         ensures turn { HasTurn (H.tells host.now) (H.refuses host.now) (under_key (H.submits host.now) key) self.old.over self.old.dialogue self.old.calls self.new.dialogue self.new.calls }
         ensures stream { self.new.stream ≡ self.old.stream }
+        ensures busy { self.new.busy ≡ self.old.busy }
         ensures over { self.new.over ≡ self.old.over }
+        ensures place { KeepsPlace self.old self.new }
     {
         if self.over {
             return;
@@ -379,6 +404,7 @@ impl<S: Socket> Connection<S> {
         ensures remaining { S.remaining self.new.stream ≡ S.remaining self.old.stream }
         ensures calls { self.new.calls ≡ self.old.calls }
         ensures over { EndsInOrder S.is_over self.old self.new }
+        ensures place { KeepsPlace self.old self.new }
     {
         self.write(now);
         if self.has_said_all() {

@@ -1,8 +1,12 @@
 //! `Crowd`: the connections of a thread and the loop over them, for the thread that serves them: it takes what came, steps each
 //! connection that has something to do, and sleeps where none has.
-ghost use Rattle.std.specs.Prelude.{◌≡◌, []};
+ghost use Rattle.std.specs.Prelude.{◌≡◌, ◌⊎◌, ◌<◌, ◌≤◌, ◌↔◌, ◌++◌, ℕ, [], ◌∷◌, Some, None, IsTrue, filter, nat_lt, option_map, vec_capacity, vec_len, if◌then◌else◌};
+ghost use Rattle.std.specs.Duration.{as_nanos};
+ghost use Rattle.slab.specs.Slab.{get, slab_len};
+ghost use Rattle.craq_ready.specs.declared.connection.Connection.{Connection};
 ghost use Rattle.craq_ready.specs.Advancing.{HasTurnAt, TakeTurns};
 ghost use Rattle.craq_ready.specs.Belonging.{Delivers, DeliversAll, DeliversBrought, OneByOne, OthersStay, StaysVacant, Wakes};
+ghost use Rattle.craq_ready.specs.Busy.{IsBehind, ListsBehind, ListsMarked, NoneForgotten, is_marked, with_key};
 ghost use Rattle.craq_ready.specs.Serving.{ReadsAt, Serves, WritesAt};
 
 use crate::connection::Connection;
@@ -71,7 +75,8 @@ fn read_at<S: Socket>(
 }
 
 /// What is due to the connection under a key is written. It is let go exactly where it is done, and no other connection changes;
-/// where none is under the key nothing does. Tells whether it has something left to do of which no event and no letter will tell.
+/// where none is under the key nothing does. Tells whether it is still there and has something left to do of which no event and no
+/// letter will tell.
 fn give_at<S: Socket + Drop, H: Host>(
     connections: &mut Slab<Connection<S>>,
     registry: &Registry,
@@ -82,6 +87,7 @@ fn give_at<S: Socket + Drop, H: Host>(
     ensures writes { WritesAt S.remaining S.contents S.is_over connections.old connections.new key }
     ensures vacant { StaysVacant connections.old connections.new key }
     ensures others { OthersStay connections.old connections.new key }
+    ensures tells { result ≡ is_marked (get connections.new key) }
 {
     let Some(connection) = connections.get_mut(key) else {
         return false;
@@ -94,6 +100,16 @@ fn give_at<S: Socket + Drop, H: Host>(
         ended.close(registry, host);
     }
     false
+}
+
+/// A key comes to the others, behind them, where it is to be kept and there is room for it.
+fn keep_where(keys: &mut Vec<usize>, key: usize, is_kept: bool)
+    ensures keys { vec_len keys.old < vec_capacity keys.old → keys.new.items ≡ (if is_kept then keys.old.items ++ key ∷ [] else keys.old.items) }
+    ensures capacity { vec_capacity keys.old ≤ vec_capacity keys.new }
+{
+    if is_kept {
+        let _ = keys.push(key);
+    }
 }
 
 /// The connections of a thread.
@@ -138,8 +154,12 @@ impl<S: Socket + Drop> Members<S> {
         })
     }
 
-    /// A connection has something to do.
+    /// A connection has something to do: its key comes to the list, behind the others, where the list did not name it. Where none is
+    /// under the key the list stays.
     fn wake(&mut self, key: usize)
+        ensures listed { ListsMarked self.old.connections self.old.busy self.old.later → ListsMarked self.new.connections self.new.busy self.new.later }
+        ensures busy { ListsMarked self.old.connections self.old.busy self.old.later
+            → self.new.busy.items ≡ with_key self.old.busy.items key (get self.old.connections key) }
         ensures letters { self.new.letters.items ≡ self.old.letters.items }
         ensures wakes { Wakes self.old.connections self.new.connections key }
         ensures vacant { StaysVacant self.old.connections self.new.connections key }
@@ -156,6 +176,7 @@ impl<S: Socket + Drop> Members<S> {
 
     /// The letters that came are the outcomes of their connections' calls. Each that the host brought is delivered.
     fn take_letters<H: Host>(&mut self, host: &H)
+        ensures kept { NoneForgotten self.old → NoneForgotten self.new }
         ensures delivered { DeliversBrought (H.brings host.now self.old.letters.items) self.old.connections self.new.connections }
         ensures none_left { self.new.letters.items ≡ [] }
     {
@@ -165,6 +186,7 @@ impl<S: Socket + Drop> Members<S> {
 
     /// Each letter that is there is delivered, the last one first, and none is left.
     fn deliver_all<H: Host>(&mut self, host: &H)
+        ensures kept { NoneForgotten self.old → NoneForgotten self.new }
         ensures delivered { DeliversAll self.old.letters.items self.old.connections self.new.connections }
         ensures none_left { self.new.letters.items ≡ [] }
     {
@@ -179,6 +201,7 @@ impl<S: Socket + Drop> Members<S> {
     /// A letter came. Where it bears the number of the call that its connection asked last, the connection's dialogue is told that
     /// its call came back so. No other connection changes; where it has gone nothing does.
     fn deliver<H: Host>(&mut self, host: &H, letter: Letter)
+        ensures kept { NoneForgotten self.old → NoneForgotten self.new }
         ensures letters { self.new.letters.items ≡ self.old.letters.items }
         ensures told { Delivers self.old.connections self.new.connections letter.token letter.reply }
         ensures vacant { StaysVacant self.old.connections self.new.connections letter.token.connection }
@@ -208,7 +231,8 @@ impl<S: Socket + Drop> Members<S> {
     /// changes.
     fn read_all(&mut self)
         ensures reads { OneByOne (ReadsAt S.remaining S.contents S.is_over) self.old.busy.items self.old.connections self.new.connections }
-        ensures busy { self.new.busy.items ≡ self.old.busy.items }
+        ensures busy { self.new.busy ≡ self.old.busy }
+        ensures later { self.new.later ≡ self.old.later }
     {
         for key in self.busy.iter() {
             read_at(
@@ -225,7 +249,8 @@ impl<S: Socket + Drop> Members<S> {
     /// connection changes.
     fn advance_all<H: Host>(&mut self, host: &H)
         ensures turns { TakeTurns (H.tells host.now) (H.refuses host.now) (H.submits host.now) self.old.busy.items self.old.connections self.new.connections }
-        ensures busy { self.new.busy.items ≡ self.old.busy.items }
+        ensures busy { self.new.busy ≡ self.old.busy }
+        ensures later { self.new.later ≡ self.old.later }
     {
         let few = self.busy.len() <= FEW_CONNECTIONS;
         for key in self.busy.iter() {
@@ -234,24 +259,31 @@ impl<S: Socket + Drop> Members<S> {
     }
 
     /// What is due to the busy connections is written, to one after another, and no other connection changes. Each is let go
-    /// exactly where it is done.
+    /// exactly where it is done. The list then names those of its connections that are still there and have something left to do, in
+    /// the order in which it named them.
     fn give_all<H: Host>(&mut self, registry: &Registry, host: &H)
-        ensures { OneByOne (WritesAt S.remaining S.contents S.is_over) self.old.busy.items self.old.connections self.new.connections }
+        ensures writes { OneByOne (WritesAt S.remaining S.contents S.is_over) self.old.busy.items self.old.connections self.new.connections }
+        ensures listed { ListsMarked self.old.connections self.old.busy self.old.later → ListsMarked self.new.connections self.new.busy self.new.later }
+        ensures in_order { ListsMarked self.old.connections self.old.busy self.old.later
+            → self.new.busy.items ≡ filter (λ key. is_marked (get self.new.connections key)) self.old.busy.items }
     {
         for key in self.busy.iter() {
-            if give_at(&mut self.connections, registry, host, *key, self.now) {
-                // There is room for the key of each connection.
-                let _ = self.later.push(*key);
-            }
+            let stays = give_at(&mut self.connections, registry, host, *key, self.now);
+            // There is room for the key of each connection.
+            keep_where(&mut self.later, *key, stays);
         }
         self.busy.clear();
         mem::swap(&mut self.busy, &mut self.later);
     }
 
     /// Each connection that has something to do is served once. All are read before the first takes its steps, and all have taken
-    /// them before the first is written to: so a processor does one kind of work for a while.
+    /// them before the first is written to: so a processor does one kind of work for a while. The list then names just the
+    /// connections of the thread that are behind, in the order in which it named them before.
     fn step_all<H: Host>(&mut self, registry: &Registry, host: &H)
-        ensures { Serves S.remaining S.contents S.is_over (H.tells host.now) (H.refuses host.now) (H.submits host.now) self.old.busy.items self.old.connections self.new.connections }
+        ensures kept { NoneForgotten self.old → NoneForgotten self.new }
+        ensures behind { NoneForgotten self.old → ListsBehind self.new.connections self.new.busy.items }
+        ensures in_order { NoneForgotten self.old → self.new.busy.items ≡ filter (λ key. is_marked (get self.new.connections key)) self.old.busy.items }
+        ensures serves { Serves S.remaining S.contents S.is_over (H.tells host.now) (H.refuses host.now) (H.submits host.now) self.old.busy.items self.old.connections self.new.connections }
     {
         self.read_all();
         self.advance_all(host);
@@ -277,14 +309,24 @@ impl<S: Socket + Drop> Members<S> {
 
     /// Whether it looks again soon: a client alone asks again as soon as it was answered, and a thread that sleeps takes longer to
     /// wake than that.
-    fn looks_again(&self) -> bool {
+    fn looks_again(&self) -> bool
+        ensures { IsTrue result ↔ ((slab_len self.entry.now.connections ≤ 2) × (self.entry.now.looks < 200)) }
+    {
         self.connections.len() <= FEW_CONNECTIONS && self.looks < MOST_LOOKS
     }
 
     /// How long to wait for readiness: not at all where something is left to do, may come soon or came meanwhile, and
-    /// at most a second where idle connections are looked for.
-    fn pause<H: Host>(&self, host: &H) -> Option<Duration> {
-        if !self.busy.is_empty() || self.looks_again() || !host.may_sleep() {
+    /// at most a second where idle connections are looked for. So the thread waits for nothing while one of its connections has
+    /// something to do of which no event and no letter will tell.
+    fn pause<H: Host>(&self, host: &H) -> Option<Duration>
+        ensures behind { ListsBehind self.entry.now.connections self.entry.now.busy.items → (key : ℕ) (c : Connection S) → get self.entry.now.connections key ≡ Some c → IsBehind c → option_map as_nanos result ≡ Some 0 }
+        ensures looks { slab_len self.entry.now.connections ≤ 2 → self.entry.now.looks < 200 → option_map as_nanos result ≡ Some 0 }
+        ensures else_idle { (option_map as_nanos result ≡ Some 0) ⊎ (option_map as_nanos result ≡ (if nat_lt 0 self.entry.now.idle then Some 1_000_000_000 else None)) }
+    {
+        if !self.busy.is_empty() {
+            return Some(Duration::from_millis(0));
+        }
+        if self.looks_again() || !host.may_sleep() {
             Some(Duration::from_millis(0))
         } else if self.idle > 0 {
             Some(Duration::from_millis(1_000))

@@ -3,7 +3,7 @@ use Rattle.craq_ready.proofs.Belonging.{all_left, one_less, one_shorter, last_le
 use Rattle.craq_ready.proofs.crowd.Members.deliver_all.Goals as goal
 
 pub loop-letter-init : goal.loop-letter-init
-loop-letter-init g c = (all_left c.args.self.now.letters.items c.args.self.now.connections, omega arith)
+loop-letter-init g c = (all_left c.args.self.now.letters.items c.args.self.now.connections, omega arith, λ k. k)
 
 pub loop-letter-preserved : goal.loop-letter-preserved
 loop-letter-preserved g c =
@@ -14,6 +14,7 @@ loop-letter-preserved g c =
           c.loop-letter.invariant.0 last (c.deliver.ensures.told, c.deliver.ensures.vacant, c.deliver.ensures.others),
       one_shorter c.loop-letter.self.letters.items c.deliver.new.self.letters.items c.in-Some.letter c.loop-letter._letter
           (length c.args.self.now.letters.items) last c.loop-letter.invariant.1,
+      λ k. c.deliver.ensures.kept (record { listed = (c.loop-letter.invariant.2 k).listed; behind = (c.loop-letter.invariant.2 k).behind }),
     )
 
 pub returns-after-loop-letter-clause-delivered : goal.returns-after-loop-letter-clause-delivered
@@ -28,3 +29,9 @@ returns-in_default-clause-delivered g c =
     none_left c.args.self.now.letters.items c.loop-letter.self.letters.items c.args.self.now.connections c.loop-letter.self.connections
     c.loop-letter.invariant.0
     (none_long c.loop-letter.self.letters.items 0 0 (omega (arith, c.in_default.ensures.cases.0)) (omega arith))
+
+pub returns-after-loop-letter-clause-kept : goal.returns-after-loop-letter-clause-kept
+returns-after-loop-letter-clause-kept g c k = record { listed = (c.loop-letter.invariant.2 k).listed; behind = (c.loop-letter.invariant.2 k).behind }
+
+pub returns-in_default-clause-kept : goal.returns-in_default-clause-kept
+returns-in_default-clause-kept g c k = record { listed = (c.loop-letter.invariant.2 k).listed; behind = (c.loop-letter.invariant.2 k).behind }

@@ -10,12 +10,13 @@ use Rattle.craq_names.specs.declared.refusal.Refusal.TheVariants as refusals
 use Rattle.craq_letters.specs.declared.token.Token.{Token}
 use Rattle.craq_model.specs.declared.ask.Event.{Event}
 use Rattle.craq_model.specs.declared.step.Step.{Step}
+use Rattle.craq_model.specs.Plain.{Plain}
 use Rattle.craq_seat.specs.Calls.{Called, CallsOf, Desked}
 use Rattle.craq_seat.specs.Cells.{receipt_of}
 use Rattle.craq_seat.specs.declared.journal.Receipt.{Receipt}
 use Rattle.craq_seat.specs.declared.seat.Seated.{Seated}
 use Rattle.craq_seat.specs.declared.seat.Caller.{Caller}
-use Rattle.craq_workers.specs.Told.{AreSomeOf, HasInHand, IsReplyTo, Keeps, Kept, Reply, caller_under, is_own, others_of, own_receipt, replies_to, reply_to, said_by, said_to, TellsCallers, Waits, waiting_after, without_caller}
+use Rattle.craq_workers.specs.Told.{AreSomeOf, HasInHand, IsReplyTo, Keeps, Kept, Reply, caller_under, is_own, others_of, own_receipt, replies_to, reply_to, said_by, said_to, Steps, TellsCallers, Waits, waiting_after, without_caller}
 
 abbrev pub Outcomes : Type 0
 Outcomes = List (ℕ × Result Called Refusal)
@@ -139,17 +140,30 @@ pub left_same : (first now new : List (Caller Token)) (before mid after : Kept) 
 left_same first now new before mid after all rest callers replies left =
     subst (λ (cs : List (Caller Token)). Left first cs before after all rest) (sym callers) (subst (λ (rs : Kept). Left first now before rs all rest) (sym replies) left)
 
+-- a desk whose cell took a step did so under its receipt, with the pass that was shown
+stepped : {C : Type 0} (represents : C → Plain → Type 0) (old took new : Desked C) (event : Event) (receipt : Receipt) (shown pass : ℕ)
+    → new ≡ took → receipt ≡ receipt_of took.cell → shown ≡ pass → Steps represents old took event shown (Ok receipt) → Steps represents old new event pass (Ok (receipt_of new.cell))
+stepped {C} represents old took new event receipt shown pass same is alike step =
+    let by_pass = subst (λ (p : ℕ). Steps represents old took event p (Ok receipt)) alike step in
+    let by_receipt = subst (λ (r : Receipt). Steps represents old took event pass (Ok r)) is by_pass in
+    subst (λ (d : Desked C). Steps represents old d event pass (Ok (receipt_of d.cell))) (sym same) by_receipt
+
+-- and a refused one was refused with the pass that was shown
+pub refused : {C : Type 0} (represents : C → Plain → Type 0) (old new : Desked C) (event : Event) (shown pass : ℕ) (e : Refusal) → shown ≡ pass → Steps represents old new event shown (Err e) → Steps represents old new event pass (Err e)
+refused represents old new event shown pass e alike step = subst (λ (p : ℕ). Steps represents old new event p (Err e)) alike step
+
 -- so the callers of a step were told
-pub told_callers : {C : Type 0} (old : Seated C Token) (took new : Desked C) (callers : List (Caller Token)) (event : Event) (receipt : Receipt) (shown pass : ℕ) (ticket : Option ℕ) (calls : Result (Vec Called Global) AllocError) (before after : Kept)
-    → new ≡ took → receipt ≡ receipt_of took.cell → shown ≡ pass
+pub told_callers : {C : Type 0} (represents : C → Plain → Type 0) (old : Seated C Token) (took new : Desked C) (callers : List (Caller Token)) (event : Event) (receipt : Receipt) (shown pass : ℕ) (ticket : Option ℕ) (calls : Result (Vec Called Global) AllocError) (before after : Kept)
+    → new ≡ took → receipt ≡ receipt_of took.cell → shown ≡ pass → Steps represents old.desk took event shown (Ok receipt)
     → IfSome took.cell.last (λ (step : Step). CallsOf old.desk.waiting took.waiting event receipt shown step calls)
     → callers ≡ waiting_after old.callers.items (said_by calls took.cell.last ticket)
     → Keeps before (replies_to old.callers.items (said_by calls took.cell.last ticket)) after
-    → TellsCallers old new callers event pass ticket calls before after
-told_callers {C} old took new callers event receipt shown pass ticket calls before after same is alike served waits kept =
+    → TellsCallers represents old new callers event pass ticket calls before after
+told_callers {C} represents old took new callers event receipt shown pass ticket calls before after same is alike step served waits kept =
     let by_receipt = subst (λ (r : Receipt). IfSome took.cell.last (λ (step : Step). CallsOf old.desk.waiting took.waiting event r shown step calls)) is served in
     let by_pass = subst (λ (p : ℕ). IfSome took.cell.last (λ (step : Step). CallsOf old.desk.waiting took.waiting event (receipt_of took.cell) p step calls)) alike by_receipt in
-    subst (λ (d : Desked C). TellsCallers old d callers event pass ticket calls before after) (sym same) (by_pass, waits, kept)
+    subst (λ (d : Desked C). TellsCallers represents old d callers event pass ticket calls before after) (sym same)
+    (stepped represents old.desk took took event receipt shown pass refl is alike step, by_pass, waits, kept)
 
 -- the caller whose ask was taken may be told what the step has to say to it
 pub says_it : (own ticket : Option ℕ) (calls : Result (Vec Called Global) AllocError) (reply : Option (Result Called Refusal)) → own ≡ ticket → reply ≡ said_to own calls → IfSome reply (λ (o : Result Called Refusal). IsReplyTo ticket o)

@@ -1,4 +1,4 @@
--- Which caller of a node is told what, and which wait on.
+-- Which step a node takes, which caller of it is told what, and which wait on.
 use Rattle.std.specs.Prelude.{◌≡◌, ◌⊎◌, ◌==◌, ◌++◌, ℕ, Bool, false, not, List, [], ◌∷◌, filter, find, flat_map, map, Option, Some, None, option_map, Result, Ok, Err, IfSome, Vec}
 use Rattle.std.specs.List.{last_or}
 use Rattle.std.specs.Set.{remove_key}
@@ -13,8 +13,12 @@ use Rattle.craq_model.specs.declared.ask.Event.TheVariants as events
 use Rattle.craq_model.specs.declared.step.Out.{Out}
 use Rattle.craq_model.specs.declared.step.Out.TheVariants as outs
 use Rattle.craq_model.specs.declared.step.Step.{Step}
+use Rattle.craq_model.specs.Plain.{Plain}
+use Rattle.craq_seat.specs.declared.journal.Receipt.{Receipt}
 use Rattle.craq_seat.specs.Calls.{Called, CallsOf, Desked}
-use Rattle.craq_seat.specs.Cells.{receipt_of}
+use Rattle.craq_seat.specs.Cells.{receipt_of, with_inside}
+use Rattle.craq_seat.specs.Kept.{IsKept}
+use Rattle.craq_seat.specs.Taken.{TakesEvent}
 use Rattle.craq_seat.specs.declared.seat.Caller.{Caller}
 use Rattle.craq_seat.specs.declared.seat.Seated.{Seated}
 
@@ -140,33 +144,64 @@ abbrev pub ticket_of : Option Step → Option ℕ
 ticket_of None = None
 ticket_of (Some step) = step.ticket
 
--- after a step on this event, which accepted an ask under this ticket or none: the receipts of its calls as the desk has them, or
--- no memory for these; and the callers that wait are told so, but for the caller of this ticket, who does not wait yet
-abbrev pub TellsCallers : {C : Type 0} → Seated C Token → Desked C → List (Caller Token) → Event → ℕ → Option ℕ → Result (Vec Called Global) AllocError → Kept → Kept → Type 0
-TellsCallers old desk callers event pass ticket calls before after =
-    IfSome desk.cell.last (λ (step : Step). CallsOf old.desk.waiting desk.waiting event (receipt_of desk.cell) pass step calls)
+-- a desk's cell took the step of this event with this pass, or refused it and is as it was; and it keeps what cells keep
+abbrev pub Steps : {C : Type 0} → (C → Plain → Type 0) → Desked C → Desked C → Event → ℕ → Result Receipt Refusal → Type 0
+Steps represents old new event pass result =
+    ((p : Plain) → represents old.cell.inside p → TakesEvent represents new.cell (with_inside old.cell p) event pass result) × IsKept represents new.cell
+
+-- it refused the step, and the same calls wait
+abbrev pub RefusesStep : {C : Type 0} → (C → Plain → Type 0) → Desked C → Desked C → Event → ℕ → Refusal → Type 0
+RefusesStep represents old new event pass e = Steps represents old new event pass (Err e) × (new.waiting ≡ old.waiting)
+
+-- a desk refused an ask and is as it was: there was no room for the caller, or the cell refused the step
+abbrev pub RefusesAsked : {C : Type 0} → (C → Plain → Type 0) → Desked C → Desked C → Ask → ℕ → Refusal → Type 0
+RefusesAsked represents old new ask pass e = ((e ≡ refusals.Memory) × (new ≡ old)) ⊎ RefusesStep represents old new (events.Ask ask) pass e
+
+-- the step of this event was taken, and accepted an ask under this ticket or none: the receipts of its calls as the desk has them,
+-- or no memory for these; and the callers that wait are told so, but for the caller of this ticket, who does not wait yet
+abbrev pub TellsCallers : {C : Type 0} → (C → Plain → Type 0) → Seated C Token → Desked C → List (Caller Token) → Event → ℕ → Option ℕ → Result (Vec Called Global) AllocError → Kept → Kept → Type 0
+TellsCallers represents old desk callers event pass ticket calls before after =
+    Steps represents old.desk desk event pass (Ok (receipt_of desk.cell))
+    × IfSome desk.cell.last (λ (step : Step). CallsOf old.desk.waiting desk.waiting event (receipt_of desk.cell) pass step calls)
     × (callers ≡ waiting_after old.callers.items (said_by calls desk.cell.last ticket))
     × Keeps before (replies_to old.callers.items (said_by calls desk.cell.last ticket)) after
 
+-- the step of an event that is no ask was taken, and the callers that waited are told what it answers; or it was refused, nobody is
+-- told, and all wait on
+abbrev pub ReactsTo : {C : Type 0} → (C → Plain → Type 0) → Seated C Token → Seated C Token → Event → Kept → Kept → Type 0
+ReactsTo represents old new event before after =
+    ((calls : Result (Vec Called Global) AllocError) × TellsCallers represents old new.desk new.callers.items event 0 None calls before after)
+    ⊎ ((e : Refusal) × RefusesStep represents old.desk new.desk event 0 e × (new.callers.items ≡ old.callers.items) × (after ≡ before))
+
 -- the step of a queued ask was taken: the callers that waited are told what it answers, and this one is told or waits
-abbrev pub TakesQueued : {C : Type 0} → Seated C Token → Seated C Token → Ask → ℕ → Token → Kept → Kept → Type 0
-TakesQueued old new ask pass token before after =
+abbrev pub TakesQueued : {C : Type 0} → (C → Plain → Type 0) → Seated C Token → Seated C Token → Ask → ℕ → Token → Kept → Kept → Type 0
+TakesQueued represents old new ask pass token before after =
     (calls : Result (Vec Called Global) AllocError) × (callers : List (Caller Token)) × (mid : Kept)
-    × TellsCallers old new.desk callers (events.Ask ask) pass (ticket_of new.desk.cell.last) calls before mid
+    × TellsCallers represents old new.desk callers (events.Ask ask) pass (ticket_of new.desk.cell.last) calls before mid
     × Settles token (ticket_of new.desk.cell.last) (said_to (ticket_of new.desk.cell.last) calls) callers new.callers.items mid after
 
--- it was refused: this caller alone is told, and the others wait on
-abbrev pub RefusesQueued : {C : Type 0} → Seated C Token → Seated C Token → Token → Kept → Kept → Type 0
-RefusesQueued old new token before after =
-    (e : Refusal) × IsTold (record { ticket = None; token = token }) (Err e) old.callers.items new.callers.items before after
+-- it was refused: the desk is as it was, this caller alone is told, and the others wait on
+abbrev pub RefusesQueued : {C : Type 0} → (C → Plain → Type 0) → Seated C Token → Seated C Token → Ask → ℕ → Token → Kept → Kept → Type 0
+RefusesQueued represents old new ask pass token before after =
+    (e : Refusal) × RefusesAsked represents old.desk new.desk ask pass e
+    × IsTold (record { ticket = None; token = token }) (Err e) old.callers.items new.callers.items before after
+
+-- the store is closed: no step was taken, this caller alone is told so, and the others wait on
+abbrev pub ClosesQueued : {C : Type 0} → Seated C Token → Seated C Token → Token → Kept → Kept → Type 0
+ClosesQueued old new token before after = (new ≡ old) × Keeps before (record { to = record { ticket = None; token = token }; outcome = Err refusals.Closed } ∷ []) after
 
 -- the step of an ask was taken by its caller: the callers that waited are told what it answers, and this one has its reply in hand or waits
-abbrev pub TakesOwn : {C : Type 0} → Seated C Token → Seated C Token → Ask → ℕ → Token → Option (Result Called Refusal) → Kept → Kept → Type 0
-TakesOwn old new ask pass token hand before after =
+abbrev pub TakesOwn : {C : Type 0} → (C → Plain → Type 0) → Seated C Token → Seated C Token → Ask → ℕ → Token → Option (Result Called Refusal) → Kept → Kept → Type 0
+TakesOwn represents old new ask pass token hand before after =
     (calls : Result (Vec Called Global) AllocError) × (callers : List (Caller Token)) × (mid : Kept)
-    × TellsCallers old new.desk callers (events.Ask ask) pass (ticket_of new.desk.cell.last) calls before mid
+    × TellsCallers represents old new.desk callers (events.Ask ask) pass (ticket_of new.desk.cell.last) calls before mid
     × HasInHand token (ticket_of new.desk.cell.last) (said_to (ticket_of new.desk.cell.last) calls) hand callers new.callers.items mid after
 
--- it was refused: this caller has the refusal in hand, nobody is told, and the others wait on
-abbrev pub RefusesOwn : {C : Type 0} → Seated C Token → Seated C Token → Option (Result Called Refusal) → Kept → Kept → Type 0
-RefusesOwn old new hand before after = (e : Refusal) × (hand ≡ Some (Err e)) × (new.callers.items ≡ old.callers.items) × (after ≡ before)
+-- it was refused: the desk is as it was, this caller has the refusal in hand, nobody is told, and the others wait on
+abbrev pub RefusesOwn : {C : Type 0} → (C → Plain → Type 0) → Seated C Token → Seated C Token → Ask → ℕ → Option (Result Called Refusal) → Kept → Kept → Type 0
+RefusesOwn represents old new ask pass hand before after =
+    (e : Refusal) × RefusesAsked represents old.desk new.desk ask pass e × (hand ≡ Some (Err e)) × (new.callers.items ≡ old.callers.items) × (after ≡ before)
+
+-- the store is closed: no step was taken, this caller has that in hand, nobody is told, and the others wait on
+abbrev pub ClosesOwn : {C : Type 0} → Seated C Token → Seated C Token → Option (Result Called Refusal) → Kept → Kept → Type 0
+ClosesOwn old new hand before after = (new ≡ old) × (hand ≡ Some (Err refusals.Closed)) × (after ≡ before)

@@ -1,15 +1,26 @@
--- What a turn of a node owes, and which entries it holds back.
-use Rattle.std.specs.Prelude.{◌≡◌, Option, [], ◌∷◌, IfSome, IsSome}
+-- Which step a turn of a node takes, what it owes, and which entries it holds back.
+use Rattle.std.specs.Prelude.{◌≡◌, ◌⊎◌, ℕ, List, Option, [], ◌∷◌, IfSome, IsSome}
+use Rattle.craq_letters.specs.declared.token.Token.{Token}
 use Rattle.craq_model.specs.declared.ask.Event.{Event}
+use Rattle.craq_model.specs.declared.ask.Event.TheVariants as events
 use Rattle.craq_model.specs.declared.message.LinkMessage.{LinkMessage}
 use Rattle.craq_model.specs.declared.step.Step.{Step}
+use Rattle.craq_model.specs.Plain.{Plain}
 use Rattle.craq_runs.specs.Chain.{sent_in}
 use Rattle.craq_seat.specs.Cells.{Celled, receipt_of}
 use Rattle.craq_seat.specs.Numbered.{numbered_from}
+use Rattle.craq_seat.specs.declared.seat.Seated.{Seated}
 use Rattle.craq_sending.specs.declared.sending.Kind.TheVariants as kinds
 use Rattle.craq_sending.specs.Sent.{OnlySends}
 use Rattle.craq_workers.specs.declared.unsent.Unsent.{Unsent}
+use Rattle.craq_wire.specs.Spelling.{Spells}
 use Rattle.craq_workers.specs.declared.unsent.Unsent.TheVariants as unsent
+use Rattle.craq_workers.specs.Told.{Kept, ReactsTo}
+
+-- a node reacts to the message that these bytes spell; or memory lacks, or they spell none, and it is as it was
+abbrev pub Hears : {C : Type 0} → (C → Plain → Type 0) → Seated C Token → Seated C Token → List ℕ → Kept → Kept → Type 0
+Hears represents old new bytes before after =
+    ((m : LinkMessage) × Spells m bytes × ReactsTo represents old new (events.Deliver m) before after) ⊎ ((new ≡ old) × (after ≡ before))
 
 -- if all that a cell's last step does is to acknowledge, that acknowledgement is owed
 abbrev pub OwesLast : {C : Type 0} → Celled C Event → Option LinkMessage → Type 0

@@ -13,7 +13,8 @@ pub enum Work {
 /// What is called round each piece of work of a store's workers. A gate that waits holds the worker up, and can do so
 /// only by a handle that it keeps. The counts are each worker's own, from 0, without gaps. Where callers take their steps
 /// themselves they count the pieces of their node's ask worker, in no fixed order. Where one thread carries a chain, a
-/// piece is a turn of a node: the messages and the asks that wait there, 16 of each at most, counted among its asks.
+/// piece is a turn of a node: the messages and the asks that wait there, 16 of each at most, counted among its asks. A node
+/// whose lock another thread holds may be passed by: then `before` and `after` are called, with a count, and not `within`.
 pub trait Gate: Drop {
     /// Before a piece of work, with no lock held.
     fn before(&self, node: NodeName, work: Work, count: u64);
@@ -40,7 +41,7 @@ pub trait Gate: Drop {
     }
 
     /// Whether one thread a chain takes the steps of all its nodes, in turns, in place of two threads a node. Callers then
-    /// take the steps of their reads themselves.
+    /// take the steps of their reads themselves, and those of few updates while that thread sleeps.
     fn carried(&self) -> bool {
         false
     }

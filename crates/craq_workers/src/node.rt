@@ -2,7 +2,7 @@
 ghost use Rattle.std.specs.Prelude.{◌≡◌, ◌⊎◌, None, Some, if◌then◌else◌};
 ghost use Rattle.craq_model.specs.Plain.{Plain};
 ghost use Rattle.craq_seat.specs.Cells.{receipt_of};
-ghost use Rattle.craq_workers.specs.Ways.{retired};
+ghost use Rattle.craq_workers.specs.Ways.{WaitsAs, retired};
 
 use crate::pending::Pending;
 use crate::steps::QueuedAsk;
@@ -132,7 +132,9 @@ impl<C: Core> RunningNode<C> {
 
     /// What is to wait in the queue for what is brought: of ticks, acknowledgements, and words of a node that is not ready, one
     /// at most.
-    pub(crate) fn admit<R: Wait>(&self, rt: &R, brought: Brought) -> Option<Waiting> {
+    pub(crate) fn admit<R: Wait>(&self, rt: &R, brought: Brought) -> Option<Waiting>
+        ensures { WaitsAs brought result }
+    {
         match brought {
             Brought::Message(bytes) => Some(Waiting::Message(bytes)),
             Brought::Ack(bytes) => self.ack.put(rt, bytes).then_some(Waiting::Ack),

@@ -1,6 +1,6 @@
 //! A step of a node whose seat is locked: an ask's or another event's, with its replies; and the messages of the last step.
 //! Called by `shared`, `work` and `store`, under the lock.
-ghost use Rattle.std.specs.Prelude.{◌≡◌, ◌∷◌, ◌⊎◌, ◌↔◌, [], None, Some, Err, Ok, IfOk, IfSome, IsNone, IsTrue, OnErr, Result, Vec, List, ℕ, false, option_map};
+ghost use Rattle.std.specs.Prelude.{◌≡◌, ◌∷◌, ◌⊎◌, ◌↔◌, [], None, Some, Err, Ok, IfErr, IfOk, IfSome, IsNone, IsTrue, OnErr, Result, Vec, List, ℕ, false, option_map};
 ghost use Rattle.std.specs.Option.{option_copied};
 ghost use Rattle.std.specs.declared.alloc.AllocError.{AllocError};
 ghost use Rattle.std.specs.declared.alloc.Global.{Global};
@@ -14,7 +14,7 @@ ghost use Rattle.craq_seat.specs.declared.seat.Caller.{Caller};
 ghost use Rattle.craq_seat.specs.Numbered.{CanBeSent, numbered_from};
 ghost use Rattle.craq_sending.specs.declared.sending.Kind.TheVariants as kinds;
 ghost use Rattle.craq_sending.specs.Sent.{AreSentAs, OnlySends};
-ghost use Rattle.craq_workers.specs.Told.{IsReplyTo, Keeps, RefusesOwn, RefusesQueued, Settles, TakesOwn, TakesQueued, TellsCallers, Waits, is_own, others_of, own_receipt, replies_to, said_by, said_to, ticket_of, waiting_after, without_memory};
+ghost use Rattle.craq_workers.specs.Told.{IsReplyTo, Keeps, RefusesAsked, RefusesOwn, RefusesQueued, RefusesStep, Settles, TakesOwn, TakesQueued, TellsCallers, Waits, is_own, others_of, own_receipt, replies_to, said_by, said_to, ticket_of, waiting_after, without_memory};
 
 use crate::replies::Replies;
 use crate::told::Unanswered;
@@ -198,8 +198,9 @@ pub(crate) fn take_event<R: Wait, C: Core>(
     replies: &mut Replies,
 ) -> bool
     requires { CanArrive event }
-    ensures taken { IsTrue result → (calls : Result (Vec Called Global) AllocError) × TellsCallers seated.old seated.new.desk seated.new.callers.items event 0 None calls replies.old replies.new }
+    ensures taken { IsTrue result → (calls : Result (Vec Called Global) AllocError) × TellsCallers C.represents seated.old seated.new.desk seated.new.callers.items event 0 None calls replies.old replies.new }
     ensures same { result ≡ false → (seated.new.callers.items ≡ seated.old.callers.items) × (replies.new ≡ replies.old) }
+    ensures refused { result ≡ false → (e : Refusal) × RefusesStep C.represents seated.old.desk seated.new.desk event 0 e }
 {
     match seated.desk.take(alloc, event, Pass::start()) {
         Ok((_, calls)) => {
@@ -221,9 +222,10 @@ fn take_ask<R: Wait, C: Core>(
     replies: &mut Replies,
 ) -> Result<Taken, Refusal>
     ensures own { IfOk result (λ taken. IfSome taken.reply (λ reply. IsReplyTo taken.ticket reply)) }
-    ensures taken { IfOk result (λ taken. (calls : Result (Vec Called Global) AllocError) × TellsCallers seated.old seated.new.desk seated.new.callers.items (Event.Ask ask) pass taken.ticket calls replies.old replies.new × (taken.reply ≡ said_to taken.ticket calls)) }
+    ensures taken { IfOk result (λ taken. (calls : Result (Vec Called Global) AllocError) × TellsCallers C.represents seated.old seated.new.desk seated.new.callers.items (Event.Ask ask) pass taken.ticket calls replies.old replies.new × (taken.reply ≡ said_to taken.ticket calls)) }
     ensures ticket { IfOk result (λ taken. taken.ticket ≡ ticket_of seated.new.desk.cell.last) }
     ensures same { OnErr result ((seated.new.callers.items ≡ seated.old.callers.items) × (replies.new ≡ replies.old)) }
+    ensures refused { IfErr result (λ e. RefusesAsked C.represents seated.old.desk seated.new.desk ask pass e) }
 {
     if seated.callers.reserve(1).is_err() {
         drop(ask);
@@ -248,8 +250,8 @@ pub(crate) fn take_queued<R: Wait, C: Core>(
     asked: QueuedAsk,
     replies: &mut Replies,
 ) -> bool
-    ensures taken { IsTrue result → TakesQueued seated.old seated.new asked.ask asked.pass asked.caller replies.old replies.new }
-    ensures refused { result ≡ false → RefusesQueued seated.old seated.new asked.caller replies.old replies.new }
+    ensures taken { IsTrue result → TakesQueued C.represents seated.old seated.new asked.ask asked.pass asked.caller replies.old replies.new }
+    ensures refused { result ≡ false → RefusesQueued C.represents seated.old seated.new asked.ask asked.pass asked.caller replies.old replies.new }
 {
     let QueuedAsk { ask, pass, caller } = asked;
     let caller = Unanswered::of(caller);
@@ -327,8 +329,8 @@ pub(crate) fn take_own<R: Wait, C: Core>(
     token: Token,
     replies: &mut Replies,
 ) -> (bool, Option<Outcome>)
-    ensures taken { IsTrue result.0 → TakesOwn seated.old seated.new ask pass token result.1 replies.old replies.new }
-    ensures refused { result.0 ≡ false → RefusesOwn seated.old seated.new result.1 replies.old replies.new }
+    ensures taken { IsTrue result.0 → TakesOwn C.represents seated.old seated.new ask pass token result.1 replies.old replies.new }
+    ensures refused { result.0 ≡ false → RefusesOwn C.represents seated.old seated.new ask pass result.1 replies.old replies.new }
 {
     match take_ask(rt, alloc, seated, ask, pass, replies) {
         Err(refusal) => (false, Some(Err(refusal))),

@@ -1,12 +1,12 @@
 //! `Turn`: a node whose lock is held, the steps that it takes until the lock is let go, and what these send; begun by `work`,
 //! `carrying` and `shared`.
 ghost use Rattle.std.specs.Sync.Mutex.{mutex_guard_value};
-ghost use Rattle.std.specs.Prelude.{◌≡◌, ◌⊎◌, None, Some};
+ghost use Rattle.std.specs.Prelude.{◌≡◌, ◌⊎◌, [], None, Some, false};
 ghost use Rattle.craq_held.specs.Held.{cell_in};
 ghost use Rattle.craq_node.specs.Represented.{CanArrive};
 ghost use Rattle.craq_workers.specs.declared.unsent.Unsent.TheVariants as unsent;
-ghost use Rattle.craq_workers.specs.Told.{RefusesOwn, RefusesQueued, TakesOwn, TakesQueued};
-ghost use Rattle.craq_workers.specs.Turns.{HoldsBack, OwesLast, OwesStill};
+ghost use Rattle.craq_workers.specs.Told.{ClosesOwn, ClosesQueued, ReactsTo, RefusesOwn, RefusesQueued, TakesOwn, TakesQueued};
+ghost use Rattle.craq_workers.specs.Turns.{Hears, HoldsBack, OwesLast, OwesStill};
 
 use crate::gate::Gate;
 use crate::node::{RunningNode, Waiting};
@@ -59,7 +59,8 @@ impl<'a, C: Core, G: Gate> Exit<'a, C, G> {
 /// as its step sends it. Several are lost, as on a link, and a tick of the node brings its successor all that it has not
 /// acknowledged, in batches.
 ///
-/// A turn has no drop: `end` alone ends it, so none ends that owes something or holds something back.
+/// A turn has no drop: `end` alone ends it, after what is held back and owed. That this goes out then no contract says: none sees
+/// what the links take.
 pub(crate) struct Turn<'a, C: Core, G: Gate> {
     exit: Exit<'a, C, G>,
     seated: MutexGuard<'a, SeatedNode<C>>,
@@ -77,6 +78,8 @@ impl<'a, C: Core, G: Gate> Turn<'a, C, G> {
         seated: MutexGuard<'a, SeatedNode<C>>,
         quiet: bool,
     ) -> Self
+        ensures seated { result.seated ≡ seated.entry }
+        ensures replies { result.replies ≡ record { replies = []; short = false } }
         ensures owed { result.owed ≡ None }
         ensures unsent { result.unsent ≡ unsent.Nothing }
     {
@@ -122,7 +125,9 @@ impl<'a, C: Core, G: Gate> Turn<'a, C, G> {
     /// What is held back goes out: the entry of the last step as that sends it, and more by a tick of the node. Without memory for
     /// the tick they wait for the next one, as what a link loses does.
     fn bring<R: Wait>(&mut self, rt: &R)
-        ensures { self.new.unsent ≡ unsent.Nothing }
+        ensures unsent { self.new.unsent ≡ unsent.Nothing }
+        ensures several { self.old.unsent ≡ unsent.Several → ReactsTo C.represents (mutex_guard_value self.old.seated) (mutex_guard_value self.new.seated) Event.Tick self.old.replies self.new.replies }
+        ensures same { ¬ (self.old.unsent ≡ unsent.Several) → (self.new.seated ≡ self.old.seated) × (self.new.replies ≡ self.old.replies) }
     {
         let unsent = mem::replace(&mut self.unsent, Unsent::Nothing);
         match unsent {
@@ -168,7 +173,9 @@ impl<'a, C: Core, G: Gate> Turn<'a, C, G> {
     }
 
     /// The step on a message.
-    fn hear<R: Wait>(&mut self, rt: &R, bytes: Bytes) {
+    fn hear<R: Wait>(&mut self, rt: &R, bytes: Bytes)
+        ensures { Hears C.represents (mutex_guard_value self.old.seated) (mutex_guard_value self.new.seated) bytes self.old.replies self.new.replies }
+    {
         if let Ok(message) = decode(self.exit.alloc, bytes.as_slice()) {
             self.step(rt, Event::Deliver(message));
         }
@@ -177,6 +184,7 @@ impl<'a, C: Core, G: Gate> Turn<'a, C, G> {
     /// One step on a message or a tick, and what it sends.
     fn step<R: Wait>(&mut self, rt: &R, event: Event)
         requires { CanArrive event }
+        ensures { ReactsTo C.represents (mutex_guard_value self.old.seated) (mutex_guard_value self.new.seated) event self.old.replies self.new.replies }
     {
         if take_event(
             rt,
@@ -191,7 +199,7 @@ impl<'a, C: Core, G: Gate> Turn<'a, C, G> {
 
     /// The step of a queued ask. A node that is closed takes none, since nobody would answer it.
     pub(crate) fn take_asked<R: Wait>(&mut self, rt: &R, asked: QueuedAsk)
-        ensures { TakesQueued (mutex_guard_value self.old.seated) (mutex_guard_value self.new.seated) asked.ask asked.pass asked.caller self.old.replies self.new.replies ⊎ RefusesQueued (mutex_guard_value self.old.seated) (mutex_guard_value self.new.seated) asked.caller self.old.replies self.new.replies }
+        ensures { TakesQueued C.represents (mutex_guard_value self.old.seated) (mutex_guard_value self.new.seated) asked.ask asked.pass asked.caller self.old.replies self.new.replies ⊎ RefusesQueued C.represents (mutex_guard_value self.old.seated) (mutex_guard_value self.new.seated) asked.ask asked.pass asked.caller self.old.replies self.new.replies ⊎ ClosesQueued (mutex_guard_value self.old.seated) (mutex_guard_value self.new.seated) asked.caller self.old.replies self.new.replies }
     {
         if self.exit.node.is_closed() {
             refuse_asked(rt, asked, &mut self.replies);
@@ -214,7 +222,7 @@ impl<'a, C: Core, G: Gate> Turn<'a, C, G> {
         pass: Pass,
         back: Return<'_>,
     ) -> Option<Outcome>
-        ensures { TakesOwn (mutex_guard_value self.old.seated) (mutex_guard_value self.new.seated) ask pass back.entry.token result self.old.replies self.new.replies ⊎ RefusesOwn (mutex_guard_value self.old.seated) (mutex_guard_value self.new.seated) result self.old.replies self.new.replies }
+        ensures { TakesOwn C.represents (mutex_guard_value self.old.seated) (mutex_guard_value self.new.seated) ask pass back.entry.token result self.old.replies self.new.replies ⊎ RefusesOwn C.represents (mutex_guard_value self.old.seated) (mutex_guard_value self.new.seated) ask pass result self.old.replies self.new.replies ⊎ ClosesOwn (mutex_guard_value self.old.seated) (mutex_guard_value self.new.seated) result self.old.replies self.new.replies }
     {
         if self.exit.node.is_closed() {
             drop(ask);

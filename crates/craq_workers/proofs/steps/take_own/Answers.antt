@@ -13,7 +13,7 @@ returns-after-reply-clause-taken g c =
     let calls = c.in-Ok.ensures.taken.0 in
     let callers = seated.callers.items in
     let is : t ≡ ticket_of seated.desk.cell.last = c.in-Ok.ensures.ticket in
-    let told = subst (λ (o : Option ℕ). TellsCallers c.args.seated.now seated.desk callers (events.Ask c.args.ask) c.args.pass o calls c.args.replies.now mid) is c.in-Ok.ensures.taken.1 in
+    let told = subst (λ (o : Option ℕ). TellsCallers g.C.Core.represents c.args.seated.now seated.desk callers (events.Ask c.args.ask) c.args.pass o calls c.args.replies.now mid) is c.in-Ok.ensures.taken.1 in
     λ taken. elim c.match-reply.branch [
       | in-Some w ↦
           let hand = in_hand c.args.token t (said_to t calls) w.in-Some.reply callers mid (sym c.in-Ok.ensures.taken.2 ∙ w.in-Some.is) in

@@ -41,7 +41,8 @@ pub trait Gate: Drop {
     }
 
     /// Whether one thread a chain takes the steps of all its nodes, in turns, in place of two threads a node. Callers then
-    /// take the steps of their reads themselves, and those of few updates while that thread sleeps.
+    /// take the steps of their reads themselves, and those of few updates while that thread sleeps. A store asks this once, when it
+    /// starts.
     fn carried(&self) -> bool {
         false
     }

@@ -23,6 +23,8 @@ use std::sync::{Arc, Wait};
 #[derive(Drop)]
 pub(crate) struct Shared<C: Core, G: Gate> {
     pub gate: G,
+    /// One thread carries each chain: what the gate said when the store started.
+    pub carried: bool,
     /// By id.
     pub chains: Vec<Chain<C>>,
 }
@@ -171,7 +173,7 @@ impl<C: Core, G: Gate> Shared<C, G> {
         }
     }
 
-    /// The same with an ask of its own, in the way that the store's gate wants.
+    /// The same with an ask of its own, in the way that fits the store's threads and that its gate wants.
     fn submit_own<R: Wait>(
         &self,
         rt: &R,
@@ -183,7 +185,7 @@ impl<C: Core, G: Gate> Shared<C, G> {
         back: Return<'_>,
         few: bool,
     ) -> Result<Option<CallReceipt>, Refusal> {
-        if self.gate.carried() {
+        if self.carried {
             self.submit_carried(rt, alloc, chain, name, ask, pass, back, few)
         } else if self.gate.in_place() {
             in_hand(self.serve_at(rt, alloc, chain, name, ask, pass, back, false))

@@ -310,7 +310,12 @@ impl<C: Core + Send + 'static, G: Gate + Send + Sync + 'static> Store<C, G> {
         let (alive, ended) = crossbeam_channel::unbounded(alloc)?;
         let mut workers = Vec::new(alloc);
         let chains = open_chains(alloc, plan, form, &alive, &mut workers)?;
-        let shared = Arc::new(alloc, Shared { gate, chains })?;
+        let shared = Shared {
+            gate,
+            carried: form.carried,
+            chains,
+        };
+        let shared = Arc::new(alloc, shared)?;
         let store = Store {
             alloc,
             form,

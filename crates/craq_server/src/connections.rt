@@ -1,5 +1,6 @@
 //! `Connections`: those of a server that are open, each at a place, so that they are limited in number and can be ended, and
 //! how far the server has come; shared by `accept`, the threads that serve them and whoever waits for the server or ends it.
+use crate::places::Places;
 use std::alloc::{AllocError, Global};
 use std::net::{Shutdown, TcpStream};
 use std::sync::{Arc, Condvar, Mutex, Wait};
@@ -23,16 +24,13 @@ pub struct Connections {
     /// Told whenever it has come further.
     changed: Condvar,
     /// Each connection that is open, at its place. So many can be open as there are places.
-    places: Mutex<Vec<Option<Arc<TcpStream>>>>,
+    places: Mutex<Places>,
 }
 
 impl Connections {
     /// Room for so many open connections, none of which is open yet. It fails for want of memory alone.
     pub fn new(alloc: Global, most: u32) -> Result<Self, AllocError> {
-        let mut places = Vec::new(alloc);
-        for _ in 0..most {
-            places.push(None)?;
-        }
+        let places = Places::new(alloc, most)?;
         Ok(Connections {
             progress: Mutex::new(Progress {
                 has_begun: false,
@@ -81,27 +79,18 @@ impl Connections {
 
     /// Takes in a connection, where there is a place, and gives the place. It takes no memory.
     pub fn enter<R: Wait>(&self, rt: &R, stream: Arc<TcpStream>) -> Option<usize> {
-        let mut places = self.places.lock(rt);
-        for (place, at) in places.iter_mut().enumerate() {
-            if at.is_none() {
-                *at = Some(stream);
-                return Some(place);
-            }
-        }
-        drop(stream);
-        None
+        self.places.lock(rt).enter(stream)
     }
 
     /// The connection at a place is over, and the place is free.
     pub fn leave<R: Wait>(&self, rt: &R, place: usize) {
-        if let Some(at) = self.places.lock(rt).get_mut(place) {
-            *at = None;
-        }
+        self.places.lock(rt).leave(place);
     }
 
     /// Shuts each connection that is open.
     fn shut_all<R: Wait>(&self, rt: &R, how: Shutdown) {
-        for stream in self.places.lock(rt).iter().flatten() {
+        let places = self.places.lock(rt);
+        for stream in places.as_slice().iter().flatten() {
             let _ = stream.shutdown(how);
         }
     }

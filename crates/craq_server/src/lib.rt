@@ -9,6 +9,7 @@ mod crews;
 mod door;
 mod logging;
 mod passes;
+mod places;
 mod socket_buffers;
 mod status;
 mod turning;

@@ -1,5 +1,5 @@
 //! `Passes`: which passes a server takes, by the largest that it told; shared by the doors of its connections.
-ghost use Rattle.std.specs.Prelude.{◌+◌, ◌≤◌, ◌↔◌, IsTrue};
+ghost use Rattle.std.specs.Prelude.{◌+◌, ◌<◌, ◌≤◌, ◌↔◌, ℕ, IsTrue};
 
 use craq_names::{Pass, Stamp};
 use std::sync::atomic::{AtomicU64, Ordering};
@@ -20,6 +20,13 @@ pub fn is_taken(told: Pass, shown: Pass) -> bool
     shown <= told || shown - told <= MOST_LEAP
 }
 
+/// Whether a pass that is about to be told has to be made known before, where `known` is: one that is more than 524,288 above.
+fn is_news(known: u64, told: u64) -> bool
+    ensures { IsTrue result ↔ (known + MOST_LAG < told) }
+{
+    known < told && told - known > MOST_LAG
+}
+
 /// What a server knows of the passes that it told: `tell` keeps it no more than 524,288 below any of them, so that each of
 /// them is taken. That is read and not proved, since no contract sees what an atomic number holds; which passes are taken
 /// where so much is known, the contract of `is_taken` says.
@@ -37,8 +44,10 @@ impl Passes {
         }
     }
 
-    /// Whether the pass is taken (`is_taken`).
-    pub fn takes(&self, pass: Pass) -> bool {
+    /// Whether the pass is taken, by the largest that is known to be told (`is_taken`): one of at most 1,048,576 always is.
+    pub fn takes(&self, pass: Pass) -> bool
+        ensures { (known : ℕ) × (IsTrue result ↔ (pass ≤ known + MOST_LEAP)) }
+    {
         let known = Stamp::new(self.known.load(Ordering::SeqCst));
         is_taken(Pass::of(known), pass)
     }
@@ -48,7 +57,7 @@ impl Passes {
         let told = pass.stamp().get();
         for _ in 0..u64::MAX {
             let known = self.known.load(Ordering::SeqCst);
-            if told <= known || told - known <= MOST_LAG {
+            if !is_news(known, told) {
                 break;
             }
             let exchanged = self

@@ -1,7 +1,9 @@
 //! Why `craqd` ends or serves nothing, with the text and the status of each reason; for `main`, `serving`, `plans`, `audits`
 //! and `closing`.
-ghost use Rattle.std.specs.Prelude.{◌≡◌};
+ghost use Rattle.std.specs.Prelude.{◌≡◌, Some, IfOk};
+ghost use Rattle.craqd.specs.Statuses.{status_of};
 
+use crate::lines::RefusedLine;
 use craq_line::{BAD_INPUT, NO_MEMORY, report_memory};
 use craq_names::Refusal;
 use std::alloc::{AllocError, AllocFailed};
@@ -61,7 +63,9 @@ impl Fault {
     }
 
     /// Tells what was wrong of a server whose plan file has this name, and gives the status.
-    pub fn report<R: Eprint>(self, rt: &R, plan: &str) -> io::Result<u8> {
+    pub fn report<R: Eprint>(self, rt: &R, plan: &str) -> io::Result<u8>
+        ensures { IfOk result (λ status. status_of self ≡ Some status) }
+    {
         match self {
             Fault::CannotRead => {
                 eprintln!(rt; "cannot read {plan}")?;
@@ -77,8 +81,8 @@ impl Fault {
                 Ok(CANNOT_LISTEN)
             }
             Fault::AuditRefused(refusal) => {
-                let number = refusal.number();
-                eprintln!(rt; "audit refused {number}")?;
+                let line = RefusedLine(refusal);
+                eprintln!(rt; "{line}")?;
                 Ok(AUDIT_REFUSED)
             }
             Fault::CannotPrint(error) => Err(error),

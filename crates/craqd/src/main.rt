@@ -4,6 +4,7 @@
 mod audits;
 mod closing;
 mod fault;
+mod lines;
 mod plans;
 mod serving;
 mod telling;

@@ -1,10 +1,11 @@
 //! The plan of a file; called by `serving`.
-ghost use Rattle.std.specs.Prelude.{IfOk};
-ghost use Rattle.craq_place.specs.Plan.{IsPlan};
+ghost use Rattle.std.specs.Prelude.{◌≡◌, ◌⊎◌, List, IfErr, IfOk, IsUtf8};
+ghost use Rattle.craq_place.specs.Plan.{Chain, IsPlan, StandsFor};
 
 use crate::fault::Fault;
 use craq_names::Refusal;
 use craq_place::Plan;
+use std::alloc::Global;
 use std::fs;
 use std::io::ErrorKind;
 use std::rt::Files;
@@ -19,17 +20,28 @@ fn bytes_of<R: AllocGlobal + Files>(rt: &R, path: &str) -> Result<Vec<u8>, Fault
     }
 }
 
+/// The plan that the bytes of a file stand for as text. `BadPlan` exactly where they are no text or stand for no plan; `Memory`
+/// where a growth was refused.
+fn plan_of_bytes(alloc: Global, bytes: &[u8]) -> Result<Plan, Fault>
+    ensures found { IfOk result (λ p. IsUtf8 bytes.now × StandsFor bytes.now p) }
+    ensures only { IfOk result (λ p. (other : List Chain) → StandsFor bytes.now other → other ≡ p) }
+    ensures bad { result ≡ Err Fault.BadPlan → IsUtf8 bytes.now → (p : List Chain) → StandsFor bytes.now p → ⊥ }
+    ensures err { IfErr result (λ e. (e ≡ Fault.BadPlan) ⊎ (e ≡ Fault.Memory)) }
+{
+    let Ok(text) = from_utf8(bytes) else {
+        return Err(Fault::BadPlan);
+    };
+    match Plan::read(alloc, text) {
+        Ok(plan) => Ok(plan),
+        Err(Refusal::Memory) => Err(Fault::Memory),
+        Err(_) => Err(Fault::BadPlan),
+    }
+}
+
 /// The plan of a file.
 pub fn plan_of<R: AllocGlobal + Files>(rt: &R, path: &str) -> Result<Plan, Fault>
     ensures { IfOk result IsPlan }
 {
     let bytes = bytes_of(rt, path)?;
-    let Ok(text) = from_utf8(bytes.as_slice()) else {
-        return Err(Fault::BadPlan);
-    };
-    match Plan::read(rt.alloc(), text) {
-        Ok(plan) => Ok(plan),
-        Err(Refusal::Memory) => Err(Fault::Memory),
-        Err(_) => Err(Fault::BadPlan),
-    }
+    plan_of_bytes(rt.alloc(), bytes.as_slice())
 }

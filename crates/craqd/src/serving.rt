@@ -1,4 +1,6 @@
 //! A store started, listened for, ticked and served, as a command line asks for; called by `main`.
+ghost use Rattle.std.specs.Prelude.{◌≡◌, if◌then◌else◌, nat_lt, true, IfOk};
+
 use crate::audits::print_audits;
 use crate::closing::{wake, watch_input};
 use crate::fault::Fault;
@@ -172,8 +174,22 @@ where
 }
 
 /// What a command line asks to be told.
-const fn log_of(line: &Line<'_>) -> Log {
+const fn log_of(line: &Line<'_>) -> Log
+    ensures { result ≡ (if line.now.log then Log.Lines else Log.Silent) }
+{
     if line.log { Log::Lines } else { Log::Silent }
+}
+
+/// How a command line asks that connections are served: their receipts are kept where journals are.
+const fn serving_of(line: &Line<'_>) -> Serving
+    ensures { result ≡ record { keeps = line.now.journal; connections = line.now.connections; idle = line.now.idle; log = if line.now.log then Log.Lines else Log.Silent } }
+{
+    Serving {
+        keeps: line.journal,
+        connections: line.connections,
+        idle: line.idle,
+        log: log_of(line),
+    }
 }
 
 /// Serves the connections of a listener to a store, as a command line asks for.
@@ -196,12 +212,7 @@ where
         watch_input(rt, connections)?;
     }
     tell_serving(&rt, store, line, address.port())?;
-    let serving = Serving {
-        keeps: line.journal,
-        connections: line.connections,
-        idle: line.idle,
-        log: log_of(line),
-    };
+    let serving = serving_of(line);
     let crowds = crowds_of(&rt, serving, line.threads)?;
     let service = Service {
         rt,
@@ -230,17 +241,24 @@ where
     serve_listener(rt, store, line, &listener, &connections)
 }
 
-/// A store of the chains of a plan file.
+/// How a command line asks that the chains' work is done: a thread for each chain where threads serve all connections.
+const fn gate_of(line: &Line<'_>) -> OpenGate
+    ensures { result ≡ record { in_place = true; carried = nat_lt 0 line.now.threads } }
+{
+    OpenGate {
+        in_place: true,
+        carried: line.threads > 0,
+    }
+}
+
+/// A store of the chains of a plan file, which keeps journals just where the command line asks for them.
 fn store_of<R>(rt: R, line: &Line<'_>) -> Result<RunningStore, Fault>
 where
     R: AllocGlobal + Files + Threads + Wait + Copy + Send + 'static,
+    ensures { IfOk result (λ store. store.journals ≡ line.now.journal) }
 {
     let plan = plan_of(&rt, line.plan)?;
-    let gate = OpenGate {
-        in_place: true,
-        carried: line.threads > 0,
-    };
-    match Store::start(rt, rt.alloc(), &plan, gate, line.journal) {
+    match Store::start(rt, rt.alloc(), &plan, gate_of(line), line.journal) {
         Ok(store) => Ok(store),
         Err(_) => Err(Fault::Memory),
     }

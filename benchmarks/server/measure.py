@@ -6,9 +6,11 @@
         [--journal]
 
 CRAQD is the program as ./build made it, REDIS_SERVER `redis-server` where it is not named. The load client, load.rs, is built by
-`rustc -O`. Each figure is of a fresh server; the rounds are taken in turn, and of each the median is printed. The first
-line says which part of the processors' time was idle, and which part the machine gave to other guests (steal). On a terminal a line
-on standard error tells how far it is. What it prints is the form of RESULTS.md, with which tools/pages/check compares README.md.
+`rustc -O`. Each figure is of a fresh server; in each round the servers are measured in turn, and the medians of the rounds are
+printed. How many times those of redis a server's figures are is told of each round by itself, since a machine may be slower in another
+round, and the median of that is printed. The first line says which part of the processors' time was idle, and which part the machine
+gave to other guests (steal). On a terminal a line on standard error tells how far it is. What it prints is the form of RESULTS.md, with
+which tools/pages/check compares README.md.
 """
 import argparse
 import os
@@ -119,15 +121,20 @@ def servers_of(options):
     return servers | {it: OTHERS[it] for it in ["redis", *options.beside]}
 
 
+def medians_of(rounds):
+    return [statistics.median(it) for it in zip(*rounds)]
+
+
 def rows(options, servers, found):
     yield "| Asked | Connections | Server | Replies | A second | Median, µs | 99th percentile, µs | Processor time a reply, µs | Times redis | 99th, times redis |"
     yield "|---|---|---|---|---|---|---|---|---|---|"
     for connections in options.connections:
         for mix in options.mixes:
-            medians = {kind: [statistics.median(it) for it in zip(*found[mix, connections, kind])] for kind in servers}
-            for kind, (replies, rate, middle, late, spent) in medians.items():
-                _, beside, _, beside_late, _ = medians["redis"]
-                ratios = f"{rate / beside:.2f} | {late / beside_late:.2f}" if kind != "redis" else " | "
+            for kind in servers:
+                rounds, beside = found[mix, connections, kind], found[mix, connections, "redis"]
+                replies, rate, middle, late, spent = medians_of(rounds)
+                _, rates, _, lates, _ = medians_of([[mine / its for mine, its in zip(*both)] for both in zip(rounds, beside)])
+                ratios = f"{rates:.2f} | {lates:.2f}" if kind != "redis" else " | "
                 yield f"| {MIXES[mix]} | {connections} | {kind} | {replies:,.0f} | {rate:,.0f} | {middle:,.0f} | {late:,.0f} | {spent:.1f} | {ratios} |"
 
 

@@ -1,5 +1,8 @@
-"""./serve over the program as it is tried here, ended by SIGTERM or SIGINT while a client works: what was answered is audited."""
+"""SIGTERM and SIGINT while a client works. ./serve over the program as it is tried here ends in order, and what was answered is audited; craqd itself
+ends at once, and prints nothing."""
+import itertools
 import os
+import re
 import shutil
 import signal
 import subprocess
@@ -45,33 +48,64 @@ class Working(threading.Thread):
             self.client.close()
 
 
-def ended_by(checks, top, plan, ending):
-    """The server ends in order at this signal."""
-    words = [f"{top}/serve", "--journal", *running.OPTIONS, plan, "127.0.0.1:0"]
+def begins(words, **more):
+    """Begins a server with journals, and a client that has some answers."""
     # A shell does not trap what is ignored as it begins.
-    process = subprocess.Popen(words, stdin=subprocess.DEVNULL, stdout=subprocess.PIPE, stderr=subprocess.PIPE, text=True, start_new_session=True,
-                               preexec_fn=lambda: signal.signal(signal.SIGINT, signal.SIG_DFL))
+    process = subprocess.Popen(words, stdout=subprocess.PIPE, stderr=subprocess.PIPE, text=True, start_new_session=True,
+                               preexec_fn=lambda: signal.signal(signal.SIGINT, signal.SIG_DFL), **more)
+    first = process.stdout.readline()
+    working = Working(f"127.0.0.1:{first.removeprefix('listening ').strip()}")
+    working.start()
+    return process, working
+
+
+def ends(process):
+    """A server that has not ended is killed, with all that it started."""
+    if process.poll() is None:
+        os.killpg(process.pid, signal.SIGKILL)
+        process.wait()
+
+
+def in_order(checks, top, plan, ending, send):
+    """./serve ends the server in order at this signal, also where it is sent to all that ./serve started."""
+    what = f"./serve at {ending.name} by {send.__name__}"
+    process, working = begins([f"{top}/serve", "--journal", *running.OPTIONS, plan, "127.0.0.1:0"], stdin=subprocess.DEVNULL)
     try:
-        first = process.stdout.readline()
-        working = Working(f"127.0.0.1:{first.removeprefix('listening ').strip()}")
-        working.start()
         checks.that(working.many.wait(running.PATIENCE), f"a client of ./serve has {BEFORE} answers")
-        process.send_signal(ending)
+        send(process.pid, ending)
         out, err = process.communicate(timeout=running.PATIENCE)
         working.join(running.PATIENCE)
-        checks.same(f"./serve at {ending.name}: its status, and wrong answers", (process.returncode, working.wrong[:3]), (0, []))
+        checks.same(f"{what}: its status, and wrong answers", (process.returncode, working.wrong[:3]), (0, []))
         audits = out.splitlines()[-2:]
         merged = [it for it in range(working.answered, working.asked + 1) if audits == [f"audit merged {it}", "audit merged 0"]]
-        checks.that(merged, f"./serve at {ending.name}: {working.answered} answers to {working.asked} asks, audited as {audits}: {err}")
+        checks.that(merged, f"{what}: {working.answered} answers to {working.asked} asks, audited as {audits}: {err}")
     finally:
-        if process.poll() is None:
-            os.killpg(process.pid, signal.SIGKILL)
-            process.wait()
+        ends(process)
+
+
+def at_once(checks, craqd, plan, ending, options):
+    """craqd handles no signal: it is ended by this one, and prints no audit."""
+    what = f"craqd {' '.join(options)} at {ending.name}"
+    process, working = begins([craqd, "--journal", *options, *running.OPTIONS, plan, "127.0.0.1:0"], stdin=subprocess.PIPE)
+    try:
+        checks.that(working.many.wait(running.PATIENCE), f"a client of craqd has {BEFORE} answers")
+        process.send_signal(ending)
+        # Its standard input stays open until it has ended.
+        status = process.wait(running.PATIENCE)
+        out, err = process.communicate()
+        working.join(running.PATIENCE)
+        checks.same(f"{what}: its status, what it prints, and wrong answers", (status, out, working.wrong[:3]), (-ending, "", []))
+        checks.that(re.fullmatch("craqd .*\n", err), f"{what}: on standard error {err!r}")
+    finally:
+        ends(process)
 
 
 def tried(checks, craqd):
     """At each of both signals."""
+    both = signal.SIGTERM, signal.SIGINT
     with tempfile.TemporaryDirectory(prefix="end-to-end-") as room, running.text_file(running.PLAN) as plan:
         top_with(craqd, room)
-        for ending in signal.SIGTERM, signal.SIGINT:
-            ended_by(checks, room, plan.name, ending)
+        for ending, send in itertools.product(both, (os.kill, os.killpg)):
+            in_order(checks, room, plan.name, ending, send)
+        for ending, options in itertools.product(both, (["--until-input-ends"], ["--connections", "9"])):
+            at_once(checks, craqd, plan.name, ending, options)

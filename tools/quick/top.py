@@ -6,6 +6,7 @@ the place of `rt`: so it takes seconds, and shows what the scripts do themselves
 
 The last line is 'top: N passed, M failed', and the status 1 where one failed. `./test --quick` runs it.
 """
+import itertools
 import os
 import shutil
 import signal
@@ -232,9 +233,9 @@ def serve_proved(checks, clone):
 
 
 def serve_ends(checks, clone):
-    """./serve ends the proved server in order: at SIGTERM or SIGINT its standard input ends, and what it then prints is passed on. A
-    terminal's Ctrl-C comes to the server too, which goes on."""
-    for ending, send in (signal.SIGTERM, os.kill), (signal.SIGINT, os.kill), (signal.SIGINT, os.killpg):
+    """./serve ends the proved server in order: at SIGTERM or SIGINT its standard input ends, and what it then prints is passed on. Where they
+    come to the server too, as by a terminal's Ctrl-C or by timeout, it goes on. Another signal, a second later, ends it at once."""
+    for ending, send in itertools.product((signal.SIGTERM, signal.SIGINT), (os.kill, os.killpg)):
         clone.built("craqd", 'echo "listening 7123"; cat >/dev/null; echo "audit merged 0"; exit 3\n')
         it = clone.started("serve", "--journal", alone=True)
         first = it.stdout.readline()
@@ -242,6 +243,14 @@ def serve_ends(checks, clone):
         send(it.pid, ending)
         out, _ = it.communicate(timeout=PATIENCE)
         checks.same(f"./serve at {ending.name} by {send.__name__}", (first, out.splitlines()[-1], it.returncode), ("listening 7123\n", "audit merged 0", 3))
+    clone.built("craqd", 'echo "listening 7123"; exec sleep 1000\n')
+    it = clone.started("serve", alone=True)
+    it.stdout.readline()
+    for _ in range(2):
+        time.sleep(2.1)
+        checks.that(it.poll() is None, "./serve waits for a server that is to end")
+        it.terminate()
+    checks.same("./serve at another signal", it.wait(PATIENCE), 128 + signal.SIGKILL)
 
 
 def play(checks, clone):

@@ -1,33 +1,46 @@
-"""Programs that are built without their proofs, each once, and what runs on them."""
+"""Programs that are built without their proofs, each once."""
 import os
 import shutil
 import tempfile
 import threading
 
+import audits
 import repository
 import unproved
 
 # Those that run longer than it takes to optimize them.
 OPTIMIZED = ("craq_part_tests",)
-# Those that make fewer calls, by what stands in which file in the place of what.
-FEWER = {"craq_thread_tests": ("src/changes.rt", "const CALLS: u64 = 2500;", "const CALLS: u64 = 100;")}
+# Those of changed sources: of which crate, and what stands in which file of crates/ in the place of what. One makes fewer calls, the other
+# audits that do not fit.
+CHANGED = {
+    "craq_thread_tests": ("craq_thread_tests", [("craq_thread_tests/src/changes.rt", "const CALLS: u64 = 2500;", "const CALLS: u64 = 100;")]),
+    audits.PROGRAM: ("craqd", audits.CHANGES),
+}
+
+
+def change(folder, file, old, new):
+    """Writes the new text into a file of that folder for the old one, which stands there once."""
+    with open(f"{folder}/{file}", "r+", encoding="utf-8") as it:
+        text = it.read()
+        if text.count(old) != 1:
+            raise unproved.Unbuilt(f"{file} has {text.count(old)} times {old!r}")
+        it.seek(0)
+        it.write(text.replace(old, new))
+        it.truncate()
 
 
 def built(name, path):
-    """Builds a program, from a copy of the sources where it is to make fewer calls."""
+    """Builds a program, from a copy of the sources where these are changed."""
     with tempfile.TemporaryDirectory(prefix="quick-") as room:
         crate = repository.path("crates", name)
-        if name in FEWER:
-            file, many, few = FEWER[name]
+        if name in CHANGED:
+            of, changes = CHANGED[name]
             shutil.copytree(repository.path("crates"), f"{room}/crates", ignore=shutil.ignore_patterns("out"))
             for it in "crates.txt", "HANDLES":
                 shutil.copy2(repository.path(it), room)
-            crate = f"{room}/crates/{name}"
-            text = repository.text_of(crate, file)
-            if text.count(many) != 1:
-                raise unproved.Unbuilt(f"{file} has {text.count(many)} times {many!r}")
-            with open(f"{crate}/{file}", "w", encoding="utf-8") as it:
-                it.write(text.replace(many, few))
+            for it in changes:
+                change(f"{room}/crates", *it)
+            crate = f"{room}/crates/{of}"
         unproved.built_alone(crate, path, name in OPTIMIZED)
 
 
@@ -37,7 +50,7 @@ class Programs:
     def __init__(self, folder):
         os.makedirs(folder, exist_ok=True)
         self.folder, self.lacking = folder, set()
-        self.locks = {name: threading.Lock() for name in repository.crates()}
+        self.locks = {name: threading.Lock() for name in {*repository.crates(), *CHANGED}}
 
     def of(self, checks, name):
         """The path of a program, or None where it cannot be built, which is a check that failed, once."""

@@ -83,8 +83,8 @@ Printed:
                      6 number 0, 7 no such chain, 8 two chains, 9 not the head, which follows,
                      10 not ready, 11 stopped, 12 too many asks wait or too many are connected,
                      13 a counter at its greatest number or a pass far above any that the server
-                     told, 14 the server lacks memory, 15 no request, 16 a request that is too
-                     long, 23 no such node, 27 the server closes
+                     told, 14 the server lacks memory, 15 bytes that spell no request, 16 a
+                     request that is too long, 23 no such node, 27 the server closes
 
 Status: 0 after an answer; 1 with `cannot print` where the output takes no text, or `cannot
 read` where the prompt's input gives none; 2 after a bad command line, with the word that was

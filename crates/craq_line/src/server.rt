@@ -56,7 +56,7 @@ Once clients can connect, `listening PORT` is printed. With --journal the server
 the end, for each chain, what its audit found:
 
   audit merged R          one run of the chain, with all R calls that were answered
-  audit nosender N I      step I (from 0) of node N is a message that was never sent
+  audit nosender N I      step I (from 0) of node N took a message that no node sent
   audit noreceipt I       call I (from 0) is in no journal
 
 Status: 0 once the server has ended in order; 1 with `cannot print` where the output takes no

@@ -1,5 +1,5 @@
 -- The cells of a chain whose locks are held, and what an audit of a chain that runs confirms.
-use Rattle.std.specs.Prelude.{◌≡◌, ℕ, List, Result}
+use Rattle.std.specs.Prelude.{List, Result}
 use Rattle.std.specs.List.{AllByRecursion}
 use Rattle.std.specs.declared.sync.MutexGuard.{MutexGuard}
 use Rattle.std.specs.Sync.Mutex.{mutex_guard_value}
@@ -31,9 +31,9 @@ pub record AreOwn {C : Type 0} (represents : C → Plain → Type 0) (held : Hel
   pub book : IsBook held.book
   pub cells : AllByRecursion (IsKept represents) held.cells
 
--- the answer, or the refusal, is that of an audit of cells of this chain whose steps are their own
-pub record Confirms {C : Type 0} (represents : C → Plain → Type 0) (chain : ℕ) (receipts : List Called) (answer : Result Audit Refusal) : Type 0 where
+-- the answer, or the refusal, is that of an audit of cells whose steps are their own, and whose master is such a one
+pub record Confirms {C : Type 0} (represents : C → Plain → Type 0) (IsSuch : Celled Mastered BookEvent → Type 0) (receipts : List Called) (answer : Result Audit Refusal) : Type 0 where
   pub held : Held C
   pub own : AreOwn represents held
-  pub named : held.book.opening.name.chain ≡ chain
+  pub such : IsSuch held.book
   pub audited : Audits held.book held.cells receipts answer

@@ -1,24 +1,17 @@
 -- What an audit of a chain's cells answers is what the store answers that has the chain and keeps journals.
-use Rattle.std.proofs.Common.{◌≡◌, ℕ, Bool, true, false, not, nat_eq, List, Result, Ok, Err, inr, refl, sym, ◌∙◌}
-use Rattle.std.proofs.lemmas.Bool.{eqb-true}
+use Rattle.std.proofs.Common.{◌≡◌, ℕ, List, Result, Ok, Err, Some, map, option_map, slice_get, ap, inr, ◌∙◌}
+use Rattle.std.proofs.lemmas.Option.{slice_get-map}
 use Rattle.craq_names.specs.declared.refusal.Refusal.{Refusal}
 use Rattle.craq_names.specs.declared.refusal.Refusal.TheVariants as refusals
 use Rattle.craq_model.specs.Plain.{Plain}
+use Rattle.craq_epochs.specs.Mastered.{Mastered}
 use Rattle.craq_audit.specs.declared.finding.Audit.{Audit}
 use Rattle.craq_seat.specs.Calls.{Called}
 use Rattle.craq_held.specs.Held.{Confirms}
-use Rattle.craq_workers.specs.Stores.{Answers, HasJournals, IsRefused, Stored}
-
-passes : (t : Bool) → not t ≡ false → t ≡ true
-passes true h = refl
-passes false h = cc
-
--- two numbers are one where the test that they are two fails
-pub one : (x y : ℕ) (b : Bool) → b ≡ not (nat_eq x y) → b ≡ false → x ≡ y
-one x y b is fails = eqb-true x y (passes (nat_eq x y) (sym is ∙ fails))
+use Rattle.craq_workers.specs.Stores.{Answers, HasJournals, IsMasterOf, IsRefused, Stored}
 
 refused : {C : Type 0} (represents : C → Plain → Type 0) (store : Stored) (chain : ℕ) (receipts : List Called) (e : Refusal)
-    → HasJournals store chain → Confirms represents chain receipts (Err e) → IsRefused represents store chain receipts e
+    → HasJournals store chain → Confirms represents (IsMasterOf store chain) receipts (Err e) → IsRefused represents store chain receipts e
 refused represents store chain receipts refusals.BadKey h k = absurd k.audited
 refused represents store chain receipts refusals.ValueTooLong h k = absurd k.audited
 refused represents store chain receipts refusals.TooManyItems h k = absurd k.audited
@@ -49,6 +42,11 @@ refused represents store chain receipts refusals.Closed h k = absurd k.audited
 refused represents store chain receipts refusals.Io h k = absurd k.audited
 
 pub answered : {C : Type 0} (represents : C → Plain → Type 0) (store : Stored) (chain : ℕ) (receipts : List Called) (result : Result Audit Refusal)
-    → HasJournals store chain → Confirms represents chain receipts result → Answers represents store chain receipts result
+    → HasJournals store chain → Confirms represents (IsMasterOf store chain) receipts result → Answers represents store chain receipts result
 answered represents store chain receipts (Ok audit) h k = (h, k)
 answered represents store chain receipts (Err e) h k = refused represents store chain receipts e h k
+
+-- the master of a chain at its place
+pub master_at : {A : Type 0} (first : A → Mastered) (masters : List Mastered) (chains : List A) (i : ℕ) (chain : A)
+    → masters ≡ map first chains → slice_get chains i ≡ Some chain → slice_get masters i ≡ Some (first chain)
+master_at first masters chains i chain are here = ap (λ (ms : List Mastered). slice_get ms i) are ∙ slice_get-map first chains i ∙ ap (option_map first) here

@@ -1,5 +1,5 @@
 -- What a contract sees of a store that runs, and what it answers that is asked for the audit of a chain.
-use Rattle.std.specs.Prelude.{◌≡◌, ◌<◌, ◌≤◌, ◌⊎◌, ◌+◌, ℕ, List, [], ◌∷◌, Bool, true, false, length, Result, Ok, Err}
+use Rattle.std.specs.Prelude.{◌≡◌, ◌<◌, ◌≤◌, ◌⊎◌, ◌+◌, ℕ, List, [], ◌∷◌, Bool, true, false, Some, length, slice_get, Result, Ok, Err}
 use Rattle.craq_names.specs.declared.refusal.Refusal.{Refusal}
 use Rattle.craq_names.specs.declared.refusal.Refusal.TheVariants as refusals
 use Rattle.craq_model.specs.Plain.{Plain}
@@ -7,7 +7,7 @@ use Rattle.craq_epochs.specs.Mastered.{Mastered, opened}
 use Rattle.craq_place.specs.Plan.{Chain}
 use Rattle.craq_audit.specs.declared.finding.Audit.{Audit}
 use Rattle.craq_seat.specs.declared.journal.BookEvent.{BookEvent}
-use Rattle.craq_seat.specs.Books.{IsBook}
+use Rattle.craq_seat.specs.Books.{IsBook, first_master}
 use Rattle.craq_seat.specs.Calls.{Called}
 use Rattle.craq_seat.specs.Cells.{Celled}
 use Rattle.craq_held.specs.Held.{Confirms}
@@ -27,22 +27,26 @@ pub record Stored : Type 0 where
 abbrev pub HasJournals : Stored → ℕ → Type 0
 HasJournals store chain = (chain < length store.names) × (store.journals ≡ true)
 
+-- the cell was opened as the master of this chain of the store
+abbrev pub IsMasterOf : Stored → ℕ → Celled Mastered BookEvent → Type 0
+IsMasterOf store chain book = slice_get store.masters chain ≡ Some (first_master book.opening)
+
 -- the master of another chain
-abbrev pub IsOther : ℕ → Celled Mastered BookEvent → Type 0
-IsOther chain book = IsBook book × ¬ (book.opening.name.chain ≡ chain)
+abbrev pub IsOther : Stored → ℕ → Celled Mastered BookEvent → Type 0
+IsOther store chain book = IsBook book × ¬ (IsMasterOf store chain book)
 
 -- why there is no answer: first the chain is looked for, then journals; then it is as an audit of cells of this chain is
 -- refused, or its lock holds the master of another; want of memory comes only where journals are kept
 abbrev pub IsRefused : {C : Type 0} → (C → Plain → Type 0) → Stored → ℕ → List Called → Refusal → Type 0
 IsRefused represents store chain receipts refusals.UnknownChain = length store.names ≤ chain
 IsRefused represents store chain receipts refusals.JournalOff =
-    (chain < length store.names) × ((store.journals ≡ false) ⊎ Confirms represents chain receipts (Err refusals.JournalOff))
+    (chain < length store.names) × ((store.journals ≡ false) ⊎ Confirms represents (IsMasterOf store chain) receipts (Err refusals.JournalOff))
 IsRefused represents store chain receipts refusals.WrongNode =
-    HasJournals store chain × (((book : Celled Mastered BookEvent) × IsOther chain book) ⊎ Confirms represents chain receipts (Err refusals.WrongNode))
+    HasJournals store chain × (((book : Celled Mastered BookEvent) × IsOther store chain book) ⊎ Confirms represents (IsMasterOf store chain) receipts (Err refusals.WrongNode))
 IsRefused represents store chain receipts refusals.Memory = HasJournals store chain
 IsRefused represents store chain receipts e = ⊥
 
 -- what a store answers that is asked for the audit of a chain
 abbrev pub Answers : {C : Type 0} → (C → Plain → Type 0) → Stored → ℕ → List Called → Result Audit Refusal → Type 0
-Answers represents store chain receipts (Ok audit) = HasJournals store chain × Confirms represents chain receipts (Ok audit)
+Answers represents store chain receipts (Ok audit) = HasJournals store chain × Confirms represents (IsMasterOf store chain) receipts (Ok audit)
 Answers represents store chain receipts (Err e) = IsRefused represents store chain receipts e

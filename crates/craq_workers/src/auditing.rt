@@ -65,7 +65,7 @@ impl<C: Core + Send + 'static, G: Gate + Send + Sync + 'static> Store<C, G> {
             return Err(Refusal::JournalOff);
         }
         let book = place.book.lock(rt);
-        if book.cell().opening().name.chain != chain {
+        if !place.has_opened(book.cell().opening()) {
             book.cell().journal();
             return Err(Refusal::WrongNode);
         }

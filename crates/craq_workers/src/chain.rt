@@ -1,9 +1,9 @@
 //! A chain that runs: the ways to its workers, through which all that asks, sends or ticks goes; for `shared` and `store`.
-ghost use Rattle.std.specs.Prelude.{◌≡◌, ◌==◌, ◌⊎◌, Err, IfErr, IfOk, IsNone, IsTrue, MatchResult, None, Some, map};
+ghost use Rattle.std.specs.Prelude.{◌≡◌, ◌==◌, ◌⊎◌, ◌↔◌, Err, IfErr, IfOk, IsNone, IsTrue, MatchResult, None, Some, map};
 ghost use Rattle.std.specs.List.{filter_map, find};
 ghost use Rattle.std.specs.Option.{option_map};
 ghost use Rattle.craq_epochs.specs.Mastered.{opened};
-ghost use Rattle.craq_seat.specs.Books.{first_master};
+ghost use Rattle.craq_seat.specs.Books.{first_master, members_of};
 ghost use Rattle.craq_workers.specs.Moves.{IsMissed};
 ghost use Rattle.craq_workers.specs.Ways.{retired, shut};
 
@@ -14,7 +14,7 @@ use crate::steps::{QueuedAsk, dismiss};
 use crate::told::Unanswered;
 use craq_held::ChainBook;
 use craq_model::Config;
-use craq_names::{ChainId, NodeId, Refusal, Same};
+use craq_names::{ChainId, NodeId, Refusal, are_same};
 use craq_node::Core;
 use craq_seat::Opening;
 use crossbeam_channel::{SendError, Sender};
@@ -160,15 +160,23 @@ pub(crate) fn take_back<R: Wait>(rt: &R, asked: QueuedAsk, refusal: Refusal) -> 
     Err(refusal)
 }
 
+/// The members of the membership with which a cell was opened; none where it had no membership.
+fn first_members(opening: &Opening) -> &[NodeId]
+    ensures { result.now ≡ members_of opening.now.config }
+{
+    match &opening.config {
+        Some(config) => config.members.as_slice(),
+        None => &[],
+    }
+}
+
 impl<C: Core> Chain<C> {
     /// Whether a master's cell was opened as that of this chain: a lock tells a proof nothing of what it holds.
     pub(crate) fn has_opened(&self, opening: &Opening) -> bool
-        ensures { IsTrue result → first_master opening.now ≡ opened self.now.id self.now.first.members }
+        ensures { IsTrue result ↔ (first_master opening.now ≡ opened self.now.id self.now.first.members) }
     {
-        match &opening.config {
-            Some(config) => opening.name.chain == self.id && config.is_same(&self.first),
-            None => false,
-        }
+        opening.name.chain == self.id
+            && are_same(first_members(opening), self.first.members.as_slice())
     }
 
     /// The node of this id: `Closed` where the store is, `WrongNode` where the chain never had it, `Stopped` where it was

@@ -465,6 +465,7 @@ impl<C: Core + Send + 'static, G: Gate + Send + Sync + 'static> Store<C, G> {
         way: Way<C>,
         hired: &mut Vec<JoinHandle<()>>,
     ) -> Result<Receipt, Refusal>
+        ensures step { OnOk result (TakesTurn book.old book.new (BookEvent.Join id) 0 result) }
         ensures refused { IfErr result (λ e. CanJoin e) }
         ensures master { IfOk result (λ receipt. receipt.node ≡ 0) }
     {

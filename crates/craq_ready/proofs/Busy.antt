@@ -1,5 +1,5 @@
 -- The list of the connections that have something to do, one step after another.
-use Rattle.std.proofs.Common.{◌≡◌, ◌≢◌, ◌≤◌, ◌<◌, ◌+◌, ◌↔◌, ◌⊎◌, ℕ, zero, suc, Bool, true, false, cond, if◌then◌else◌, List, [], ◌∷◌, ◌++◌, length, get_or, set, count_by, Contains, filter, length-append, take, length-take, Option, Some, None, is_some, IsSome, Vec, vec_capacity, refl, sym, ap, ◌∙◌, subst, inl, inr, arith}
+use Rattle.std.proofs.Common.{◌≡◌, ◌≢◌, ◌≤◌, ◌<◌, ◌+◌, ◌↔◌, ◌⊎◌, ℕ, zero, suc, Bool, true, false, cond, List, [], ◌∷◌, ◌++◌, length, get_or, set, count_by, Contains, filter, length-append, take, length-take, Option, Some, None, is_some, Vec, vec_capacity, vec_len, refl, sym, ap, ◌∙◌, subst, inl, inr, arith}
 use Rattle.std.specs.List.{AllPairs}
 use Rattle.std.specs.declared.alloc.Global.{Global}
 use Rattle.std.proofs.lemmas.Bool.{cases_eq}
@@ -11,8 +11,9 @@ use Rattle.std.proofs.lemmas.List.Sums.{count_by-le-length, length-filter, sum_b
 use Rattle.slab.specs.Slab.{Slab, get, slab_len}
 use Rattle.slab.proofs.SlabLemmas.{Contains-cons, Contains-cons_cases}
 use Rattle.craq_ready.specs.declared.connection.Connection.{Connection}
-use Rattle.craq_ready.specs.Belonging.{Alone, OneByOne, OthersStay, StaysVacant, Wakes}
-use Rattle.craq_ready.specs.Busy.{IsBehind, ListsBehind, ListsMarked, MarksBehind, is_marked, with_key}
+use Rattle.craq_ready.specs.Belonging.{Alone, OneByOne, OthersStay, StaysVacant}
+use Rattle.craq_ready.specs.declared.crowd.Members.{Members}
+use Rattle.craq_ready.specs.Busy.{HasNone, IsBehind, ListsBehind, ListsMarked, MarksBehind, NoneForgotten, is_marked}
 
 -- slots that are vacant in one list and in another are no more there
 module _ {T : Type 0} where
@@ -36,6 +37,13 @@ module _ {T : Type 0} where
       let within : key < length slots = grind (arith, get_or_past) in
       let is : cond {A = ℕ} (is_some (get_or slots key None)) 1 0 ≡ 1 = rw there refl in
       omega (arith, is, sum_by-set (λ o. cond (is_some o) 1 0) slots key None None within)
+
+  -- where none is there each is vacant
+  pub none_there : (slots : List (Option T)) → full slots ≡ 0 → (key : ℕ) → get_or slots key None ≡ None
+  none_there [] none key = get_or_past [] key None (omega arith)
+  none_there (Some x ∷ slots) none key = absurd (omega (arith, full-cons (Some x) slots, none))
+  none_there (None ∷ slots) none zero = refl
+  none_there (None ∷ slots) none (suc key) = none_there slots (omega (arith, full-cons None slots, none)) key
 
   -- as many slots are there as keys that are each found once
   pub keys-le : (keys : List ℕ) (slots : List (Option T)) → AllPairs (λ x y. x ≢ y) keys → ((key : ℕ) → Contains keys key → is_some (get_or slots key None) ≡ true) → length keys ≤ full slots
@@ -85,6 +93,14 @@ filter_same p q (x ∷ xs) agree =
     let rest : filter p xs ≡ filter q xs = filter_same p q xs (λ y listed. agree y (Contains-cons x y xs listed)) in
     let first : p x ≡ q x = agree x (0, omega arith, refl) in
     rw (first, rest) refl
+
+-- a list of no items is empty
+none_long : (xs : List ℕ) → length xs ≤ 0 → xs ≡ []
+none_long [] short = refl
+none_long (x ∷ xs) short = absurd (omega (arith, short))
+
+no_items : (keys : Vec ℕ Global) → vec_len keys ≡ 0 → keys.items ≡ []
+no_items keys none = none_long keys.items (let long : keys.len ≡ length keys.items = keys.ok.0 in omega (arith, long, none))
 
 -- what is found at a place whatever is found past the end
 found_at : (keys : List ℕ) (index key other : ℕ) → index < length keys → get_or keys index key ≡ key → get_or keys index other ≡ key
@@ -353,10 +369,9 @@ module _ {S : Type 0} where
       sym (append-nil kept) ∙ sym whole
 
   -- where there are no connections the list names none
-  pub none_listed : (s : Slab (Connection S)) (busy later : Vec ℕ Global) → s.slots ≡ [] → busy.items ≡ [] → later.items ≡ [] → ListsMarked s busy later
+  none_listed : (s : Slab (Connection S)) (busy later : Vec ℕ Global) → slab_len s ≡ 0 → busy.items ≡ [] → later.items ≡ [] → ListsMarked s busy later
   none_listed s busy later none empty empty_too =
-      let vacant : (key : ℕ) → get s key ≡ None = λ key. ap (λ (x : List (Option (Connection S))). get_or x key None) none in
-      let zero_len : slab_len s ≡ 0 = ap full none in
+      let vacant : (key : ℕ) → get s key ≡ None = none_there s.slots none in
       record {
         marked = λ key. (
           λ listed. absurd (let at : Contains [] key = subst (λ (x : List ℕ). Contains x key) empty listed in omega (arith, at.1)),
@@ -364,12 +379,19 @@ module _ {S : Type 0} where
         );
         once = subst (λ (x : List ℕ). AllPairs (λ x y. x ≢ y) x) (sym empty) (λ i j d before within. absurd (omega (arith, within)));
         none_later = empty_too;
-        room = omega (arith, zero_len);
-        room_later = omega (arith, zero_len);
+        room = omega (arith, none);
+        room_later = omega (arith, none);
       }
 
-  pub none_behind : (s : Slab (Connection S)) → s.slots ≡ [] → MarksBehind s
-  none_behind s none key c here is = (let vacant : get s key ≡ None = ap (λ (x : List (Option (Connection S))). get_or x key None) none in cc)
+  none_behind : (s : Slab (Connection S)) → slab_len s ≡ 0 → MarksBehind s
+  none_behind s none key c here is = (let vacant : get s key ≡ None = none_there s.slots none key in cc)
+
+  -- a thread that has no connections yet forgets none
+  pub none_forgotten : (m : Members S) → HasNone m → NoneForgotten m
+  none_forgotten m h = record {
+    listed = none_listed m.connections m.busy m.later h.0 (no_items m.busy h.1) (no_items m.later h.2);
+    behind = none_behind m.connections h.0;
+  }
 
   -- more room, and nothing else
   pub listed_grown : (s t : Slab (Connection S)) (busy later more_busy more_later : Vec ℕ Global) → ListsMarked s busy later → t.slots ≡ s.slots

@@ -1,6 +1,7 @@
 pub mod Advancing
 pub mod Belonging
 pub mod Busy
+pub mod Coming
 pub mod Ending
 pub mod Letters
 pub mod Marks

@@ -1,5 +1,5 @@
 -- The marks of connections that are served or woken, and the list of those that are.
-use Rattle.std.proofs.Common.{◌≡◌, ◌≤◌, ◌<◌, ◌↔◌, ◌≢◌, ◌+◌, ◌==◌, ℕ, Bool, true, false, not, List, [], ◌∷◌, ◌++◌, length, get_or, take, Option, Some, None, is_some, is_ok, IsOk, if◌then◌else◌, filter, Contains, Vec, vec_capacity, refl, sym, ap, ◌∙◌, subst, arith}
+use Rattle.std.proofs.Common.{◌≡◌, ◌≤◌, ◌<◌, ◌↔◌, ◌≢◌, ◌+◌, ◌==◌, ℕ, Bool, true, false, not, List, [], ◌∷◌, ◌++◌, length, get_or, take, Option, Some, None, if◌then◌else◌, filter, Contains, Vec, vec_capacity, refl, sym, ap, ◌∙◌, subst, arith}
 use Rattle.std.specs.List.{AllPairs}
 use Rattle.std.specs.declared.alloc.Global.{Global}
 use Rattle.std.proofs.lemmas.Bool.Decides.{nat_tests}
@@ -13,8 +13,8 @@ use Rattle.craq_ready.specs.declared.connection.Connection.{Connection}
 use Rattle.craq_ready.specs.Advancing.{HasTurnAt, TakeTurns}
 use Rattle.craq_ready.specs.Belonging.{Alone, OneByOne, OthersStay, StaysVacant, Wakes}
 use Rattle.craq_ready.specs.Busy.{IsBehind, ListsBehind, ListsMarked, MarksBehind, is_marked, with_key}
-use Rattle.craq_ready.specs.Serving.{HasRead, ReadsAt, StaysUnlessDone, WritesAt}
-use Rattle.craq_ready.proofs.Busy.{IsRightAt, KeepsMarks, MarksStay, all_kept, behind_still, has_room, listed_after, listed_more, listed_still, marks_alone, marks_kept, marks_then, one_kept, one_left_out, right_after, right_everywhere, room_to_keep, untouched}
+use Rattle.craq_ready.specs.Serving.{ReadsAt, StaysUnlessDone, WritesAt}
+use Rattle.craq_ready.proofs.Busy.{IsRightAt, KeepsMarks, all_kept, behind_still, has_room, listed_after, listed_more, listed_still, marks_alone, marks_kept, marks_then, one_kept, one_left_out, right_after, right_everywhere, room_to_keep, untouched}
 
 pub was_off : (told mark : Bool) → told ≡ not mark → told ≡ true → mark ≡ false
 was_off told true is on = cc

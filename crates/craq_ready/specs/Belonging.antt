@@ -24,6 +24,12 @@ pub record IsNew {S : Type 0} (c : Connection S) : Type 0 where
   pub unmarked : c.busy ≡ false
   pub goes_on : c.over ≡ false
 
+-- the connection is the one that came so: this is its socket, this its place, and here the receipts of its calls go
+pub record CameAs {S : Type 0} (stream : S) (place receipts : ℕ) (c : Connection S) : Type 0 where
+  pub same_stream : c.stream ≡ stream
+  pub same_place : c.place ≡ place
+  pub same_receipts : c.receipts ≡ receipts
+
 -- just these bytes came to the dialogue, behind those before; what is due and its calls are as they were
 pub record Hears (came : List ℕ) (old new : Dialogue) : Type 0 where
   pub heard : (read written : List ℕ) (turns : History) → Holds old.phase old.talk read written turns → Holds new.phase new.talk (read ++ came) written turns

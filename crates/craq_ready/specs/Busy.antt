@@ -1,5 +1,5 @@
 -- Which connections have something to do, which are marked for it, and which the list of a thread names.
-use Rattle.std.specs.Prelude.{◌≡◌, ◌≢◌, ◌≤◌, ◌⊎◌, ◌↔◌, ◌++◌, ℕ, Bool, true, false, List, [], ◌∷◌, Option, None, Some, Vec, vec_capacity, if◌then◌else◌}
+use Rattle.std.specs.Prelude.{◌≡◌, ◌≢◌, ◌≤◌, ◌<◌, ◌-◌, ◌⊎◌, ◌↔◌, ◌++◌, ℕ, Bool, true, false, List, [], ◌∷◌, Option, None, Some, Vec, nat_lt, vec_capacity, vec_len, if◌then◌else◌}
 use Rattle.std.specs.List.{AllPairs, Contains}
 use Rattle.std.specs.declared.alloc.Global.{Global}
 use Rattle.slab.specs.Slab.{Slab, get, slab_len}
@@ -16,6 +16,10 @@ is_waiting phase = false
 -- the connection has ended, and no letter comes to it any more
 abbrev pub IsDone : {S : Type 0} → Connection S → Type 0
 IsDone c = (c.over ≡ true) × (is_waiting c.dialogue.phase ≡ false)
+
+-- the connection has ended, or nothing came and nothing was taken for more than so many seconds while no call of it was under way
+abbrev pub IsLeft : {S : Type 0} → ℕ → ℕ → Connection S → Type 0
+IsLeft now idle c = (c.over ≡ true) ⊎ ((is_waiting c.dialogue.phase ≡ false) × (idle < now - c.heard))
 
 -- bytes are due, and the socket may take some
 abbrev pub MayGive : {S : Type 0} → Connection S → Type 0
@@ -60,6 +64,10 @@ pub record NoneForgotten {S : Type 0} (m : Members S) : Type 0 where
   pub listed : ListsMarked m.connections m.busy m.later
   pub behind : MarksBehind m.connections
 
+-- a thread that has no connections yet
+abbrev pub HasNone : {S : Type 0} → Members S → Type 0
+HasNone m = (slab_len m.connections ≡ 0) × (vec_len m.busy ≡ 0) × (vec_len m.later ≡ 0)
+
 -- these keys are just those of the connections that are behind
 abbrev pub ListsBehind : {S : Type 0} → Slab (Connection S) → List ℕ → Type 0
 ListsBehind {S} connections keys = (key : ℕ) → Contains keys key ↔ ((c : Connection S) × (get connections key ≡ Some c) × IsBehind c)
@@ -67,3 +75,11 @@ ListsBehind {S} connections keys = (key : ℕ) → Contains keys key ↔ ((c : C
 -- no connection is behind
 abbrev pub NoneBehind : {S : Type 0} → Slab (Connection S) → Type 0
 NoneBehind {S} connections = (key : ℕ) (c : Connection S) → get connections key ≡ Some c → ¬ IsBehind c
+
+-- the thread has at most two connections, and fewer than 200 turns began since one had something to do: so it looks again before it sleeps
+abbrev pub LooksAgain : {S : Type 0} → Members S → Type 0
+LooksAgain m = (slab_len m.connections ≤ 2) × (m.looks < 200)
+
+-- how many nanoseconds a thread waits at most that may sleep: a second where it looks for idle connections, and else without end
+abbrev pub longest_wait : ℕ → Option ℕ
+longest_wait idle = if nat_lt 0 idle then Some 1_000_000_000 else None

@@ -53,7 +53,7 @@ pub(crate) struct Connection<S> {
 }
 
 impl Connection<Arc<TcpStream>> {
-    ghost use Rattle.craq_ready.specs.Belonging.{IsNew};
+    ghost use Rattle.craq_ready.specs.Belonging.{CameAs, IsNew};
 
     /// A connection that came, of which readiness is told under this token. Nothing came on it, nothing is due, none of its calls was
     /// asked, and its socket is taken for ready.
@@ -65,7 +65,8 @@ impl Connection<Arc<TcpStream>> {
         keeps: bool,
         now: u64,
     ) -> io::Result<Self>
-        ensures { IfOk result (λ c. IsNew c) }
+        ensures is_new { IfOk result (λ c. IsNew c) }
+        ensures arrival { IfOk result (λ c. CameAs arrival.stream arrival.place arrival.receipts c) }
     {
         let Arrival {
             stream,
@@ -119,7 +120,7 @@ impl<S: Socket + Drop> Connection<S> {
 impl<S: Socket> Connection<S> {
     ghost use Rattle.craq_ready.specs.Advancing.{AsksHost, HasTurn, next_call, under_key};
     ghost use Rattle.craq_ready.specs.Belonging.{CameBack, Gives, Hears, KeepsPlace, Reads, TakesLetter, Writes};
-    ghost use Rattle.craq_ready.specs.Busy.{IsBehind, IsDone, is_waiting};
+    ghost use Rattle.craq_ready.specs.Busy.{IsBehind, IsDone, IsLeft, is_waiting};
     ghost use Rattle.craq_ready.specs.Letters.{IsOutcome};
     ghost use Rattle.craq_ready.specs.Readiness.{noticed};
     ghost use Rattle.craq_ready.specs.Sockets.{EndsAsSocket, EndsInOrder, HasSaidAll};
@@ -156,7 +157,7 @@ impl<S: Socket> Connection<S> {
 
     /// The connection is over where nothing came, and nothing was taken, for more than so many seconds; whether it is.
     pub(crate) fn is_left(&mut self, now: u64, idle: u64) -> bool
-        ensures left { IsTrue result ↔ ((self.old.over ≡ true) ⊎ ((is_waiting self.old.dialogue.phase ≡ false) × (idle < now - self.old.heard))) }
+        ensures left { IsTrue result ↔ IsLeft now idle self.old }
         ensures over { self.new ≡ record self.old { over = result } }
     {
         if !self.waits() && now.saturating_sub(self.heard) > idle {

@@ -1,19 +1,21 @@
 //! `Crowd`: the connections of a thread and the loop over them, for the thread that serves them: it takes what came, steps each
 //! connection that has something to do, and sleeps where none has.
-ghost use Rattle.std.specs.Prelude.{◌≡◌, ◌⊎◌, ◌<◌, ◌≤◌, ◌↔◌, ◌++◌, ℕ, [], ◌∷◌, Some, None, IsTrue, filter, nat_lt, option_map, vec_capacity, vec_len, if◌then◌else◌};
+ghost use Rattle.std.specs.Prelude.{◌≡◌, ◌≢◌, ◌⊎◌, ◌<◌, ◌≤◌, ◌↔◌, ◌++◌, ℕ, Bool, [], ◌∷◌, Some, None, IfOk, OnErr, OnOk, IsTrue, false, filter, nat_lt, option_map, vec_capacity, vec_len, if◌then◌else◌};
 ghost use Rattle.std.specs.Duration.{as_nanos};
+ghost use Rattle.mio.specs.Events.{items};
 ghost use Rattle.slab.specs.Slab.{get, slab_len};
 ghost use Rattle.craq_ready.specs.declared.connection.Connection.{Connection};
 ghost use Rattle.craq_ready.specs.Advancing.{HasTurnAt, TakeTurns};
 ghost use Rattle.craq_ready.specs.Belonging.{Delivers, DeliversAll, DeliversBrought, OneByOne, OthersStay, StaysVacant, Wakes};
-ghost use Rattle.craq_ready.specs.Busy.{IsBehind, ListsBehind, ListsMarked, NoneForgotten, is_marked, with_key};
+ghost use Rattle.craq_ready.specs.Busy.{HasNone, ListsBehind, ListsMarked, LooksAgain, NoneBehind, NoneForgotten, is_marked, longest_wait, with_key};
+ghost use Rattle.craq_ready.specs.Coming.{AllTold, ChangesRoom, EndsIdle, EndsIfLeft, LooksAt, NoticesAt, PresentStay, TakesIn, TellsOf};
 ghost use Rattle.craq_ready.specs.Serving.{ReadsAt, Serves, WritesAt};
 
 use crate::connection::Connection;
 use crate::host::{Arrival, Host};
 use crate::socket::Socket;
 use craq_letters::Letter;
-use mio::event::Events;
+use mio::event::{Event, Events};
 use mio::{Poll, Registry, Token, Waker};
 use slab::Slab;
 use std::alloc::{AllocError, Global};
@@ -54,6 +56,37 @@ fn advance_at<S: Socket, H: Host>(
         return;
     };
     connection.advance(alloc, host, key, few);
+}
+
+/// An event tells of the readiness of the connection under a key. No other connection changes; where none is under the key nothing
+/// does.
+fn notice_at<S: Socket>(connections: &mut Slab<Connection<S>>, key: usize, event: &Event)
+    ensures told { NoticesAt event.now connections.old connections.new key }
+    ensures vacant { StaysVacant connections.old connections.new key }
+    ensures others { OthersStay connections.old connections.new key }
+{
+    if let Some(connection) = connections.get_mut(key) {
+        connection.notice(event);
+    }
+}
+
+/// The connection under a key is over where it was left idle; whether it is. No other connection changes; where none is under the
+/// key nothing does.
+fn end_if_left<S: Socket>(
+    connections: &mut Slab<Connection<S>>,
+    key: usize,
+    now: u64,
+    idle: u64,
+) -> bool
+    ensures ends { LooksAt now idle result connections.old connections.new key }
+    ensures none { get connections.old key ≡ None → result ≡ false }
+    ensures vacant { StaysVacant connections.old connections.new key }
+    ensures others { OthersStay connections.old connections.new key }
+{
+    let Some(connection) = connections.get_mut(key) else {
+        return false;
+    };
+    connection.is_left(now, idle)
 }
 
 /// The connection under a key reads. No other connection changes; where none is under the key nothing does.
@@ -137,7 +170,11 @@ struct Members<S> {
 
 impl<S: Socket + Drop> Members<S> {
     /// No connections. It fails for want of memory alone.
-    fn new(alloc: Global, keeps: bool, idle: u32) -> Result<Self, AllocError> {
+    fn new(alloc: Global, keeps: bool, idle: u32) -> Result<Self, AllocError>
+        ensures kept { IfOk result (λ m. NoneForgotten m) }
+        ensures none { IfOk result (λ m. HasNone m) }
+        ensures idle { IfOk result (λ m. m.idle ≡ idle) }
+    {
         let mut chunk = Vec::new(alloc);
         chunk.resize(CHUNK_SIZE, 0u8)?;
         Ok(Members {
@@ -161,6 +198,7 @@ impl<S: Socket + Drop> Members<S> {
         ensures busy { ListsMarked self.old.connections self.old.busy self.old.later
             → self.new.busy.items ≡ with_key self.old.busy.items key (get self.old.connections key) }
         ensures letters { self.new.letters.items ≡ self.old.letters.items }
+        ensures idle { self.new.idle ≡ self.old.idle }
         ensures wakes { Wakes self.old.connections self.new.connections key }
         ensures vacant { StaysVacant self.old.connections self.new.connections key }
         ensures others { OthersStay self.old.connections self.new.connections key }
@@ -217,14 +255,24 @@ impl<S: Socket + Drop> Members<S> {
     }
 
     /// What is told of readiness.
-    fn notice(&mut self, events: &Events) {
+    fn notice(&mut self, events: &Events)
+        ensures kept { NoneForgotten self.old → NoneForgotten self.new }
+        ensures told { AllTold (items events.now) self.old.connections self.new.connections }
+    {
         for event in events.iter() {
-            let Token(key) = event.token();
-            if let Some(connection) = self.connections.get_mut(key) {
-                connection.notice(event);
-            }
-            self.wake(key);
+            self.notice_event(event);
         }
+    }
+
+    /// An event tells of the readiness of the connection under its token's key, which then has something to do. No other connection
+    /// changes; where it has gone nothing does.
+    fn notice_event(&mut self, event: &Event)
+        ensures kept { NoneForgotten self.old → NoneForgotten self.new }
+        ensures told { TellsOf event.now self.old.connections self.new.connections }
+    {
+        let Token(key) = event.token();
+        notice_at(&mut self.connections, key, event);
+        self.wake(key);
     }
 
     /// What has come on the busy connections is read: each reads under its own key, one after another, and no other connection
@@ -290,43 +338,57 @@ impl<S: Socket + Drop> Members<S> {
         self.give_all(registry, host);
     }
 
-    /// Once a second the connections that were left idle are over.
-    fn look_for_idle(&mut self, now: u64) {
+    /// Once a second the connections that were left idle are over, and have something to do: to be let go. No other one changes.
+    fn look_for_idle(&mut self, now: u64)
+        ensures kept { NoneForgotten self.old → NoneForgotten self.new }
+        ensures ends { now ≢ self.old.now → EndsIdle now self.old.idle self.old.connections self.new.connections }
+        ensures else_stays { now ≡ self.old.now → self.new ≡ self.old }
+    {
         if now == self.now {
             return;
         }
         self.now = now;
         for key in 0..self.connections.capacity() {
-            let is_left = match self.connections.get_mut(key) {
-                Some(connection) => connection.is_left(now, self.idle),
-                None => false,
-            };
-            if is_left {
-                self.wake(key);
-            }
+            self.end_idle(key, now);
+        }
+    }
+
+    /// The connection under a key is over where it was left idle, and then has something to do: it is to be let go. No other connection
+    /// changes.
+    fn end_idle(&mut self, key: usize, now: u64)
+        ensures kept { NoneForgotten self.old → NoneForgotten self.new }
+        ensures ends { EndsIfLeft now self.old.idle (get self.old.connections key) (get self.new.connections key) }
+        ensures others { OthersStay self.old.connections self.new.connections key }
+        ensures idle { self.new.idle ≡ self.old.idle }
+    {
+        if end_if_left(&mut self.connections, key, now, self.idle) {
+            self.wake(key);
         }
     }
 
     /// Whether it looks again soon: a client alone asks again as soon as it was answered, and a thread that sleeps takes longer to
     /// wake than that.
     fn looks_again(&self) -> bool
-        ensures { IsTrue result ↔ ((slab_len self.entry.now.connections ≤ 2) × (self.entry.now.looks < 200)) }
+        ensures { IsTrue result ↔ LooksAgain self.entry.now }
     {
         self.connections.len() <= FEW_CONNECTIONS && self.looks < MOST_LOOKS
     }
 
-    /// How long to wait for readiness: not at all where something is left to do, may come soon or came meanwhile, and
-    /// at most a second where idle connections are looked for. So the thread waits for nothing while one of its connections has
-    /// something to do of which no event and no letter will tell.
+    /// How long to wait for readiness: not at all exactly where something is left to do, may come soon or came meanwhile, and else at
+    /// most a second where idle connections are looked for. So where the thread waits at all, none of its connections has something to
+    /// do of which no event and no letter will tell.
     fn pause<H: Host>(&self, host: &H) -> Option<Duration>
-        ensures behind { ListsBehind self.entry.now.connections self.entry.now.busy.items → (key : ℕ) (c : Connection S) → get self.entry.now.connections key ≡ Some c → IsBehind c → option_map as_nanos result ≡ Some 0 }
-        ensures looks { slab_len self.entry.now.connections ≤ 2 → self.entry.now.looks < 200 → option_map as_nanos result ≡ Some 0 }
-        ensures else_idle { (option_map as_nanos result ≡ Some 0) ⊎ (option_map as_nanos result ≡ (if nat_lt 0 self.entry.now.idle then Some 1_000_000_000 else None)) }
+        requires { ListsBehind self.now.connections self.now.busy.items }
+        ensures behind { (option_map as_nanos result ≡ Some 0) ⊎ NoneBehind self.entry.now.connections }
+        ensures busy { self.entry.now.busy.items ≢ [] → option_map as_nanos result ≡ Some 0 }
+        ensures looks { LooksAgain self.entry.now → option_map as_nanos result ≡ Some 0 }
+        ensures else_as_told { self.entry.now.busy.items ≡ [] → ¬ (LooksAgain self.entry.now)
+            → (may : Bool) × H.lets_sleep host.now may × (option_map as_nanos result ≡ (if may then longest_wait self.entry.now.idle else Some 0)) }
     {
-        if !self.busy.is_empty() {
+        if !self.busy.is_empty() || self.looks_again() {
             return Some(Duration::from_millis(0));
         }
-        if self.looks_again() || !host.may_sleep() {
+        if !host.may_sleep() {
             Some(Duration::from_millis(0))
         } else if self.idle > 0 {
             Some(Duration::from_millis(1_000))
@@ -337,9 +399,16 @@ impl<S: Socket + Drop> Members<S> {
 }
 
 impl Members<Arc<TcpStream>> {
-    /// A connection is taken in, with room for its key in both lists.
-    fn take_in(&mut self, registry: &Registry, arrival: Arrival) -> Result<(), AllocError> {
-        let count = self.connections.len().saturating_add(1);
+    /// A connection is taken in, with room for its key in both lists. It has something to do: to be read. It fails for want of
+    /// memory, or where the system refuses it, and then nothing changes but room.
+    fn take_in(&mut self, registry: &Registry, arrival: Arrival) -> Result<(), AllocError>
+        ensures kept { NoneForgotten self.old → NoneForgotten self.new }
+        ensures taken { OnOk result (NoneForgotten self.old → TakesIn arrival.stream arrival.place arrival.receipts self.old self.new) }
+        ensures refused { OnErr result (ChangesRoom self.old self.new) }
+    {
+        let Some(count) = self.connections.len().checked_add(1) else {
+            return Err(AllocError);
+        };
         self.busy.reserve(count)?;
         self.later.reserve(count)?;
         self.connections.reserve(1)?;
@@ -359,8 +428,11 @@ impl Members<Arc<TcpStream>> {
         Ok(())
     }
 
-    /// The connections that came are taken in. One for which there is no room ends at once.
-    fn take_arrivals<H: Host>(&mut self, registry: &Registry, host: &H) {
+    /// The connections that came are taken in, and those that were there are as they were. One for which there is no room ends at once.
+    fn take_arrivals<H: Host>(&mut self, registry: &Registry, host: &H)
+        ensures kept { NoneForgotten self.old → NoneForgotten self.new }
+        ensures stay { NoneForgotten self.old → PresentStay self.old.connections self.new.connections }
+    {
         for _ in 0..usize::MAX {
             let Some(arrival) = host.arrival() else {
                 break;
@@ -373,8 +445,12 @@ impl Members<Arc<TcpStream>> {
         }
     }
 
-    /// What came is taken, and each connection that has something to do takes its steps.
-    fn round<H: Host>(&mut self, registry: &Registry, host: &H) {
+    /// What came is taken, and each connection that has something to do takes its steps. The list then names just the connections
+    /// of the thread that are behind.
+    fn round<H: Host>(&mut self, registry: &Registry, host: &H)
+        ensures kept { NoneForgotten self.old → NoneForgotten self.new }
+        ensures behind { NoneForgotten self.old → ListsBehind self.new.connections self.new.busy.items }
+    {
         // Letters first: what is told from then on keeps the thread awake, so no arrival is left behind.
         self.take_letters(host);
         self.take_arrivals(registry, host);
@@ -382,8 +458,11 @@ impl Members<Arc<TcpStream>> {
     }
 
     /// A round, and another one, for the replies that came to what was asked in the first: they are written before the next
-    /// look at readiness.
-    fn turn<H: Host>(&mut self, registry: &Registry, host: &H) {
+    /// look at readiness. The list then names just the connections of the thread that are behind.
+    fn turn<H: Host>(&mut self, registry: &Registry, host: &H)
+        ensures kept { NoneForgotten self.old → NoneForgotten self.new }
+        ensures behind { NoneForgotten self.old → ListsBehind self.new.connections self.new.busy.items }
+    {
         self.looks = self.looks.saturating_add(1);
         if self.idle > 0 {
             self.look_for_idle(host.seconds());
@@ -399,6 +478,7 @@ pub struct Crowd {
     poll: Poll,
     events: Events,
     members: Members<Arc<TcpStream>>,
+    ghost none: { HasNone members },
 }
 
 impl Crowd {

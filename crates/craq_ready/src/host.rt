@@ -1,6 +1,6 @@
 //! `Host`: what a thread of connections reaches, a store that is asked without waiting, and where its connections come from; the
 //! server of a store is one.
-ghost use Rattle.std.specs.Prelude.{List};
+ghost use Rattle.std.specs.Prelude.{Bool, List};
 ghost use Rattle.craq_letters.specs.declared.pile.Letter.{Letter};
 
 use craq_door::CallTaker;
@@ -25,6 +25,9 @@ pub trait Host: CallTaker {
     /// Which letters it brought: those that were there before, and all that are then.
     ghost brings: { Self → List Letter → List Letter → Type 0 };
 
+    /// What it said when it was asked whether the thread may sleep.
+    ghost lets_sleep: { Self → Bool → Type 0 };
+
     /// The letters that have come go to the end of these.
     fn take_letters(&self, into: &mut Vec<Letter>)
         ensures { brings self.now into.old.items into.new.items };
@@ -36,7 +39,8 @@ pub trait Host: CallTaker {
     fn is_over(&self) -> bool;
 
     /// Whether nothing came since the last look, so that the thread may sleep; the next letter or connection then wakes it.
-    fn may_sleep(&self) -> bool;
+    fn may_sleep(&self) -> bool
+        ensures { lets_sleep self.now result };
 
     /// The seconds since some moment. They never go back.
     fn seconds(&self) -> u64;

@@ -84,6 +84,8 @@ where
 
     ghost brings = { λ crew old new. ⊤ };
 
+    ghost lets_sleep = { λ crew may. ⊤ };
+
     fn take_letters(&self, into: &mut Vec<Letter>) {
         self.letters.take(&self.server.rt, into);
         for letter in into.iter() {

@@ -72,9 +72,9 @@ module _ (tells : List ℕ → Type 0) (refuses : Refusing) (submits : ℕ → S
 module _ {S : Type 0} (tells : List ℕ → Type 0) (refuses : Refusing) where
   -- what a connection became is what is under its key
   pub turned_at : (submits : Token → Submitting) (s : Slab (Connection S)) (key : ℕ) (c d : Connection S)
-      → get s key ≡ Some c → HasTurn tells refuses (under_key submits key) c.over c.dialogue c.calls d.dialogue d.calls → d.stream ≡ c.stream → d.over ≡ c.over → d.busy ≡ c.busy → KeepsPlace c d
+      → get s key ≡ Some c → HasTurn tells refuses (under_key submits key) c.over c.dialogue c.calls d.dialogue d.calls → d.stream ≡ c.stream → d.over ≡ c.over → d.busy ≡ c.busy → KeepsPlace c d → d.readiness ≡ c.readiness
       → HasTurnAt tells refuses submits s (with_value s key d) key
-  turned_at submits s key c d was took same ends marked place c' here =
+  turned_at submits s key c d was took same ends marked place ready c' here =
       let e : c' ≡ c = cc in
       let is : get (with_value s key d) key ≡ Some d = (Updates-with_value s key d (rw was refl)).changed in
-      rw e (d, is, took, same, ends, marked, place)
+      rw e (d, is, took, same, ends, marked, place, ready)

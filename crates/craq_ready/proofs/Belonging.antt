@@ -54,7 +54,7 @@ nothing_written a b d e same is = nothing_went a b d e (none_went a b same) is
 
 -- what a connection takes is taken, whether it has something to do or not
 taken_busy : {S : Type 0} (number : ℕ) (reply : Result Called Refusal) (c d : Connection S) → TakesLetter number reply c d → TakesLetter number reply c (record d { busy = true })
-taken_busy number reply c d takes = record { own = takes.own; another = takes.another; calls = takes.calls; stream = takes.stream; over = takes.over; place = takes.place }
+taken_busy number reply c d takes = record { own = takes.own; another = takes.another; calls = takes.calls; stream = takes.stream; over = takes.over; readiness = takes.readiness; place = takes.place }
 
 -- the connection under the token's key takes the letter, and then has something to do
 pub delivered : {S : Type 0} (s t : Slab (Connection S)) (token : Token) (c d : Connection S) (reply : Result Called Refusal)

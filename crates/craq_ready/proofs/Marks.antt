@@ -137,15 +137,15 @@ module _ {S : Type 0} where
       → Wakes (with_value s key d) t key → StaysVacant (with_value s key d) t key → OthersStay (with_value s key d) t key → MarksBehind t
   behind_changed s t key c d marks was = behind_woken s (with_value s key d) t key marks (others_with s key c d was)
 
-module _ {S : Type 0} (remaining contents : S → Option (List ℕ)) (is_over : S → Type 0) (tells : List ℕ → Type 0) (refuses : Refusing) (submits : Token → Submitting) where
-  keeps_read : KeepsMarks (ReadsAt remaining contents is_over)
+module _ {S : Type 0} (remaining contents : S → Option (List ℕ)) (is_over is_dry is_full : S → Type 0) (tells : List ℕ → Type 0) (refuses : Refusing) (submits : Token → Submitting) where
+  keeps_read : KeepsMarks (ReadsAt remaining contents is_over is_dry is_full)
   keeps_read s t key reads c was = ((reads c was).0, (reads c was).1, (reads c was).2.busy)
 
   keeps_turned : KeepsMarks {S = S} (λ s t key. HasTurnAt tells refuses submits s t key)
   keeps_turned s t key turn c was = ((turn c was).0, (turn c was).1, (turn c was).5)
 
   -- a mark that is set after a write is right
-  right_at : (s t : Slab (Connection S)) (key : ℕ) (o : Option (Connection S)) → get s key ≡ o → Alone (WritesAt remaining contents is_over) s t key → IsRightAt t key
+  right_at : (s t : Slab (Connection S)) (key : ℕ) (o : Option (Connection S)) → get s key ≡ o → Alone (WritesAt remaining contents is_over is_dry is_full) s t key → IsRightAt t key
   right_at s t key None was alone d here = (let no : get t key ≡ None = alone.1 was in cc)
   right_at s t key (Some c) was alone d here =
       let stays : StaysUnlessDone (alone.0 c was).0 (Some d) = subst (λ (o : Option (Connection S)). StaysUnlessDone (alone.0 c was).0 o) here (alone.0 c was).2 in
@@ -153,30 +153,30 @@ module _ {S : Type 0} (remaining contents : S → Option (List ℕ)) (is_over : 
 
   -- the list is right of the connections that have read and had their turns
   pub listed_stepped : (s r a : Slab (Connection S)) (busy later : Vec ℕ Global) → ListsMarked s busy later
-      → OneByOne (ReadsAt remaining contents is_over) busy.items s r → TakeTurns tells refuses submits busy.items r a → ListsMarked a busy later
+      → OneByOne (ReadsAt remaining contents is_over is_dry is_full) busy.items s r → TakeTurns tells refuses submits busy.items r a → ListsMarked a busy later
   listed_stepped s r a busy later l reads turns =
       listed_still s a busy later
-      (marks_then s r a (marks_kept (ReadsAt remaining contents is_over) keeps_read busy.items s r reads)
+      (marks_then s r a (marks_kept (ReadsAt remaining contents is_over is_dry is_full) keeps_read busy.items s r reads)
       (marks_kept (λ s t key. HasTurnAt tells refuses submits s t key) keeps_turned busy.items r a turns))
       l
 
   -- all marks are right once the connections of the list were served
   pub all_right : (s r a t : Slab (Connection S)) (busy later : Vec ℕ Global) → ListsMarked s busy later → MarksBehind s
-      → OneByOne (ReadsAt remaining contents is_over) busy.items s r → TakeTurns tells refuses submits busy.items r a
-      → OneByOne (WritesAt remaining contents is_over) busy.items a t → (key : ℕ) → IsRightAt t key
+      → OneByOne (ReadsAt remaining contents is_over is_dry is_full) busy.items s r → TakeTurns tells refuses submits busy.items r a
+      → OneByOne (WritesAt remaining contents is_over is_dry is_full) busy.items a t → (key : ℕ) → IsRightAt t key
   all_right s r a t busy later l behind reads turns writes =
       right_everywhere s t busy later l behind
-      (λ key not. untouched (WritesAt remaining contents is_over) busy.items a t key writes not
+      (λ key not. untouched (WritesAt remaining contents is_over is_dry is_full) busy.items a t key writes not
       ∙ (untouched (λ s t key. HasTurnAt tells refuses submits s t key) busy.items r a key turns not
-      ∙ untouched (ReadsAt remaining contents is_over) busy.items s r key reads not))
-      (λ key listed. right_after (WritesAt remaining contents is_over) (λ s t key. right_at s t key (get s key) refl) busy.items a t key writes listed)
+      ∙ untouched (ReadsAt remaining contents is_over is_dry is_full) busy.items s r key reads not))
+      (λ key listed. right_after (WritesAt remaining contents is_over is_dry is_full) (λ s t key. right_at s t key (get s key) refl) busy.items a t key writes listed)
 
   pub marks_behind : (t : Slab (Connection S)) → ((key : ℕ) → IsRightAt t key) → MarksBehind t
   marks_behind t right key c here is = (right key c here).1 is
 
   -- the same where the busy list and the other one were handed on
   pub listed_handed : (s r a : Slab (Connection S)) (busy later busy_read later_read busy_stepped later_stepped : Vec ℕ Global) → ListsMarked s busy later
-      → OneByOne (ReadsAt remaining contents is_over) busy.items s r → busy_read ≡ busy → later_read ≡ later
+      → OneByOne (ReadsAt remaining contents is_over is_dry is_full) busy.items s r → busy_read ≡ busy → later_read ≡ later
       → TakeTurns tells refuses submits busy_read.items r a → busy_stepped ≡ busy_read → later_stepped ≡ later_read → ListsMarked a busy_stepped later_stepped
   listed_handed s r a busy later busy_read later_read busy_stepped later_stepped l reads is is_later turns is_too is_later_too =
       let same : busy_stepped ≡ busy = is_too ∙ is in
@@ -186,11 +186,11 @@ module _ {S : Type 0} (remaining contents : S → Option (List ℕ)) (is_over : 
       (listed_stepped s r a busy later l reads (subst (λ (v : Vec ℕ Global). TakeTurns tells refuses submits v.items r a) is turns)))
 
   pub right_handed : (s r a t : Slab (Connection S)) (busy later busy_read busy_stepped : Vec ℕ Global) → ListsMarked s busy later → MarksBehind s
-      → OneByOne (ReadsAt remaining contents is_over) busy.items s r → busy_read ≡ busy
+      → OneByOne (ReadsAt remaining contents is_over is_dry is_full) busy.items s r → busy_read ≡ busy
       → TakeTurns tells refuses submits busy_read.items r a → busy_stepped ≡ busy_read
-      → OneByOne (WritesAt remaining contents is_over) busy_stepped.items a t → (key : ℕ) → IsRightAt t key
+      → OneByOne (WritesAt remaining contents is_over is_dry is_full) busy_stepped.items a t → (key : ℕ) → IsRightAt t key
   right_handed s r a t busy later busy_read busy_stepped l behind reads is turns is_too writes =
       let same : busy_stepped ≡ busy = is_too ∙ is in
       all_right s r a t busy later l behind reads
       (subst (λ (v : Vec ℕ Global). TakeTurns tells refuses submits v.items r a) is turns)
-      (subst (λ (v : Vec ℕ Global). OneByOne (WritesAt remaining contents is_over) v.items a t) same writes)
+      (subst (λ (v : Vec ℕ Global). OneByOne (WritesAt remaining contents is_over is_dry is_full) v.items a t) same writes)

@@ -21,18 +21,18 @@ found_waiting (phases.Over why) found is = rw is refl
 pub told_not : {P : Type 0} (told : Bool) → IsTrue told ↔ P → told ≡ false → ¬ P
 told_not told says off = λ p. (let yes : told ≡ true = says.1 p in cc)
 
-module _ {S : Type 0} (remaining contents : S → Option (List ℕ)) (is_over : S → Type 0) where
+module _ {S : Type 0} (remaining contents : S → Option (List ℕ)) (is_over is_dry is_full : S → Type 0) where
   -- a connection that read is what is under its key
-  pub read_at : (s : Slab (Connection S)) (key : ℕ) (c d : Connection S) → get s key ≡ Some c → HasRead remaining contents is_over c d
-      → ReadsAt remaining contents is_over s (with_value s key d) key
+  pub read_at : (s : Slab (Connection S)) (key : ℕ) (c d : Connection S) → get s key ≡ Some c → HasRead remaining contents is_over is_dry is_full c d
+      → ReadsAt remaining contents is_over is_dry is_full s (with_value s key d) key
   read_at s key c d was read c' here =
       let e : c' ≡ c = cc in
       let is : get (with_value s key d) key ≡ Some d = (Updates-with_value s key d (rw was refl)).changed in
       rw e (d, is, read)
 
   -- a connection that is not done stays under its key
-  pub kept_at : (s : Slab (Connection S)) (key : ℕ) (c d e : Connection S) (busy : Bool) → get s key ≡ Some c → HasWritten remaining contents is_over c d
-      → ¬ IsDone d → e ≡ record d { busy = busy } → IsTrue busy ↔ IsBehind d → WritesAt remaining contents is_over s (with_value s key e) key
+  pub kept_at : (s : Slab (Connection S)) (key : ℕ) (c d e : Connection S) (busy : Bool) → get s key ≡ Some c → HasWritten remaining contents is_over is_dry is_full c d
+      → ¬ IsDone d → e ≡ record d { busy = busy } → IsTrue busy ↔ IsBehind d → WritesAt remaining contents is_over is_dry is_full s (with_value s key e) key
   kept_at s key c d e busy was written stays same marks c' here =
       let e' : c' ≡ c = cc in
       let is : get (with_value s key e) key ≡ Some e = (Updates-with_value s key e (rw was refl)).changed in
@@ -42,8 +42,8 @@ module _ {S : Type 0} (remaining contents : S → Option (List ℕ)) (is_over : 
       rw e' (d, written, subst (λ (x : Option (Connection S)). StaysUnlessDone d x) (sym is) (stays, kept, exact))
 
   -- a connection that is done is let go
-  pub gone_at : (s t : Slab (Connection S)) (key : ℕ) (c d : Connection S) → get s key ≡ Some c → HasWritten remaining contents is_over c d
-      → IsDone d → get t key ≡ None → WritesAt remaining contents is_over s t key
+  pub gone_at : (s t : Slab (Connection S)) (key : ℕ) (c d : Connection S) → get s key ≡ Some c → HasWritten remaining contents is_over is_dry is_full c d
+      → IsDone d → get t key ≡ None → WritesAt remaining contents is_over is_dry is_full s t key
   gone_at s t key c d was written done gone c' here =
       let e' : c' ≡ c = cc in
       rw e' (d, written, subst (λ (x : Option (Connection S)). StaysUnlessDone d x) (sym gone) done)

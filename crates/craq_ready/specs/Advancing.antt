@@ -87,11 +87,11 @@ HasTurn tells refuses submits true old before new after = (new ≡ old) × (afte
 HasTurn tells refuses submits false old before new after = TakesTurn tells refuses submits old before new after
 
 -- under this key, the connection had its turn, in which its host was asked each call under this key and the number after that of
--- the call before; its socket, its mark and its place are as they were, and so is whether it is over
+-- the call before; its socket, its mark, its place and what is known of its readiness are as they were, and so is whether it is over
 abbrev pub HasTurnAt : {S : Type 0} → (List ℕ → Type 0) → Refusing → (Token → Submitting) → Slab (Connection S) → Slab (Connection S) → ℕ → Type 0
 HasTurnAt {S} tells refuses submits old new key =
     (c : Connection S) → get old key ≡ Some c
-    → (d : Connection S) × (get new key ≡ Some d) × HasTurn tells refuses (under_key submits key) c.over c.dialogue c.calls d.dialogue d.calls × (d.stream ≡ c.stream) × (d.over ≡ c.over) × (d.busy ≡ c.busy) × KeepsPlace c d
+    → (d : Connection S) × (get new key ≡ Some d) × HasTurn tells refuses (under_key submits key) c.over c.dialogue c.calls d.dialogue d.calls × (d.stream ≡ c.stream) × (d.over ≡ c.over) × (d.busy ≡ c.busy) × KeepsPlace c d × (d.readiness ≡ c.readiness)
 
 -- the connections under these keys have their turns, one after another, in which the host is asked under their own keys; and
 -- no other connection changes

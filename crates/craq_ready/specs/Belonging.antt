@@ -71,6 +71,7 @@ pub record TakesLetter {S : Type 0} (number : ℕ) (reply : Result Called Refusa
   pub calls : new.calls ≡ old.calls
   pub stream : new.stream ≡ old.stream
   pub over : new.over ≡ old.over
+  pub readiness : new.readiness ≡ old.readiness
   pub place : KeepsPlace old new
 
 -- the connection whose key is in this token takes the letter under the number that is there

@@ -1,5 +1,5 @@
 -- What a read or a write of a connection's socket came to, and when a connection is over.
-use Rattle.std.specs.Prelude.{◌≡◌, ◌⊎◌, ℕ, zero, suc, true, [], IsSome}
+use Rattle.std.specs.Prelude.{◌≡◌, ◌⊎◌, ℕ, zero, suc, true, false, [], IsSome}
 use Rattle.std.specs.declared.io.ErrorKind.{ErrorKind}
 use Rattle.std.specs.declared.io.ErrorKind.TheVariants as errors
 use Rattle.craq_door.specs.Dialogues.{ending_of}
@@ -36,3 +36,15 @@ EndsAsSocket is_over old new = new.over ≡ true → (old.over ≡ true) ⊎ is_
 pub record EndsInOrder {S : Type 0} (is_over : S → Type 0) (old new : Connection S) : Type 0 where
   pub said : HasSaidAll new.dialogue → new.over ≡ true
   pub else_on : new.over ≡ true → HasSaidAll new.dialogue ⊎ ((old.over ≡ true) ⊎ is_over new.stream)
+
+-- it goes on to read as it did, or its socket gives no byte before more have come; what else is known of its readiness is as it was
+abbrev pub ReadsOn : {S : Type 0} → (S → Type 0) → Connection S → Connection S → Type 0
+ReadsOn is_dry old new =
+    (new.readiness.readable ≡ false → (old.readiness.readable ≡ false) ⊎ is_dry new.stream)
+    × (new.readiness.closing ≡ old.readiness.closing) × (new.readiness.writable ≡ old.readiness.writable)
+
+-- it goes on to write as it did, or its socket takes no byte before there is room; what else is known of its readiness is as it was
+abbrev pub WritesOn : {S : Type 0} → (S → Type 0) → Connection S → Connection S → Type 0
+WritesOn is_full old new =
+    (new.readiness.writable ≡ false → (old.readiness.writable ≡ false) ⊎ is_full new.stream)
+    × (new.readiness.closing ≡ old.readiness.closing) × (new.readiness.readable ≡ old.readiness.readable)

@@ -123,7 +123,7 @@ impl<S: Socket> Connection<S> {
     ghost use Rattle.craq_ready.specs.Busy.{IsBehind, IsDone, IsLeft, is_waiting};
     ghost use Rattle.craq_ready.specs.Letters.{IsOutcome};
     ghost use Rattle.craq_ready.specs.Readiness.{noticed};
-    ghost use Rattle.craq_ready.specs.Sockets.{EndsAsSocket, EndsInOrder, HasSaidAll};
+    ghost use Rattle.craq_ready.specs.Sockets.{EndsAsSocket, EndsInOrder, HasSaidAll, ReadsOn, WritesOn};
 
     /// What is told of the connection's readiness.
     pub(crate) fn notice(&mut self, event: &Event)
@@ -218,6 +218,7 @@ impl<S: Socket> Connection<S> {
         ensures busy { self.new.busy ≡ self.old.busy }
         ensures over { self.new.over ≡ self.old.over }
         ensures place { KeepsPlace self.old self.new }
+        ensures readiness { self.new.readiness ≡ self.old.readiness }
     {
         self.more = true;
         self.heard = now;
@@ -226,12 +227,14 @@ impl<S: Socket> Connection<S> {
     }
 
     /// So many bytes came where there was room for so many: where there was more room, no more are there.
-    fn is_drained(&self, count: usize, room: usize) -> bool {
+    fn is_drained(&self, count: usize, room: usize) -> bool
+        ensures { IsTrue result ↔ ((count < room) × (self.now.readiness.closing ≡ false)) }
+    {
         count < room && !self.readiness.closing
     }
 
     /// Reads once. What came goes to the dialogue.
-    #[tactic(auto, using(crate::proofs::Belonging::nothing_came, crate::proofs::Ending::is_as_before, crate::proofs::Ending::ended))]
+    #[tactic(auto, using(crate::proofs::Belonging::nothing_came, crate::proofs::Ending::is_as_before, crate::proofs::Ending::ended, crate::proofs::Ending::reads_as_before, crate::proofs::Ending::dried, crate::proofs::Ending::reads_until_short))]
     fn take(&mut self, alloc: Global, chunk: &mut [u8], now: u64)
         requires { self.old.dialogue.phase ≡ Idle }
         ensures reads { Reads (S.remaining self.old.stream) (S.remaining self.new.stream) self.old.dialogue self.new.dialogue }
@@ -240,6 +243,7 @@ impl<S: Socket> Connection<S> {
         ensures busy { self.new.busy ≡ self.old.busy }
         ensures over { EndsAsSocket S.is_over self.old self.new }
         ensures place { KeepsPlace self.old self.new }
+        ensures ready { ReadsOn S.is_dry self.old self.new }
     {
         match self.stream.take(chunk) {
             Moved::Bytes(count) => {
@@ -254,7 +258,7 @@ impl<S: Socket> Connection<S> {
 
     /// Reads once, where nothing is asked and nothing is due. What its socket gave, and no other byte, goes to its dialogue.
     /// Where its call is under way nothing is read, and its dialogue is as it was. It is over only if it was, or its socket is.
-    #[tactic(auto, using(crate::proofs::Belonging::nothing_read, crate::proofs::Ending::is_as_before))]
+    #[tactic(auto, using(crate::proofs::Belonging::nothing_read, crate::proofs::Ending::is_as_before, crate::proofs::Ending::reads_as_before))]
     pub(crate) fn read(&mut self, alloc: Global, chunk: &mut [u8], now: u64)
         ensures waits { (q : Question) → self.old.dialogue.phase ≡ Waits q → self.new.dialogue ≡ self.old.dialogue }
         ensures reads { Reads (S.remaining self.old.stream) (S.remaining self.new.stream) self.old.dialogue self.new.dialogue }
@@ -263,6 +267,7 @@ impl<S: Socket> Connection<S> {
         ensures busy { self.new.busy ≡ self.old.busy }
         ensures over { EndsAsSocket S.is_over self.old self.new }
         ensures place { KeepsPlace self.old self.new }
+        ensures ready { ReadsOn S.is_dry self.old self.new }
     {
         if self.may_read() {
             self.take(alloc, chunk, now);
@@ -277,19 +282,21 @@ impl<S: Socket> Connection<S> {
         ensures calls { self.new.calls ≡ self.old.calls }
         ensures over { self.new.over ≡ self.old.over }
         ensures place { KeepsPlace self.old self.new }
+        ensures readiness { self.new.readiness ≡ self.old.readiness }
     {
         self.heard = now;
         self.dialogue.wrote(count);
     }
 
     /// Writes once what is due. What its socket took, and no other byte, is then written for its dialogue.
-    #[tactic(auto, using(crate::proofs::Belonging::nothing_written, crate::proofs::Belonging::nothing_went, crate::proofs::Ending::is_as_before, crate::proofs::Ending::ended))]
+    #[tactic(auto, using(crate::proofs::Belonging::nothing_written, crate::proofs::Belonging::nothing_went, crate::proofs::Ending::is_as_before, crate::proofs::Ending::ended, crate::proofs::Ending::writes_as_before, crate::proofs::Ending::filled))]
     fn write(&mut self, now: u64)
         ensures writes { Writes (S.contents self.old.stream) (S.contents self.new.stream) self.old.dialogue self.new.dialogue }
         ensures remaining { S.remaining self.new.stream ≡ S.remaining self.old.stream }
         ensures calls { self.new.calls ≡ self.old.calls }
         ensures over { EndsAsSocket S.is_over self.old self.new }
         ensures place { KeepsPlace self.old self.new }
+        ensures ready { WritesOn S.is_full self.old self.new }
     {
         if self.over || !self.readiness.writable || self.dialogue.due().is_empty() {
             return;
@@ -310,6 +317,7 @@ impl<S: Socket> Connection<S> {
         ensures busy { self.new.busy ≡ self.old.busy }
         ensures over { self.new.over ≡ self.old.over }
         ensures place { KeepsPlace self.old self.new }
+        ensures readiness { self.new.readiness ≡ self.old.readiness }
     {
         if let Err(refusal) = &outcome {
             host.refused(self.place, *refusal);
@@ -354,6 +362,7 @@ impl<S: Socket> Connection<S> {
         ensures busy { self.new.busy ≡ self.old.busy }
         ensures over { self.new.over ≡ self.old.over }
         ensures place { KeepsPlace self.old self.new }
+        ensures readiness { self.new.readiness ≡ self.old.readiness }
     {
         self.calls = self.calls.wrapping_add(1);
         let token = Token {
@@ -375,6 +384,7 @@ impl<S: Socket> Connection<S> {
         ensures busy { self.new.busy ≡ self.old.busy }
         ensures over { self.new.over ≡ self.old.over }
         ensures place { KeepsPlace self.old self.new }
+        ensures readiness { self.new.readiness ≡ self.old.readiness }
     {
         if self.over {
             return;
@@ -406,6 +416,7 @@ impl<S: Socket> Connection<S> {
         ensures calls { self.new.calls ≡ self.old.calls }
         ensures over { EndsInOrder S.is_over self.old self.new }
         ensures place { KeepsPlace self.old self.new }
+        ensures ready { WritesOn S.is_full self.old self.new }
     {
         self.write(now);
         if self.has_said_all() {

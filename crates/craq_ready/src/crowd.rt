@@ -97,7 +97,7 @@ fn read_at<S: Socket>(
     chunk: &mut [u8],
     now: u64,
 )
-    ensures reads { ReadsAt S.remaining S.contents S.is_over connections.old connections.new key }
+    ensures reads { ReadsAt S.remaining S.contents S.is_over S.is_dry S.is_full connections.old connections.new key }
     ensures vacant { StaysVacant connections.old connections.new key }
     ensures others { OthersStay connections.old connections.new key }
 {
@@ -117,7 +117,7 @@ fn give_at<S: Socket + Drop, H: Host>(
     key: usize,
     now: u64,
 ) -> bool
-    ensures writes { WritesAt S.remaining S.contents S.is_over connections.old connections.new key }
+    ensures writes { WritesAt S.remaining S.contents S.is_over S.is_dry S.is_full connections.old connections.new key }
     ensures vacant { StaysVacant connections.old connections.new key }
     ensures others { OthersStay connections.old connections.new key }
     ensures tells { result ≡ is_marked (get connections.new key) }
@@ -278,7 +278,7 @@ impl<S: Socket + Drop> Members<S> {
     /// What has come on the busy connections is read: each reads under its own key, one after another, and no other connection
     /// changes.
     fn read_all(&mut self)
-        ensures reads { OneByOne (ReadsAt S.remaining S.contents S.is_over) self.old.busy.items self.old.connections self.new.connections }
+        ensures reads { OneByOne (ReadsAt S.remaining S.contents S.is_over S.is_dry S.is_full) self.old.busy.items self.old.connections self.new.connections }
         ensures busy { self.new.busy ≡ self.old.busy }
         ensures later { self.new.later ≡ self.old.later }
     {
@@ -310,7 +310,7 @@ impl<S: Socket + Drop> Members<S> {
     /// exactly where it is done. The list then names those of its connections that are still there and have something left to do, in
     /// the order in which it named them.
     fn give_all<H: Host>(&mut self, registry: &Registry, host: &H)
-        ensures writes { OneByOne (WritesAt S.remaining S.contents S.is_over) self.old.busy.items self.old.connections self.new.connections }
+        ensures writes { OneByOne (WritesAt S.remaining S.contents S.is_over S.is_dry S.is_full) self.old.busy.items self.old.connections self.new.connections }
         ensures listed { ListsMarked self.old.connections self.old.busy self.old.later → ListsMarked self.new.connections self.new.busy self.new.later }
         ensures in_order { ListsMarked self.old.connections self.old.busy self.old.later
             → self.new.busy.items ≡ filter (λ key. is_marked (get self.new.connections key)) self.old.busy.items }
@@ -331,7 +331,7 @@ impl<S: Socket + Drop> Members<S> {
         ensures kept { NoneForgotten self.old → NoneForgotten self.new }
         ensures behind { NoneForgotten self.old → ListsBehind self.new.connections self.new.busy.items }
         ensures in_order { NoneForgotten self.old → self.new.busy.items ≡ filter (λ key. is_marked (get self.new.connections key)) self.old.busy.items }
-        ensures serves { Serves S.remaining S.contents S.is_over (H.tells host.now) (H.refuses host.now) (H.submits host.now) self.old.busy.items self.old.connections self.new.connections }
+        ensures serves { Serves S.remaining S.contents S.is_over S.is_dry S.is_full (H.tells host.now) (H.refuses host.now) (H.submits host.now) self.old.busy.items self.old.connections self.new.connections }
     {
         self.read_all();
         self.advance_all(host);

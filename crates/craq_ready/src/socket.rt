@@ -1,5 +1,5 @@
 //! `Socket`: the stream of a connection, as `Connection` knows it.
-ghost use Rattle.std.specs.Prelude.{◌≡◌, ◌≤◌, ℕ, List, Option, None, Some, IfErr, IfOk, length, take, ⊤};
+ghost use Rattle.std.specs.Prelude.{◌≡◌, ◌<◌, ◌≤◌, ℕ, List, Option, None, Some, IfErr, IfOk, length, take, ⊤};
 ghost use Rattle.std.specs.Io.KnownBytes.{Appends, Consumes};
 ghost use Rattle.std.specs.IoError.{error_kind};
 ghost use Rattle.craq_ready.specs.Sockets.{moved_count, moved_of_count, moved_of_error};
@@ -36,11 +36,19 @@ pub(crate) trait Socket {
     /// That it gives or takes no more bytes.
     ghost is_over: { Self → Type 0 };
 
+    /// That a read gives no byte before more have come.
+    ghost is_dry: { Self → Type 0 };
+
+    /// That a write takes no byte before there is room again.
+    ghost is_full: { Self → Type 0 };
+
     /// Reads once into the front of the buffer, and tells how many bytes came.
     fn take(&mut self, buffer: &mut [u8]) -> Moved
         ensures few { moved_count result ≤ length buffer.new }
         ensures gave { Consumes (remaining self.old) (remaining self.new) (take (moved_count result) buffer.new) }
         ensures over { result ≡ Moved.Over → is_over self.new }
+        ensures not_ready { result ≡ Moved.NotReady → is_dry self.new }
+        ensures short { (n : ℕ) → result ≡ Moved.Bytes n → n < length buffer.new → is_dry self.new }
         ensures contents { contents self.new ≡ contents self.old };
 
     /// Writes the front of the bytes, and tells how many were taken.
@@ -48,6 +56,7 @@ pub(crate) trait Socket {
         ensures few { moved_count result ≤ length bytes.now }
         ensures took { Appends (contents self.old) (contents self.new) (take (moved_count result) bytes.now) }
         ensures over { result ≡ Moved.Over → is_over self.new }
+        ensures not_ready { result ≡ Moved.NotReady → is_full self.new }
         ensures remaining { remaining self.new ≡ remaining self.old };
 
     /// Its readiness is not told any more.
@@ -76,6 +85,10 @@ impl Socket for Arc<TcpStream> {
     ghost contents = { λ _. None };
 
     ghost is_over = { λ _. ⊤ };
+
+    ghost is_dry = { λ _. ⊤ };
+
+    ghost is_full = { λ _. ⊤ };
 
     fn take(&mut self, buffer: &mut [u8]) -> Moved {
         moved_by((&**self).read(buffer))

@@ -13,7 +13,7 @@ ghost use Rattle.craq_settled.specs.Held.{length_of};
 ghost use Rattle.craq_unsettled.specs.Indexed.{Tells};
 ghost use Rattle.craq_list.specs.Stored.{stored};
 
-use craq_commands::{Entry, Said, State};
+use craq_commands::{Entry, Kept, Said, State};
 use craq_history::{History, ObjectVersions};
 use craq_names::{ClientId, Items, Key, RequestNo, Seq, Version};
 use craq_plain::lookups::{follows, object_past, object_up_to};
@@ -118,12 +118,13 @@ impl ListHistory {
         object_past(newest, bytes, later, key).0
     }
 
-    /// The numbers that are kept for a client after all entries, and where their replies stand.
-    fn slots(&self, client: ClientId) -> Slots
+    /// The numbers that are kept for a client after all entries, and where their replies stand, where this is kept for it in the state.
+    fn slots(&self, window: &[Kept], client: ClientId) -> Slots
+        requires window { window.now ≡ window_of self.now.held.state client }
+        requires short { length window.now ≤ 8 }
         ensures slots { result.items ≡ slots_after client (length (window_of self.now.held.state client)) self.now.held.entries (slots_from 0 (window_of self.now.held.state client)) }
         ensures few { array_vec_len result ≤ 8 }
     {
-        let window = self.held.window(client);
         let settled = self.settled();
         let mut slots = slots_after(window, settled, client);
         let first = window.len() + settled.len();
@@ -136,8 +137,9 @@ impl ListHistory {
     fn is_new_later(&self, later: &[Entry], client: ClientId, number: RequestNo) -> bool
         ensures { result ≡ is_new_to (after_entries (newest_in (⟦<ListHistory as History>⟧.past self.now)) later.now) client number }
     {
-        let mut slots = self.slots(client);
-        let first = self.held.window(client).len() + self.entries().len();
+        let window = self.held.window(client);
+        let mut slots = self.slots(window, client);
+        let first = window.len() + self.entries().len();
         add_entries(&mut slots, client, later, first);
         is_new(slots.as_slice(), number)
     }
@@ -209,13 +211,9 @@ impl History for ListHistory {
     }
 
     fn said(&self, client: ClientId, number: RequestNo) -> Said<'_> {
-        let slots = self.slots(client);
-        said_in(
-            slots.as_slice(),
-            self.held.window(client),
-            self.entries(),
-            number,
-        )
+        let window = self.held.window(client);
+        let slots = self.slots(window, client);
+        said_in(slots.as_slice(), window, self.entries(), number)
     }
 
     fn are_next(&self, entries: &[Entry]) -> bool {

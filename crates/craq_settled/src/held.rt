@@ -1,5 +1,5 @@
 //! `HeldPast`, what a past that forgets holds. `craq_list` calls it, and else only tests do.
-ghost use Rattle.std.specs.Prelude.{◌≡◌, ◌+◌, ◌-◌, ◌<◌, ◌≤◌, ◌^◌, ◌++◌, T, ℕ, List, [], IfOk, OnOk, OnErr, drop, length, max, take};
+ghost use Rattle.std.specs.Prelude.{◌≡◌, ◌+◌, ◌-◌, ◌<◌, ◌≤◌, ◌^◌, ◌++◌, T, ℕ, List, [], IfOk, OnOk, OnErr, drop, length, max, nat_le, take, if◌then◌else◌};
 ghost use Rattle.std.specs.List.{AllByRecursion};
 ghost use Rattle.std.specs.Ordering.{nat_cmp};
 ghost use Rattle.std.specs.FinMap.Entries.{is_sorted};
@@ -14,7 +14,7 @@ ghost use Rattle.craq_settled.specs.Held.{length_of};
 ghost use Rattle.craq_settled.specs.Room.{HasRoomForVersions};
 
 use crate::folding::fold;
-use crate::listing::{MOST_UNLISTED, list_entries};
+use crate::listing::{FEW_ENTRIES, MOST_UNLISTED, list_entries};
 use crate::lookups::{Seen, seen_in, within_in};
 use crate::objects::{object_in, objects_copied, objects_placed};
 use crate::places::Place;
@@ -175,8 +175,8 @@ impl HeldPast {
 
     /// More entries, at the positions that come next, which write the next versions of their objects. Where memory is
     /// refused for them the past stays. Where it is refused for the lists of the objects that they write, the next call
-    /// lists them; what is seen is the same. Where there is room in these lists, all entries but the last few are listed
-    /// then.
+    /// lists them; what is seen is the same. Where there is room in these lists, of more than 64 entries all but the last 4 are
+    /// listed then.
     pub fn append(&mut self, entries: Items<Entry>) -> Result<(), AllocError>
         requires fits { length_of self.old + length entries < 2 ^ 64 }
         requires in_row { AreInRow (length_of self.old + 1) entries }
@@ -186,7 +186,7 @@ impl HeldPast {
         ensures ok { OnOk result (self.new.entries ≡ self.old.entries ++ entries) }
         ensures err { OnErr result (self.new.entries ≡ self.old.entries) }
         ensures more { self.old.listed ≤ self.new.listed }
-        ensures listed { OnOk result (HasRoomForVersions self.old.rooms (drop (self.old.listed - self.old.base) self.new.entries) → self.new.listed ≡ max self.old.listed (length_of self.new - MOST_UNLISTED)) }
+        ensures listed { OnOk result (HasRoomForVersions self.old.rooms (drop (self.old.listed - self.old.base) self.new.entries) → self.new.listed ≡ max self.old.listed (if nat_le (length self.new.entries) FEW_ENTRIES then self.new.base else length_of self.new - MOST_UNLISTED)) }
     {
         self.entries.append_all(entries)?;
         let _refused = list_entries(&mut self.table, &self.entries, &mut self.listed);

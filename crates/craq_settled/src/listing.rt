@@ -1,5 +1,5 @@
 //! Says in the table where entries write objects; called by `held` and `folding`.
-ghost use Rattle.std.specs.Prelude.{◌≡◌, ℕ, ◌+◌, ◌-◌, ◌<◌, ◌≤◌, List, [], ◌∷◌, ◌++◌, IsOk, OnOk, OnErr, if◌then◌else◌, length, drop, max, take};
+ghost use Rattle.std.specs.Prelude.{◌≡◌, ℕ, ◌+◌, ◌-◌, ◌<◌, ◌≤◌, List, [], ◌∷◌, ◌++◌, IsOk, OnOk, OnErr, if◌then◌else◌, length, nat_le, drop, max, take};
 ghost use Rattle.craq_names.specs.Maps.{same_bytes};
 ghost use Rattle.craq_model.specs.Past.{values_in, values_after};
 ghost use Rattle.craq_commands.specs.Objects.{version_of};
@@ -19,7 +19,10 @@ use craq_names::{Key, Seq, Version};
 use craq_versions::ObjectTable;
 use std::alloc::AllocError;
 
-/// How many entries at most are not listed, while memory is there: a look at so few costs less than a look-up.
+/// Of so many entries or fewer none needs to be listed: most of them are folded before that pays.
+pub const FEW_ENTRIES: usize = 64;
+
+/// Of more entries at most so many are not listed, while memory is there: a look at so few costs less than a look-up.
 pub const MOST_UNLISTED: u64 = 4;
 
 /// One more version of an object, the next, which is written there. It looks the object up once, or twice where it is new.
@@ -129,8 +132,20 @@ pub fn list_next(
     Ok(())
 }
 
-/// Says in the table where entries write each object: all entries but the last few. It stops at the first growth that is
-/// refused: the entries before that one are listed, and the next call begins with it. Where there is room for all versions
+/// Up to which position entries are to be listed: none of few, and of more all but the last few.
+fn most_listed(entries: &Suffix) -> u64
+    ensures { result ≡ (if nat_le (length entries.now.entries) FEW_ENTRIES then entries.now.base else length_of entries.now - MOST_UNLISTED) }
+{
+    let base = entries.base();
+    if entries.from(base).len() <= FEW_ENTRIES {
+        base.get()
+    } else {
+        entries.len().get().saturating_sub(MOST_UNLISTED)
+    }
+}
+
+/// Says in the table where entries write each object: of more than few entries, all but the last few. It stops at the first growth
+/// that is refused: the entries before that one are listed, and the next call begins with it. Where there is room for all versions
 /// none is refused. It keeps the position up to which all are listed.
 pub fn list_entries(
     table: &mut ObjectTable<Place>,
@@ -140,15 +155,15 @@ pub fn list_entries(
     requires placed { IsPlaced table.old }
     requires listed { AreListed table.old entries.now listed.old }
     requires next { (q : List ℕ) → AreNext (version_of (objects_of table.old) q) (values_after entries.now.entries q) }
-    ensures ok { OnOk result (listed.new ≡ max listed.old (length_of entries.now - MOST_UNLISTED)) }
-    ensures err { OnErr result (listed.new < length_of entries.now - MOST_UNLISTED) }
+    ensures ok { OnOk result (listed.new ≡ max listed.old (if nat_le (length entries.now.entries) FEW_ENTRIES then entries.now.base else length_of entries.now - MOST_UNLISTED)) }
+    ensures err { OnErr result (listed.new < (if nat_le (length entries.now.entries) FEW_ENTRIES then entries.now.base else length_of entries.now - MOST_UNLISTED)) }
     ensures objects { objects_of table.new ≡ objects_of table.old }
     ensures listed { AreListed table.new entries.now listed.new }
     ensures more { listed.old ≤ listed.new }
     ensures placed { IsPlaced table.new }
     ensures succeeds { HasRoomForVersions table.old.rooms (drop (listed.old - entries.now.base) entries.now.entries) → IsOk result }
 {
-    let most = entries.len().get().saturating_sub(MOST_UNLISTED);
+    let most = most_listed(entries);
     while listed.get() < most {
         list_next(table, entries, listed)?;
     }

@@ -17,7 +17,10 @@ use std::alloc::Global;
 use std::collections::BTreeMap;
 use std::marker::Model;
 
-/// How many entries at most are not told, while memory is there: a look at so few costs less than a look-up.
+/// Of so many entries or fewer none is told: most of them are settled before that pays.
+const FEW_ENTRIES: usize = 64;
+
+/// Of more entries at most so many are not told, while memory is there: a look at so few costs less than a look-up.
 const MOST_UNTOLD: usize = 8;
 
 /// Where clients' entries stand, among entries that come after one position, up to another.
@@ -41,6 +44,17 @@ impl Model for ClientIndex {
     ghost invariant = { λ x. IsOrdered nat_cmp x.places };
 }
 
+/// Of how many later entries the index is to be told that knows of so many: of none where all are few, else of all but the last few.
+fn more_to_tell(told: usize, later: usize) -> usize
+    ensures { result ≤ later }
+{
+    if told.saturating_add(later) <= FEW_ENTRIES {
+        0
+    } else {
+        later.saturating_sub(MOST_UNTOLD)
+    }
+}
+
 impl ClientIndex {
     /// Nothing of the entries after a position. It takes no memory.
     pub fn new(alloc: Global, from: Seq) -> Self
@@ -62,13 +76,14 @@ impl ClientIndex {
         self.to
     }
 
-    /// More entries are told of: those after the told ones, but for the last few, while memory is there.
+    /// More entries are told of, where they are more than few: those after the told ones, but for the last few, while memory is there.
     pub fn add(&mut self, later: &[Entry])
         requires fits { self.old.to + length later.now < 2 ^ 64 }
         ensures from { self.new.from ≡ self.old.from }
         ensures tells { (entries : List Entry) → Tells self.old entries → later.now ≡ drop (self.old.to - self.old.from) entries → Tells self.new entries }
     {
-        let count = later.len().saturating_sub(MOST_UNTOLD);
+        let told = self.to.get().saturating_sub(self.from.get()) as usize;
+        let count = more_to_tell(told, later.len());
         let after = self.to.get();
         let added = add_entries(self.alloc, &mut self.places, &later[..count], after);
         self.to = Seq::new(after + added as u64);

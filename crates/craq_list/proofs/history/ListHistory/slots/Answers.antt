@@ -4,4 +4,4 @@ use Rattle.craq_list.proofs.history.ListHistory.slots.Goals as goal
 
 pub returns-clause-slots : goal.returns-clause-slots
 returns-clause-slots c =
-    slots_told c.args.self.now.held.state (c.args.self.now.acknowledged - c.args.self.now.held.base) c.args.client _ _ c.args.self.now.held.entries _ _ _ _ c.window-window.ensures.window c.settled-settled.ensures c.unsettled.ensures.entries refl c.slots_after-slots.ensures.slots c.keep_replies.ensures.slots
+    slots_told c.args.self.now.held.state (c.args.self.now.acknowledged - c.args.self.now.held.base) c.args.client _ _ c.args.self.now.held.entries _ _ _ _ c.requires.window c.settled-settled.ensures c.unsettled.ensures.entries refl c.slots_after-slots.ensures.slots c.keep_replies.ensures.slots

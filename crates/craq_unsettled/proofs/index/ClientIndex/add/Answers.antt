@@ -10,7 +10,7 @@ returns-clause-tells c = λ entries t rest.
     let left : c.args.later.now ≡ drop (x.to - x.from) entries = subst (λ (y : Indexed). c.args.later.now ≡ drop (y.to - y.from) entries) (sym c.self.view_is) rest in
     let qs = c.add_entries-added.new.places.entries in
     let n : ℕ = c.add_entries-added.result in
-    let count : ℕ = c.saturating_sub-count.result in
+    let count : ℕ = c.more_to_tell-count.result in
     let more : (q : ℕ) → told_of qs q ≡ told_of x.places q ++ positions_of q x.to (take n (take count c.args.later.now)) = λ q.
     c.add_entries-added.ensures.told q ∙ ap (λ (k : ℕ). told_of x.places q ++ positions_of q k (take n (take count c.args.later.now))) c.get-after.ensures in
     let end : c.new-self-inside.result ≡ x.to + n = c.new-self-inside.ensures ∙ ap (λ (k : ℕ). k + n) c.get-after.ensures in

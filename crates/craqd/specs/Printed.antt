@@ -1,10 +1,11 @@
--- What is printed of an audit.
-use Rattle.std.specs.Prelude.{ℕ, List, ◌++◌, codes}
+-- What is printed of an audit, and told of a fault.
+use Rattle.std.specs.Prelude.{ℕ, List, Option, Some, None, ◌++◌, codes}
 use Rattle.std.specs.Fmt.{decimal}
-use Rattle.craq_names.specs.declared.refusal.Refusal.{Refusal}
 use Rattle.craq_names.specs.Refused.{number_of}
 use Rattle.craq_audit.specs.declared.finding.Audit.{Audit}
 use Rattle.craq_audit.specs.declared.finding.Audit.TheVariants as audits
+use Rattle.craqd.specs.declared.fault.Fault.{Fault}
+use Rattle.craqd.specs.declared.fault.Fault.TheVariants as faults
 
 -- what an audit found, with so many receipts
 unfoldable pub audit_text : Audit → ℕ → List ℕ
@@ -12,6 +13,11 @@ audit_text (audits.Merged run) receipts = codes "audit merged " ++ decimal recei
 audit_text (audits.NoSender node index) receipts = codes "audit nosender " ++ decimal node ++ codes " " ++ decimal index
 audit_text (audits.NoReceipt index) receipts = codes "audit noreceipt " ++ decimal index
 
--- an audit that was refused
-unfoldable pub refused_text : Refusal → List ℕ
-refused_text refusal = codes "audit refused " ++ decimal (number_of refusal)
+-- a fault of a server whose plan file has this name, as it is told on standard error; one of the output has no text here
+unfoldable pub fault_text : Fault → List ℕ → Option (List ℕ)
+fault_text faults.CannotRead plan = Some (codes "cannot read " ++ plan)
+fault_text faults.BadPlan plan = Some (codes "plan refused")
+fault_text faults.Memory plan = Some (codes "no memory")
+fault_text faults.CannotListen plan = Some (codes "cannot listen")
+fault_text (faults.AuditRefused refusal) plan = Some (codes "audit refused " ++ decimal (number_of refusal))
+fault_text (faults.CannotPrint error) plan = None

@@ -3,8 +3,8 @@
 ghost use Rattle.std.specs.Prelude.{◌≡◌, Some, IfOk};
 ghost use Rattle.craqd.specs.Statuses.{status_of};
 
-use crate::lines::RefusedLine;
-use craq_line::{BAD_INPUT, NO_MEMORY, report_memory};
+use crate::lines::FaultLine;
+use craq_line::{BAD_INPUT, NO_MEMORY};
 use craq_names::Refusal;
 use std::alloc::{AllocError, AllocFailed};
 use std::io;
@@ -62,30 +62,20 @@ impl Fault {
         }
     }
 
-    /// Tells what was wrong of a server whose plan file has this name, and gives the status.
+    /// Tells what was wrong of a server whose plan file has this name, as `FaultLine` spells it, and gives the status. Where the
+    /// output takes no text nothing is told, and the error is handed on.
     pub fn report<R: Eprint>(self, rt: &R, plan: &str) -> io::Result<u8>
         ensures { IfOk result (λ status. status_of self ≡ Some status) }
     {
-        match self {
-            Fault::CannotRead => {
-                eprintln!(rt; "cannot read {plan}")?;
-                Ok(BAD_INPUT)
-            }
-            Fault::BadPlan => {
-                eprintln!(rt; "plan refused")?;
-                Ok(BAD_INPUT)
-            }
-            Fault::Memory => report_memory(rt, NO_MEMORY),
-            Fault::CannotListen => {
-                eprintln!(rt; "cannot listen")?;
-                Ok(CANNOT_LISTEN)
-            }
-            Fault::AuditRefused(refusal) => {
-                let line = RefusedLine(refusal);
-                eprintln!(rt; "{line}")?;
-                Ok(AUDIT_REFUSED)
-            }
-            Fault::CannotPrint(error) => Err(error),
-        }
+        let status = match self {
+            Fault::CannotRead | Fault::BadPlan => BAD_INPUT,
+            Fault::Memory => NO_MEMORY,
+            Fault::CannotListen => CANNOT_LISTEN,
+            Fault::AuditRefused(_) => AUDIT_REFUSED,
+            Fault::CannotPrint(error) => return Err(error),
+        };
+        let line = FaultLine { fault: self, plan };
+        eprintln!(rt; "{line}")?;
+        Ok(status)
     }
 }

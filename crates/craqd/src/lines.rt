@@ -1,9 +1,9 @@
-//! What `craqd` prints of an audit, and tells of one that was refused, as texts; for `audits` and `fault`.
+//! What `craqd` prints of an audit, and tells of a fault, as texts; for `audits` and `fault`.
 ghost use Rattle.std.specs.Prelude.{Some};
-ghost use Rattle.craqd.specs.Printed.{audit_text, refused_text};
+ghost use Rattle.craqd.specs.Printed.{audit_text, fault_text};
 
+use crate::fault::Fault;
 use craq_audit::Audit;
-use craq_names::Refusal;
 use std::fmt;
 
 /// What an audit with so many receipts found, as it is printed.
@@ -35,16 +35,31 @@ impl fmt::Display for AuditLine<'_> {
     }
 }
 
-/// An audit that was refused so, as it is told.
+/// A fault of a server whose plan file has this name, as it is told; nothing of one of the output.
 #[derive(Clone, Copy)]
-pub struct RefusedLine(pub Refusal);
+pub struct FaultLine<'a> {
+    pub fault: Fault,
+    pub plan: &'a str,
+}
 
-impl fmt::Display for RefusedLine {
-    ghost output = { λ line. Some (refused_text line.0) };
+impl fmt::Display for FaultLine<'_> {
+    ghost output = { λ line. fault_text line.fault line.plan.now };
 
-    #[tactic(auto, unfolding(crate::specs::Printed::refused_text))]
+    #[tactic(auto, unfolding(crate::specs::Printed::fault_text))]
     fn fmt<W: fmt::Write>(&self, f: &mut fmt::Formatter<W>) -> fmt::Result {
-        let number = self.0.number();
-        write!(f, "audit refused {number}")
+        match self.fault {
+            Fault::CannotRead => {
+                let plan = self.plan;
+                write!(f, "cannot read {plan}")
+            }
+            Fault::BadPlan => write!(f, "plan refused"),
+            Fault::Memory => write!(f, "no memory"),
+            Fault::CannotListen => write!(f, "cannot listen"),
+            Fault::AuditRefused(refusal) => {
+                let number = refusal.number();
+                write!(f, "audit refused {number}")
+            }
+            Fault::CannotPrint(_) => Ok(()),
+        }
     }
 }

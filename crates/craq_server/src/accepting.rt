@@ -2,9 +2,10 @@
 ghost use Rattle.std.specs.Prelude.{◌≡◌};
 
 use crate::connections::Connections;
-use crate::door::ServedStore;
+use crate::door::{ServedStore, Visit};
 use crate::logging::Log;
 use crate::passes::Passes;
+use crate::runtime::ServerRuntime;
 use crate::socket_buffers::bound_buffers;
 use crate::turning::turn_away;
 use craq_door::CallDoor;
@@ -16,8 +17,8 @@ use std::alloc::{AllocError, Global};
 use std::net::{TcpListener, TcpStream};
 use std::sync::{Arc, Mutex, Wait};
 use std::thread;
-use std::thread::{Scope, Threads};
-use std::time::{Clock, Duration};
+use std::thread::Scope;
+use std::time::Duration;
 
 /// How long a listener that fails is left alone.
 const PAUSE_MILLISECONDS: u64 = 10;
@@ -91,7 +92,7 @@ where
 
 impl<'a, R, C, G> Server<'a, R, C, G>
 where
-    R: Eprint + Threads + Wait + Clock + Copy + Drop + Send + Sync + 'static,
+    R: ServerRuntime,
     C: Core + Send + 'static,
     G: Gate + Send + Sync + 'static,
 {
@@ -176,15 +177,13 @@ where
         begun
     }
 
-    /// The store, as the door of the connection of a place calls it, and what is told of the calls that it refuses.
-    pub(crate) fn callee(&self, log: Log, place: usize) -> ServedStore<'_, R, C, G> {
+    /// The store, as the doors of connections call it.
+    pub(crate) fn callee(&self) -> ServedStore<'_, R, C, G> {
         ServedStore {
             rt: self.rt,
             alloc: self.alloc,
             store: self.store,
             passes: &self.passes,
-            log,
-            place,
         }
     }
 
@@ -194,11 +193,14 @@ where
         set_patience(stream, self.serving.idle);
         let mut reader = Stream::new(stream);
         let mut writer = Stream::new(stream);
-        let callee = self.callee(self.serving.log, place);
-        let mut door = CallDoor::new(self.alloc, callee, self.serving.keeps);
+        let visit = Visit {
+            callee: self.callee(),
+            log: self.serving.log,
+            place,
+        };
+        let mut door = CallDoor::new(self.alloc, visit, self.serving.keeps);
         let _ = serve(self.alloc, &mut reader, &mut writer, &mut door);
-        let CallDoor { callee: _, calls } = door;
-        calls.into_receipts()
+        door.calls.into_receipts()
     }
 
     /// Serves a connection to its end. Its receipts are then at their place, where they are kept, and its own place is free.
@@ -290,7 +292,7 @@ pub fn accept<'x, R, C, G>(
     connections: &'x Connections,
 ) -> Served
 where
-    R: Eprint + Threads + Wait + Clock + Copy + Drop + Send + Sync + 'static,
+    R: ServerRuntime,
     C: Core + Send + 'static,
     G: Gate + Send + Sync + 'static,
 {

@@ -2,7 +2,7 @@
 use crate::accepting::{Served, Server, Serving};
 use crate::connections::Connections;
 use crate::door::ServedStore;
-use crate::logging::Log;
+use crate::runtime::ServerRuntime;
 use craq_door::{CallTaker, Permit, Question, Reached};
 use craq_frames::Text;
 use craq_letters::{Letter, Letterbox, Token};
@@ -16,8 +16,7 @@ use std::net::{Net, TcpListener, TcpStream};
 use std::sync::atomic::{AtomicBool, Ordering};
 use std::sync::{Arc, Mutex, Wait};
 use std::thread;
-use std::thread::{Scope, Threads};
-use std::time::Clock;
+use std::thread::Scope;
 
 /// What one thread of connections reaches.
 #[derive(Drop)]
@@ -35,7 +34,7 @@ struct Crew<'s, 'a, R: Wait, C: Core, G: Gate> {
 
 impl<'s, 'a, R, C, G> Reached for Crew<'s, 'a, R, C, G>
 where
-    R: Eprint + Threads + Wait + Clock + Copy + Drop + Send + Sync + 'static,
+    R: ServerRuntime,
     C: Core + Send + 'static,
     G: Gate + Send + Sync + 'static,
 {
@@ -54,7 +53,7 @@ where
 
 impl<'s, 'a, R, C, G> CallTaker for Crew<'s, 'a, R, C, G>
 where
-    R: Eprint + Threads + Wait + Clock + Copy + Drop + Send + Sync + 'static,
+    R: ServerRuntime,
     C: Core + Send + 'static,
     G: Gate + Send + Sync + 'static,
 {
@@ -76,7 +75,7 @@ where
 
 impl<'s, 'a, R, C, G> Host for Crew<'s, 'a, R, C, G>
 where
-    R: Eprint + Threads + Wait + Clock + Copy + Drop + Send + Sync + 'static,
+    R: ServerRuntime,
     C: Core + Send + 'static,
     G: Gate + Send + Sync + 'static,
 {
@@ -128,7 +127,7 @@ where
 
 impl<'s, 'a, R, C, G> Crew<'s, 'a, R, C, G>
 where
-    R: Eprint + Threads + Wait + Clock + Copy + Drop + Send + Sync + 'static,
+    R: ServerRuntime,
     C: Core + Send + 'static,
     G: Gate + Send + Sync + 'static,
 {
@@ -137,8 +136,7 @@ where
         let letters = Letterbox::new(server.alloc, Some(crowd.waker()?));
         Ok(Crew {
             server,
-            // What it refuses is told with the place, by `refused`.
-            callee: server.callee(Log::Silent, 0),
+            callee: server.callee(),
             letters: Arc::new(server.alloc, letters)?,
             inbox: Mutex::new(Vec::new(server.alloc)),
             over: AtomicBool::new(false),
@@ -185,7 +183,7 @@ fn deal<'s, 'a, R, C, G>(
     begun: bool,
 ) -> bool
 where
-    R: Eprint + Threads + Wait + Clock + Copy + Drop + Send + Sync + 'static,
+    R: ServerRuntime,
     C: Core + Send + 'static,
     G: Gate + Send + Sync + 'static,
 {
@@ -250,7 +248,7 @@ pub fn accept_by_threads<'x, R, C, G>(
     crowds: Crowds,
 ) -> Result<Served, AllocError>
 where
-    R: Eprint + Threads + Wait + Clock + Copy + Drop + Send + Sync + 'static,
+    R: ServerRuntime,
     C: Core + Send + 'static,
     G: Gate + Send + Sync + 'static,
 {
@@ -272,7 +270,7 @@ struct Crews<'s, 'a, R: Wait, C: Core, G: Gate> {
 
 impl<'s, 'a, R, C, G> Crew<'s, 'a, R, C, G>
 where
-    R: Eprint + Threads + Wait + Clock + Copy + Drop + Send + Sync + 'static,
+    R: ServerRuntime,
     C: Core + Send + 'static,
     G: Gate + Send + Sync + 'static,
 {
@@ -294,7 +292,7 @@ where
 
 impl<'s, 'a, R, C, G> Crews<'s, 'a, R, C, G>
 where
-    R: Eprint + Threads + Wait + Clock + Copy + Drop + Send + Sync + 'static,
+    R: ServerRuntime,
     C: Core + Send + 'static,
     G: Gate + Send + Sync + 'static,
 {
@@ -340,7 +338,7 @@ fn serve_by_threads<'a, R, C, G>(
     crowds: Crowds,
 ) -> Result<bool, AllocError>
 where
-    R: Eprint + Threads + Wait + Clock + Copy + Drop + Send + Sync + 'static,
+    R: ServerRuntime,
     C: Core + Send + 'static,
     G: Gate + Send + Sync + 'static,
 {

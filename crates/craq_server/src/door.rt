@@ -1,4 +1,5 @@
-//! `ServedStore`: a store that runs, as the door of a connection calls it; made by `accepting` and `crews`.
+//! `ServedStore`: a store that runs, as the doors of connections call it, and `Visit`, one connection's way to it; made by `accepting`
+//! and `crews`.
 ghost use Rattle.std.specs.Prelude.{◌<◌, IfErr, IfOk, length};
 ghost use Rattle.craq_calls.specs.Calls.{IsCallOf};
 ghost use Rattle.craq_server.specs.Refusing.{RefusesServed};
@@ -19,7 +20,7 @@ use craq_workers::{Gate, Store};
 use std::alloc::{AllocError, Global};
 use std::sync::{Arc, Wait};
 
-/// A store that runs, as the door of a connection calls it. An ask whose pass leaps too far (`Passes`) is refused
+/// A store that runs, as the doors of connections call it. An ask whose pass leaps too far (`Passes`) is refused
 /// (`Exhausted`) and asks no node.
 #[derive(Drop)]
 pub(crate) struct ServedStore<'a, R: Wait, C: Core, G: Gate> {
@@ -27,48 +28,62 @@ pub(crate) struct ServedStore<'a, R: Wait, C: Core, G: Gate> {
     pub(crate) alloc: Global,
     pub(crate) store: &'a Store<C, G>,
     pub(crate) passes: &'a Passes,
-    /// What is told of the calls that are refused.
+}
+
+/// The store, as the door of one connection calls it, which waits for each answer; and what is told of the calls that are refused.
+#[derive(Drop)]
+pub(crate) struct Visit<'a, R: Wait, C: Core, G: Gate> {
+    pub(crate) callee: ServedStore<'a, R, C, G>,
     pub(crate) log: Log,
-    /// The place of the connection whose calls they are.
+    /// The place of the connection.
     pub(crate) place: usize,
 }
 
-impl<'a, R, C, G> Reached for ServedStore<'a, R, C, G>
+impl<'a, R, C, G> Reached for Visit<'a, R, C, G>
 where
     R: Eprint + Wait + Drop,
     C: Core,
     G: Gate,
 {
-    ghost tells = { λ store text. TellsStatus store.store.now text };
+    ghost tells = { λ visit text. TellsStatus visit.callee.store.now text };
 
-    ghost refuses = { λ store node pass ask refusal. RefusesServed (length store.store.now.names) node ask refusal };
+    ghost refuses = { λ visit node pass ask refusal. RefusesServed (length visit.callee.store.now.names) node ask refusal };
 
     fn status(&self) -> Result<Text, AllocError> {
-        let chains = self.store.status(&self.rt)?;
-        let text = status_text(self.alloc, chains.as_slice())?;
-        Ok(Text::of(text))
+        self.callee.status()
     }
 }
 
-impl<'a, R, C, G> Callee for ServedStore<'a, R, C, G>
+impl<'a, R, C, G> Callee for Visit<'a, R, C, G>
 where
     R: Eprint + Wait + Drop,
     C: Core,
     G: Gate,
 {
     fn call(&self, node: NodeName, pass: Pass, ask: Ask) -> Result<(Answer, CallReceipt), Refusal> {
-        let called = self.ask(node, pass, ask);
-        self.tell(&called);
+        let called = self.callee.ask(node, pass, ask);
+        if let Err(refusal) = &called {
+            self.log.refused(&self.callee.rt, self.place, *refusal);
+        }
         called
     }
 }
 
 impl<'a, R, C, G> ServedStore<'a, R, C, G>
 where
-    R: Eprint + Wait + Drop,
+    R: Wait + Drop,
     C: Core,
     G: Gate,
 {
+    /// The chains and their members. It fails for want of memory alone.
+    pub(crate) fn status(&self) -> Result<Text, AllocError>
+        ensures { IfOk result (λ text. TellsStatus self.now.store.now text) }
+    {
+        let chains = self.store.status(&self.rt)?;
+        let text = status_text(self.alloc, chains.as_slice())?;
+        Ok(Text::of(text))
+    }
+
     /// Asks a node, with this pass: the answer, and the receipt of the call. Refused as the store refuses the call, or
     /// (`Exhausted`) for the pass.
     fn ask(&self, node: NodeName, pass: Pass, ask: Ask) -> Result<(Answer, CallReceipt), Refusal>
@@ -83,13 +98,6 @@ where
         let answered = client.call(&self.rt, node, ask)?;
         self.passes.tell(client.pass());
         Ok(answered)
-    }
-
-    /// A call that is refused is told of, where the server tells.
-    fn tell(&self, called: &Result<(Answer, CallReceipt), Refusal>) {
-        if let Err(refusal) = called {
-            self.log.refused(&self.rt, self.place, *refusal);
-        }
     }
 
     /// The answer of a call is about to be told, with its client's pass after it.

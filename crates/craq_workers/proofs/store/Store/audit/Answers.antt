@@ -14,7 +14,7 @@ returns g c =
     let place = c.in_ok-place.place.now in
     let here : slice_get c.self.inside.shared.value.chains.items c.args.chain ≡ Some place = rw c.deref.ensures at c.in_ok-place.ensures.found in
     let master : slice_get c.args.self.now.masters c.args.chain ≡ Some (opened place.id place.first.members) =
-        master_at (λ x. opened x.id x.first.members) _ c.self.inside.shared.value.chains.items c.args.chain place (ap (λ s. s.masters) (sym c.self.view_is)) here in
+    master_at (λ x. opened x.id x.first.members) _ c.self.inside.shared.value.chains.items c.args.chain place (ap (λ s. s.masters) (sym c.self.view_is)) here in
     let is : first_master c.opening.result.now ≡ opened place.id place.first.members = search rules in
     let same : c.in_ok-lock_chain.field-0.book.opening ≡ c.opening.result.now = search rules in
     let such : IsMasterOf c.args.self.now c.args.chain c.in_ok-lock_chain.field-0.book = master ∙ ap Some (sym (ap first_master same ∙ is)) in

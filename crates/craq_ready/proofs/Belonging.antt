@@ -1,5 +1,5 @@
 -- What belongs to a connection, where nothing was read or written, and in a slab; and what happens under one key after another.
-use Rattle.std.proofs.Common.{◌≡◌, ◌≤◌, ◌<◌, ℕ, ◌+◌, length, take, get_or, arith, length-append, true, List, [], ◌∷◌, ◌++◌, Option, Some, None, Result, sym, refl, subst, ◌∙◌}
+use Rattle.std.proofs.Common.{◌≡◌, ◌≢◌, ◌≤◌, ◌<◌, ℕ, zero, suc, ◌+◌, length, take, get_or, arith, length-append, true, List, [], ◌∷◌, ◌++◌, Option, Some, None, Result, inl, inr, sym, refl, subst, ◌∙◌}
 use Rattle.std.specs.Io.KnownBytes.{Appends, Consumes}
 use Rattle.std.proofs.lemmas.List.{append-nil, append_assoc, take_more}
 use Rattle.craq_door.specs.Dialogues.{Holds}
@@ -11,7 +11,8 @@ use Rattle.craq_letters.specs.declared.token.Token.{Token}
 use Rattle.slab.specs.Slab.{Slab, get, with_value}
 use Rattle.slab.proofs.SlabLemmas.{Updates-with_value}
 use Rattle.craq_ready.specs.declared.connection.Connection.{Connection}
-use Rattle.craq_ready.specs.Belonging.{Alone, Delivers, DeliversAll, DeliversLetter, OneByOne, OthersStay, Reads, StaysVacant, TakesLetter, Wakes, Writes}
+use Rattle.craq_ready.specs.declared.socket.Moved.TheVariants as moves
+use Rattle.craq_ready.specs.Belonging.{Alone, Delivers, DeliversAll, DeliversLetter, Gives, GivesNow, Hears, HearsNow, OneByOne, OthersStay, Reads, StaysVacant, TakesLetter, Wakes, Writes}
 
 none_came : (a b : Option (List ℕ)) → b ≡ a → Consumes a b []
 none_came None b e = tt
@@ -51,6 +52,26 @@ nothing_went a b d e none is = rw is (
 
 pub nothing_written : (a b : Option (List ℕ)) (d e : Dialogue) → b ≡ a → e ≡ d → Writes a b d e
 nothing_written a b d e same is = nothing_went a b d e (none_went a b same) is
+
+some_taken : (count : ℕ) (bytes : List ℕ) → moves.Bytes count ≢ moves.Bytes 0 → count ≤ length bytes → take count bytes ≢ []
+some_taken zero bytes some few none = some refl
+some_taken (suc count) [] some few none = omega (arith, few)
+some_taken (suc count) (byte ∷ bytes) some few none = cc
+
+module _ {S : Type 0} (now : ℕ) (old new : Connection S) where
+  pub not_heard : new.heard ≡ old.heard → new.dialogue ≡ old.dialogue → HearsNow now old new
+  not_heard same is = inl (same, is)
+
+  pub heard_now : (count : ℕ) (bytes : List ℕ) → moves.Bytes count ≢ moves.Bytes 0 → count ≤ length bytes → new.heard ≡ now
+      → Hears (take count bytes) old.dialogue new.dialogue → HearsNow now old new
+  heard_now count bytes some few at hears = inr (at, take count bytes, some_taken count bytes some few, hears)
+
+  pub not_gave : new.heard ≡ old.heard → new.dialogue ≡ old.dialogue → GivesNow now old new
+  not_gave same is = inl (same, is)
+
+  pub gave_now : (count : ℕ) (bytes : List ℕ) → moves.Bytes count ≢ moves.Bytes 0 → count ≤ length bytes → new.heard ≡ now
+      → Gives (take count bytes) old.dialogue new.dialogue → GivesNow now old new
+  gave_now count bytes some few at gives = inr (at, take count bytes, some_taken count bytes some few, gives)
 
 -- what a connection takes is taken, whether it has something to do or not
 taken_busy : {S : Type 0} (number : ℕ) (reply : Result Called Refusal) (c d : Connection S) → TakesLetter number reply c d → TakesLetter number reply c (record d { busy = true })

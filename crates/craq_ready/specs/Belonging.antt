@@ -1,5 +1,5 @@
 -- Which bytes and which letters belong to which connection.
-use Rattle.std.specs.Prelude.{◌≡◌, ◌≢◌, ℕ, true, false, List, [], ◌∷◌, ◌++◌, Option, None, Some, Result}
+use Rattle.std.specs.Prelude.{◌≡◌, ◌≢◌, ◌⊎◌, ℕ, true, false, List, [], ◌∷◌, ◌++◌, Option, None, Some, Result}
 use Rattle.std.specs.Io.KnownBytes.{Appends, Consumes}
 use Rattle.slab.specs.Slab.{Slab, get}
 use Rattle.craq_names.specs.declared.refusal.Refusal.{Refusal}
@@ -50,6 +50,18 @@ Reads before after old new = (came : List ℕ) × Consumes before after came × 
 -- what a socket took, in order and whole, is what was due and what the dialogue was told is written
 abbrev pub Writes : Option (List ℕ) → Option (List ℕ) → Dialogue → Dialogue → Type 0
 Writes before after old new = (went : List ℕ) × Appends before after went × Gives went old new
+
+-- some bytes came now, or none came and its last ones went when they did
+abbrev pub HearsNow : {S : Type 0} → ℕ → Connection S → Connection S → Type 0
+HearsNow now old new =
+    ((new.heard ≡ old.heard) × (new.dialogue ≡ old.dialogue))
+    ⊎ ((new.heard ≡ now) × (came : List ℕ) × (came ≢ []) × Hears came old.dialogue new.dialogue)
+
+-- some bytes were taken now, or none were and its last ones went when they did
+abbrev pub GivesNow : {S : Type 0} → ℕ → Connection S → Connection S → Type 0
+GivesNow now old new =
+    ((new.heard ≡ old.heard) × (new.dialogue ≡ old.dialogue))
+    ⊎ ((new.heard ≡ now) × (went : List ℕ) × (went ≢ []) × Gives went old.dialogue new.dialogue)
 
 -- the call of the dialogue came back so
 abbrev pub CameBack : Result Called Refusal → Dialogue → Dialogue → Type 0

@@ -119,7 +119,7 @@ impl<S: Socket + Drop> Connection<S> {
 
 impl<S: Socket> Connection<S> {
     ghost use Rattle.craq_ready.specs.Advancing.{AsksHost, HasTurn, next_call, under_key};
-    ghost use Rattle.craq_ready.specs.Belonging.{CameBack, Gives, Hears, KeepsPlace, Reads, TakesLetter, Writes};
+    ghost use Rattle.craq_ready.specs.Belonging.{CameBack, Gives, GivesNow, Hears, HearsNow, KeepsPlace, Reads, TakesLetter, Writes};
     ghost use Rattle.craq_ready.specs.Busy.{IsBehind, IsDone, IsLeft, is_waiting};
     ghost use Rattle.craq_ready.specs.Letters.{IsOutcome};
     ghost use Rattle.craq_ready.specs.Readiness.{noticed};
@@ -219,6 +219,7 @@ impl<S: Socket> Connection<S> {
         ensures over { self.new.over ≡ self.old.over }
         ensures place { KeepsPlace self.old self.new }
         ensures readiness { self.new.readiness ≡ self.old.readiness }
+        ensures heard { self.new.heard ≡ now }
     {
         self.more = true;
         self.heard = now;
@@ -234,7 +235,7 @@ impl<S: Socket> Connection<S> {
     }
 
     /// Reads once. What came goes to the dialogue.
-    #[tactic(auto, using(crate::proofs::Belonging::nothing_came, crate::proofs::Ending::is_as_before, crate::proofs::Ending::ended, crate::proofs::Ending::reads_as_before, crate::proofs::Ending::dried, crate::proofs::Ending::reads_until_short))]
+    #[tactic(auto, using(crate::proofs::Belonging::nothing_came, crate::proofs::Ending::is_as_before, crate::proofs::Ending::ended, crate::proofs::Ending::reads_as_before, crate::proofs::Ending::dried, crate::proofs::Ending::reads_until_short, crate::proofs::Belonging::heard_now, crate::proofs::Belonging::not_heard))]
     fn take(&mut self, alloc: Global, chunk: &mut [u8], now: u64)
         requires { self.old.dialogue.phase ≡ Idle }
         ensures reads { Reads (S.remaining self.old.stream) (S.remaining self.new.stream) self.old.dialogue self.new.dialogue }
@@ -244,6 +245,7 @@ impl<S: Socket> Connection<S> {
         ensures over { EndsAsSocket S.is_over self.old self.new }
         ensures place { KeepsPlace self.old self.new }
         ensures ready { ReadsOn S.is_dry self.old self.new }
+        ensures heard { HearsNow now self.old self.new }
     {
         match self.stream.take(chunk) {
             Moved::Bytes(count) => {
@@ -258,7 +260,7 @@ impl<S: Socket> Connection<S> {
 
     /// Reads once, where nothing is asked and nothing is due. What its socket gave, and no other byte, goes to its dialogue.
     /// Where its call is under way nothing is read, and its dialogue is as it was. It is over only if it was, or its socket is.
-    #[tactic(auto, using(crate::proofs::Belonging::nothing_read, crate::proofs::Ending::is_as_before, crate::proofs::Ending::reads_as_before))]
+    #[tactic(auto, using(crate::proofs::Belonging::nothing_read, crate::proofs::Ending::is_as_before, crate::proofs::Ending::reads_as_before, crate::proofs::Belonging::not_heard))]
     pub(crate) fn read(&mut self, alloc: Global, chunk: &mut [u8], now: u64)
         ensures waits { (q : Question) → self.old.dialogue.phase ≡ Waits q → self.new.dialogue ≡ self.old.dialogue }
         ensures reads { Reads (S.remaining self.old.stream) (S.remaining self.new.stream) self.old.dialogue self.new.dialogue }
@@ -268,6 +270,7 @@ impl<S: Socket> Connection<S> {
         ensures over { EndsAsSocket S.is_over self.old self.new }
         ensures place { KeepsPlace self.old self.new }
         ensures ready { ReadsOn S.is_dry self.old self.new }
+        ensures heard { HearsNow now self.old self.new }
     {
         if self.may_read() {
             self.take(alloc, chunk, now);
@@ -283,13 +286,14 @@ impl<S: Socket> Connection<S> {
         ensures over { self.new.over ≡ self.old.over }
         ensures place { KeepsPlace self.old self.new }
         ensures readiness { self.new.readiness ≡ self.old.readiness }
+        ensures heard { self.new.heard ≡ now }
     {
         self.heard = now;
         self.dialogue.wrote(count);
     }
 
     /// Writes once what is due. What its socket took, and no other byte, is then written for its dialogue.
-    #[tactic(auto, using(crate::proofs::Belonging::nothing_written, crate::proofs::Belonging::nothing_went, crate::proofs::Ending::is_as_before, crate::proofs::Ending::ended, crate::proofs::Ending::writes_as_before, crate::proofs::Ending::filled))]
+    #[tactic(auto, using(crate::proofs::Belonging::nothing_written, crate::proofs::Belonging::nothing_went, crate::proofs::Ending::is_as_before, crate::proofs::Ending::ended, crate::proofs::Ending::writes_as_before, crate::proofs::Ending::filled, crate::proofs::Belonging::gave_now, crate::proofs::Belonging::not_gave))]
     fn write(&mut self, now: u64)
         ensures writes { Writes (S.contents self.old.stream) (S.contents self.new.stream) self.old.dialogue self.new.dialogue }
         ensures remaining { S.remaining self.new.stream ≡ S.remaining self.old.stream }
@@ -297,6 +301,7 @@ impl<S: Socket> Connection<S> {
         ensures over { EndsAsSocket S.is_over self.old self.new }
         ensures place { KeepsPlace self.old self.new }
         ensures ready { WritesOn S.is_full self.old self.new }
+        ensures heard { GivesNow now self.old self.new }
     {
         if self.over || !self.readiness.writable || self.dialogue.due().is_empty() {
             return;
@@ -417,6 +422,7 @@ impl<S: Socket> Connection<S> {
         ensures over { EndsInOrder S.is_over self.old self.new }
         ensures place { KeepsPlace self.old self.new }
         ensures ready { WritesOn S.is_full self.old self.new }
+        ensures heard { GivesNow now self.old self.new }
     {
         self.write(now);
         if self.has_said_all() {

@@ -472,7 +472,7 @@ impl Members<Arc<TcpStream>> {
     }
 }
 
-/// A thread's connections and what tells of their readiness.
+/// A thread's connections, none before it attends to them, and what tells of their readiness.
 #[derive(Drop)]
 pub struct Crowd {
     poll: Poll,

@@ -1,5 +1,5 @@
 //! `Socket`: the stream of a connection, as `Connection` knows it.
-ghost use Rattle.std.specs.Prelude.{◌≡◌, ◌<◌, ◌≤◌, ℕ, List, Option, None, Some, IfErr, IfOk, length, take, ⊤};
+ghost use Rattle.std.specs.Prelude.{◌≡◌, ◌≢◌, ◌<◌, ◌≤◌, ℕ, List, Option, None, Some, IfErr, IfOk, length, take, ⊤};
 ghost use Rattle.std.specs.Io.KnownBytes.{Appends, Consumes};
 ghost use Rattle.std.specs.IoError.{error_kind};
 ghost use Rattle.craq_ready.specs.Sockets.{moved_count, moved_of_count, moved_of_error};
@@ -47,6 +47,7 @@ pub(crate) trait Socket {
         ensures few { moved_count result ≤ length buffer.new }
         ensures gave { Consumes (remaining self.old) (remaining self.new) (take (moved_count result) buffer.new) }
         ensures over { result ≡ Moved.Over → is_over self.new }
+        ensures some { result ≢ Moved.Bytes 0 }
         ensures not_ready { result ≡ Moved.NotReady → is_dry self.new }
         ensures short { (n : ℕ) → result ≡ Moved.Bytes n → n < length buffer.new → is_dry self.new }
         ensures contents { contents self.new ≡ contents self.old };
@@ -56,6 +57,7 @@ pub(crate) trait Socket {
         ensures few { moved_count result ≤ length bytes.now }
         ensures took { Appends (contents self.old) (contents self.new) (take (moved_count result) bytes.now) }
         ensures over { result ≡ Moved.Over → is_over self.new }
+        ensures some { result ≢ Moved.Bytes 0 }
         ensures not_ready { result ≡ Moved.NotReady → is_full self.new }
         ensures remaining { remaining self.new ≡ remaining self.old };
 
@@ -67,6 +69,7 @@ pub(crate) trait Socket {
 fn moved_by(gone: io::Result<usize>) -> Moved
     ensures went { IfOk gone (λ n. (result ≡ moved_of_count n) × (moved_count result ≡ n)) }
     ensures none { IfErr gone (λ e. (result ≡ moved_of_error (error_kind e)) × (moved_count result ≡ 0)) }
+    ensures some { result ≢ Moved.Bytes 0 }
 {
     match gone {
         Ok(0) => Moved::Over,

@@ -20,7 +20,7 @@ found None x e = absurd cc
 found (Some y) x e = cc
 
 -- the chains of a plan begin with this one from its id on
-begins : (p : List Chain) (id : ℕ) (x : Chain) → chain_at p id ≡ Ok x → drop id p ≡ x ∷ drop (id + 1) p
+pub begins : (p : List Chain) (id : ℕ) (x : Chain) → chain_at p id ≡ Ok x → drop id p ≡ x ∷ drop (id + 1) p
 begins p id x e =
     let at = found (slice_get p id) x e in
     drop_more p id x (slice_get_within p id x at) ∙ ap (λ (y : Chain). y ∷ drop (id + 1) p) (get_or_from_slice_get p id x x at)

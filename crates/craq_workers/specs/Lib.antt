@@ -1,5 +1,6 @@
 pub mod Clients
 pub mod Moves
+pub mod Posts
 pub mod Stores
 pub mod Told
 pub mod Turns

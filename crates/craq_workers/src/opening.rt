@@ -1,11 +1,12 @@
 //! Chains and nodes before any step; called by `store` at a start and at a join.
-ghost use Rattle.std.specs.Prelude.{◌≡◌, IfErr, IfOk, IsSome, OnOk, Some, map, string_bytes};
+ghost use Rattle.std.specs.Prelude.{◌≡◌, ◌++◌, ◌∷◌, [], IfErr, IfOk, IsSome, OnOk, Some, map, string_bytes};
 ghost use Rattle.std.specs.List.{AllByRecursion};
 ghost use Rattle.std.specs.Option.{option_copied, option_map};
 ghost use Rattle.craq_epochs.specs.Mastered.{opened};
 ghost use Rattle.craq_model.specs.Members.{IsMembership};
 ghost use Rattle.craq_node.specs.Represented.{CanOpen};
 ghost use Rattle.craq_place.specs.Plan.{IsPlan};
+ghost use Rattle.craq_workers.specs.Posts.{Master, chain_posts, member_posts, node_posts, own_posts, post_of};
 ghost use Rattle.craq_workers.specs.Stores.{masters_of};
 
 use crate::bell::Bell;
@@ -74,10 +75,40 @@ pub(crate) fn open_node<C: Core>(
 pub(crate) fn add_workers<C: Core>(
     way: &Way<C>,
     workers: &mut Vec<Worker<C>>,
-) -> Result<(), AllocError> {
+) -> Result<(), AllocError>
+    ensures { IfOk result (λ _. map post_of workers.new.items ≡ map post_of workers.old.items ++ node_posts (option_map (λ n. n.value.name) way.now.node)) }
+{
     if let Some(node) = &way.node {
         workers.push(Worker::Asks(Arc::try_clone(node)?))?;
         workers.push(Worker::Links(Arc::try_clone(node)?))?;
+    }
+    Ok(())
+}
+
+/// The worker that carries a chain goes after those that are there, if one does. It fails for want of memory alone.
+fn add_carrier<C: Core>(
+    chain: ChainId,
+    form: Form,
+    workers: &mut Vec<Worker<C>>,
+) -> Result<(), AllocError>
+    ensures { IfOk result (λ _. map post_of workers.new.items ≡ map post_of workers.old.items ++ member_posts form.carried chain []) }
+{
+    if form.carried {
+        workers.push(Worker::Carrier(chain))?;
+    }
+    Ok(())
+}
+
+/// A node's own workers go after those that are there, unless its chain is carried. It fails for want of memory alone.
+fn add_own_workers<C: Core>(
+    way: &Way<C>,
+    form: Form,
+    workers: &mut Vec<Worker<C>>,
+) -> Result<(), AllocError>
+    ensures { IfOk result (λ _. map post_of workers.new.items ≡ map post_of workers.old.items ++ own_posts form.carried (option_map (λ n. n.value.name) way.now.node)) }
+{
+    if !form.carried {
+        add_workers(way, workers)?;
     }
     Ok(())
 }
@@ -94,18 +125,15 @@ fn open_members<C: Core>(
     requires { (config.now.epoch ≡ 1) × IsMembership config.now.members }
     ensures names { IfOk result (λ ways. map (λ w. w.name) ways.items ≡ map (λ n. record { chain = chain; node = n }) config.now.members) }
     ensures open { IfOk result (λ ways. AllByRecursion (λ w. (option_map (λ n. n.value.name) w.node ≡ Some w.name) × IsSome w.entrances) ways.items) }
+    ensures workers { IfOk result (λ _. map post_of workers.new.items ≡ map post_of workers.old.items ++ member_posts form.carried chain config.now.members) }
     ensures err { IfErr result (λ e. e ≡ Refusal.Memory) }
 {
-    if form.carried {
-        workers.push(Worker::Carrier(chain))?;
-    }
+    add_carrier(chain, form, workers)?;
     let mut nodes = Vec::new(alloc);
     for node in config.members.as_slice() {
         let name = NodeName { chain, node: *node };
         let way = open_node(alloc, &name, Some(config), form.journal, Stamp::new(0))?;
-        if !form.carried {
-            add_workers(&way, workers)?;
-        }
+        add_own_workers(&way, form, workers)?;
         nodes.push(way)?;
     }
     Ok(nodes)
@@ -125,6 +153,7 @@ fn open_chain<C: Core>(
     requires { IsMembership members.now }
     ensures name { IfOk result (λ c. string_bytes c.name ≡ name.now) }
     ensures master { IfOk result (λ c. opened c.id c.first.members ≡ opened id members.now) }
+    ensures workers { IfOk result (λ _. map post_of workers.new.items ≡ map post_of workers.old.items ++ (member_posts form.carried id members.now ++ Master id ∷ [])) }
     ensures err { IfErr result (λ e. e ≡ Refusal.Memory) }
 {
     let name = String::from_str(alloc, name)?;
@@ -158,6 +187,7 @@ pub(crate) fn open_chains<C: Core>(
     requires { IsPlan plan.now }
     ensures names { IfOk result (λ chains. map (λ c. string_bytes c.name) chains.items ≡ map (λ c. c.0) plan.now) }
     ensures masters { IfOk result (λ chains. map (λ c. opened c.id c.first.members) chains.items ≡ masters_of 0 plan.now) }
+    ensures workers { IfOk result (λ _. map post_of workers.new.items ≡ map post_of workers.old.items ++ chain_posts form.carried 0 plan.now) }
     ensures err { IfErr result (λ e. e ≡ Refusal.Memory) }
 {
     let mut chains = Vec::new(alloc);

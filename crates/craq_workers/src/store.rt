@@ -1,5 +1,5 @@
 //! `Store`, the primary object of the crate: it starts, stops, removes, joins and closes; for whoever runs a store.
-ghost use Rattle.std.specs.Prelude.{◌≡◌, ◌+◌, ◌<◌, ◌≤◌, ◌==◌, ◌⊎◌, ◌↔◌, Err, IfErr, IfOk, IsOk, MatchResult, Ok, OnErr, OnOk, if◌then◌else◌, length, map, string_bytes};
+ghost use Rattle.std.specs.Prelude.{◌≡◌, ◌+◌, ◌<◌, ◌≤◌, ◌==◌, ◌⊎◌, ◌↔◌, Err, IfErr, IfOk, IsOk, MatchResult, Ok, OnErr, OnOk, if◌then◌else◌, length, map, option_map, string_bytes};
 ghost use Rattle.craq_epochs.specs.Mastered.{joined, opened};
 ghost use Rattle.craq_names.specs.Limits.{greatest};
 ghost use Rattle.craq_held.specs.Membered.{AreMembershipsOf, IsMembershipOf};
@@ -11,6 +11,7 @@ ghost use Rattle.craq_seat.specs.Kept.{IsKept};
 ghost use Rattle.craq_seat.specs.Taken.{TakesEvent, TakesTurn};
 ghost use Rattle.craq_workers.specs.Clients.{RefusesAsk};
 ghost use Rattle.craq_workers.specs.Moves.{CanJoin, CanRemove, CanStop, IsKeptIn};
+ghost use Rattle.craq_workers.specs.Posts.{node_posts};
 ghost use Rattle.craq_workers.specs.Stores.{masters_of};
 
 use crate::chain::{Chain, refuse_queued};
@@ -442,7 +443,8 @@ impl<C: Core + Send + 'static, G: Gate + Send + Sync + 'static> Store<C, G> {
         way: &Way<C>,
         hired: &mut Vec<JoinHandle<()>>,
     ) -> Result<(), Refusal>
-        ensures { IfErr result (λ e. (e ≡ Refusal.Closed) ⊎ (e ≡ Refusal.Memory)) }
+        ensures refused { IfErr result (λ e. (e ≡ Refusal.Closed) ⊎ (e ≡ Refusal.Memory)) }
+        ensures hired { OnOk result (length hired.new.items ≡ length hired.old.items + length (node_posts (option_map (λ n. n.value.name) way.now.node))) }
     {
         let mut workers = Vec::new(self.alloc);
         add_workers(way, &mut workers)?;

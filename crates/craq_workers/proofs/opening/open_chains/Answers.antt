@@ -1,6 +1,8 @@
-use Rattle.std.proofs.Common.{arith, string_bytes}
+use Rattle.std.proofs.Common.{◌++◌, arith, map, string_bytes}
 use Rattle.craq_epochs.specs.Mastered.{opened}
+use Rattle.craq_workers.specs.Posts.{chain_posts, post_of}
 use Rattle.craq_workers.proofs.Names.{all_mastered, all_named, next_mastered, next_named, none_left}
+use Rattle.craq_workers.proofs.Posts.{all_posted, next_chain}
 use Rattle.craq_workers.proofs.opening.open_chains.Goals as goal
 use Rattle.craq_workers.proofs.opening.open_chains.Goals.{else-loop-id-test, then-loop-id-test+in-Err}
 
@@ -11,12 +13,20 @@ loop-id-preserved g c =
           c.loop-id.invariant.0 at c.in_ok-open_chain-in-Ok.ensures.name c.in_ok-push-in-Ok.ensures.items,
       next_mastered c.loop-id.chains.items c.push.new.self.items c.in_ok-open_chain-in-Ok.field-0 (λ chain. opened chain.id chain.first.members) c.args.plan.now c.loop-id.id (c.in-Ok.name.now, c.in-Ok.members.now)
           c.loop-id.invariant.1 at (rw c.new-id.ensures at c.in_ok-open_chain-in-Ok.ensures.master) c.in_ok-push-in-Ok.ensures.items,
+      next_chain c.args.form.carried (map post_of c.loop-id.workers.items) (map post_of c.open_chain.new.workers.items) (map post_of c.args.workers.now.items ++ chain_posts c.args.form.carried 0 c.args.plan.now) c.args.plan.now c.loop-id.id (c.in-Ok.name.now, c.in-Ok.members.now)
+          c.loop-id.invariant.2 at (rw c.new-id.ensures at c.in_ok-open_chain-in-Ok.ensures.workers),
     )
 
 pub returns-clause-names : goal.returns-clause-names
 returns-clause-names g c = elim c.loop-id-test.branch [
   | else-loop-id-test w ↦ all_named c.loop-id.chains.items (λ chain. string_bytes chain.name) c.args.plan.now c.loop-id.id c.loop-id.invariant.0 (omega (arith, c.requires.few, w.loop-id-test.false))
   | then-loop-id-test+in-Err w ↦ all_named c.loop-id.chains.items (λ chain. string_bytes chain.name) c.args.plan.now c.loop-id.id c.loop-id.invariant.0 (none_left c.args.plan.now c.loop-id.id w.in-Err.field-0 (rw w.new-id.ensures at w.in-Err.ensures))
+]
+
+pub returns-clause-workers : goal.returns-clause-workers
+returns-clause-workers g c = elim c.loop-id-test.branch [
+  | else-loop-id-test w ↦ all_posted c.args.form.carried (map post_of c.loop-id.workers.items) (map post_of c.args.workers.now.items ++ chain_posts c.args.form.carried 0 c.args.plan.now) c.args.plan.now c.loop-id.id c.loop-id.invariant.2 (omega (arith, c.requires.few, w.loop-id-test.false))
+  | then-loop-id-test+in-Err w ↦ all_posted c.args.form.carried (map post_of c.loop-id.workers.items) (map post_of c.args.workers.now.items ++ chain_posts c.args.form.carried 0 c.args.plan.now) c.args.plan.now c.loop-id.id c.loop-id.invariant.2 (none_left c.args.plan.now c.loop-id.id w.in-Err.field-0 (rw w.new-id.ensures at w.in-Err.ensures))
 ]
 
 pub returns-clause-masters : goal.returns-clause-masters

@@ -1,7 +1,13 @@
-use Rattle.std.proofs.Common.{◌≡◌, ◌≤◌, ◌<◌, length, get_or, sym, subst, arith, true}
+use Rattle.std.proofs.Common.{◌≡◌, ◌∙◌, ◌≤◌, ◌<◌, ℕ, IsSome, Some, map, length, get_or, sym, ap, subst, arith, true}
+use Rattle.std.specs.List.{AllByRecursion}
+use Rattle.std.specs.Option.{option_map}
 use Rattle.std.proofs.lemmas.List.{get_or_read}
+use Rattle.craq_names.specs.declared.name.NodeName.{NodeName}
 use Rattle.craq_model.specs.Members.{IsMembership, is_member}
 use Rattle.craq_chain.proofs.Opening.{id_from_one, own_member}
+use Rattle.craq_workers.specs.Posts.{post_of}
+use Rattle.craq_workers.proofs.Posts.{next_posted}
+use Rattle.craq_workers.proofs.Ways.{each_more, made_more}
 use Rattle.craq_workers.proofs.opening.open_members.Goals as goal
 
 pub open_node-requires : goal.open_node-requires
@@ -16,4 +22,19 @@ open_node-requires g c =
         members = c.requires.1;
         own = subst (λ ms. is_member ms c.node-item.result ≡ true) c.as_slice-node-items.ensures (subst (λ n. is_member xs n ≡ true) (sym at) (own_member xs c.loop-node.node-index within));
       },
+    )
+
+pub loop-node-preserved : goal.loop-node-preserved
+loop-node-preserved g c =
+    let xs = c.as_slice-node-items.result.now in
+    let i = c.loop-node.node-index in
+    let within : i < length xs = omega (arith, c.loop-node-test.true) in
+    let name : ℕ → NodeName = λ n. record { chain = c.args.chain; node = n } in
+    let grown = c.in_ok-push.ensures.items in (
+      made_more (λ w. w.name) name xs i c.node-item.result c.loop-node.nodes.items c.push.new.self.items c.in_ok-way.way within c.node-item.is c.in_ok-way.ensures.name grown c.loop-node.invariant.0,
+      subst (AllByRecursion (λ w. (option_map (λ n. n.value.name) w.node ≡ Some w.name) × IsSome w.entrances)) (sym grown)
+          (each_more (λ w. (option_map (λ n. n.value.name) w.node ≡ Some w.name) × IsSome w.entrances) c.loop-node.nodes.items c.in_ok-way.way c.loop-node.invariant.1
+          (c.in_ok-way.ensures.node ∙ ap (λ (n : NodeName). Some n) (sym c.in_ok-way.ensures.name), c.in_ok-way.ensures.entrances)),
+      next_posted c.args.form.carried c.args.chain xs i c.node-item.result (map post_of c.args.workers.now.items) (map post_of c.loop-node.workers.items) (map post_of c.add_own_workers.new.workers.items) _
+          within c.node-item.is c.in_ok-way.ensures.node c.loop-node.invariant.2 c.in_ok-add_own_workers.ensures,
     )

@@ -14,6 +14,8 @@ use Rattle.craq_sending.specs.declared.sending.Kind.TheVariants as kinds
 use Rattle.craq_sending.specs.Sent.{OnlySends}
 use Rattle.craq_workers.specs.declared.unsent.Unsent.{Unsent}
 use Rattle.craq_wire.specs.Spelling.{Spells}
+use Rattle.craq_workers.specs.declared.node.Waiting.{Waiting}
+use Rattle.craq_workers.specs.declared.node.Waiting.TheVariants as waits
 use Rattle.craq_workers.specs.declared.unsent.Unsent.TheVariants as unsent
 use Rattle.craq_workers.specs.Told.{Kept, ReactsTo}
 
@@ -21,6 +23,13 @@ use Rattle.craq_workers.specs.Told.{Kept, ReactsTo}
 abbrev pub Hears : {C : Type 0} → (C → Plain → Type 0) → Seated C Token → Seated C Token → List ℕ → Kept → Kept → Type 0
 Hears represents old new bytes before after =
     ((m : LinkMessage) × Spells m bytes × ReactsTo represents old new (events.Deliver m) before after) ⊎ ((new ≡ old) × (after ≡ before))
+
+-- a node reacts to what was brought: to this message, to a tick, or to what was kept as the last message of its kind
+abbrev pub TakesBrought : {C : Type 0} → (C → Plain → Type 0) → Seated C Token → Seated C Token → Waiting → Kept → Kept → Type 0
+TakesBrought represents old new (waits.Message bytes) before after = Hears represents old new bytes before after
+TakesBrought represents old new waits.Ack before after = (bytes : List ℕ) × Hears represents old new bytes before after
+TakesBrought represents old new waits.Blank before after = (bytes : List ℕ) × Hears represents old new bytes before after
+TakesBrought represents old new waits.Tick before after = ReactsTo represents old new events.Tick before after
 
 -- if all that a cell's last step does is to acknowledge, that acknowledgement is owed
 abbrev pub OwesLast : {C : Type 0} → Celled C Event → Option LinkMessage → Type 0

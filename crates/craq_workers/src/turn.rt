@@ -6,7 +6,7 @@ ghost use Rattle.craq_held.specs.Held.{cell_in};
 ghost use Rattle.craq_node.specs.Represented.{CanArrive};
 ghost use Rattle.craq_workers.specs.declared.unsent.Unsent.TheVariants as unsent;
 ghost use Rattle.craq_workers.specs.Told.{ClosesOwn, ClosesQueued, ReactsTo, RefusesOwn, RefusesQueued, TakesOwn, TakesQueued};
-ghost use Rattle.craq_workers.specs.Turns.{Hears, HoldsBack, OwesLast, OwesStill};
+ghost use Rattle.craq_workers.specs.Turns.{Hears, HoldsBack, OwesLast, OwesStill, TakesBrought};
 
 use crate::gate::Gate;
 use crate::node::{RunningNode, Waiting};
@@ -148,7 +148,9 @@ impl<'a, C: Core, G: Gate> Turn<'a, C, G> {
     }
 
     /// The step on what was brought. Bytes that no memory is left to decode are a lost message.
-    pub(crate) fn take_brought<R: Wait>(&mut self, rt: &R, waiting: Waiting) {
+    pub(crate) fn take_brought<R: Wait>(&mut self, rt: &R, waiting: Waiting)
+        ensures { TakesBrought C.represents (mutex_guard_value self.old.seated) (mutex_guard_value self.new.seated) waiting self.old.replies self.new.replies }
+    {
         match waiting {
             Waiting::Tick => {
                 self.exit.node.tick_taken();

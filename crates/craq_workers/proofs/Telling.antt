@@ -1,5 +1,5 @@
 -- Who is told what while outcomes go to the callers under their tickets, one after another.
-use Rattle.std.proofs.Common.{◌≡◌, ◌∙◌, ◌++◌, append_assoc, append-nil, true≢false, inl, inr, refl, sym, ap, subst, ℕ, Bool, true, false, List, [], ◌∷◌, Option, Some, None, option_map, Result, Ok, Err, IfSome, arith, filter}
+use Rattle.std.proofs.Common.{◌≡◌, ◌≤◌, ◌+◌, ◌∙◌, ◌++◌, length, length-append, append_assoc, append-nil, true≢false, inl, inr, refl, sym, ap, subst, ℕ, Bool, true, false, List, [], ◌∷◌, Option, Some, None, option_map, Result, Ok, Err, IfSome, arith, filter}
 use Rattle.std.proofs.lemmas.Bool.{eqb-true}
 use Rattle.std.specs.Prelude.{Vec}
 use Rattle.std.specs.List.{last_or}
@@ -31,12 +31,15 @@ pub to_found : (callers : List (Caller Token)) (ticket : ℕ) (c : Caller Token)
 to_found callers ticket c o is may = subst (λ (n : ℕ). IsReplyTo (Some n) o) (sym (found_under callers ticket c is)) may
 
 pub keeps_none : (old : Kept) → Keeps old [] old
-keeps_none old = ([], sym (append-nil old.replies), tt, λ room. (room, refl))
+keeps_none old = ([], sym (append-nil old.replies), tt, λ room. (room, refl), λ all. refl)
+
+none_all : (t : Reply) → [] ≡ t ∷ [] → ⊥
+none_all t is = cc
 
 -- a reply is kept, or given back and so told at once
 pub kept_or_told : (old new : Kept) (t : Reply) (left : Option Reply) → (left ≡ None → (new.replies ≡ old.replies ++ t ∷ []) × (new.short ≡ old.short)) → IfSome left (λ (u : Reply). (new.replies ≡ old.replies) × (new.short ≡ true)) → Keeps old (t ∷ []) new
-kept_or_told old new t None kept back = (t ∷ [], (kept refl).0, inl (refl, tt), λ room. (sym (kept refl).1 ∙ room, refl))
-kept_or_told old new t (Some u) kept back = ([], back.0 ∙ sym (append-nil old.replies), tt, λ room. absurd (true≢false (sym back.1 ∙ room)))
+kept_or_told old new t None kept back = (t ∷ [], (kept refl).0, inl (refl, tt), λ room. (sym (kept refl).1 ∙ room, refl), λ all. (kept refl).1)
+kept_or_told old new t (Some u) kept back = ([], back.0 ∙ sym (append-nil old.replies), tt, λ room. absurd (true≢false (sym back.1 ∙ room)), λ all. absurd (none_all t all))
 
 -- nobody is told where nobody is found
 pub none_told : (old : Kept) (found : Option (Caller Token)) (o : Result Called Refusal) → None ≡ found → Keeps old (reply_to found o) old
@@ -53,12 +56,34 @@ some_both (x ∷ xs) [] ys more h k = absurd h
 some_both (x ∷ xs) (a ∷ all) ys more (inl h) k = inl (h.0, some_both xs all ys more h.1 k)
 some_both (x ∷ xs) (a ∷ all) ys more (inr h) k = inr (some_both (x ∷ xs) all ys more h k)
 
+some_fewer : (xs all : List Reply) → AreSomeOf xs all → length xs ≤ length all
+some_fewer [] all h = omega arith
+some_fewer (x ∷ xs) [] h = absurd h
+some_fewer (x ∷ xs) (a ∷ all) (inl h) = omega (arith, some_fewer xs all h.1)
+some_fewer (x ∷ xs) (a ∷ all) (inr h) = omega (arith, some_fewer (x ∷ xs) all h)
+
+-- of so many some that are as many are all
+all_of : (xs all : List Reply) → AreSomeOf xs all → length xs ≡ length all → xs ≡ all
+all_of [] [] h same = refl
+all_of [] (a ∷ all) h same = let no : ⊥ = omega (arith, same) in absurd no
+all_of (x ∷ xs) [] h same = absurd h
+all_of (x ∷ xs) (a ∷ all) (inl h) same = ap (λ (r : Reply). r ∷ xs) h.0 ∙ ap (λ (rs : List Reply). a ∷ rs) (all_of xs all h.1 (omega (arith, same)))
+all_of (x ∷ xs) (a ∷ all) (inr h) same = let no : ⊥ = omega (arith, same, some_fewer (x ∷ xs) all h) in absurd no
+
+-- if all of both are there, all of each are
+both_all : (xs ys all more : List Reply) → AreSomeOf xs all → AreSomeOf ys more → xs ++ ys ≡ all ++ more → (xs ≡ all) × (ys ≡ more)
+both_all xs ys all more some others is =
+    let sizes : length xs + length ys ≡ length all + length more = sym (length-append xs ys) ∙ ap (λ (rs : List Reply). length rs) is ∙ length-append all more in
+    let first : length xs ≡ length all = omega (arith, sizes, some_fewer xs all some, some_fewer ys more others) in
+    let rest : length ys ≡ length more = omega (arith, sizes, first) in (all_of xs all some first, all_of ys more others rest)
+
 pub keeps_both : (old : Kept) (first more : List Reply) (mid new : Kept) → Keeps old first mid → Keeps mid more new → Keeps old (first ++ more) new
-keeps_both old first more mid new (xs, is, some, all) (ys, so, others, rest) = (
+keeps_both old first more mid new (xs, is, some, all, full) (ys, so, others, rest, filled) = (
   xs ++ ys,
   so ∙ ap (λ (r : List Reply). r ++ ys) is ∙ append_assoc old.replies xs ys,
   some_both xs first ys more some others,
   λ room. let left = rest room in let begun = all left.0 in (begun.0, ap (λ (r : List Reply). r ++ ys) begun.1 ∙ ap (λ (r : List Reply). first ++ r) left.1),
+  λ both. let each = both_all xs ys first more some others both in filled each.1 ∙ full each.0,
 )
 
 -- these outcomes are left of all: the replies so far and those to come are all replies, and the callers that will wait are the same

@@ -79,10 +79,12 @@ pub record Kept : Type 0 where
   pub replies : List Reply
   pub short : Bool
 
--- replies go behind those that are kept: all of them while room was never short, else all but such as are told at once
+-- replies go behind those that are kept: all of them, and then room is as short as it was; or all but such as are told at once, and
+-- then it was short
 abbrev pub Keeps : Kept → List Reply → Kept → Type 0
 Keeps old more new =
     (kept : List Reply) × (new.replies ≡ old.replies ++ kept) × AreSomeOf kept more × (new.short ≡ false → (old.short ≡ false) × (kept ≡ more))
+    × (kept ≡ more → new.short ≡ old.short)
 
 -- the receipt is of the call under this ticket
 abbrev pub is_own : Option ℕ → Called → Bool

@@ -1,4 +1,5 @@
 pub mod Answered
+pub mod Asks
 pub mod Memberships
 pub mod Moves
 pub mod Names

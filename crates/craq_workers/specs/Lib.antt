@@ -1,3 +1,4 @@
+pub mod Asks
 pub mod Clients
 pub mod Moves
 pub mod Posts

@@ -1,6 +1,8 @@
 //! What all threads of a store share, how a step's messages go out, and how one ask is served; called by workers and clients.
-ghost use Rattle.std.specs.Prelude.{◌≡◌, ◌<◌, ◌≤◌, Err, IfErr, IfOk, Ok, OnOk, Some, length, option_map, slice_get};
-ghost use Rattle.craq_calls.specs.Refused.{CanRefuse};
+ghost use Rattle.std.specs.Prelude.{◌≡◌, ◌⊎◌, ◌<◌, ◌≤◌, Err, ◌↔◌, IfErr, IfOk, IsTrue, MatchResult, None, Ok, OnOk, Some, length, option_map, slice_get};
+ghost use Rattle.craq_calls.specs.Refused.{CanRefuse, IsUpdate};
+ghost use Rattle.craq_workers.specs.Moves.{IsMissed};
+ghost use Rattle.craq_workers.specs.Asks.{IsPut, IsServed, IsTurnedAway, in_hand};
 
 use crate::carrying::carry_on;
 use crate::chain::Chain;
@@ -45,6 +47,16 @@ fn in_hand(reply: Option<Outcome>) -> Result<Option<CallReceipt>, Refusal>
         None => Ok(None),
         Some(Ok(receipt)) => Ok(Some(receipt)),
         Some(Err(refusal)) => Err(refusal),
+    }
+}
+
+/// Whether an ask is an update.
+fn is_update(ask: &Ask) -> bool
+    ensures { IsTrue result ↔ IsUpdate ask.now }
+{
+    match ask {
+        Ask::Update(_) => true,
+        Ask::Read { .. } => false,
     }
 }
 
@@ -140,7 +152,9 @@ impl<C: Core, G: Gate> Shared<C, G> {
         pass: Pass,
         back: Return<'_>,
         quiet: bool,
-    ) -> Option<Outcome> {
+    ) -> Option<Outcome>
+        ensures { IsServed C.represents ask pass back.entry.token result }
+    {
         let count = node.next_piece();
         self.gate.before(node.name, Work::Asks, count);
         let mut turn = Turn::begin(alloc, self, node, node.seat.lock(rt), quiet);
@@ -184,7 +198,9 @@ impl<C: Core, G: Gate> Shared<C, G> {
         pass: Pass,
         back: Return<'_>,
         few: bool,
-    ) -> Result<Option<CallReceipt>, Refusal> {
+    ) -> Result<Option<CallReceipt>, Refusal>
+        ensures { IsPut C.represents self.now.carried ask pass back.entry.token (in_hand result) }
+    {
         if self.carried {
             self.submit_carried(rt, alloc, chain, name, ask, pass, back, few)
         } else if self.gate.in_place() {
@@ -206,9 +222,10 @@ impl<C: Core, G: Gate> Shared<C, G> {
         pass: Pass,
         back: Return<'_>,
         few: bool,
-    ) -> Result<Option<CallReceipt>, Refusal> {
-        let reads = matches!(&ask, Ask::Read { .. });
-        if reads {
+    ) -> Result<Option<CallReceipt>, Refusal>
+        ensures { IsPut C.represents self.now.carried ask pass back.entry.token (in_hand result) }
+    {
+        if !is_update(&ask) {
             in_hand(self.serve_at(rt, alloc, chain, name, ask, pass, back, false))
         } else if few && chain.bell.is_idle() {
             let reply = self.serve_at(rt, alloc, chain, name, ask, pass, back, true);
@@ -232,7 +249,9 @@ impl<C: Core, G: Gate> Shared<C, G> {
         pass: Pass,
         back: Return<'_>,
         quiet: bool,
-    ) -> Option<Outcome> {
+    ) -> Option<Outcome>
+        ensures { IsServed C.represents ask pass back.entry.token result ⊎ IsTurnedAway result }
+    {
         match chain.node(rt, name.node) {
             Err(refusal) => {
                 drop(ask);
@@ -251,7 +270,9 @@ fn queue<R: Wait, C: Core>(
     ask: Ask,
     pass: Pass,
     back: Return<'_>,
-) -> Result<Option<CallReceipt>, Refusal> {
+) -> Result<Option<CallReceipt>, Refusal>
+    ensures { MatchResult result (λ found. found ≡ None) (λ e. IsMissed e) }
+{
     match Addressee::expect(rt, back.letters, back.token) {
         Err(_) => {
             drop(ask);

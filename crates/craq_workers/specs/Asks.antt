@@ -1,0 +1,42 @@
+-- What comes of an ask that is put to a node of a running store.
+use Rattle.std.specs.Prelude.{◌≡◌, ◌⊎◌, ℕ, Bool, false, [], Option, Some, None, Result, Ok, Err}
+use Rattle.craq_calls.specs.Refused.{IsUpdate}
+use Rattle.craq_letters.specs.declared.token.Token.{Token}
+use Rattle.craq_model.specs.declared.ask.Ask.{Ask}
+use Rattle.craq_model.specs.Plain.{Plain}
+use Rattle.craq_names.specs.declared.refusal.Refusal.{Refusal}
+use Rattle.craq_seat.specs.Calls.{Called}
+use Rattle.craq_seat.specs.declared.seat.Seated.{Seated}
+use Rattle.craq_workers.specs.Moves.{IsMissed}
+use Rattle.craq_workers.specs.Told.{ClosesOwn, Kept, RefusesOwn, TakesOwn}
+
+-- a turn has nothing to tell yet
+abbrev pub no_replies : Kept
+no_replies = record { replies = []; short = false }
+
+-- a node at hand took the step of the ask, or refused it, or it is closed; and this is in hand, or a letter will come
+abbrev pub IsServed : {C : Type 0} → (C → Plain → Type 0) → Ask → ℕ → Token → Option (Result Called Refusal) → Type 0
+IsServed {C} represents ask pass token hand =
+    (old : Seated C Token) × (new : Seated C Token) × (after : Kept)
+    × (TakesOwn represents old new ask pass token hand no_replies after ⊎ RefusesOwn represents old new ask pass hand no_replies after ⊎ ClosesOwn old new hand no_replies after)
+
+-- no node was asked, since there was none to ask, or no memory
+abbrev pub IsTurnedAway : Option (Result Called Refusal) → Type 0
+IsTurnedAway None = ⊥
+IsTurnedAway (Some (Ok receipt)) = ⊥
+IsTurnedAway (Some (Err e)) = IsMissed e
+
+-- the ask waits in its node's queue, as those of updates do, or, where each node has threads of its own, those of reads too
+abbrev pub IsQueued : Bool → Ask → Option (Result Called Refusal) → Type 0
+IsQueued carried ask None = (carried ≡ false) ⊎ IsUpdate ask
+IsQueued carried ask (Some outcome) = ⊥
+
+-- what who asked has in hand: a receipt, a refusal, or nothing, where a letter will come
+abbrev pub in_hand : Result (Option Called) Refusal → Option (Result Called Refusal)
+in_hand (Ok None) = None
+in_hand (Ok (Some receipt)) = Some (Ok receipt)
+in_hand (Err e) = Some (Err e)
+
+-- an ask was served by a node on the spot, or turned away, or queued
+abbrev pub IsPut : {C : Type 0} → (C → Plain → Type 0) → Bool → Ask → ℕ → Token → Option (Result Called Refusal) → Type 0
+IsPut represents carried ask pass token hand = IsServed represents ask pass token hand ⊎ IsTurnedAway hand ⊎ IsQueued carried ask hand

@@ -1,6 +1,7 @@
 //! Cases of calls: two that overlap, steps in place and by the ask worker, what is read back; called by `cases` and `changes`.
 use crate::asker::Asker;
 use crate::asks::chain;
+use crate::behind::audit_behind;
 use crate::case_gate::Signs;
 use crate::fault::{Fact, Fault, expect, expect_refusal};
 use crate::gate::Tested;
@@ -9,7 +10,7 @@ use craq_audit::Audit;
 use craq_names::{NodeId, Refusal};
 use craq_seat::CallReceipt;
 use std::sync::Wait;
-use std::sync::atomic::Ordering;
+use std::sync::atomic::{AtomicBool, Ordering};
 use std::thread;
 use std::thread::{JoinHandle, Threads};
 
@@ -43,8 +44,8 @@ where
     }
 }
 
-/// A put at node 1 is held under the node's lock until node 3 has answered a read. Then the put is answered, and a read at
-/// node 2 with its pass finds it.
+/// A put at node 1 is held under the node's lock alone: the other nodes answer reads, the master tells its membership, and an
+/// audit waits. Then the put is answered, and a read at node 2 with its pass finds it.
 pub fn overlap<R>(rt: R, host: HostRuntime, store: &Tested, signs: &Signs) -> Result<(), Fault>
 where
     R: Threads + Wait + Copy + Send + 'static,
@@ -52,9 +53,21 @@ where
     let caller = start_put(rt, Asker::new(host.alloc(), store, 1)?)?;
     let reached = wait_for(host, &signs.reached, LIMIT);
     let read = read_meanwhile(&rt, host, store);
+    let looked = look_behind(rt, host, store, &signs.open);
     let late = signs.late.load(Ordering::SeqCst);
     signs.open.store(true, Ordering::SeqCst);
-    find_both(&rt, store, reached && !late, caller.join(&rt), read)
+    find_both(&rt, store, reached && !late, caller.join(&rt), read)?;
+    looked
+}
+
+/// The master tells its membership, and then an audit waits until this flag lets a held put go.
+fn look_behind<R>(rt: R, host: HostRuntime, store: &Tested, open: &AtomicBool) -> Result<(), Fault>
+where
+    R: Threads + Wait + Copy + Send + 'static,
+{
+    let told = store.status(&rt)?;
+    drop(told);
+    audit_behind(rt, host, store, open)
 }
 
 /// The version that a put told.
@@ -83,10 +96,16 @@ where
     expect(version == 1, Fact::Writes)
 }
 
-/// A read at node 3 by another client.
+/// Reads at the nodes 2 and 3 by another client.
+fn read_both<R: Wait>(rt: &R, asker: &mut Asker) -> Result<(), Refusal> {
+    asker.read(rt, 2)?;
+    asker.read(rt, 3)
+}
+
+/// The same by a new client.
 fn read_meanwhile<R: Wait>(rt: &R, host: HostRuntime, store: &Tested) -> Result<Asker, Refusal> {
     let mut asker = Asker::new(host.alloc(), store, 2)?;
-    match asker.read(rt, 3) {
+    match read_both(rt, &mut asker) {
         Ok(()) => Ok(asker),
         Err(refusal) => {
             drop(asker);

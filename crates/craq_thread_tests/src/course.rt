@@ -27,11 +27,17 @@ pub struct Course {
     pub begun: AtomicU64,
     /// How many have ended.
     pub ended: AtomicU64,
-    /// How often the gate held node 2.
+    /// How often the gate held the node that it holds.
     pub held: AtomicU64,
+    /// How many pieces of work that node has begun.
+    pub pieces: AtomicU64,
+    /// How many messages its successor sent it.
+    pub repeated: AtomicU64,
+    /// How many messages others sent it.
+    pub others: AtomicU64,
     /// How many messages came to a link.
     pub sent: AtomicU64,
-    /// Node 2 may go on.
+    /// It may go on.
     pub open: AtomicBool,
     /// It was held for as long as a wait may take.
     pub late: AtomicBool,
@@ -58,6 +64,9 @@ impl Course {
             begun: AtomicU64::new(0),
             ended: AtomicU64::new(0),
             held: AtomicU64::new(0),
+            pieces: AtomicU64::new(0),
+            repeated: AtomicU64::new(0),
+            others: AtomicU64::new(0),
             sent: AtomicU64::new(0),
             open: AtomicBool::new(false),
             late: AtomicBool::new(false),
@@ -78,6 +87,15 @@ impl Course {
             self.wrong.fetch_add(1, Ordering::SeqCst);
         }
         self.answered.fetch_add(1, Ordering::SeqCst);
+    }
+
+    /// A message goes to the node at which it is looked what waits.
+    pub fn note_sent(&self, from: u64, to: u64) {
+        if from == to.wrapping_add(1) {
+            self.repeated.fetch_add(1, Ordering::SeqCst);
+        } else {
+            self.others.fetch_add(1, Ordering::SeqCst);
+        }
     }
 
     /// Tells on standard error what became of all calls.

@@ -1,4 +1,4 @@
-//! What each trial does with its store; called by `trials`.
+//! What each trial does with its store, where nobody is held; called by `trials`. The others: `holding`, `filling`.
 use crate::asks::chain;
 use crate::caller::Caller;
 use crate::course::Course;
@@ -14,7 +14,7 @@ use std::thread;
 use std::thread::{JoinHandle, Threads};
 
 /// How many clients ask at once.
-const CLIENTS: u8 = 4;
+pub const CLIENTS: u8 = 4;
 
 /// The most ticks that a call takes while messages are lost, and afterwards.
 const MOST_TICKS: u64 = 300;
@@ -24,9 +24,6 @@ const CALM: u64 = 50;
 
 /// The most nodes that ever join.
 const MOST_JOINS: u32 = 10_000;
-
-/// How many calls a client makes that asks under one number: a put, a read, and the put again.
-const CALLS: u64 = 3;
 
 /// No more numbers than these.
 const MANY: u64 = 1_000_000;
@@ -43,7 +40,7 @@ pub type Callers = Vec<JoinHandle<()>>;
 
 impl Ground {
     /// A client of this id begins to ask, so many numbers.
-    fn start_caller<R>(
+    pub fn start_caller<R>(
         &self,
         rt: R,
         id: u8,
@@ -79,7 +76,13 @@ impl Ground {
     }
 
     /// Ticks, a turn apart, until a counter has come to a number, for at most so many turns. Whether it has.
-    fn tick_until<R: Wait>(&self, rt: &R, counter: &AtomicU64, wanted: u64, turns: u64) -> bool {
+    pub fn tick_until<R: Wait>(
+        &self,
+        rt: &R,
+        counter: &AtomicU64,
+        wanted: u64,
+        turns: u64,
+    ) -> bool {
         for _ in 0..turns {
             if counter.load(Ordering::SeqCst) >= wanted {
                 return true;
@@ -106,70 +109,14 @@ impl Ground {
             Trial::Stop(_) => self.stop(rt, callers)?,
             Trial::Before | Trial::After => self.hold(rt, callers, false)?,
             Trial::Within => self.hold(rt, callers, true)?,
+            Trial::Master => self.hold_master(rt)?,
+            Trial::Filling(held) => self.fill(rt, held, callers)?,
             Trial::Losses(turns) => self.lose(rt, turns, callers)?,
             Trial::SlowJoin(calls) => self.join_slowly(rt, calls, callers)?,
             Trial::Changes(calls) => self.change(rt, calls, callers)?,
             Trial::Closes(_) => return self.ask_a_while(rt, time, callers),
         }
         self.end(&rt)
-    }
-
-    /// A put is under way, and node 2 is held.
-    fn put_and_hold<R>(&self, rt: R, callers: &mut Callers) -> Result<(), Fault>
-    where
-        R: Threads + Wait + Copy + Send + 'static,
-    {
-        self.start_caller(rt, 1, 1, callers)?;
-        let held = self.tick_until(&rt, &self.course.held, 1, LIMIT);
-        expect(held, Fact::IsHeld)
-    }
-
-    /// A put is under way while node 2 is held, stops and is removed. Then it is asked again by another client of the same
-    /// id. All calls of both are answered, the puts with one and the same reply.
-    fn stop<R>(&self, rt: R, callers: &mut Callers) -> Result<(), Fault>
-    where
-        R: Threads + Wait + Copy + Send + 'static,
-    {
-        self.put_and_hold(rt, callers)?;
-        self.store.stop(&rt, chain(), NodeId::new(2))?;
-        self.store.remove(&rt, chain(), NodeId::new(2))?;
-        self.course.open.store(true, Ordering::SeqCst);
-        self.start_caller(rt, 1, 1, callers)?;
-        self.end_asking(&rt)?;
-        let late = self.course.late.load(Ordering::SeqCst);
-        let answered = self.course.answered.load(Ordering::SeqCst);
-        expect(!late, Fact::IsFree)?;
-        expect(answered == 2 * CALLS, Fact::IsAnswered)
-    }
-
-    /// A put is under way while node 2 is held, and meanwhile the locks are free, but that of node 2 where it is held within
-    /// its work.
-    fn hold<R>(&self, rt: R, callers: &mut Callers, within: bool) -> Result<(), Fault>
-    where
-        R: Threads + Wait + Copy + Send + 'static,
-    {
-        self.put_and_hold(rt, callers)?;
-        if within {
-            self.look(&rt)?;
-        } else {
-            self.audit(&rt)?;
-        }
-        let late = self.course.late.load(Ordering::SeqCst);
-        self.course.open.store(true, Ordering::SeqCst);
-        expect(!late, Fact::IsFree)
-    }
-
-    /// The master tells its membership, and the nodes 1 and 3 answer.
-    fn look<R: Wait>(&self, rt: &R) -> Result<(), Fault> {
-        let told = self.store.status(rt)?;
-        drop(told);
-        let mut caller = Caller::new(self.host.alloc(), &self.store, CLIENTS.wrapping_add(1))?;
-        let first = caller.glance(rt, &self.course, 1);
-        let third = caller.glance(rt, &self.course, 3);
-        drop(caller);
-        first?;
-        third?;
-        Ok(())
     }
 
     /// Clients ask while messages are lost, for so many turns, and while none is.
@@ -257,7 +204,7 @@ impl Ground {
     }
 
     /// The clients end.
-    fn end_asking<R: Wait>(&self, rt: &R) -> Result<(), Fault> {
+    pub fn end_asking<R: Wait>(&self, rt: &R) -> Result<(), Fault> {
         self.course.over.store(true, Ordering::SeqCst);
         let begun = self.course.begun.load(Ordering::SeqCst);
         let ended = self.tick_until(rt, &self.course.ended, begun, LIMIT);
@@ -273,7 +220,7 @@ impl Ground {
     }
 
     /// The audit finds a run with every receipt.
-    fn audit<R: Wait>(&self, rt: &R) -> Result<(), Fault> {
+    pub fn audit<R: Wait>(&self, rt: &R) -> Result<(), Fault> {
         let receipts = self.course.receipts.lock(rt);
         let audited = self.store.audit(rt, chain(), receipts.as_slice());
         let is_merged = matches!(&audited, Ok(Audit::Merged(_)));

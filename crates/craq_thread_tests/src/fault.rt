@@ -8,6 +8,7 @@ use std::io;
 pub enum Fact {
     AnswersMeanwhile,
     IsFree,
+    IsLocked,
     FindsNothing,
     Writes,
     Finds,
@@ -23,6 +24,7 @@ pub enum Fact {
     HasItsMembers,
     HasItsThreads,
     IsHeld,
+    WaitsOnce,
     IsReady,
     IsAnswered,
     IsInTime,
@@ -36,6 +38,7 @@ impl Fact {
         match self {
             Fact::AnswersMeanwhile => "a node answers while another is held",
             Fact::IsFree => "the locks are free meanwhile",
+            Fact::IsLocked => "the lock of its node or master is held meanwhile",
             Fact::FindsNothing => "the first read finds nothing",
             Fact::Writes => "the put writes version 1",
             Fact::Finds => "the read finds version 1",
@@ -51,7 +54,8 @@ impl Fact {
             Fact::HasItsMembers => "the chain has its epoch and its members",
             Fact::HasItsThreads =>
                 "the threads of the nodes and one for the master, and none once it is closed",
-            Fact::IsHeld => "the gate holds node 2",
+            Fact::IsHeld => "the gate holds whom it is to hold",
+            Fact::WaitsOnce => "of what is said again and again one waits",
             Fact::IsReady => "the node that joined answers a strong read",
             Fact::IsAnswered => "every call is answered",
             Fact::IsInTime => "every call is answered within so many ticks",

@@ -8,6 +8,7 @@
 
 mod asker;
 mod asks;
+mod behind;
 mod caller;
 mod calls;
 mod case;
@@ -18,8 +19,10 @@ mod client;
 mod course;
 mod driving;
 mod fault;
+mod filling;
 mod form;
 mod gate;
+mod holding;
 mod judge;
 mod members;
 mod requests;
@@ -97,6 +100,9 @@ where
         }
     }
     for (trial, text) in &sizes.others() {
+        if form.is_carried() && trial.wants_workers() {
+            continue;
+        }
         if !try_one(rt, host, Test::Trial(*trial), *text, form)? {
             return Ok(false);
         }

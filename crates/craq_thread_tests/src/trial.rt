@@ -8,6 +8,9 @@ pub enum Place {
     After,
 }
 
+/// The master counts as node 0 of its chain.
+const MASTER: u64 = 0;
+
 /// What is tried.
 #[derive(Clone, Copy)]
 pub enum Trial {
@@ -19,6 +22,10 @@ pub enum Trial {
     Within,
     /// It is held after that piece, and no lock is.
     After,
+    /// The master is held within its first tick, under its own lock alone.
+    Master,
+    /// This node, the head or the tail, is held before its first piece of work while the store ticks.
+    Filling(u64),
     /// Of all messages a third is lost for so many turns, and a tenth of the others sent twice; then none.
     Losses(u64),
     /// A node joins after so many calls, and what goes to it takes longer than a tick.
@@ -35,11 +42,12 @@ impl Trial {
     pub fn number(self) -> u64 {
         match self {
             Trial::Stop(number)
+            | Trial::Filling(number)
             | Trial::Losses(number)
             | Trial::SlowJoin(number)
             | Trial::Changes(number)
             | Trial::Closes(number) => number,
-            Trial::Before | Trial::Within | Trial::After => 1,
+            Trial::Before | Trial::Within | Trial::After | Trial::Master => 1,
         }
     }
 
@@ -51,17 +59,48 @@ impl Trial {
         }
     }
 
-    /// Whether node 2 is held at this place of this piece of its work.
+    /// The node that is held, if any is, or the master.
+    pub fn held(self) -> u64 {
+        match self {
+            Trial::Filling(node) => node,
+            Trial::Master => MASTER,
+            _ => 2,
+        }
+    }
+
+    /// Whether this is the node at which it looks at what waits.
+    pub fn fills(self, node: u64) -> bool {
+        match self {
+            Trial::Filling(held) => node == held,
+            _ => false,
+        }
+    }
+
+    /// Whether it is of what waits for the worker that a node has where no thread carries its chain.
+    pub fn wants_workers(self) -> bool {
+        matches!(self, Trial::Filling(_))
+    }
+
+    /// Whether the work that is held is a node's: where one thread carries the chain it is a turn, counted among its asks.
+    pub fn holds_node(self) -> bool {
+        self.held() != MASTER
+    }
+
+    /// Whether that node is held at this place of this piece of its work.
     pub fn holds(self, place: Place, count: u64) -> bool {
         match self {
             Trial::Stop(piece) => place == Place::Before && count == piece,
-            Trial::Before => place == Place::Before && count == 0,
-            Trial::Within => place == Place::Within && count == 0,
+            Trial::Before | Trial::Filling(_) => place == Place::Before && count == 0,
+            Trial::Within | Trial::Master => place == Place::Within && count == 0,
             Trial::After => place == Place::After && count == 0,
             _ => false,
         }
     }
 }
+
+/// What waits at this node is looked at, in words.
+const REPEATS: &str =
+    "of what is said again and again to a node that is held one of each kind waits, node";
 
 /// How large the trials are that can be made larger.
 #[derive(Clone, Copy)]
@@ -98,7 +137,7 @@ impl Sizes {
     }
 
     /// The trials after those in which node 2 stops, each in words.
-    pub fn others(self) -> [(Trial, &'static str); 7] {
+    pub fn others(self) -> [(Trial, &'static str); 10] {
         [
             (
                 Trial::Before,
@@ -109,6 +148,12 @@ impl Sizes {
                 "within it the lock of its node alone is held, times",
             ),
             (Trial::After, "after it no lock is held, times"),
+            (
+                Trial::Master,
+                "within a tick of the master its lock alone is held, times",
+            ),
+            (Trial::Filling(1), REPEATS),
+            (Trial::Filling(3), REPEATS),
             (
                 Trial::Losses(self.turns),
                 "a third of all messages is lost, then none, and all calls are answered, turns",

@@ -1,4 +1,4 @@
-//! The gate of a trial, which holds node 2 up, loses messages, repeats them and slows them; made by `trials`, asked through `gate`.
+//! The gate of a trial, which holds a node or the master up, loses messages, repeats them and slows them; made by `trials`, asked through `gate`.
 use crate::course::Course;
 use crate::form::Form;
 use crate::trial::{Place, Trial};
@@ -36,11 +36,11 @@ pub struct TrialGate {
 }
 
 impl TrialGate {
-    /// Holds node 2 here, if this is where the trial does, until it may go on.
+    /// Holds a node here, if this is where the trial does, until it may go on.
     fn pass(&self, node: NodeName, work: Work, count: u64, place: Place) {
-        let carried = self.form.is_carried();
-        if node.node.get() != 2
-            || matches!(work, Work::Asks) != carried
+        let is_turn = self.form.is_carried() && self.trial.holds_node();
+        if u64::from(node.node.get()) != self.trial.held()
+            || matches!(work, Work::Asks) != is_turn
             || !self.trial.holds(place, count)
         {
             return;
@@ -54,6 +54,10 @@ impl TrialGate {
 
 impl Gate for TrialGate {
     fn before(&self, node: NodeName, work: Work, count: u64) {
+        let number = u64::from(node.node.get());
+        if matches!(work, Work::Deliveries) && self.trial.fills(number) {
+            self.course.pieces.fetch_add(1, Ordering::SeqCst);
+        }
         self.pass(node, work, count, Place::Before);
     }
 
@@ -67,13 +71,20 @@ impl Gate for TrialGate {
 
     fn carries(&self, from: NodeName, to: NodeName) -> bool {
         let number = self.course.sent.fetch_add(1, Ordering::SeqCst);
+        let (sender, receiver) = (u64::from(from.node.get()), u64::from(to.node.get()));
         match self.trial {
             Trial::Losses(_) => {
                 self.course.calm.load(Ordering::SeqCst) || spread(number) % THIRD != 0
             }
             Trial::Changes(_) => spread(number) % HUNDREDTH != 0,
+            Trial::Filling(held) => {
+                if receiver == held {
+                    self.course.note_sent(sender, receiver);
+                }
+                true
+            }
             Trial::SlowJoin(_) => {
-                if from.node.get() == 3 && to.node.get() == 4 {
+                if sender == 3 && receiver == 4 {
                     thread::sleep(&self.clock, Duration::from_millis(SLOW));
                 }
                 true

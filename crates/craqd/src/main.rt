@@ -6,20 +6,29 @@ mod closing;
 mod fault;
 mod lines;
 mod plans;
-mod runtime;
 mod serving;
 mod telling;
 mod ways;
 
 use craq_line::{Line, NO_MEMORY, report_failure, report_no_text, report_words, words_of};
-use runtime::ProgramRuntime;
 use serving::serve_line;
+use std::env::Env;
 use std::io;
-use std::io::ErrorKind;
+use std::io::{ErrorKind, Input, StdinLock};
+use std::net::{Net, TcpListener, TcpStream};
 use std::process::ExitCode;
+use std::rt::Files;
+use std::sync::Wait;
+use std::thread::Threads;
+use std::time::Clock;
 
 /// Serves as the words of a command line ask for, and tells what was wrong. Gives the status.
-fn run_words<R: ProgramRuntime>(rt: R, words: &[&str]) -> io::Result<u8> {
+fn run_words<R>(rt: R, words: &[&str]) -> io::Result<u8>
+where
+    R: AllocGlobal + Files + Input<Reader = StdinLock<'static>> + Print + Eprint + Clock,
+    R: Threads + Wait + Copy,
+    R: Drop + Send + Sync + 'static + Net<Listener = TcpListener, Stream = TcpStream>,
+{
     match Line::read(rt.alloc(), words) {
         Ok(line) => match serve_line(rt, &line) {
             Ok(()) => Ok(0),
@@ -30,7 +39,12 @@ fn run_words<R: ProgramRuntime>(rt: R, words: &[&str]) -> io::Result<u8> {
 }
 
 /// Does what these words of a command line ask for. Gives the status.
-fn run_texts<R: ProgramRuntime>(rt: R, words: &[String]) -> io::Result<u8> {
+fn run_texts<R>(rt: R, words: &[String]) -> io::Result<u8>
+where
+    R: AllocGlobal + Files + Input<Reader = StdinLock<'static>> + Print + Eprint + Clock,
+    R: Threads + Wait + Copy,
+    R: Drop + Send + Sync + 'static + Net<Listener = TcpListener, Stream = TcpStream>,
+{
     let mut texts = Vec::new(rt.alloc());
     for word in words {
         texts.push(word.as_str())?;
@@ -39,7 +53,12 @@ fn run_texts<R: ProgramRuntime>(rt: R, words: &[String]) -> io::Result<u8> {
 }
 
 /// Does what the command line asks for, where its words are text. Gives the status.
-fn run<R: ProgramRuntime>(rt: R) -> io::Result<u8> {
+fn run<R>(rt: R) -> io::Result<u8>
+where
+    R: AllocGlobal + Env + Files + Input<Reader = StdinLock<'static>> + Print + Eprint + Clock,
+    R: Threads + Wait,
+    R: Net<Listener = TcpListener, Stream = TcpStream> + Copy + Drop + Send + Sync + 'static,
+{
     match words_of(&rt) {
         Ok(words) => run_texts(rt, words.as_slice()),
         Err(error) if error.kind() == ErrorKind::InvalidData => report_no_text(&rt),

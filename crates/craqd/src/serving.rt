@@ -5,7 +5,6 @@ use crate::audits::print_audits;
 use crate::closing::{wake, watch_input};
 use crate::fault::Fault;
 use crate::plans::plan_of;
-use crate::runtime::ProgramRuntime;
 use crate::telling::tell_serving;
 use crate::ways::{accept_as_asked, crowds_of};
 use craq_line::Line;
@@ -13,14 +12,14 @@ use craq_list::ListCore;
 use craq_server::{Connections, Crowds, Log, Served as Accepted, Serving};
 use craq_workers::{OpenGate, Store};
 use std::alloc::AllocError;
-use std::io::ErrorKind;
+use std::io::{ErrorKind, Input, StdinLock};
 use std::net::{Net, SocketAddr, TcpListener, TcpStream};
 use std::rt::Files;
 use std::sync::atomic::{AtomicBool, Ordering};
 use std::sync::{Arc, Mutex, Wait};
 use std::thread;
 use std::thread::{Scope, Threads};
-use std::time::Duration;
+use std::time::{Clock, Duration};
 
 /// The stores that are served.
 pub type RunningStore = Store<ListCore, OpenGate>;
@@ -76,7 +75,10 @@ fn came_of(
     }
 }
 
-impl<R: ProgramRuntime> Service<'_, R> {
+impl<R> Service<'_, R>
+where
+    R: AllocGlobal + Eprint + Clock + Threads + Wait + Copy + Drop + Send + Sync + 'static,
+{
     /// Ticks the store until the server is over.
     fn tick(&self) {
         for _ in self.rt.forever() {
@@ -104,7 +106,10 @@ impl<R: ProgramRuntime> Service<'_, R> {
 
     /// Prints at which port clients can connect, once all that the server needs has been made, and waits until it is to end.
     /// Where nothing can be printed it ends at once.
-    fn follow(&self) -> Result<(), Fault> {
+    fn follow(&self) -> Result<(), Fault>
+    where
+        R: Print + Net<Listener = TcpListener, Stream = TcpStream>,
+    {
         if !self.connections.wait_for_begin(&self.rt) {
             return Ok(());
         }
@@ -121,7 +126,10 @@ impl<R: ProgramRuntime> Service<'_, R> {
     }
 
     /// Serves the connections on a thread of their own, while the store is ticked on another, until all are over.
-    fn run<'e, E>(&'e self, scope: &Scope<'e, E>) -> Result<Accepted, Fault> {
+    fn run<'e, E>(&'e self, scope: &Scope<'e, E>) -> Result<Accepted, Fault>
+    where
+        R: Print + Net<Listener = TcpListener, Stream = TcpStream>,
+    {
         if scope.spawn(move || self.tick()).is_err() {
             return Err(Fault::Memory);
         }
@@ -134,7 +142,14 @@ impl<R: ProgramRuntime> Service<'_, R> {
         self.over.store(true, Ordering::SeqCst);
         came_of(followed, accepted)
     }
+}
 
+impl<R> Service<'_, R>
+where
+    R: AllocGlobal + Print + Eprint + Clock + Threads + Wait + Copy,
+    R: Drop + Send + Sync + 'static,
+    R: Net<Listener = TcpListener, Stream = TcpStream>,
+{
     /// Serves the connections while the store is ticked, until all of them and both threads are over.
     fn serve(&self) -> Result<Accepted, Fault> {
         thread::scope(thread::scope_env(), &self.rt, |scope| self.run(scope))
@@ -186,7 +201,9 @@ fn serve_listener<'s, R>(
     connections: &'s Arc<Connections>,
 ) -> Result<(), Fault>
 where
-    R: ProgramRuntime,
+    R: AllocGlobal + Input<Reader = StdinLock<'static>> + Print + Eprint + Clock,
+    R: Threads + Wait + Copy + Drop + Send + Sync + 'static,
+    R: Net<Listener = TcpListener, Stream = TcpStream>,
 {
     let Ok(address) = listener.local_addr() else {
         return Err(Fault::CannotListen);
@@ -213,11 +230,12 @@ where
 }
 
 /// Listens as a command line asks for, and serves the connections to a store.
-fn serve_store<R: ProgramRuntime>(
-    rt: R,
-    store: &RunningStore,
-    line: &Line<'_>,
-) -> Result<(), Fault> {
+fn serve_store<R>(rt: R, store: &RunningStore, line: &Line<'_>) -> Result<(), Fault>
+where
+    R: AllocGlobal + Input<Reader = StdinLock<'static>> + Print + Eprint + Clock,
+    R: Threads + Wait + Copy + Drop + Send + Sync + 'static,
+    R: Net<Listener = TcpListener, Stream = TcpStream>,
+{
     let connections = Arc::new(rt.alloc(), Connections::new(rt.alloc(), line.most)?)?;
     let listener = listen(&rt, line.address)?;
     serve_listener(rt, store, line, &listener, &connections)
@@ -247,7 +265,12 @@ where
 }
 
 /// Serves as a command line asks for.
-pub fn serve_line<R: ProgramRuntime>(rt: R, line: &Line<'_>) -> Result<(), Fault> {
+pub fn serve_line<R>(rt: R, line: &Line<'_>) -> Result<(), Fault>
+where
+    R: AllocGlobal + Files + Input<Reader = StdinLock<'static>> + Print + Eprint + Clock,
+    R: Threads + Wait + Copy,
+    R: Drop + Send + Sync + 'static + Net<Listener = TcpListener, Stream = TcpStream>,
+{
     let store = store_of(rt, line)?;
     let served = serve_store(rt, &store, line);
     store.close(&rt);

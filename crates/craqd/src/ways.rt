@@ -1,10 +1,11 @@
 //! The two ways to serve connections: a thread for each, or so many threads for all; called by `serving`.
 use crate::serving::RunningStore;
-use craq_server::{
-    Connections, Crowds, Served as Accepted, ServerRuntime, Serving, accept, accept_by_threads,
-};
+use craq_server::{Connections, Crowds, Served as Accepted, Serving, accept, accept_by_threads};
 use std::alloc::AllocError;
 use std::net::{Net, TcpListener};
+use std::sync::Wait;
+use std::thread::Threads;
+use std::time::Clock;
 
 /// What so many threads need that serve all connections; none where that is 0, and each connection has a thread of its own.
 pub fn crowds_of<R: AllocGlobal + Net>(
@@ -29,7 +30,7 @@ pub fn accept_as_asked<R>(
     crowds: Option<Crowds>,
 ) -> Result<Accepted, AllocError>
 where
-    R: ServerRuntime + AllocGlobal,
+    R: AllocGlobal + Eprint + Clock + Threads + Wait + Copy + Drop + Send + Sync + 'static,
 {
     let alloc = rt.alloc();
     let Some(crowds) = crowds else {

@@ -1,5 +1,5 @@
-//! Steps of a chain that one thread carries: turns of its nodes, from the head to the tail and back; called by `work`, and by
-//! `shared` for a caller who carries its own step on.
+//! Steps of a chain that one thread carries: rounds of turns of its nodes, from the head to the tail and back; called by `work`,
+//! and by `shared` for a caller who carries its own step on.
 use crate::chain::Chain;
 use crate::gate::{Gate, Work};
 use crate::node::RunningNode;
@@ -12,7 +12,7 @@ use std::alloc::Global;
 use std::sync::{Arc, MutexGuard, Wait};
 
 /// The most messages, and the most asks, of one turn of a node.
-const BATCH: u32 = 16;
+const BATCH: u32 = 8;
 
 /// The most rounds that a caller carries its own step on.
 const ROUNDS: u32 = 3;
@@ -81,7 +81,11 @@ fn visit<R: Wait, C: Core, G: Gate>(
     true
 }
 
-/// A turn of each node from the head to the tail, and back. Whether anything waited.
+/// A turn of each node from the head to the tail, and back to the one after the head, with which the next round begins. Whether
+/// anything waited.
+///
+/// So the head takes no two turns in a row. In the second it would send what it sent in the first once more: nobody between the two
+/// could acknowledge it.
 fn visit_all<R: Wait, C: Core, G: Gate>(
     rt: &R,
     alloc: Global,
@@ -89,8 +93,11 @@ fn visit_all<R: Wait, C: Core, G: Gate>(
     nodes: &[Arc<RunningNode<C>>],
     manner: Manner,
 ) -> bool {
+    let Some((_, after)) = nodes.split_first() else {
+        return false;
+    };
     let mut found = false;
-    for node in nodes.iter().chain(nodes.iter().rev()) {
+    for node in nodes.iter().chain(after.iter().rev()) {
         if visit(rt, alloc, shared, node, manner) {
             found = true;
         }

@@ -26,6 +26,8 @@ PATIENCE = 10
 # After these refusals the same is asked again: also where a node that joined is not ready.
 NOT_READY = 10
 OPEN = (*example.PASSING, NOT_READY)
+# The forms of a store, by the word of its program, in words: who takes the steps of its nodes.
+FORMS = {"in-place": "two threads a node, in place", "queued": "two threads a node, queued", "carried": "one thread a chain"}
 
 
 @functools.cache
@@ -47,12 +49,33 @@ def used(checks, run):
     return running.in_each_way(checks, lambda: run(program))
 
 
-class Changing(running.Server):
-    """Such a store, of so many chains of the nodes 1 to 3, which serves as running.OPTIONS say."""
+def in_each_form(checks, run):
+    """What a call tells that is made once with a store of each form, in words. A check that fails tells the form."""
+    title, told = checks.title, []
+    for form, words in FORMS.items():
+        checks.title = f"{title}, {words}"
+        try:
+            told.append(f"{words}: {run(form)}")
+        finally:
+            checks.title = title
+    return "; ".join(told)
 
-    def __init__(self, program, chains, journals):
-        threads = dict(zip(running.OPTIONS, running.OPTIONS[1:])).get("--threads", "0")
-        words = [program, str(chains), threads, "journals" if journals else "none"]
+
+def threads_asked():
+    """By how many threads running.OPTIONS ask that all connections are served; 0 where each has one of its own."""
+    return dict(zip(running.OPTIONS, running.OPTIONS[1:])).get("--threads", "0")
+
+
+def usual_form():
+    """The form of a store that craqd would serve as running.OPTIONS say."""
+    return "in-place" if threads_asked() == "0" else "carried"
+
+
+class Changing(running.Server):
+    """Such a store, of so many chains of the nodes 1 to 3, of that form, which serves as running.OPTIONS say."""
+
+    def __init__(self, program, chains, form, journals):
+        words = [program, str(chains), threads_asked(), form, "journals" if journals else "none"]
         self.process = subprocess.Popen(words, stdin=subprocess.PIPE, stdout=subprocess.PIPE, stderr=subprocess.PIPE, text=True, bufsize=1)
         self.members, self.next = [[1, 2, 3] for _ in range(chains)], [4] * chains
         first = self.line()

@@ -39,7 +39,7 @@ def replaced(checks, store, client, turn):
 
 def replaces_all(checks, program):
     """The members of a store are replaced; gives what was seen, in words."""
-    store = changing.Changing(program, 1, journals=False)
+    store = changing.Changing(program, 1, changing.usual_form(), journals=False)
     try:
         client = changing.Insistent(store.address, 1, COPIED)
         empty, threads = store.memory(), store.threads()

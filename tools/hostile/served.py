@@ -1,5 +1,5 @@
-"""What a server promises a client, while its members change: in each way of serving clients ask a store of some chains over TCP, and all the while
-a member of some chain stops, is removed, and another joins (changing.py). One message in 97 is lost.
+"""What a server promises a client, while its members change: in each way of serving clients ask a store of each form, of some chains, over TCP, and
+all the while a member of some chain stops, is removed, and another joins (changing.py). One message in 97 is lost.
 
 Each process of clients has some, which ask one thing after another with the client of examples/client.py, lose replies and ask again, and look at
 all that a client can see:
@@ -26,7 +26,7 @@ CHAINS, PROCESSES, ATONCE = 8, 3, 4
 # Clients ask until so many asks are answered, for so many seconds at most. How often they lose a reply, and how many numbers of updates back
 # they ask again.
 ANSWERED, MOST_SECONDS, LOST, KEPT = 100_000, 900, 0.02, 4
-# How long a stopped member stays, in seconds, at most, and how many changes of members each way of serving has to make in a second.
+# How long a stopped member stays, in seconds, at most, and how many changes of members each store has to make in a second.
 STAYS, DUE = 0.05, 2
 
 
@@ -163,9 +163,9 @@ def ends(checks, store, seen, looks):
     return merged
 
 
-def serves(checks, program):
+def serves(checks, program, form):
     """One store; gives what was tried, in words."""
-    store = changing.Changing(program, CHAINS, journals=True)
+    store = changing.Changing(program, CHAINS, form, journals=True)
     try:
         newest, passes = (multiprocessing.Array("Q", CHAINS, lock=False) for _ in range(2))
         answered, given, over = multiprocessing.Array("Q", PROCESSES, lock=False), multiprocessing.Queue(), multiprocessing.Event()
@@ -197,5 +197,5 @@ def told(checks, seen, seconds, changes, again, merged):
 
 
 def tried(checks):
-    """It in each way of serving, and what was tried, in words."""
-    return changing.used(checks, lambda program: serves(checks, program))
+    """It in each way of serving, with a store of each form, and what was tried, in words."""
+    return changing.used(checks, lambda program: changing.in_each_form(checks, lambda form: serves(checks, program, form)))

@@ -1,7 +1,9 @@
-//! `accept`: each connection of a listener served on a thread of its own, at most so many at once; for programs that serve.
+//! `accept`: the connections of a listener served, at most so many at once, each on a thread of its own or all by a few threads
+//! (`crews`); for programs that serve.
 ghost use Rattle.std.specs.Prelude.{◌≡◌};
 
 use crate::connections::Connections;
+use crate::crews::{Crowds, serve_by_threads};
 use crate::door::{ServedStore, Visit};
 use crate::logging::Log;
 use crate::passes::Passes;
@@ -28,8 +30,11 @@ const PAUSE_MILLISECONDS: u64 = 10;
 pub struct Serving {
     /// Whether the receipts of calls are kept.
     pub keeps: bool,
-    /// After how many connections no more are taken; 0 where there is no end.
+    /// After how many connections no more are taken, those counted too that were turned away; 0 where there is no end.
     pub connections: u32,
+    /// By how many threads all connections are served, of which `craqd` asks for 64 at most; 0 where each connection has a thread
+    /// of its own.
+    pub threads: u32,
     /// After how many seconds without a byte a connection is ended; 0 where it is not.
     pub idle: u32,
     /// What is told meanwhile.
@@ -275,9 +280,12 @@ where
     }
 }
 
-/// Serves the connections of a listener to a store, each on a thread of its own until the client ends it, at most as many
-/// at once as `connections` has places: one more is told `Refused(PendingFull)` and closed at once. It comes back once so
-/// many connections were made as `serving` says, or `connections` are to end, and all are over.
+/// Serves the connections of a listener to a store, each until the client ends it, at most as many at once as `connections`
+/// has places: one more is told `Refused(PendingFull)` and closed at once. It comes back once so many connections were made
+/// as the `Serving` of `crowds` says, or `connections` are to end, and all are over.
+///
+/// Where `crowds` are of some threads that serve all connections, the connections are handed to these in turn; else each has a
+/// thread of its own. It fails where one of those few threads cannot be made, or what it needs, and then no connection was taken.
 ///
 /// A listener that fails is asked again every 10 milliseconds until it gives a connection; those that are open are served
 /// meanwhile. A connection that finds no thread or no memory is ended at once, and the answer tells so. In each direction of a
@@ -288,19 +296,24 @@ pub fn accept<'x, R, C, G>(
     alloc: Global,
     store: &'x Store<C, G>,
     listener: &TcpListener,
-    serving: Serving,
     connections: &'x Connections,
-) -> Served
+    crowds: Crowds,
+) -> Result<Served, AllocError>
 where
     R: ServerRuntime,
     C: Core + Send + 'static,
     G: Gate + Send + Sync + 'static,
 {
+    let Crowds { serving, all } = crowds;
     let server = Server::new(rt, alloc, store, serving, connections);
-    let lacked = server.serve_all(listener);
+    let lacked = if all.is_empty() {
+        Ok(server.serve_all(listener))
+    } else {
+        serve_by_threads(&server, listener, all)
+    };
     connections.finish(&rt);
-    Served {
+    Ok(Served {
+        lacked: lacked?,
         receipts: server.into_receipts(),
-        lacked,
-    }
+    })
 }

@@ -28,7 +28,8 @@ pub struct Connections {
 }
 
 impl Connections {
-    /// Room for so many open connections, none of which is open yet. It fails for want of memory alone.
+    /// Room for so many open connections, none of which is open yet; where that is 0 each one that comes is turned away. It fails
+    /// for want of memory alone.
     pub fn new(alloc: Global, most: u32) -> Result<Self, AllocError> {
         let places = Places::new(alloc, most)?;
         Ok(Connections {
@@ -78,12 +79,12 @@ impl Connections {
     }
 
     /// Takes in a connection, where there is a place, and gives the place. It takes no memory.
-    pub fn enter<R: Wait>(&self, rt: &R, stream: Arc<TcpStream>) -> Option<usize> {
+    pub(crate) fn enter<R: Wait>(&self, rt: &R, stream: Arc<TcpStream>) -> Option<usize> {
         self.places.lock(rt).enter(stream)
     }
 
     /// The connection at a place is over, and the place is free.
-    pub fn leave<R: Wait>(&self, rt: &R, place: usize) {
+    pub(crate) fn leave<R: Wait>(&self, rt: &R, place: usize) {
         self.places.lock(rt).leave(place);
     }
 

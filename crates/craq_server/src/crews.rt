@@ -1,6 +1,8 @@
-//! `accept_by_threads`: the connections of a listener served by a few threads, each of which serves many; for programs that serve.
-use crate::accepting::{Served, Server, Serving};
-use crate::connections::Connections;
+//! `Crowds`, what serving needs that is made before it begins, for programs that serve; and the connections of a listener served by a
+//! few threads, each of which serves many; called by `accepting`.
+ghost use Rattle.std.specs.Prelude.{◌≡◌, IfOk, length};
+
+use crate::accepting::{Server, Serving};
 use crate::door::ServedStore;
 use crate::runtime::ServerRuntime;
 use craq_door::{CallTaker, Permit, Question, Reached};
@@ -13,7 +15,7 @@ use craq_seat::CallReceipt;
 use craq_workers::{Gate, Store};
 use std::alloc::{AllocError, Global};
 use std::net::{Net, TcpListener, TcpStream};
-use std::sync::atomic::{AtomicBool, Ordering};
+use std::sync::atomic::{AtomicBool, AtomicU64, Ordering};
 use std::sync::{Arc, Mutex, Wait};
 use std::thread;
 use std::thread::Scope;
@@ -30,6 +32,8 @@ struct Crew<'s, 'a, R: Wait, C: Core, G: Gate> {
     over: AtomicBool,
     /// The thread's connections, until it begins.
     crowd: Mutex<Option<Crowd>>,
+    /// The largest number of seconds that the clock told.
+    latest: AtomicU64,
 }
 
 impl<'s, 'a, R, C, G> Reached for Crew<'s, 'a, R, C, G>
@@ -107,10 +111,11 @@ where
     }
 
     fn seconds(&self) -> u64 {
-        match self.server.rt.monotonic() {
+        let told = match self.server.rt.monotonic() {
             Ok(time) => time.as_secs(),
             Err(_) => 0,
-        }
+        };
+        self.latest.fetch_max(told, Ordering::SeqCst).max(told)
     }
 
     fn refused(&self, place: usize, refusal: Refusal) {
@@ -141,6 +146,7 @@ where
             inbox: Mutex::new(Vec::new(server.alloc)),
             over: AtomicBool::new(false),
             crowd: Mutex::new(Some(crowd)),
+            latest: AtomicU64::new(0),
         })
     }
 
@@ -174,13 +180,12 @@ where
     }
 }
 
-/// Hands out so many connections, or without end where that is 0, to the threads in turn, until the server is to end; none
-/// where the threads did not begin. Tells whether some connection was ended for want of memory.
+/// Hands out so many connections, or without end where that is 0, to the threads in turn, until the server is to end. Tells
+/// whether some connection was ended for want of memory.
 fn deal<'s, 'a, R, C, G>(
     server: &'s Server<'a, R, C, G>,
     crews: &[Crew<'s, 'a, R, C, G>],
     listener: &TcpListener,
-    begun: bool,
 ) -> bool
 where
     R: ServerRuntime,
@@ -191,9 +196,6 @@ where
     let mut lacked = false;
     let mut turn = 0usize;
     for _ in server.rt.forever() {
-        if !begun {
-            break;
-        }
         let Some(stream) = server.next_connection(listener) else {
             break;
         };
@@ -212,53 +214,25 @@ where
     lacked
 }
 
-/// What threads need that each serve many connections: one crowd a thread.
+/// How connections are served, and a crowd for each thread that serves many of them: what has to be there before `accept` begins.
 #[derive(Drop)]
 pub struct Crowds {
-    all: Vec<Crowd>,
+    pub(crate) serving: Serving,
+    pub(crate) all: Vec<Crowd>,
 }
 
 impl Crowds {
-    /// What so many threads need, whose connections are served as `serving` says. It fails for want of memory, or where the
-    /// system refuses it.
-    pub fn new(
-        net: &impl Net,
-        alloc: Global,
-        serving: Serving,
-        threads: u32,
-    ) -> Result<Self, AllocError> {
+    /// What the threads need that serve connections as `serving` says: a file descriptor of an epoll set and some memory each; nothing
+    /// where each connection has a thread of its own. It fails for want of memory, or where the system refuses it.
+    pub fn new(net: &impl Net, alloc: Global, serving: Serving) -> Result<Self, AllocError>
+        ensures { IfOk result (λ crowds. (crowds.serving ≡ serving) × (length crowds.all.items ≡ serving.threads)) }
+    {
         let mut all = Vec::new(alloc);
-        for _ in 0..threads {
+        for _ in 0..serving.threads {
             all.push(Crowd::new(net, alloc, serving.keeps, serving.idle)?)?;
         }
-        Ok(Crowds { all })
+        Ok(Crowds { serving, all })
     }
-}
-
-/// Serves the connections of a listener as `accept` does, but by one thread for each of some crowds, which serves many
-/// connections: one after another they are handed to the threads in turn. It fails where a thread cannot be made, or what it
-/// needs, and then no connection was taken.
-pub fn accept_by_threads<'x, R, C, G>(
-    rt: R,
-    alloc: Global,
-    store: &'x Store<C, G>,
-    listener: &TcpListener,
-    serving: Serving,
-    connections: &'x Connections,
-    crowds: Crowds,
-) -> Result<Served, AllocError>
-where
-    R: ServerRuntime,
-    C: Core + Send + 'static,
-    G: Gate + Send + Sync + 'static,
-{
-    let server = Server::new(rt, alloc, store, serving, connections);
-    let served = serve_by_threads(&server, listener, crowds);
-    connections.finish(&rt);
-    Ok(Served {
-        lacked: served?,
-        receipts: server.into_receipts(),
-    })
 }
 
 /// The threads of connections of a server.
@@ -313,10 +287,11 @@ where
         listener: &TcpListener,
     ) -> Result<bool, AllocError> {
         let begun = self.begin_all(scope);
+        let mut lacked = false;
         if begun {
             self.server.connections.begin(&self.server.rt);
+            lacked = deal(self.server, self.all.as_slice(), listener);
         }
-        let lacked = deal(self.server, self.all.as_slice(), listener, begun);
         for crew in self.all.as_slice() {
             crew.end();
         }
@@ -331,11 +306,12 @@ where
     }
 }
 
-/// The threads begin, serve and end.
-fn serve_by_threads<'a, R, C, G>(
+/// Serves the connections of a listener by a thread for each crowd. It fails where a thread cannot be made, or what it needs, and
+/// then no connection was taken. Tells whether some connection was ended for want of memory.
+pub(crate) fn serve_by_threads<'a, R, C, G>(
     server: &Server<'a, R, C, G>,
     listener: &TcpListener,
-    crowds: Crowds,
+    crowds: Vec<Crowd>,
 ) -> Result<bool, AllocError>
 where
     R: ServerRuntime,
@@ -343,7 +319,7 @@ where
     G: Gate + Send + Sync + 'static,
 {
     let mut all = Vec::new(server.alloc);
-    for crowd in crowds.all {
+    for crowd in crowds {
         all.push(Crew::new(server, crowd)?)?;
     }
     let crews = Crews { server, all };

@@ -17,9 +17,6 @@ mod turning;
 
 pub use accepting::{Served, Serving, accept};
 pub use connections::Connections;
-pub use crews::{Crowds, accept_by_threads};
+pub use crews::Crowds;
 pub use logging::Log;
-pub use passes::{MOST_LEAP, Passes, is_taken};
 pub use runtime::ServerRuntime;
-pub use status::status_text;
-pub use turning::turn_away;

@@ -53,7 +53,7 @@ fn status_value(alloc: Global, chains: &[ChainStatus]) -> Result<Value, AllocErr
 /// The status of a store as compact JSON: an object with the one member `chains`, an array of objects with the members
 /// `epoch`, `members` and `name`, one for each chain, in the order given. It fails for want of memory alone.
 #[tactic(auto, using(crate::proofs::Floats::none_in), unfolding(crate::specs::Status::status_text))]
-pub fn status_text(alloc: Global, chains: &[ChainStatus]) -> Result<String, AllocError>
+pub(crate) fn status_text(alloc: Global, chains: &[ChainStatus]) -> Result<String, AllocError>
     ensures { IfOk result (λ text. string_bytes text ≡ status_text chains.now) }
 {
     let value = status_value(alloc, chains)?;

@@ -15,7 +15,7 @@ use std::io::Write;
 ///
 /// `Memory` where a growth was refused, and nothing is written; `Io` where a write failed, and some beginning of the frame
 /// may be written.
-pub fn turn_away<W: Write>(alloc: Global, writer: &mut W) -> Result<(), Refusal>
+pub(crate) fn turn_away<W: Write>(alloc: Global, writer: &mut W) -> Result<(), Refusal>
     ensures told { OnOk result ((reply : List ℕ) × SpellsAnswered (refused Refusal.PendingFull) reply
         × Appends (W.contents writer.old) (W.contents writer.new) (frame reply)) }
     ensures err { IfErr result (λ e. (e ≡ Refusal.Memory) ⊎ (e ≡ Refusal.Io)) }

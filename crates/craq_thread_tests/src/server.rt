@@ -6,7 +6,7 @@ use crate::gate::{TestGate, Tested, start_store};
 use craq_audit::Audit;
 use craq_names::Refusal;
 use craq_seat::CallReceipt;
-use craq_server::{Connections, Crowds, Log, Served, Serving, accept, accept_by_threads};
+use craq_server::{Connections, Crowds, Log, Served, Serving, accept};
 use craq_workers::OpenGate;
 use std::alloc::{AllocError, Global};
 use std::net::{Net, SocketAddr, TcpListener, TcpStream};
@@ -21,6 +21,9 @@ const TICK_MILLISECONDS: u64 = 50;
 
 /// By how many threads all connections are served where each has none of its own.
 const THREADS: u32 = 2;
+
+/// How many connections there are.
+const CONNECTIONS: u32 = 3;
 
 /// How the connections of a store are served.
 #[derive(Clone, Copy)]
@@ -44,11 +47,17 @@ pub const MANNERS: [(Manner, &str); 2] = [
 ];
 
 impl Manner {
-    /// What the threads need that serve all connections; none where each connection has a thread.
-    fn crowds<R: AllocGlobal + Net>(self, rt: &R) -> Result<Option<Crowds>, AllocError> {
-        match self {
-            Manner::Each => Ok(None),
-            Manner::Together => Ok(Some(Crowds::new(rt, rt.alloc(), SERVING, THREADS)?)),
+    /// How the three connections are served: their receipts are kept.
+    fn serving(self) -> Serving {
+        Serving {
+            keeps: true,
+            connections: CONNECTIONS,
+            threads: match self {
+                Manner::Each => 0,
+                Manner::Together => THREADS,
+            },
+            idle: 0,
+            log: Log::Silent,
         }
     }
 
@@ -61,14 +70,6 @@ impl Manner {
     }
 }
 
-/// How the three connections are served: their receipts are kept.
-const SERVING: Serving = Serving {
-    keeps: true,
-    connections: 3,
-    idle: 0,
-    log: Log::Silent,
-};
-
 /// Ticks a store until that is over.
 fn tick<R: Clock + Wait>(rt: &R, store: &Tested, over: &AtomicBool) {
     for _ in rt.forever() {
@@ -78,25 +79,6 @@ fn tick<R: Clock + Wait>(rt: &R, store: &Tested, over: &AtomicBool) {
         store.tick(rt);
         thread::sleep(rt, Duration::from_millis(TICK_MILLISECONDS));
     }
-}
-
-/// Serves the connections until all are over: by a thread for each crowd, or each on a thread of its own where there are
-/// none.
-fn accept_all<R>(
-    rt: R,
-    store: &Tested,
-    listener: &TcpListener,
-    connections: &Connections,
-    crowds: Option<Crowds>,
-) -> Result<Served, AllocError>
-where
-    R: AllocGlobal + Eprint + Clock + Threads + Wait + Copy + Drop + Send + Sync + 'static,
-{
-    let alloc = rt.alloc();
-    let Some(crowds) = crowds else {
-        return Ok(accept(rt, alloc, store, listener, SERVING, connections));
-    };
-    accept_by_threads(rt, alloc, store, listener, SERVING, connections, crowds)
 }
 
 /// The clients ask once the connections are served.
@@ -133,7 +115,7 @@ fn ask_served<R>(
     listener: &TcpListener,
     address: SocketAddr,
     connections: &Connections,
-    crowds: Option<Crowds>,
+    crowds: Crowds,
 ) -> Result<Served, Refusal>
 where
     R: AllocGlobal + Print + Eprint + Clock + Threads + Wait + Copy + Drop + Send + Sync + 'static,
@@ -145,8 +127,14 @@ where
         if scope.spawn(move || tick(&rt, store, ending)).is_err() {
             return Err(Refusal::Memory);
         }
-        let Ok(serving) = scope.spawn(move || accept_all(rt, store, listener, connections, crowds))
-        else {
+        let Ok(serving) = scope.spawn(move || accept(
+            rt,
+            rt.alloc(),
+            store,
+            listener,
+            connections,
+            crowds,
+        )) else {
             ending.store(true, Ordering::SeqCst);
             return Err(Refusal::Memory);
         };
@@ -204,8 +192,8 @@ where
     let Ok(address) = listener.local_addr() else {
         return Err(Refusal::Io);
     };
-    let connections = Connections::new(rt.alloc(), SERVING.connections)?;
-    let crowds = manner.crowds(&rt)?;
+    let connections = Connections::new(rt.alloc(), CONNECTIONS)?;
+    let crowds = Crowds::new(&rt, rt.alloc(), manner.serving())?;
     ask_served(rt, store, listener, address, &connections, crowds)
 }
 

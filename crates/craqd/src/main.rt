@@ -8,7 +8,6 @@ mod lines;
 mod plans;
 mod serving;
 mod telling;
-mod ways;
 
 use craq_line::{Line, NO_MEMORY, report_failure, report_no_text, report_words, words_of};
 use serving::serve_line;

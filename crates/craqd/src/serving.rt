@@ -6,17 +6,16 @@ use crate::closing::{wake, watch_input};
 use crate::fault::Fault;
 use crate::plans::plan_of;
 use crate::telling::tell_serving;
-use crate::ways::{accept_as_asked, crowds_of};
 use craq_line::Line;
 use craq_list::ListCore;
-use craq_server::{Connections, Crowds, Log, Served as Accepted, Serving};
+use craq_server::{Connections, Crowds, Log, Served as Accepted, Serving, accept};
 use craq_workers::{OpenGate, Store};
 use std::alloc::AllocError;
 use std::io::{ErrorKind, Input, StdinLock};
 use std::net::{Net, SocketAddr, TcpListener, TcpStream};
 use std::rt::Files;
 use std::sync::atomic::{AtomicBool, Ordering};
-use std::sync::{Arc, Mutex, Wait};
+use std::sync::{Arc, Wait};
 use std::thread;
 use std::thread::{Scope, Threads};
 use std::time::{Clock, Duration};
@@ -53,10 +52,7 @@ struct Service<'s, R: Wait> {
     store: &'s RunningStore,
     listener: &'s TcpListener,
     address: SocketAddr,
-    serving: Serving,
     connections: &'s Connections,
-    /// What the threads need that serve all connections, until these begin; none where each connection has a thread.
-    crowds: Mutex<Option<Crowds>>,
     /// Whether the server is over.
     over: AtomicBool,
 }
@@ -92,14 +88,14 @@ where
 
     /// Serves the connections until the server is to end and all are over. It fails where a thread cannot be made, or what it
     /// needs, and then no connection was taken.
-    fn accept(&self) -> Result<Accepted, AllocError> {
-        let crowds = self.crowds.lock(&self.rt).take();
-        accept_as_asked(
+    fn accept(&self, crowds: Crowds) -> Result<Accepted, AllocError> {
+        let (store, connections) = (self.store, self.connections);
+        accept(
             self.rt,
-            self.store,
+            self.rt.alloc(),
+            store,
             self.listener,
-            self.serving,
-            self.connections,
+            connections,
             crowds,
         )
     }
@@ -126,14 +122,14 @@ where
     }
 
     /// Serves the connections on a thread of their own, while the store is ticked on another, until all are over.
-    fn run<'e, E>(&'e self, scope: &Scope<'e, E>) -> Result<Accepted, Fault>
+    fn run<'e, E>(&'e self, scope: &Scope<'e, E>, crowds: Crowds) -> Result<Accepted, Fault>
     where
         R: Print + Net<Listener = TcpListener, Stream = TcpStream>,
     {
         if scope.spawn(move || self.tick()).is_err() {
             return Err(Fault::Memory);
         }
-        let Ok(accepting) = scope.spawn(move || self.accept()) else {
+        let Ok(accepting) = scope.spawn(move || self.accept(crowds)) else {
             self.over.store(true, Ordering::SeqCst);
             return Err(Fault::Memory);
         };
@@ -151,8 +147,10 @@ where
     R: Net<Listener = TcpListener, Stream = TcpStream>,
 {
     /// Serves the connections while the store is ticked, until all of them and both threads are over.
-    fn serve(&self) -> Result<Accepted, Fault> {
-        thread::scope(thread::scope_env(), &self.rt, |scope| self.run(scope))
+    fn serve(&self, crowds: Crowds) -> Result<Accepted, Fault> {
+        thread::scope(thread::scope_env(), &self.rt, |scope| {
+            self.run(scope, crowds)
+        })
     }
 }
 
@@ -180,13 +178,14 @@ const fn log_of(line: &Line<'_>) -> Log
     if line.log { Log::Lines } else { Log::Silent }
 }
 
-/// How a command line asks that connections are served: their receipts are kept where journals are.
+/// How a command line asks that connections are served: by so many threads, and their receipts are kept where journals are.
 const fn serving_of(line: &Line<'_>) -> Serving
-    ensures { result ≡ record { keeps = line.now.journal; connections = line.now.connections; idle = line.now.idle; log = if line.now.log then Log.Lines else Log.Silent } }
+    ensures { result ≡ record { keeps = line.now.journal; connections = line.now.connections; threads = line.now.threads; idle = line.now.idle; log = if line.now.log then Log.Lines else Log.Silent } }
 {
     Serving {
         keeps: line.journal,
         connections: line.connections,
+        threads: line.threads,
         idle: line.idle,
         log: log_of(line),
     }
@@ -212,19 +211,16 @@ where
         watch_input(rt, connections)?;
     }
     tell_serving(&rt, store, line, address.port())?;
-    let serving = serving_of(line);
-    let crowds = crowds_of(&rt, serving, line.threads)?;
+    let crowds = Crowds::new(&rt, rt.alloc(), serving_of(line))?;
     let service = Service {
         rt,
         store,
         listener,
         address,
-        serving,
         connections,
-        crowds: Mutex::new(crowds),
         over: AtomicBool::new(false),
     };
-    let accepted = service.serve();
+    let accepted = service.serve(crowds);
     drop(service);
     finish(&rt, store, accepted?)
 }

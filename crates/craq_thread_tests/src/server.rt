@@ -47,15 +47,20 @@ pub const MANNERS: [(Manner, &str); 2] = [
 ];
 
 impl Manner {
+    /// By how many threads all connections are served; 0 where each has one of its own.
+    fn threads(self) -> u32 {
+        match self {
+            Manner::Each => 0,
+            Manner::Together => THREADS,
+        }
+    }
+
     /// How the three connections are served: their receipts are kept.
     fn serving(self) -> Serving {
         Serving {
             keeps: true,
             connections: CONNECTIONS,
-            threads: match self {
-                Manner::Each => 0,
-                Manner::Together => THREADS,
-            },
+            threads: self.threads(),
             idle: 0,
             log: Log::Silent,
         }

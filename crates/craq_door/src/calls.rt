@@ -14,10 +14,10 @@ use std::alloc::{AllocError, Global};
 #[derive(Drop)]
 pub struct DoorCalls {
     /// Whether the receipts of earlier turns are kept.
-    pub keeps: bool,
+    pub(crate) keeps: bool,
     /// The receipts of the calls, in order: of all turns where they are kept, else of the last turn alone. A desk alone
     /// makes receipts, and they are not copied, so a receipt more is that of a call more.
-    pub receipts: Vec<CallReceipt>,
+    pub(crate) receipts: Vec<CallReceipt>,
 }
 
 /// The reply with a call's answer and the pass that its client has after it.
@@ -36,7 +36,7 @@ fn reply_of(answer: Answer, pass: Pass) -> ClientReply
 
 impl DoorCalls {
     /// No calls so far. It takes no memory.
-    pub fn new(alloc: Global, keeps: bool) -> Self
+    pub(crate) fn new(alloc: Global, keeps: bool) -> Self
         ensures keeps { result.keeps ≡ keeps }
         ensures receipts { result.receipts.items ≡ [] }
     {
@@ -47,7 +47,7 @@ impl DoorCalls {
     }
 
     /// A turn begins: the receipts of earlier turns go unless they are kept. It takes no memory.
-    pub fn begin(&mut self)
+    pub(crate) fn begin(&mut self)
         ensures keeps { self.new.keeps ≡ self.old.keeps }
         ensures receipts { self.new.receipts.items ≡ kept self.old.keeps self.old.receipts.items }
         ensures capacity { vec_capacity self.new.receipts ≡ vec_capacity self.old.receipts }
@@ -59,7 +59,7 @@ impl DoorCalls {
 
     /// Makes room for the receipt of one more call. Refused where there is none and a growth is refused; the receipts stay as
     /// they are in either case.
-    pub fn make_room(&mut self) -> Result<(), AllocError>
+    pub(crate) fn make_room(&mut self) -> Result<(), AllocError>
         ensures keeps { self.new.keeps ≡ self.old.keeps }
         ensures receipts { self.new.receipts.items ≡ self.old.receipts.items }
         ensures room { OnOk result (HasRoom self.new) }
@@ -72,7 +72,7 @@ impl DoorCalls {
     /// The reply to a call with this receipt: its answer, and the pass that the client has after it, the larger of the
     /// pass that it showed and the stamp of the answer. The receipt stands behind the others from then on. It takes no
     /// memory.
-    pub fn reply_to(&mut self, answer: Answer, receipt: CallReceipt) -> ClientReply
+    pub(crate) fn reply_to(&mut self, answer: Answer, receipt: CallReceipt) -> ClientReply
         requires answered { answer ≡ receipt.answer }
         requires room { HasRoom self.old }
         ensures keeps { self.new.keeps ≡ self.old.keeps }

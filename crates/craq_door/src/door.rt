@@ -7,7 +7,8 @@ ghost use Rattle.craq_calls.specs.Calls.{IsCallOf};
 ghost use Rattle.craq_door.specs.Turns.{message_of, name_of, or_memory_where, CanRefuse, IsCalled, IsReplied, IsTurn};
 ghost use Rattle.craq_door.specs.Halves.{HasNoRoom, IsFull};
 
-use crate::{DoorCalls, told};
+use crate::DoorCalls;
+use crate::telling::told;
 use craq_frames::{ClientMessage, ClientReply, Text};
 use craq_front::Door;
 use craq_model::{Answer, Ask};

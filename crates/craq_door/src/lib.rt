@@ -18,5 +18,4 @@ pub use calls::DoorCalls;
 pub use dialogue::{Dialogue, Ending, Stepped};
 pub use door::{CallDoor, Callee, Reached};
 pub use laws::halves_are_a_turn;
-pub use question::{Begun, Question, begin_turn, end_turn};
-pub use telling::told;
+pub use question::Question;

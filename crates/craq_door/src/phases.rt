@@ -5,7 +5,8 @@ ghost use Rattle.craq_door.specs.Dialogues.{Answers, Continues, Found, HasNoMore
 ghost use Rattle.craq_frames.specs.declared.ask.ClientMessage.{ClientMessage};
 
 use crate::dialogue::{Ending, Phase, Stepped};
-use crate::{Begun, CallDue, DoorCalls, Reached, begin_turn, end_turn};
+use crate::question::{Begun, begin_turn, end_turn};
+use crate::{CallDue, DoorCalls, Reached};
 use craq_frames::{ClientMessage, ClientReply};
 use craq_front::{Conversation, Step};
 use craq_names::Refusal;

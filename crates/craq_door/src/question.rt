@@ -5,7 +5,8 @@ ghost use Rattle.craq_front.specs.Door.{IsAllowed};
 ghost use Rattle.craq_door.specs.Turns.{IsCalled, name_of};
 ghost use Rattle.craq_door.specs.Halves.{Asks, BeginsTurn, EndsTurn, HasRoom, IsClosed, MakesRoom, RefusesCall, asked_by};
 
-use crate::{DoorCalls, Reached, told};
+use crate::telling::told;
+use crate::{DoorCalls, Reached};
 use craq_calls::answer_of_call;
 use craq_frames::{ClientMessage, ClientReply};
 use craq_model::Ask;
@@ -30,7 +31,7 @@ pub(crate) enum Demand {
 
 /// The first half of a turn.
 #[derive(Debug, Drop)]
-pub enum Begun {
+pub(crate) enum Begun {
     /// The turn is over, with this reply.
     Told(ClientReply),
     /// This call is to be made, and its outcome to be given back.
@@ -79,7 +80,11 @@ fn status_of<C: Reached>(callee: &C) -> Result<ClientReply, Refusal>
 /// Begins a turn: a status is told at once. For a call the room for its receipt is made, and is there when the call comes back;
 /// where there was none and a growth is refused, `Refused(Memory)` is told, and the call is not made.
 #[tactic(auto, using(crate::proofs::Halves::status_told, crate::proofs::Halves::memory_told))]
-pub fn begin_turn<C: Reached>(callee: &C, calls: &mut DoorCalls, message: ClientMessage) -> Begun
+pub(crate) fn begin_turn<C: Reached>(
+    callee: &C,
+    calls: &mut DoorCalls,
+    message: ClientMessage,
+) -> Begun
     ensures begun { BeginsTurn (C.tells callee.now) calls.old.keeps calls.old.receipts.items message result calls.new.receipts.items }
     ensures keeps { calls.new.keeps ≡ calls.old.keeps }
     ensures room { MakesRoom calls.old message result calls.new }
@@ -118,7 +123,7 @@ fn reply_of_call(
 /// refusal as it came back. Where it was answered, it is `Refused(Closed)` exactly where the receipt is another call's, and
 /// `Refused(Memory)` only where there was no memory for a copy of the answer. What no door may tell is `Refused(BadFrame)`.
 /// Where it is refused, the receipts stay as they are.
-pub fn end_turn(
+pub(crate) fn end_turn(
     alloc: Global,
     calls: &mut DoorCalls,
     question: &Question,

@@ -20,7 +20,7 @@ fn told_for(reply: ClientReply) -> ClientReply
 
 /// What is told of a message that came to a reply, or to a refusal; in the place of what no door allows, a text of a
 /// status that is too long, `Refused 15`. It takes no memory.
-pub fn told(outcome: Result<ClientReply, Refusal>) -> ClientReply
+pub(crate) fn told(outcome: Result<ClientReply, Refusal>) -> ClientReply
     ensures allowed { IsAllowed result }
     ensures told { IsTold outcome result }
 {

@@ -1,6 +1,6 @@
 //! `Conversation`: what serving one client comes to, without a stream and without a door: bytes in, messages to ask, their
 //! replies, bytes out. `serve` drives one over a stream, a loop over readiness drives many.
-ghost use Rattle.std.specs.Prelude.{◌≡◌, ◌≤◌, ◌↔◌, ℕ, List, false, None, Some, Ok, [], ◌++◌, drop, length, IsTrue, IfOk, IfSome, OnErr};
+ghost use Rattle.std.specs.Prelude.{◌≡◌, ◌≤◌, ◌↔◌, ℕ, List, None, Some, Ok, [], ◌++◌, drop, length, IsTrue, IfOk, IfSome, OnErr};
 ghost use Rattle.craq_frames.specs.Frame.{frame, payload_limit};
 ghost use Rattle.craq_frames.specs.Versions.{IsPayload, SpellsPayload};
 ghost use Rattle.craq_front.specs.declared.conversation.Step.TheVariants.{Ask};
@@ -157,20 +157,6 @@ impl Conversation {
         ensures { IsTrue result ↔ (MOST_DUE ≤ length self.now.buffers.output.items) }
     {
         self.buffers.is_full()
-    }
-
-    /// Whether the input may end here: no byte is left of it.
-    pub fn is_between(&self) -> bool
-        ensures { IsTrue result ↔ (self.now.buffers.input.items ≡ []) }
-    {
-        self.buffers.input.is_empty()
-    }
-
-    /// Whether a message is asked just now.
-    pub fn is_asking(&self) -> bool
-        ensures { (result ≡ false) ↔ (self.now.asking ≡ None) }
-    {
-        self.asking.is_some()
     }
 
     /// The bytes that are due.

@@ -7,7 +7,7 @@ ghost use Rattle.craq_front.specs.Door.{IsShort, IsAllowed};
 use craq_frames::{ClientMessage, ClientReply};
 
 /// The most bytes of a reply's payload.
-pub const MOST_OF_A_REPLY: usize = 100_000;
+pub(crate) const MOST_OF_A_REPLY: usize = 100_000;
 
 /// What answers the messages of one client.
 pub trait Door {

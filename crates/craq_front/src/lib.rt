@@ -14,7 +14,7 @@ mod several;
 mod stream;
 
 pub use conversation::{Conversation, Step};
-pub use door::{Door, MOST_OF_A_REPLY, is_allowed};
+pub use door::{Door, is_allowed};
 pub use exchanging::exchange;
 pub use laws::{allowed_replies_are_short, conversations_answer};
 pub use serving::serve;

@@ -4,7 +4,7 @@ use Rattle.craq_names.specs.declared.refusal.Refusal.{Refusal}
 use Rattle.craq_names.specs.declared.refusal.Refusal.TheVariants.{FrameTooLong, Memory}
 use Rattle.craq_frames.specs.declared.ask.ClientMessage.{ClientMessage}
 use Rattle.craq_frames.specs.declared.answer.ClientReply.{ClientReply}
-use Rattle.craq_frames.specs.Frame.{frame, IsPartial}
+use Rattle.craq_frames.specs.Frame.{frame, payload_limit, IsPartial}
 use Rattle.craq_front.specs.declared.conversation.Asking.{Asking}
 use Rattle.craq_front.specs.declared.conversation.Conversation.{Conversation}
 use Rattle.craq_front.specs.Serving.{Session, RefusesLength, neither}
@@ -61,14 +61,15 @@ Ends endings.Memory old new = new.buffers.output.items ≡ old.buffers.output.it
 abbrev pub CutsOff : Conversation → Conversation → Type 0
 CutsOff old new =
     (length old.buffers.output.items < most_due) × (payload : List ℕ) × (old.buffers.input.items ≡ frame payload ++ new.buffers.input.items)
+    × (length payload ≤ payload_limit)
 
 -- what came of a look for the next frame, by the phase after it: a frame was cut off, or there is less than a frame; many bytes
--- are due; or it is over
+-- are due, and nothing changed; or it is over
 abbrev pub Found : Phase → Stepped → Conversation → Conversation → Type 0
 Found (phases.Asks m) steps.Goes old new = CutsOff old new
 Found phases.Idle steps.Goes old new = CutsOff old new
 Found phases.Idle steps.Starved old new = IsPartial new.buffers.input.items
-Found phases.Idle steps.Stays old new = most_due ≤ length old.buffers.output.items
+Found phases.Idle steps.Stays old new = (most_due ≤ length old.buffers.output.items) × (new ≡ old)
 Found (phases.Over why) steps.Stays old new = Ends why old new
 Found phase stepped old new = ⊥
 

@@ -72,6 +72,7 @@ impl Dialogue {
     /// Nothing came, nothing was asked, and nothing is due. The receipts of calls are kept or not. It takes no memory.
     pub fn new(alloc: Global, keeps: bool) -> Self
         ensures holds { Holds result.phase result.talk [] [] [] }
+        ensures input { result.talk.buffers.input.items ≡ [] }
         ensures keeps { result.calls.keeps ≡ keeps }
         ensures receipts { result.calls.receipts.items ≡ [] }
         ensures phase { result.phase ≡ Phase.Idle }
@@ -138,6 +139,7 @@ impl Dialogue {
             → Holds self.old.phase self.old.talk read written turns
             → Holds self.new.phase self.new.talk read (written ++ take count self.old.talk.buffers.output.items) turns }
         ensures output { self.new.talk.buffers.output.items ≡ drop count self.old.talk.buffers.output.items }
+        ensures input { self.new.talk.buffers.input.items ≡ self.old.talk.buffers.input.items }
         ensures phase { self.new.phase ≡ self.old.phase }
         ensures calls { self.new.calls ≡ self.old.calls }
     {

@@ -1,6 +1,7 @@
 pub mod Answering
 pub mod Asks
 pub mod Exchanges
+pub mod Fronts
 pub mod Known
 pub mod Lengths
 pub mod Nexts

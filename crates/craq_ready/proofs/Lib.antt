@@ -7,3 +7,4 @@ pub mod Letters
 pub mod Marks
 pub mod Numbers
 pub mod Serving
+pub mod Starved

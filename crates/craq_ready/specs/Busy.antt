@@ -7,6 +7,7 @@ use Rattle.craq_door.specs.declared.dialogue.Phase.{Phase}
 use Rattle.craq_door.specs.declared.dialogue.Phase.TheVariants as phases
 use Rattle.craq_ready.specs.declared.connection.Connection.{Connection}
 use Rattle.craq_ready.specs.declared.crowd.Members.{Members}
+use Rattle.craq_ready.specs.Starved.{IsStarved}
 
 -- a call is under way
 abbrev pub is_waiting : Phase → Bool
@@ -72,9 +73,16 @@ HasNone m = (slab_len m.connections ≡ 0) × (vec_len m.busy ≡ 0) × (vec_len
 abbrev pub ListsBehind : {S : Type 0} → Slab (Connection S) → List ℕ → Type 0
 ListsBehind {S} connections keys = (key : ℕ) → Contains keys key ↔ ((c : Connection S) × (get connections key ≡ Some c) × IsBehind c)
 
--- no connection is behind
+-- no frame that was read is left: where the connection goes on, nothing is due and no call is under way, there is no message to be asked,
+-- and less than a frame
+abbrev pub LeavesNoFrame : {S : Type 0} → Connection S → Type 0
+LeavesNoFrame c =
+    c.over ≡ false → c.dialogue.talk.buffers.output.items ≡ [] → is_waiting c.dialogue.phase ≡ false
+    → ∥ IsStarved c.dialogue.phase c.dialogue.talk.buffers.input.items ∥₁
+
+-- no connection is behind, and none leaves a frame
 abbrev pub NoneBehind : {S : Type 0} → Slab (Connection S) → Type 0
-NoneBehind {S} connections = (key : ℕ) (c : Connection S) → get connections key ≡ Some c → ¬ IsBehind c
+NoneBehind {S} connections = (key : ℕ) (c : Connection S) → get connections key ≡ Some c → ¬ IsBehind c × LeavesNoFrame c
 
 -- the thread has at most two connections, and fewer than 200 turns began since one had something to do: so it looks again before it sleeps
 abbrev pub LooksAgain : {S : Type 0} → Members S → Type 0

@@ -6,3 +6,4 @@ pub mod Letters
 pub mod Readiness
 pub mod Serving
 pub mod Sockets
+pub mod Starved

@@ -2,6 +2,7 @@
 ghost use Rattle.std.specs.Prelude.{◌≡◌, ◌≤◌, ◌<◌, ◌-◌, ◌↔◌, ◌⊎◌, true, false, length, take, not, IfOk, IsTrue};
 ghost use Rattle.craq_door.specs.declared.dialogue.Phase.TheVariants.{Idle, Waits};
 ghost use Rattle.craq_door.specs.declared.question.Question.{Question};
+ghost use Rattle.craq_ready.specs.Starved.{IsStarved};
 
 use crate::host::{Arrival, Host};
 use crate::socket::{Moved, Socket};
@@ -31,6 +32,25 @@ struct Readiness {
     writable: bool,
 }
 
+impl Readiness {
+    ghost use Rattle.craq_ready.specs.Readiness.{noticed};
+
+    /// An event tells of it. What was known stays known.
+    fn notice(&mut self, event: &Event)
+        ensures { self.new ≡ noticed self.old event.now }
+    {
+        if event.is_readable() || event.is_read_closed() || event.is_error() {
+            self.readable = true;
+        }
+        if event.is_read_closed() || event.is_error() {
+            self.closing = true;
+        }
+        if event.is_writable() || event.is_write_closed() || event.is_error() {
+            self.writable = true;
+        }
+    }
+}
+
 /// A connection of a thread that serves many.
 #[derive(Drop)]
 pub(crate) struct Connection<S> {
@@ -46,10 +66,11 @@ pub(crate) struct Connection<S> {
     heard: u64,
     /// It is among those that have something to do.
     busy: bool,
-    /// There may be a whole frame in what was read.
+    /// There may be a whole frame in what was read; where this is false there is none.
     more: bool,
     /// Nothing is read or written any more.
     over: bool,
+    ghost unread: { more ≡ false → ∥ IsStarved dialogue.phase dialogue.talk.buffers.input.items ∥₁ },
 }
 
 impl Connection<Arc<TcpStream>> {
@@ -129,15 +150,7 @@ impl<S: Socket> Connection<S> {
     pub(crate) fn notice(&mut self, event: &Event)
         ensures { self.new ≡ record self.old { readiness = noticed self.old.readiness event.now } }
     {
-        if event.is_readable() || event.is_read_closed() || event.is_error() {
-            self.readiness.readable = true;
-        }
-        if event.is_read_closed() || event.is_error() {
-            self.readiness.closing = true;
-        }
-        if event.is_writable() || event.is_write_closed() || event.is_error() {
-            self.readiness.writable = true;
-        }
+        self.readiness.notice(event);
     }
 
     /// Whether its call is under way: a letter will come.
@@ -382,7 +395,7 @@ impl<S: Socket> Connection<S> {
     /// Its turn: takes the steps of the dialogue, until one finds nothing to do, or 64. Its calls are asked under this key, each under
     /// the next number. What comes of the steps is then due. A connection that is over takes none. `few` tells that few connections
     /// have something to do just now.
-    #[tactic(auto, using(crate::proofs::Advancing::none_taken, crate::proofs::Advancing::went, crate::proofs::Advancing::called, crate::proofs::Advancing::starved, crate::proofs::Advancing::stayed))]
+    #[tactic(auto, using(crate::proofs::Advancing::none_taken, crate::proofs::Advancing::went, crate::proofs::Advancing::called, crate::proofs::Advancing::starved, crate::proofs::Advancing::stayed, crate::proofs::Starved::step_still, crate::proofs::Starved::step_starved))]
     pub(crate) fn advance<H: Host>(&mut self, alloc: Global, host: &H, key: usize, few: bool)
         ensures turn { HasTurn (H.tells host.now) (H.refuses host.now) (under_key (H.submits host.now) key) self.old.over self.old.dialogue self.old.calls self.new.dialogue self.new.calls }
         ensures stream { self.new.stream ≡ self.old.stream }

@@ -1,13 +1,16 @@
 -- An ask that is put to a node is served, turned away or queued, whichever way it goes.
-use Rattle.std.proofs.Common.{◌≡◌, ◌⊎◌, ℕ, Bool, false, Option, Some, None, option_map, Result, Ok, Err, IfOk, IfErr, inl, inr, sym, subst}
+use Rattle.std.proofs.Common.{◌≡◌, ◌⊎◌, ℕ, Bool, false, Option, Some, None, option_map, Result, Ok, Err, IfOk, IfErr, IfSome, inl, inr, sym, subst}
 use Rattle.std.specs.Prelude.{MatchResult}
+use Rattle.craq_commands.specs.declared.read_mode.ReadMode.TheVariants as modes
 use Rattle.craq_names.specs.declared.refusal.Refusal.{Refusal}
-use Rattle.craq_calls.specs.Refused.{IsUpdate}
+use Rattle.craq_names.specs.declared.refusal.Refusal.TheVariants as refusals
+use Rattle.craq_calls.specs.Refused.{CanRefuse, CanWait, IsUpdate}
 use Rattle.craq_letters.specs.declared.token.Token.{Token}
 use Rattle.craq_model.specs.declared.ask.Ask.{Ask}
+use Rattle.craq_model.specs.declared.ask.Ask.TheVariants as asks
 use Rattle.craq_model.specs.Plain.{Plain}
 use Rattle.craq_seat.specs.Calls.{Called}
-use Rattle.craq_workers.specs.Asks.{IsPut, IsServed, IsTurnedAway, in_hand}
+use Rattle.craq_workers.specs.Asks.{IsCalled, IsPut, IsServed, IsTurnedAway, in_hand}
 use Rattle.craq_workers.specs.Moves.{IsMissed}
 
 served : {C : Type 0} (represents : C → Plain → Type 0) (carried : Bool) (ask : Ask) (pass : ℕ) (token : Token) (hand : Option (Result Called Refusal))
@@ -31,3 +34,82 @@ pub put_in_queue : {C : Type 0} (represents : C → Plain → Type 0) (carried :
     → MatchResult result (λ (found : Option Called). found ≡ None) IsMissed → (carried ≡ false) ⊎ IsUpdate ask → IsPut represents carried ask pass token (in_hand result)
 put_in_queue represents carried ask pass token (Ok found) h may = subst (λ (f : Option Called). IsPut represents carried ask pass token (in_hand (Ok f))) (sym h) (inr (inr may))
 put_in_queue represents carried ask pass token (Err e) h may = inr (inl h)
+
+updates : (ask : Ask) → IsUpdate ask ⊎ ¬ (IsUpdate ask)
+updates (asks.Update update) = inl tt
+updates (asks.Read mode object) = inr (λ h. h)
+
+waits : (ask : Ask) → CanWait ask ⊎ ¬ (CanWait ask)
+waits (asks.Update update) = inl tt
+waits (asks.Read modes.Strong object) = inl tt
+waits (asks.Read modes.Eventual object) = inr (λ h. h)
+waits (asks.Read (modes.Bounded k) object) = inr (λ h. h)
+
+can_or_not : (ask : Ask) (e : Refusal) → CanRefuse ask e ⊎ ¬ (CanRefuse ask e)
+can_or_not ask refusals.BadKey = inr (λ h. h)
+can_or_not ask refusals.ValueTooLong = inr (λ h. h)
+can_or_not ask refusals.TooManyItems = inr (λ h. h)
+can_or_not ask refusals.EmptyTransaction = inr (λ h. h)
+can_or_not ask refusals.DuplicateKey = inr (λ h. h)
+can_or_not ask refusals.BadNumber = inr (λ h. h)
+can_or_not ask refusals.UnknownChain = inr (λ h. h)
+can_or_not ask refusals.TwoChains = inl tt
+can_or_not ask (refusals.NotHead head) = updates ask
+can_or_not ask refusals.NotReady = inl tt
+can_or_not ask refusals.Stopped = inl tt
+can_or_not ask refusals.PendingFull = waits ask
+can_or_not ask refusals.Exhausted = inl tt
+can_or_not ask refusals.Memory = inl tt
+can_or_not ask refusals.BadFrame = inr (λ h. h)
+can_or_not ask refusals.FrameTooLong = inr (λ h. h)
+can_or_not ask refusals.NotMember = inr (λ h. h)
+can_or_not ask refusals.NotStopped = inr (λ h. h)
+can_or_not ask refusals.UsedId = inr (λ h. h)
+can_or_not ask refusals.ChainFull = inr (λ h. h)
+can_or_not ask refusals.LastNode = inr (λ h. h)
+can_or_not ask refusals.UnknownMessage = inr (λ h. h)
+can_or_not ask refusals.WrongNode = inl tt
+can_or_not ask refusals.JournalOff = inr (λ h. h)
+can_or_not ask (refusals.BadScript line) = inr (λ h. h)
+can_or_not ask refusals.BadConfig = inr (λ h. h)
+can_or_not ask refusals.Closed = inl tt
+can_or_not ask refusals.Io = inr (λ h. h)
+
+told_as : {C : Type 0} (represents : C → Plain → Type 0) (carried : Bool) (ask : Ask) (pass : ℕ) (token : Token) (came told : Refusal)
+    → (CanRefuse ask came → told ≡ came) → (¬ (CanRefuse ask came) → told ≡ refusals.Closed) → IsPut represents carried ask pass token (Some (Err came))
+    → CanRefuse ask came ⊎ ¬ (CanRefuse ask came) → IsPut represents carried ask pass token (Some (Err told))
+told_as represents carried ask pass token came told same closed put (inl can) = subst (λ (e : Refusal). IsPut represents carried ask pass token (Some (Err e))) (sym (same can)) put
+told_as represents carried ask pass token came told same closed put (inr cannot) = subst (λ (e : Refusal). IsPut represents carried ask pass token (Some (Err e))) (sym (closed cannot)) (inr (inl tt))
+
+-- and is refused so, or, where no such ask may be refused so, as by a closed store
+pub put_told_as : {C : Type 0} (represents : C → Plain → Type 0) (carried : Bool) (ask : Ask) (pass : ℕ) (token : Token) (came told : Refusal)
+    → (CanRefuse ask came → told ≡ came) → (¬ (CanRefuse ask came) → told ≡ refusals.Closed) → IsPut represents carried ask pass token (Some (Err came)) → IsPut represents carried ask pass token (Some (Err told))
+put_told_as represents carried ask pass token came told same closed put = told_as represents carried ask pass token came told same closed put (can_or_not ask came)
+
+-- a receipt in hand is of an ask that was served
+pub taken_in_hand : {C : Type 0} (represents : C → Plain → Type 0) (carried : Bool) (ask : Ask) (pass : ℕ) (token : Token) (result : Result (Option Called) Refusal)
+    → IsPut represents carried ask pass token (in_hand result) → IfOk result (λ (found : Option Called). IfSome found (λ (receipt : Called). IsServed represents ask pass token (Some (Ok receipt))))
+taken_in_hand represents carried ask pass token (Ok None) put = tt
+taken_in_hand represents carried ask pass token (Ok (Some receipt)) (inl is) = is
+taken_in_hand represents carried ask pass token (Ok (Some receipt)) (inr (inl h)) = absurd h
+taken_in_hand represents carried ask pass token (Ok (Some receipt)) (inr (inr h)) = absurd h
+taken_in_hand represents carried ask pass token (Err e) put = tt
+
+-- and a refusal in hand too, or there was no node to ask
+pub left_in_hand : {C : Type 0} (represents : C → Plain → Type 0) (carried : Bool) (ask : Ask) (pass : ℕ) (token : Token) (result : Result (Option Called) Refusal)
+    → IsPut represents carried ask pass token (in_hand result)
+    → IfErr result (λ (e : Refusal). (e ≡ refusals.UnknownChain) ⊎ IsServed represents ask pass token (Some (Err e)) ⊎ IsMissed e)
+left_in_hand represents carried ask pass token (Ok found) put = tt
+left_in_hand represents carried ask pass token (Err e) (inl is) = inr (inl is)
+left_in_hand represents carried ask pass token (Err e) (inr (inl is)) = inr (inr is)
+left_in_hand represents carried ask pass token (Err e) (inr (inr h)) = absurd h
+
+-- a call whose receipt is in hand
+pub called_at_once : {C : Type 0} (represents : C → Plain → Type 0) (carried : Bool) (ask : Ask) (pass : ℕ) (token : Token) (found : Option Called) (receipt : Called)
+    → found ≡ Some receipt → IsPut represents carried ask pass token (in_hand (Ok found)) → IsCalled represents carried ask pass token (Ok receipt)
+called_at_once represents carried ask pass token found receipt is put = inl (subst (λ (f : Option Called). IsPut represents carried ask pass token (in_hand (Ok f))) is put)
+
+-- and one that waited for a letter, whatever that brought
+pub called_by_letter : {C : Type 0} (represents : C → Plain → Type 0) (carried : Bool) (ask : Ask) (pass : ℕ) (token : Token) (found : Option Called) (outcome : Result Called Refusal)
+    → found ≡ None → IsPut represents carried ask pass token (in_hand (Ok found)) → IsCalled represents carried ask pass token outcome
+called_by_letter represents carried ask pass token found outcome is put = inr (subst (λ (f : Option Called). IsPut represents carried ask pass token (in_hand (Ok f))) is put)

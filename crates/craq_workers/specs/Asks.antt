@@ -40,3 +40,7 @@ in_hand (Err e) = Some (Err e)
 -- an ask was served by a node on the spot, or turned away, or queued
 abbrev pub IsPut : {C : Type 0} → (C → Plain → Type 0) → Bool → Ask → ℕ → Token → Option (Result Called Refusal) → Type 0
 IsPut represents carried ask pass token hand = IsServed represents ask pass token hand ⊎ IsTurnedAway hand ⊎ IsQueued carried ask hand
+
+-- a call has its outcome in hand, or by a letter for which it waited
+abbrev pub IsCalled : {C : Type 0} → (C → Plain → Type 0) → Bool → Ask → ℕ → Token → Result Called Refusal → Type 0
+IsCalled represents carried ask pass token outcome = IsPut represents carried ask pass token (Some outcome) ⊎ IsPut represents carried ask pass token None

@@ -1,15 +1,22 @@
 -- What a contract sees of a client of a store that runs, and with what its calls may be refused.
-use Rattle.std.specs.Prelude.{◌≡◌, ◌<◌, ◌≤◌, ◌⊎◌, ℕ}
+use Rattle.std.specs.Prelude.{◌≡◌, ◌<◌, ◌≤◌, ◌⊎◌, ℕ, Bool}
 use Rattle.craq_names.specs.declared.name.NodeName.{NodeName}
 use Rattle.craq_names.specs.declared.refusal.Refusal.{Refusal}
 use Rattle.craq_names.specs.declared.refusal.Refusal.TheVariants.{UnknownChain}
 use Rattle.craq_calls.specs.Refused.{CanRefuse}
+use Rattle.craq_letters.specs.declared.token.Token.{Token}
 use Rattle.craq_model.specs.declared.ask.Ask.{Ask}
 
--- how many chains the client's store has, by ids from 0, and the largest stamp that the client has seen
+-- how many chains the client's store has, by ids from 0, and whether one thread carries each; and the largest stamp that the client
+-- has seen
 pub record Asker : Type 0 where
   pub chains : ℕ
+  pub carried : Bool
   pub pass : ℕ
+
+-- the token of the one letter that comes into a client's box
+abbrev pub only : Token
+only = record { connection = 0; call = 0 }
 
 -- with what a store of so many chains may refuse an ask of a node: it has no such chain; or it has it, and such an ask may be
 -- refused so

@@ -1,8 +1,9 @@
 //! `Client`: calls of a store from any thread, one at a time, with the pass that they raise.
-ghost use Rattle.std.specs.Prelude.{◌≡◌, ◌≤◌, ◌↔◌, max, Err, IfErr, IfOk, OnErr, length};
+ghost use Rattle.std.specs.Prelude.{◌≡◌, ◌⊎◌, ◌≤◌, ◌↔◌, max, Err, IfErr, IfOk, Ok, OnErr, length};
 ghost use Rattle.craq_calls.specs.Calls.{IsCallOf};
 ghost use Rattle.craq_calls.specs.Refused.{CanRefuse};
-ghost use Rattle.craq_workers.specs.Clients.{RefusesAsk};
+ghost use Rattle.craq_workers.specs.Asks.{IsCalled};
+ghost use Rattle.craq_workers.specs.Clients.{RefusesAsk, only};
 
 use crate::chain::Chain;
 use crate::gate::Gate;
@@ -38,13 +39,13 @@ impl<C: Core, G: Gate> Model for Client<C, G> {
 
     ghost Value = { Asker };
 
-    ghost view = { λ c. record { chains = length c.shared.value.chains.items; pass = c.pass } };
+    ghost view = { λ c. record { chains = length c.shared.value.chains.items; carried = c.shared.value.carried; pass = c.pass } };
 }
 
 impl<C: Core, G: Gate> Client<C, G> {
     /// A client with this pass.
     pub(crate) fn new(alloc: Global, shared: Arc<Shared<C, G>>, pass: Pass) -> Self
-        ensures { result ≡ record { chains = length shared.value.chains.items; pass = pass } }
+        ensures { result ≡ record { chains = length shared.value.chains.items; carried = shared.value.carried; pass = pass } }
     {
         Client {
             alloc,
@@ -81,6 +82,9 @@ impl<C: Core, G: Gate> Client<C, G> {
         ensures pass { IfOk result (λ r. self.new.pass ≡ max self.old.pass r.1.answered.stamp) }
         ensures same { OnErr result (self.new ≡ self.old) }
         ensures chains { self.new.chains ≡ self.old.chains }
+        ensures carried { self.new.carried ≡ self.old.carried }
+        ensures taken { IfOk result (λ r. IsCalled C.represents self.old.carried ask self.old.pass only (Ok r.1)) }
+        ensures left { IfErr result (λ e. (e ≡ Refusal.UnknownChain) ⊎ IsCalled C.represents self.old.carried ask self.old.pass only (Err e)) }
     {
         let called = self.wait_for(rt, &node, &ask);
         drop(ask);
@@ -99,6 +103,8 @@ impl<C: Core, G: Gate> Client<C, G> {
         ensures call { IfOk result (λ r. IsCallOf node.now ask.now self.now.pass r.0 r.1) }
         ensures unknown { (result ≡ Err Refusal.UnknownChain) ↔ (self.now.chains ≤ node.now.chain) }
         ensures refused { IfErr result (λ e. RefusesAsk self.now.chains node.now ask.now e) }
+        ensures taken { IfOk result (λ r. IsCalled C.represents self.now.carried ask.now self.now.pass only (Ok r.1)) }
+        ensures left { IfErr result (λ e. (e ≡ Refusal.UnknownChain) ⊎ IsCalled C.represents self.now.carried ask.now self.now.pass only (Err e)) }
     {
         let chain = self.shared.chain(node.chain)?;
         let receipt = self.reply(rt, chain, node, ask)?;
@@ -108,7 +114,8 @@ impl<C: Core, G: Gate> Client<C, G> {
 
     /// What is replied to an ask, in hand or by a letter into a box of its own.
     fn reply<R: Wait>(&self, rt: &R, chain: &Chain<C>, node: &NodeName, ask: &Ask) -> Outcome
-        ensures { IfErr result (λ e. CanRefuse ask.now e) }
+        ensures refused { IfErr result (λ e. CanRefuse ask.now e) }
+        ensures called { IsCalled C.represents self.now.carried ask.now self.now.pass only result }
     {
         let letters = Arc::new(self.alloc, Letterbox::new(self.alloc, None))?;
         self.reply_into(rt, chain, node, ask, &letters)
@@ -123,7 +130,8 @@ impl<C: Core, G: Gate> Client<C, G> {
         ask: &Ask,
         letters: &Arc<Letterbox>,
     ) -> Outcome
-        ensures { IfErr result (λ e. CanRefuse ask.now e) }
+        ensures refused { IfErr result (λ e. CanRefuse ask.now e) }
+        ensures called { IsCalled C.represents self.now.carried ask.now self.now.pass only result }
     {
         let back = Return {
             letters,

@@ -178,7 +178,8 @@ impl<C: Core, G: Gate> Shared<C, G> {
         back: Return<'_>,
         few: bool,
     ) -> Result<Option<CallReceipt>, Refusal>
-        ensures { IfErr result (λ e. CanRefuse ask.now e) }
+        ensures refused { IfErr result (λ e. CanRefuse ask.now e) }
+        ensures put { IsPut C.represents self.now.carried ask.now pass back.entry.token (in_hand result) }
     {
         let asked = ask.copied(alloc)?;
         match self.submit_own(rt, alloc, chain, name, asked, pass, back, few) {

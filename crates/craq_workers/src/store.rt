@@ -1,5 +1,5 @@
 //! `Store`, the primary object of the crate: it starts, stops, removes, joins and closes; for whoever runs a store.
-ghost use Rattle.std.specs.Prelude.{◌≡◌, ◌+◌, ◌<◌, ◌≤◌, ◌==◌, ◌⊎◌, ◌↔◌, Err, IfErr, IfOk, IsOk, MatchResult, Ok, OnErr, OnOk, if◌then◌else◌, length, map, option_map, string_bytes};
+ghost use Rattle.std.specs.Prelude.{◌≡◌, ◌+◌, ◌<◌, ◌≤◌, ◌==◌, ◌⊎◌, ◌↔◌, Err, IfErr, IfOk, IfSome, IsOk, MatchResult, Ok, OnErr, OnOk, Some, if◌then◌else◌, length, map, option_map, string_bytes};
 ghost use Rattle.craq_epochs.specs.Mastered.{joined, opened};
 ghost use Rattle.craq_names.specs.Limits.{greatest};
 ghost use Rattle.craq_held.specs.Membered.{AreMembershipsOf, IsMembershipOf};
@@ -9,8 +9,9 @@ ghost use Rattle.craq_seat.specs.Books.{IsBook};
 ghost use Rattle.craq_seat.specs.Cells.{receipt_of, with_inside};
 ghost use Rattle.craq_seat.specs.Kept.{IsKept};
 ghost use Rattle.craq_seat.specs.Taken.{TakesEvent, TakesTurn};
+ghost use Rattle.craq_workers.specs.Asks.{IsServed};
 ghost use Rattle.craq_workers.specs.Clients.{RefusesAsk};
-ghost use Rattle.craq_workers.specs.Moves.{CanJoin, CanRemove, CanStop, IsKeptIn};
+ghost use Rattle.craq_workers.specs.Moves.{CanJoin, CanRemove, CanStop, IsKeptIn, IsMissed};
 ghost use Rattle.craq_workers.specs.Posts.{node_posts};
 ghost use Rattle.craq_workers.specs.Stores.{masters_of};
 
@@ -240,7 +241,8 @@ impl<C: Core, G: Gate> Store<C, G> {
 
     /// A client of the store's chains, with this pass. It fails for want of memory alone.
     pub fn client(&self, pass: Pass) -> Result<Client<C, G>, AllocError>
-        ensures { IfOk result (λ c. c ≡ record { chains = length self.now.names; pass = pass }) }
+        ensures chains { IfOk result (λ c. c.chains ≡ length self.now.names) }
+        ensures pass { IfOk result (λ c. c.pass ≡ pass) }
     {
         Ok(Client::new(self.alloc, Arc::try_clone(&self.shared)?, pass))
     }
@@ -264,6 +266,8 @@ impl<C: Core, G: Gate> Store<C, G> {
     ) -> Result<Option<CallReceipt>, Refusal>
         ensures unknown { (result ≡ Err Refusal.UnknownChain) ↔ (length self.now.names ≤ node.now.chain) }
         ensures refused { IfErr result (λ e. RefusesAsk (length self.now.names) node.now ask.now e) }
+        ensures taken { IfOk result (λ found. IfSome found (λ receipt. IsServed C.represents ask.now pass token (Some (Ok receipt)))) }
+        ensures left { IfErr result (λ e. (e ≡ Refusal.UnknownChain) ⊎ IsServed C.represents ask.now pass token (Some (Err e)) ⊎ IsMissed e) }
     {
         let chain = self.shared.chain(node.chain)?;
         let back = Return { letters, token };

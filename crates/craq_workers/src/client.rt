@@ -65,6 +65,9 @@ impl<C: Core, G: Gate> Client<C, G> {
     /// holds that ask, that answer and the pass that was shown. The ask's stamp is above that pass, the answer's not below
     /// the ask's, and the client's pass is then raised to the answer's stamp.
     ///
+    /// After a lost message it waits until a later tick of the chain's nodes sends that again (`Store::tick`): for good, where
+    /// nobody ticks the store.
+    ///
     /// Refused, with the pass as it was: `UnknownChain` exactly where the store has no such chain; else `Closed` where the store
     /// is; `WrongNode` where the chain never had the node; as `Desk::take` refuses the ask; `Stopped` where the node stops before
     /// the answer; `Closed` where the store is closed before it, or what came is another call's; `Memory` where a growth was

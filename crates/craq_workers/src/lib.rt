@@ -22,6 +22,6 @@ mod unsent;
 mod work;
 
 pub use client::Client;
-pub use craq_letters::{Letter, Letterbox, Outcome};
+pub use craq_letters::{Letter, Letterbox, Outcome, Token};
 pub use gate::{Gate, OpenGate, Work};
 pub use store::{ChainStatus, Store};

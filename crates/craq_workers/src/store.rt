@@ -275,7 +275,8 @@ impl<C: Core, G: Gate> Store<C, G> {
             .submit(rt, self.alloc, chain, node, ask, pass, back, few)
     }
 
-    /// Each chain's master, and each node that runs, is to send again what others may lack.
+    /// Each chain's master, and each node that runs, is to send again what others may lack. After a lost message who asked waits
+    /// until a later tick: for good, where nobody ticks the store.
     pub fn tick<R: Wait>(&self, rt: &R) {
         for chain in self.shared.chains.as_slice() {
             chain.tick(rt);
@@ -489,7 +490,8 @@ impl<C: Core + Send + 'static, G: Gate + Send + Sync + 'static> Store<C, G> {
         self.shared.post(rt, &master_of(chain), sent, false);
     }
 
-    /// Ends the workers. Callers that still wait are told `Closed`, and so is who calls afterwards.
+    /// Ends the workers, and waits until the last one has ended, so a gate that waits holds it up. Callers that still wait are
+    /// told `Closed`, and so is who calls afterwards.
     pub fn close<R: Wait>(self, rt: &R) {
         let Store {
             alloc,

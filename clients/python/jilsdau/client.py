@@ -1,0 +1,417 @@
+"""A client of a running store: updates, reads, and what the store consists of."""
+from __future__ import annotations
+
+import contextlib
+import json
+import random
+import threading
+import time
+from dataclasses import dataclass
+from typing import Callable, Iterable, Iterator, Optional, Sequence, TypeVar, Union, cast
+
+from . import wire
+from .connection import NoConnection, Pool
+from .identity import default_address, default_id
+from .numbers import Numbers
+from .wire import BadReply, Key, Mismatch, Read, Refused, Reply, Request, Stale, UpdateReply
+
+# A TestAndSet that expects this version writes nothing: no object has it.
+NO_VERSION = 2 ** 64 - 1
+HEALTH_KEY = "health"
+# The wait before a retry grows by this many seconds with each retry.
+PAUSE = 0.05
+
+Told = Union[UpdateReply, Read, str]
+ChainName = Union[int, str]
+T = TypeVar("T")
+
+
+@dataclass(frozen=True)
+class Chain:
+    """A chain: its id, its name, its epoch (the number of its membership), its members, head first."""
+
+    id: int
+    name: str
+    epoch: int
+    members: list[int]
+
+
+@dataclass(frozen=True)
+class Health:
+    """Seconds of an update through the whole chain, and of a strong read at each member."""
+
+    update: float
+    reads: dict[int, float]
+
+
+@dataclass(frozen=True)
+class Asked:
+    """A request for `many`: an update, if it has a command, else a read."""
+
+    chain: int
+    command: Optional[bytes] = None
+    number: Optional[int] = None
+    node: Optional[int] = None
+    mode: bytes = wire.STRONG
+    key: Key = b""
+
+
+class Open(Exception):
+    """The update may or may not have been done.
+
+    Make the same call again with the client's id `client` and with `number=` the number in
+    `numbers`: it is then done once. The cause of this exception is the last fault.
+    """
+
+    def __init__(self, client: int, numbers: Sequence[int], fault: BaseException) -> None:
+        super().__init__(f"the update may have been done: {fault}")
+        self.client, self.numbers, self.fault = client, list(numbers), fault
+
+
+class Client:
+    """A client with an id, a pass and a pool of connections. Threads may share it.
+
+    Updates go to the head of their chain, and reads to any member, unless the call names a node.
+    A chain is given by its id or its name. After a lost connection or a passing refusal the
+    request is retried, `tries` times in all, an update with its number, so it is done only once.
+    A call that names a node is tried there once.
+
+    address: HOST:PORT; if None, CRAQ_CONNECT or 127.0.0.1:7000.
+    client: an id that no other program uses; if None, CRAQ_CLIENT or the id kept for this user.
+    shown: the pass to start with. Each request carries the largest pass received so far, so no
+    strong read is older than a strong reply that this client has received.
+    connections: the most that are open at once. patience: seconds that a reply may take.
+
+    Nothing is sent before the first call. Calls raise Refused if the store refuses, Open if an
+    update failed and may have been done, NoConnection and other OSErrors if no server answers,
+    BadReply if bytes came that are no reply, and ValueError or OverflowError, before anything is
+    sent, if a key, a value or a number has no encoding.
+    """
+
+    def __init__(self, address: Optional[str] = None, *, client: Optional[int] = None, shown: int = 0,
+                 tries: int = 6, connections: int = 8, patience: float = 10) -> None:
+        if tries < 1 or connections < 1:
+            raise ValueError("a client has at least one try and one connection")
+        self.pool = Pool(default_address() if address is None else address, connections, patience)
+        self.id = default_id() if client is None else client
+        self.tries, self.shown, self.numbers = tries, shown, Numbers()
+        self.lock = threading.Lock()
+        self.known: list[Chain] = []
+
+    def __enter__(self) -> Client:
+        return self
+
+    def __exit__(self, *_: object) -> None:
+        self.close()
+
+    def close(self) -> None:
+        """Closes the connections. The next call opens one again."""
+        self.pool.close()
+
+    # Updates.
+
+    def set(self, key: Key, value: bytes, *, chain: ChainName = 0, node: Optional[int] = None,
+            number: Optional[int] = None) -> UpdateReply:
+        """Writes the value, and returns Written(version)."""
+        at = self.chain_id(chain)
+        return self.update(at, wire.put(at, key, value), node=node, number=number)
+
+    def cas(self, key: Key, version: int, value: bytes, *, chain: ChainName = 0,
+            node: Optional[int] = None, number: Optional[int] = None) -> UpdateReply:
+        """Writes the value if the object has this version (0: never written), else Mismatch(version)."""
+        at = self.chain_id(chain)
+        return self.update(at, wire.test_and_set(at, key, version, value), node=node, number=number)
+
+    def append(self, key: Key, value: bytes, *, chain: ChainName = 0, node: Optional[int] = None,
+               number: Optional[int] = None) -> UpdateReply:
+        """Appends to the value: Written(version), or TooLong() above 4,096 bytes."""
+        at = self.chain_id(chain)
+        return self.update(at, wire.append(at, key, value), node=node, number=number)
+
+    def prepend(self, key: Key, value: bytes, *, chain: ChainName = 0, node: Optional[int] = None,
+                number: Optional[int] = None) -> UpdateReply:
+        """Prepends to the value: Written(version), or TooLong() above 4,096 bytes."""
+        at = self.chain_id(chain)
+        return self.update(at, wire.prepend(at, key, value), node=node, number=number)
+
+    def add(self, key: Key, by: int = 1, *, chain: ChainName = 0, node: Optional[int] = None,
+            number: Optional[int] = None) -> UpdateReply:
+        """Adds to the number in the object's 8 bytes: Written(version), NotANumber() or Overflow()."""
+        at = self.chain_id(chain)
+        return self.update(at, wire.increment(at, key, by), node=node, number=number)
+
+    def sub(self, key: Key, by: int = 1, *, chain: ChainName = 0, node: Optional[int] = None,
+            number: Optional[int] = None) -> UpdateReply:
+        """Subtracts from the number in the object's 8 bytes: Written(version), NotANumber() or
+        Underflow()."""
+        at = self.chain_id(chain)
+        return self.update(at, wire.decrement(at, key, by), node=node, number=number)
+
+    def txn(self, compares: Iterable[tuple[Key, int]] = (), reads: Iterable[Key] = (),
+            writes: Iterable[tuple[Key, bytes]] = (), *, chain: ChainName = 0, node: Optional[int] = None,
+            number: Optional[int] = None) -> UpdateReply:
+        """Reads and writes atomically if every (key, version) matches: Done(reads) or
+        CompareFailed(index)."""
+        at = self.chain_id(chain)
+        return self.update(at, wire.mini(at, compares, reads, writes), node=node, number=number)
+
+    def update(self, chain: int, command: bytes, *, node: Optional[int] = None,
+               number: Optional[int] = None) -> UpdateReply:
+        """Sends an encoded command as an update, under a new number unless one is given.
+
+        Raises Open if it failed and may have been done. A new number that is Stale at its first
+        try was never done (other programs use this client's id): it is exchanged for a larger one.
+        """
+        if number is not None:
+            return self.numbered(chain, command, node, number)[0]
+        above = 0
+        while True:
+            with self.numbers.take(chain, above=above) as (fresh,):
+                told, is_repeated = self.numbered(chain, command, node, fresh)
+            if not isinstance(told, Stale):
+                return told
+            if is_repeated:
+                raise Open(self.id, [fresh],
+                           BadReply(f"its number is below the kept ones, up to {told.last}"))
+            above = told.last
+
+    def numbered(self, chain: int, command: bytes, node: Optional[int],
+                 number: int) -> tuple[UpdateReply, bool]:
+        """Asks an update until it is answered. Tells whether an earlier try may have done it."""
+        tried = Tries()
+
+        def attempt() -> Told:
+            at = self.head(chain) if node is None else node
+            with tried.sending():
+                return self.ask(wire.update_request(at, self.shown, self.id, number, command))
+
+        try:
+            told = self.retried(attempt, chain, tried) if node is None else attempt()
+        except (OSError, BadReply, Refused) as fault:
+            if tried.may_be_done:
+                raise Open(self.id, [number], fault) from fault
+            raise
+        return cast(UpdateReply, told), tried.may_be_done
+
+    # Reads.
+
+    def get(self, key: Key, *, mode: bytes = wire.STRONG, chain: ChainName = 0,
+            node: Optional[int] = None) -> Read:
+        """Reads in mode STRONG, EVENTUAL or bounded(K); version 0 and no bytes if never written."""
+        wire.key_bytes(key)
+        at = self.chain_id(chain)
+
+        def attempt() -> Told:
+            asked = random.choice(self.chain(at).members) if node is None else node
+            return self.ask(wire.read_request(asked, self.shown, mode, at, key))
+
+        return cast(Read, self.retried(attempt, at, Tries()) if node is None else attempt())
+
+    def members(self) -> list[Chain]:
+        """Returns the chains by id, each with its members, head first, as the server has them now."""
+        return self.retried(self.refresh, None, Tries())
+
+    def health(self, *, chain: ChainName = 0) -> Health:
+        """Measures an update through the whole chain, which writes nothing, and a strong read at
+        each member."""
+        at = self.chain_id(chain)
+        began = time.perf_counter()
+        told = self.cas(HEALTH_KEY, NO_VERSION, b"", chain=at)
+        update = time.perf_counter() - began
+        if not isinstance(told, Mismatch):
+            raise BadReply(f"another reply than a mismatch: {told}")
+        reads = {}
+        for node in self.chain(at).members:
+            began = time.perf_counter()
+            self.get(HEALTH_KEY, chain=at, node=node)
+            reads[node] = time.perf_counter() - began
+        return Health(update, reads)
+
+    # Several requests in one frame.
+
+    def asks_set(self, key: Key, value: bytes, *, chain: ChainName = 0) -> Asked:
+        """Returns a write for `many`."""
+        at = self.chain_id(chain)
+        return Asked(at, wire.put(at, key, value))
+
+    def asks_update(self, chain: int, command: bytes, *, node: Optional[int] = None,
+                    number: Optional[int] = None) -> Asked:
+        """Returns an encoded command for `many`."""
+        return Asked(chain, command, number, node)
+
+    def asks_get(self, key: Key, *, mode: bytes = wire.STRONG, chain: ChainName = 0,
+                 node: Optional[int] = None) -> Asked:
+        """Returns a read for `many`."""
+        wire.key_bytes(key)
+        return Asked(self.chain_id(chain), None, None, node, mode, key)
+
+    def many(self, asked: Sequence[Asked]) -> list[Union[Told, Refused]]:
+        """Asks up to eight requests in one frame, and returns their replies in order.
+
+        A refused one is a Refused in the list, and is not retried. A lost connection is retried,
+        with the numbers of the updates. Raises Open if it is lost each time and updates are in it.
+        """
+        if not 1 <= len(asked) <= wire.MANY_LIMIT:
+            raise ValueError(f"a frame has 1 to {wire.MANY_LIMIT} requests, and not {len(asked)}")
+        with contextlib.ExitStack() as due:
+            fresh = self.taken(due, asked)
+            numbers = [it.number or next(fresh[it.chain]) if it.command else None for it in asked]
+            return self.asked_at_once(asked, numbers)
+
+    def taken(self, due: contextlib.ExitStack, asked: Sequence[Asked]) -> dict[int, Iterator[int]]:
+        """Issues the numbers that these updates lack, by chain, due until the stack ends."""
+        lacking = [it.chain for it in asked if it.command and not it.number]
+        return {it: iter(due.enter_context(self.numbers.take(it, lacking.count(it))))
+                for it in sorted(set(lacking))}
+
+    def asked_at_once(self, asked: Sequence[Asked],
+                      numbers: Sequence[Optional[int]]) -> list[Union[Told, Refused]]:
+        """Asks these in one frame until the frame is answered."""
+        tried = Tries()
+
+        def attempt() -> list[Reply]:
+            requests = [self.request(it, number) for it, number in zip(asked, numbers)]
+            with tried.sending():
+                return self.exchange(wire.many(requests), [kind for kind, _ in requests])
+
+        try:
+            return [it.told for it in self.retried(attempt, asked[0].chain, tried)]
+        except (OSError, BadReply, Refused) as fault:
+            used = [it for it in numbers if it is not None]
+            if used and tried.may_be_done:
+                raise Open(self.id, used, fault) from fault
+            raise
+
+    def request(self, it: Asked, number: Optional[int]) -> Request:
+        """Encodes a request of `many` for the present members."""
+        if it.command is not None and number is not None:
+            node = self.head(it.chain) if it.node is None else it.node
+            return wire.update_request(node, self.shown, self.id, number, it.command)
+        node = random.choice(self.chain(it.chain).members) if it.node is None else it.node
+        return wire.read_request(node, self.shown, it.mode, it.chain, it.key)
+
+    # The chains as they were last told.
+
+    def refresh(self) -> list[Chain]:
+        """Asks for the chains and remembers them."""
+        told = self.ask((wire.STATUS, b""))
+        try:
+            chains = json.loads(str(told))["chains"]
+            self.known = [Chain(at, it["name"], it["epoch"], it["members"]) for at, it in enumerate(chains)]
+        except (ValueError, KeyError, TypeError) as fault:
+            raise BadReply("a status that is no list of chains") from fault
+        return self.known
+
+    def chain(self, chain: int) -> Chain:
+        """Returns a chain. Raises Refused(7) if there is no such chain."""
+        known = self.known or self.refresh()
+        if not 0 <= chain < len(known):
+            raise Refused(7)
+        return known[chain]
+
+    def chain_id(self, chain: ChainName) -> int:
+        """Returns the id of a chain given by id or name. Raises Refused(7) if there is none."""
+        if isinstance(chain, int):
+            return chain
+        known = self.known or self.members()
+        found = [it.id for it in known if it.name == chain]
+        if not found:
+            raise Refused(7)
+        return found[0]
+
+    def head(self, chain: int) -> int:
+        """Returns the node that updates of a chain go to."""
+        return self.chain(chain).members[0]
+
+    def moves(self, chain: int, head: int) -> None:
+        """Remembers another head, as a refusal told it."""
+        with self.lock:
+            known = list(self.known)
+            it = known[chain]
+            known[chain] = Chain(chain, it.name, it.epoch,
+                                 [head] + [node for node in it.members if node != head])
+            self.known = known
+
+    # One exchange.
+
+    def retried(self, attempt: Callable[[], T], chain: Optional[int], tried: Tries) -> T:
+        """Repeats the attempt after a lost connection or a passing refusal, `tries` times in all."""
+        while True:
+            tried.count += 1
+            try:
+                return attempt()
+            except (OSError, Refused) as fault:
+                lasts = isinstance(fault, Refused) and fault.number not in wire.PASSING
+                if lasts or tried.count >= self.tries:
+                    raise
+                self.prepare(fault, chain, tried)
+
+    def prepare(self, fault: Exception, chain: Optional[int], tried: Tries) -> None:
+        """Prepares the next try: goes to the head that a refusal names, or waits and asks for the chains."""
+        is_redirect = isinstance(fault, Refused) and fault.number == wire.NOT_HEAD and fault.detail
+        if is_redirect and chain is not None:
+            self.moves(chain, fault.detail)
+            return
+        time.sleep(PAUSE * tried.count)
+        if chain is not None and self.known:
+            with contextlib.suppress(OSError, Refused):
+                self.refresh()
+
+    def ask(self, request: Request) -> Told:
+        """Asks one request once, and raises what it is refused with."""
+        told = self.exchange(wire.one(1, request), [request[0]])[0].told
+        if isinstance(told, Refused):
+            raise told
+        return told
+
+    def exchange(self, payload: bytes, kinds: Sequence[int]) -> list[Reply]:
+        """Asks a payload with requests of these kinds, once; keeps the largest pass of the replies.
+
+        Raises BadReply if they do not fit the requests, and a refusal of the whole payload. The
+        connection is then closed, and the pass stays.
+        """
+        with self.pool.connection() as made:
+            made.send(payload)
+            replies = wire.replies_of(made.receive())
+            check_replies(replies, kinds)
+        shown = [it.shown for it in replies if it.shown is not None]
+        with self.lock:
+            self.shown = max([self.shown, *shown])
+        return replies
+
+
+def check_replies(replies: Sequence[Reply], kinds: Sequence[int]) -> None:
+    """Raises BadReply unless each reply is one to a request of its kind.
+
+    Raises a refusal of the whole payload. Refusal 12 may be one of the connection, which the server
+    then closes, so it is raised here too.
+    """
+    told = replies[0].told if replies else None
+    if isinstance(told, Refused) and (told.number == wire.PENDING_FULL or len(replies) < len(kinds)):
+        raise told
+    if len(replies) != len(kinds):
+        raise BadReply("another count of replies")
+    for reply, kind in zip(replies, kinds):
+        if not wire.fits(reply, kind):
+            raise BadReply("a reply to another kind of request")
+
+
+class Tries:
+    """The count of tries of one request, and whether one of them may have done it."""
+
+    def __init__(self) -> None:
+        self.count, self.may_be_done = 0, False
+
+    @contextlib.contextmanager
+    def sending(self) -> Iterator[None]:
+        """Notes a fault in this block after which the request may have been done."""
+        try:
+            yield
+        except NoConnection:
+            raise
+        except (OSError, BadReply):
+            self.may_be_done = True
+            raise
+        except Refused as refused:
+            self.may_be_done |= refused.number in wire.OPEN
+            raise

@@ -1,11 +1,12 @@
 #!/usr/bin/env python3
-"""What the moves of a chain cost, its explanation, and the check of that.
+"""Measures the cost of a chain's moves, of its linearization witness, and of the witness's check.
 
   measure.py PROGRAM      PROGRAM as crates/craq_lab/out/craq_lab
 
-Plays runs of 1,000 to 100,000 moves on three nodes: without a last line `explain`, with it, and drawn with choices of 0, which
-plays the same lines, then explains the run and checks the explanation. Prints the processor's time of each part. On a terminal a
-line on standard error tells how far it is.
+Plays runs of 1,000 to 100,000 moves on three nodes: without a last line `explain`, with it, and
+drawn with choices of 0. The last plays the same lines, then explains the run and checks the
+witness. Prints the CPU time of each part. On a terminal a line on standard error shows the
+progress.
 """
 import resource
 import subprocess
@@ -13,17 +14,18 @@ import sys
 import tempfile
 
 KEYS = 50
-MOST_CHOICES = 50000  # a word of a command line has a limit
+MOST_CHOICES = 50000  # a command line's word has a limited length
 
 
 def script(moves, per_put):
-    """The lines of a run of so many moves, one in PER_PUT of them a put."""
+    """Returns the lines of a run of `moves` moves, one in PER_PUT of them a put."""
     lines, sent, put = [], 0, 0
     while len(lines) < moves:
         put += 1
         key = f'k{put % KEYS}'
         lines += [f'put 1 1 {put} {key} value', f'read 1 strong {key}']
-        # 1: the entry to node 2; 2 and 3: the query to the tail and its word; 4 to 6: the entry and two acknowledgements
+        # 1: the entry to node 2; 2 and 3: the query to the tail and its reply; 4 to 6: the entry
+        # and two acknowledgements
         lines += [f'deliver {sent + n}' for n in (2, 3, 1, 4, 5, 6)]
         sent += 6
         modes = ('strong', 'eventual', 'bounded:2')
@@ -32,7 +34,7 @@ def script(moves, per_put):
 
 
 def seconds(words, lines=()):
-    """The processor's time of a program that reads these lines."""
+    """Returns the CPU time of a program that reads these lines."""
     before = resource.getrusage(resource.RUSAGE_CHILDREN).ru_utime
     text = ''.join(line + '\n' for line in lines)
     done = subprocess.run(words, input=text.encode(), stdout=subprocess.PIPE, check=True)
@@ -41,7 +43,7 @@ def seconds(words, lines=()):
 
 
 def checked(program, lines):
-    """The processor's time of the same lines, explained and checked."""
+    """Returns the CPU time of the lines when the run is explained and checked too."""
     with tempfile.NamedTemporaryFile('w', suffix='.script') as file:
         file.write(''.join(line + '\n' for line in lines))
         file.flush()
@@ -49,7 +51,7 @@ def checked(program, lines):
 
 
 def tell(text):
-    """Tells on standard error how far it is, if that is a terminal."""
+    """Shows the progress on standard error, if that is a terminal."""
     if sys.stderr.isatty():
         sys.stderr.write(f'\r{text:40}\r')
         sys.stderr.flush()
@@ -57,14 +59,16 @@ def tell(text):
 
 def main():
     program = sys.argv[1]
-    for per_put, counts in ((100, (1000, 10000, 50000, 100000)), (20, (1000, 10000, 50000, 100000)), (8, (1000, 10000))):
+    for per_put, counts in ((100, (1000, 10000, 50000, 100000)), (20, (1000, 10000, 50000, 100000)),
+                            (8, (1000, 10000))):
         for moves in counts:
             tell(f'{moves} moves, one put in {per_put}')
             lines = script(moves, per_put)
             play = seconds([program, 'play'], lines)
             both = seconds([program, 'play'], lines + ['explain'])
             check = f'{checked(program, lines) - both:.3f} s' if moves <= MOST_CHOICES else 'not measured'
-            print(f'{moves} moves, one put in {per_put}: played {play:.3f} s, explained {both - play:.3f} s, checked {check}', flush=True)
+            print(f'{moves} moves, one put in {per_put}: played {play:.3f} s, explained {both - play:.3f} s, '
+                  f'checked {check}', flush=True)
 
 
 if __name__ == '__main__':

@@ -1,7 +1,8 @@
-//! Counts the bytes that a program asks of the C library's allocator, and tells the count on standard error after each
-//! write to standard output. Built as a library and loaded by LD_PRELOAD (glibc alone).
+//! Counts the bytes that a program requests from the C library's allocator, and reports the count
+//! on standard error after each write to standard output. Built as a library and loaded by
+//! LD_PRELOAD (glibc alone).
 //!
-//! A growth counts by the bytes that it adds.
+//! A reallocation counts by the bytes that it adds.
 
 use std::sync::atomic::{AtomicUsize, Ordering::SeqCst};
 
@@ -41,7 +42,8 @@ pub unsafe extern "C" fn aligned_alloc(align: usize, size: usize) -> *mut u8 {
     __libc_memalign(align, size)
 }
 
-/// The digits of a number and a line feed, at the end of a buffer.
+/// Writes the digits of a number and a line feed at the end of a buffer. Returns the index where
+/// they start.
 fn digits(mut number: usize, buffer: &mut [u8; 24]) -> usize {
     let mut start = 23;
     buffer[start] = b'\n';

@@ -1,11 +1,11 @@
 #!/usr/bin/env python3
-"""What a step costs: the proved node beside the plain one.
+"""Compares the cost of a step of the proved node with that of the plain one.
 
     benchmarks/node/compare.py PROVED PLAIN [PROCESSOR]
 
-PROVED is built of measure_main.txt, PLAIN of plain_main.rs (README.md). Both run in turn, on this processor (3 if none is
-named): five times with 1,000 objects, three times with 1,000,000. Each prints what 1,024 steps took of the processor's time,
-several times a run; the median of all these counts. Printed is the time of a step in nanoseconds."""
+PROVED is built from measure_main.txt, PLAIN from plain_main.rs (README.md). Both run alternately on
+PROCESSOR (3 by default): five times with 1,000 objects, three times with 1,000,000. Each prints the
+CPU time of 1,024 steps, several times a run. Prints the median time of a step in nanoseconds."""
 
 import os
 import statistics
@@ -17,7 +17,7 @@ STEPS = 1_024
 
 
 def ran(words, processor):
-    """What one run tells: how many steps it took, and of each measurement the times."""
+    """Runs a program once. Returns its line of counts, and the times of each measurement."""
     pin = lambda: os.sched_setaffinity(0, {processor})
     out = subprocess.run(words, check=True, capture_output=True, text=True, preexec_fn=pin).stdout
     times, did = {}, ""
@@ -56,7 +56,8 @@ def main():
                 if min(pair) > 0:
                     medians[role, *key, objects] = pair
                     print(f"{role:7} {key[0]:16} {key[1]:5} waiting {objects:9,} objects: "
-                          f"proved {pair[0]:8.0f}, plain {pair[1]:8.0f}, times {pair[0] / pair[1]:.2f}", flush=True)
+                          f"proved {pair[0]:8.0f}, plain {pair[1]:8.0f}, times {pair[0] / pair[1]:.2f}",
+                          flush=True)
     small, large = TIMES
     for key in [it[:3] for it in medians if it[3] == small]:
         growth = [medians[*key, large][at] / medians[*key, small][at] for at in (0, 1)]

@@ -1,13 +1,16 @@
 #!/usr/bin/env python3
-"""Steps a second of one node that keeps a list of its entries, by how many they are.
+"""Measures the steps per second of one node that keeps its full history, by the number of entries.
 
     benchmarks/node/entries.py PROGRAM
 
-PROGRAM is a built craq_lab. The chain has one node (`--core plain`). For each number of entries a script makes that many
-puts, of as many objects, and then asks reads of one object (50,000, or 5,000 where there are 10,000 entries) or
-1,000 puts of it; the time of the same script without those asks is taken away. The puts make entries too. Times are of the processor; each script is played three times and
-the least time counts. What is measured includes reading the line and printing the answer. On a terminal a line on standard
-error tells how far it is."""
+PROGRAM is a built craq_lab. The chain has one node (`--core plain`). For each number of entries a
+script makes that many puts, of as many objects. Then it makes reads of one object (50,000, or 5,000
+with 10,000 entries), or 1,000 puts of it. The time of the script without those requests is
+subtracted. The puts add entries too.
+
+Times are CPU times; each script is played three times and the least time counts. A time includes
+parsing the line and printing the reply. On a terminal a line on standard error shows the
+progress."""
 
 import resource
 import subprocess
@@ -18,26 +21,27 @@ PUTS = 1000
 
 
 def processor_time():
-    """The processor's time of all programs that were run, in seconds."""
+    """Returns the CPU time of all programs that were run, in seconds."""
     used = resource.getrusage(resource.RUSAGE_CHILDREN)
     return used.ru_utime + used.ru_stime
 
 
 def played(program, lines):
-    """The least time of three plays of a script."""
+    """Returns the least time of three plays of a script."""
     with tempfile.NamedTemporaryFile("w", suffix=".script") as script:
         script.write("".join(line + "\n" for line in lines))
         script.flush()
         times = []
         for _ in range(3):
             began = processor_time()
-            subprocess.run([program, "play", "--core", "plain", "--nodes", "1", script.name], check=True, stdout=subprocess.DEVNULL)
+            subprocess.run([program, "play", "--core", "plain", "--nodes", "1", script.name], check=True,
+                           stdout=subprocess.DEVNULL)
             times.append(processor_time() - began)
         return min(times)
 
 
 def tell(text):
-    """Tells on standard error how far it is, if that is a terminal."""
+    """Shows the progress on standard error, if that is a terminal."""
     if sys.stderr.isatty():
         sys.stderr.write(f"\r{text:40}\r")
         sys.stderr.flush()

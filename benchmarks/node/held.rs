@@ -1,5 +1,6 @@
-//! Tells on standard error, after each write to standard output, how many bytes the program holds of the C library's
-//! allocator and how many pages of its memory are resident. Built as a library and loaded by LD_PRELOAD (glibc alone).
+//! Reports on standard error, after each write to standard output, the bytes that the program holds
+//! from the C library's allocator and its number of resident pages. Built as a library and loaded
+//! by LD_PRELOAD (glibc alone).
 
 use std::sync::atomic::{AtomicUsize, Ordering::SeqCst};
 

@@ -1,8 +1,10 @@
-//! `plain_main measure ROLE OBJECTS`: what a step of the plain node costs, by the same schedule as measure_main.txt.
-//! `plain_main script SEED NODES MOVES SCRIPT PRINTED`: makes a script by chance, plays it on plain nodes, and writes it and
-//! what `craq_lab play` is to print of it into files.
+//! Measures or runs plain nodes:
+//! - `plain_main measure ROLE OBJECTS` measures the cost of a step of the plain node, by the
+//!   schedule of measure_main.txt.
+//! - `plain_main script SEED NODES MOVES SCRIPT PRINTED` generates a random script, plays it on
+//!   plain nodes, and writes the script and the output that `craq_lab play` must print into files.
 
-#[allow(dead_code)] // a message says more than a node reads
+#[allow(dead_code)] // messages have fields that a node does not read
 mod plain_node;
 mod plain_scripts;
 
@@ -25,7 +27,7 @@ extern "C" {
     fn clock_gettime(clock: i32, time: *mut Timespec) -> i32;
 }
 
-/// The processor time of this thread, in nanoseconds.
+/// Returns the processor time of this thread, in nanoseconds.
 fn thread_cpu_time() -> u64 {
     const THREAD_CPU_TIME: i32 = 3;
     let mut time = Timespec { seconds: 0, nanoseconds: 0 };
@@ -59,8 +61,8 @@ impl Role {
     }
 }
 
-/// What happens to a node: puts to objects of the first half, in the order that chance gives, reads of those of the
-/// second half and of those that were put last, and acknowledgements one by one.
+/// The events of a node: puts to objects of the first half in random order, reads of objects of the
+/// second half and of those put last, and acknowledgements one by one.
 struct Plan {
     role: Role,
     versions: Vec<u64>,
@@ -122,18 +124,18 @@ impl Plan {
         Event::Ask(Ask::Read { mode: ReadMode::Strong, object: object(number) })
     }
 
-    /// Reads of objects that nothing waiting writes.
+    /// Returns reads of objects that no pending update writes.
     fn some_reads(&mut self, count: u64) -> Vec<Event> {
         (0..count).map(|_| { let number = self.chosen() + self.objects() / 2; self.read(number) }).collect()
     }
 
-    /// Reads of the objects that were put last.
+    /// Returns reads of the objects that were put last.
     fn reads_of_recent(&mut self) -> Vec<Event> {
         let recent = std::mem::take(&mut self.recent);
         recent.into_iter().map(|number| self.read(number)).collect()
     }
 
-    /// What the tail says to so many reads that asked last.
+    /// Returns the tail's replies to the last `count` reads.
     fn answers(&self, count: u64) -> Vec<Event> {
         (0..count).map(|at| self.message(3, Body::VersionIs { ticket: self.asks - at, version: 0 })).collect()
     }
@@ -144,7 +146,7 @@ impl Plan {
     }
 }
 
-/// A node, and what it has done: how many steps it took and was refused, and how many outs those had.
+/// A node and its counts: the steps it took, those refused, and their outputs.
 struct Seen {
     node: Node,
     steps: u64,

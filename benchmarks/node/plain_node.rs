@@ -1,6 +1,6 @@
-//! A node of a chain in plain Rust, on std alone: the same rules and the same messages as the proved node's, without
-//! its proofs. An object has one place in a map: its clean version, and where its later ones stand among the entries
-//! that are not settled.
+//! A chain node in plain Rust, on std alone, with the same rules and messages as the proved node,
+//! but without proofs. Each object has one place in a map: its clean version, and the positions of
+//! its later versions among the entries that are not settled.
 
 use std::collections::{BTreeMap, VecDeque};
 use std::mem;
@@ -63,7 +63,7 @@ pub struct Entry {
     pub writes: Vec<Write>,
 }
 
-/// The replies to a client's newest numbers, by rising number.
+/// The replies to a client's newest numbers, by ascending number.
 pub type Window = Vec<(u64, Reply)>;
 
 #[derive(Clone, Debug, Default)]
@@ -175,7 +175,8 @@ fn sending(outs: Vec<Out>) -> Step {
     Step { outs, ..Step::default() }
 }
 
-/// An object: its clean version and value, and the positions of the entries after them that write it.
+/// An object: its clean version and value, and the positions of the entries after them that write
+/// it.
 #[derive(Default)]
 struct Object {
     version: u64,
@@ -183,14 +184,14 @@ struct Object {
     dirty: Vec<u64>,
 }
 
-/// What is kept for a client, with the positions of its entries that are not settled.
+/// A client's kept replies, and the positions of its entries that are not settled.
 #[derive(Default)]
 struct Client {
     window: Window,
     pending: Vec<u64>,
 }
 
-/// The past of a node: the state after the settled entries, and the entries after them.
+/// The history of a node: the state after the settled entries, and the entries after them.
 #[derive(Default)]
 struct Past {
     objects: BTreeMap<Key, Object>,
@@ -205,7 +206,7 @@ enum Said<'a> {
     Stale(u64),
 }
 
-/// The value of an entry's write of an object.
+/// Returns the version and value that an entry writes to an object.
 fn written<'a>(entry: &'a Entry, key: &[u8]) -> (u64, &'a [u8]) {
     match entry.writes.iter().rev().find(|write| write.key == key) {
         Some(write) => (write.version, &write.value),
@@ -249,7 +250,7 @@ impl Past {
         }
     }
 
-    /// The newest version and value, where it is clean.
+    /// Returns the newest version and value, if the object is clean.
     fn if_clean(&self, key: &[u8]) -> Option<(u64, &[u8])> {
         match self.objects.get(key) {
             None => Some((0, &[])),
@@ -293,7 +294,7 @@ impl Past {
         pending.copied().unwrap_or(self.acknowledged)
     }
 
-    /// Whether each entry fits the state that those before it leave.
+    /// Returns true if each entry fits the state after those before it.
     fn are_next(&self, entries: &[Entry]) -> bool {
         entries.iter().enumerate().all(|(place, entry)| {
             let earlier = &entries[..place];
@@ -428,7 +429,7 @@ pub struct Node {
 }
 
 impl Node {
-    /// A ready member of the first membership, or with none a node that joins later.
+    /// Opens a ready member of the first membership, or without members a node that joins later.
     pub fn open(chain: u16, id: NodeId, members: Option<&[NodeId]>) -> Node {
         Node {
             chain,
@@ -571,7 +572,8 @@ impl Node {
         names(command, |object| self.past.newest(&object.key).0 == u64::MAX)
     }
 
-    /// What a command writes, and its reply; `Exhausted` where an object that it names has no next version.
+    /// Returns a command's writes and its reply; `Exhausted` if an object that it names has no next
+    /// version.
     fn evaluate(&self, command: Command) -> Result<(Vec<Write>, Reply), Refusal> {
         let one = |object: ObjectId, version: u64, value: Value| {
             let version = version + 1;
@@ -723,7 +725,8 @@ impl Node {
         sending(self.settle())
     }
 
-    /// A ready tail commits all that it holds and answers all that waits; then the node repeats what it has to send.
+    /// Commits all entries and answers all pending requests if the node is a ready tail. Then the
+    /// node resends what it has to send.
     fn settle(&mut self) -> Vec<Out> {
         let mut outs = Vec::new();
         if self.ready && self.is_last() {
@@ -818,8 +821,8 @@ impl Node {
         sending(outs)
     }
 
-    /// An unready node becomes ready where it holds as many entries as its floor says; it gathers no state that it has
-    /// reached.
+    /// Makes an unready node ready if it holds as many entries as its floor says, and drops a
+    /// gathered state that it has reached.
     fn progress(&mut self) -> Step {
         let length = self.past.len();
         if self.floor.is_some_and(|floor| floor <= length) {
@@ -906,7 +909,7 @@ impl Node {
         sending(outs)
     }
 
-    /// Sends a state: whole where it has up to 64 items, else in parts of 64, objects first.
+    /// Sends a state: whole if it has up to 64 items, else in parts of 64, objects first.
     fn send_state(&self, outs: &mut Vec<Out>, to: NodeId, position: u64, mut state: State) {
         let count = (state.objects.len() + state.kept.len()).div_ceil(PART_LENGTH);
         if count <= 1 {
@@ -977,7 +980,7 @@ impl Node {
     }
 }
 
-/// Whether some object that a command names is such.
+/// Returns true if the predicate holds for some object that a command names.
 fn names(command: &Command, is_such: impl Fn(&ObjectId) -> bool) -> bool {
     match command {
         Command::Put(object, _)
@@ -998,7 +1001,7 @@ fn joined(front: &[u8], back: &[u8]) -> Option<Value> {
     (front.len() + back.len() <= VALUE_LIMIT).then(|| [front, back].concat())
 }
 
-/// The number in a value; an absent object counts as 0.
+/// Returns the number in a value; an absent object counts as 0.
 fn number_in(version: u64, bytes: &[u8]) -> Option<u64> {
     if version == 0 {
         return Some(0);
@@ -1006,7 +1009,7 @@ fn number_in(version: u64, bytes: &[u8]) -> Option<u64> {
     bytes.try_into().ok().map(u64::from_be_bytes)
 }
 
-/// Whether each item of a state comes before each of another.
+/// Returns true if each item of a state comes before each item of another.
 fn comes_before(state: &State, later: &State) -> bool {
     let objects = match (state.objects.last(), later.objects.first()) {
         (Some((last, _)), Some((first, _))) => last < first,

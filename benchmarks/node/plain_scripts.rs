@@ -1,4 +1,5 @@
-//! Makes a script by chance, plays it on one chain of plain nodes, and says what `craq_lab play` is to print of it.
+//! Generates a random script, plays it on one chain of plain nodes, and returns the output that
+//! `craq_lab play` must print for it.
 
 use crate::plain_node::*;
 use std::collections::BTreeMap;
@@ -41,7 +42,7 @@ impl Chain {
         Chain { nodes: opened, messages: Vec::new(), epoch: 1, members }
     }
 
-    /// The membership, to each of its members.
+    /// Returns the messages that announce the membership to each of its members.
     fn configs(&self) -> Step {
         let send = |to: &NodeId| {
             let body = Body::Config(self.members.clone());
@@ -95,7 +96,7 @@ impl Chain {
         }
     }
 
-    /// Takes a move, and adds what it did to the text.
+    /// Takes a move, and appends its output to the text.
     fn play(&mut self, chosen: Move, text: &mut String) {
         match self.take(chosen) {
             Err(number) => push(text, format_args!("refused {number}")),
@@ -157,7 +158,7 @@ fn message_text(message: &LinkMessage) -> String {
     }
 }
 
-/// Numbers by chance.
+/// A generator of random numbers.
 struct Chance(u64);
 
 impl Chance {
@@ -171,7 +172,7 @@ impl Chance {
     }
 }
 
-/// How a script goes: how many objects and clients it has, and how often a message is lost.
+/// The parameters of a script: the numbers of objects and clients, and how often a message is lost.
 struct Habits {
     objects: u64,
     clients: u64,
@@ -186,7 +187,7 @@ fn object(key: &str) -> ObjectId {
     ObjectId { chain: 0, key: key.as_bytes().to_vec() }
 }
 
-/// Keys by chance, none twice.
+/// Returns random keys without duplicates.
 fn keys_by(chance: &mut Chance, habits: &Habits) -> Vec<String> {
     let mut keys: Vec<String> = (0..chance.below(3)).map(|_| key_by(chance, habits)).collect();
     keys.sort();
@@ -194,7 +195,7 @@ fn keys_by(chance: &mut Chance, habits: &Habits) -> Vec<String> {
     keys
 }
 
-/// An update by chance, with the words of its line.
+/// Returns a random update, with the words of its line.
 fn update_by(chance: &mut Chance, habits: &Habits, node: NodeId, numbers: &mut BTreeMap<u64, u64>) -> (Ask, String) {
     let client = chance.below(habits.clients);
     let newest = numbers.entry(client).or_insert(0);
@@ -251,7 +252,7 @@ fn read_by(chance: &mut Chance, habits: &Habits, node: NodeId) -> (Ask, String) 
     (Ask::Read { mode, object: object(&key) }, format!("read {node} {word} {key}"))
 }
 
-/// A script by chance, and what it prints.
+/// Returns a random script, and its output.
 pub fn by_chance(seed: u64, nodes: NodeId, moves: u64) -> (String, String) {
     let mut chance = Chance(seed);
     let habits = match seed % 3 {

@@ -1,11 +1,12 @@
 #!/usr/bin/env python3
-"""Whether the plain node does what the proved one does.
+"""Checks that the plain node does what the proved one does.
 
     benchmarks/node/same.py PLAIN CRAQ_LAB [COUNT]
 
-PLAIN is built of plain_main.rs, CRAQ_LAB a built craq_lab. COUNT scripts (200 if none is named) are made by chance, on
-chains of 1 to 5 nodes: updates of all kinds, reads, lost, late and repeated messages, stops, removals and joins. What
-`craq_lab play` prints of each is compared with what the plain nodes did."""
+PLAIN is built from plain_main.rs, CRAQ_LAB is a built craq_lab. COUNT random scripts (200 by
+default) are generated, on chains of 1 to 5 nodes: updates of all kinds, reads, lost, late and
+repeated messages, stops, removals and joins. The output of `craq_lab play` for each is compared
+with that of the plain nodes."""
 
 import subprocess
 import sys
@@ -24,8 +25,10 @@ def main():
             if sys.stderr.isatty():
                 sys.stderr.write(f"\r{seed} of {count} scripts\r")
             nodes = str(seed % 5 + 1)
-            subprocess.run([plain, "script", str(seed), nodes, str(200 + seed % 7 * 300), script, wanted], check=True)
-            played = subprocess.run([lab, "play", "--nodes", nodes, script], check=True, capture_output=True).stdout
+            subprocess.run([plain, "script", str(seed), nodes, str(200 + seed % 7 * 300), script, wanted],
+                           check=True)
+            played = subprocess.run([lab, "play", "--nodes", nodes, script], check=True,
+                                    capture_output=True).stdout
             with open(wanted, "rb") as file:
                 if file.read() == played:
                     same += 1

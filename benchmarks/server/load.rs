@@ -1,288 +1,85 @@
-//! A load client, std alone: so many connections, one request under way on each, for so many seconds.
+//! A load client on std alone: connections with at most one request under way each, over random keys.
 //!
 //!     rustc -O --edition 2024 load.rs
-//!     ./load craq 127.0.0.1:7000 reads-one 50 2
-//!     ./load redis 127.0.0.1:6379 puts 50 2 100
-//!     ./load craq 127.0.0.1:7000 many 50 2 16 4
-//!     ./load craq 127.0.0.1:7000 puts 50 2 16 1 2
+//!     ./load craq 127.0.0.1:7000 puts 50 2
+//!     ./load redis 127.0.0.1:6379 half 200 2 --keys 1
+//!     ./load craq 127.0.0.1:7000 puts 50 2 --rate 20000
+//!     ./load craq 127.0.0.1:7000 fill 50 0 --keys 1000000
 //!
-//! The servers are `craq`, `redis`, `memcached` (its text protocol) and `etcd` (its JSON gateway). Behind the seconds stand the
-//! bytes of a value, 16 where nothing is said, how many chains the connections are spread over, 1 where nothing is said, and how
-//! many threads have all the connections between them, each waiting by `poll` for those that were answered; where nothing is said,
-//! or 0, each connection has a thread.
+//! The arguments are the server (`craq`, `redis`, `memcached` by its text protocol, `etcd` by its JSON gateway), its address,
+//! the mix of requests, the number of connections, and the seconds to measure. The mixes:
 //!
-//! It prints the number of replies, replies a second, and the median and the 99th percentile of the times from a request to its
-//! reply, in microseconds. `many` counts eight puts that are sent together as one request.
+//!     reads-one   strong reads at the head           tenth   a tenth puts, the rest strong reads at the head
+//!     reads-all   strong reads at all three nodes    many    eight puts in one request, counted as one
+//!     puts        puts at the head                   half    puts at the head and strong reads at all nodes, by turns
+//!     fill        one put of each key, whatever      half-one    the same, with reads at the head
+//!                 the seconds
+//!
+//! Options: `--keys N` random keys out of N, 10,000 by default; `--size N` bytes of a value, 16 by default; `--chains N` the
+//! chains that the keys are spread over, 1 by default; `--threads N` threads that share the connections and wait by `poll`,
+//! by default a thread for each connection; `--rate N` an open loop with N requests a second, spread evenly over the
+//! connections; `--filled yes` for keys that have been written. Otherwise each key is written once before the measurement.
+//!
+//! Prints replies, replies a second, and the latencies in microseconds: median, 99th and 99.9th percentile, maximum. In a
+//! closed loop a latency counts from the request, in an open loop from the moment that the request was due.
 
+mod protocols;
+
+use protocols::{Keys, Kind, Protocol, Readers, Setting, protocol};
 use std::ffi::{c_int, c_short, c_ulong};
 use std::io::{Error, ErrorKind, Read, Result, Write};
 use std::net::TcpStream;
 use std::os::fd::AsRawFd;
 use std::sync::Barrier;
-use std::time::{Duration, Instant};
+use std::time::{Duration, Instant, SystemTime, UNIX_EPOCH};
 use std::{env, process, thread};
-
-/// The members of each chain; its head is the first.
-const NODES: [u32; 3] = [1, 2, 3];
-/// How many puts are sent together under `many`.
-const MANY: usize = 8;
 
 #[derive(Clone, Copy, PartialEq)]
 enum Mix {
-    /// Strong reads, all at the head.
     ReadsOne,
-    /// Strong reads, at each node by a third of the connections.
     ReadsAll,
     Puts,
-    /// Each tenth request is a put, the others are strong reads at the head.
     Tenth,
-    /// Eight puts together.
+    Half,
+    HalfOne,
     Many,
+    Fill,
 }
 
 impl Mix {
+    const NAMES: [(&str, Mix); 8] = [
+        ("reads-one", Mix::ReadsOne),
+        ("reads-all", Mix::ReadsAll),
+        ("puts", Mix::Puts),
+        ("tenth", Mix::Tenth),
+        ("half", Mix::Half),
+        ("half-one", Mix::HalfOne),
+        ("many", Mix::Many),
+        ("fill", Mix::Fill),
+    ];
+
     fn of(name: &str) -> Option<Mix> {
-        Some(match name {
-            "reads-one" => Mix::ReadsOne,
-            "reads-all" => Mix::ReadsAll,
-            "puts" => Mix::Puts,
-            "tenth" => Mix::Tenth,
-            "many" => Mix::Many,
-            _ => return None,
-        })
+        Mix::NAMES.iter().find(|it| it.0 == name).map(|it| it.1)
     }
 
-    /// What the request of this count asks.
-    fn kind(self, count: usize) -> Kind {
+    /// Returns the kind of a connection's request by its number.
+    fn kind(self, number: usize) -> Kind {
         match self {
             Mix::ReadsOne | Mix::ReadsAll => Kind::Read,
-            Mix::Puts => Kind::Put,
-            Mix::Tenth => if count.is_multiple_of(10) { Kind::Put } else { Kind::Read },
+            Mix::Puts | Mix::Fill => Kind::Put,
+            Mix::Tenth if number.is_multiple_of(10) => Kind::Put,
+            Mix::Half | Mix::HalfOne if number.is_multiple_of(2) => Kind::Put,
+            Mix::Tenth | Mix::Half | Mix::HalfOne => Kind::Read,
             Mix::Many => Kind::Many,
         }
     }
-}
 
-#[derive(Clone, Copy, PartialEq)]
-enum Kind {
-    Read,
-    Put,
-    Many,
-}
-
-impl Kind {
-    fn times(self) -> usize {
-        if self == Kind::Many { MANY } else { 1 }
+    fn readers(self) -> Readers {
+        if matches!(self, Mix::ReadsAll | Mix::Half) { Readers::All } else { Readers::Head }
     }
 }
 
-/// What a connection asks again and again.
-trait Asks: Send {
-    /// Appends the next request, with its frame.
-    fn request(&mut self, kind: Kind, out: &mut Vec<u8>);
-    /// How many bytes the reply has that begins so; `None` where that cannot be told yet.
-    fn size(&self, kind: Kind, begun: &[u8]) -> Option<usize>;
-    /// Takes a whole reply.
-    fn take(&mut self, kind: Kind, reply: &[u8]) -> Result<()>;
-}
-
-fn bad(reply: &[u8]) -> Error {
-    Error::new(ErrorKind::InvalidData, format!("an unexpected reply: {:02x?}", &reply[..reply.len().min(200)]))
-}
-
-fn key(connection: usize) -> String {
-    format!("k{connection:02}")
-}
-
-fn value(size: usize) -> Vec<u8> {
-    b"sixteen letters.".iter().copied().cycle().take(size).collect()
-}
-
-/// Requests of version 1, and of version 2 where eight are sent together, as docs/use/BYTES.md has them, on one object.
-struct Craq {
-    key: String,
-    value: Vec<u8>,
-    chain: u16,
-    node: u32,
-    client: u64,
-    number: u64,
-    pass: u64,
-}
-
-impl Craq {
-    fn body(&mut self, puts: bool, out: &mut Vec<u8>) {
-        out.extend(self.node.to_be_bytes());
-        out.extend(self.pass.to_be_bytes());
-        if puts {
-            self.number += 1;
-            out.extend(self.client.to_be_bytes());
-            out.extend(self.number.to_be_bytes());
-        }
-        // the tag of Put, and of a strong read
-        out.push(1);
-        out.extend(self.chain.to_be_bytes());
-        out.push(self.key.len() as u8);
-        out.extend(self.key.as_bytes());
-        if puts {
-            out.extend((self.value.len() as u16).to_be_bytes());
-            out.extend(&self.value);
-        }
-    }
-
-    /// The pass of a reply whose version and kind stand before this place.
-    fn pass_at(reply: &[u8], at: usize) -> Option<u64> {
-        Some(u64::from_be_bytes(*reply.get(at..)?.first_chunk()?))
-    }
-}
-
-impl Asks for Craq {
-    fn request(&mut self, kind: Kind, out: &mut Vec<u8>) {
-        let at = out.len();
-        out.extend([0; 4]);
-        match kind {
-            Kind::Read => out.extend([1, 2]),
-            Kind::Put => out.extend([1, 1]),
-            Kind::Many => out.extend([2, 4, MANY as u8]),
-        }
-        for _ in 0..kind.times() {
-            if kind == Kind::Many {
-                out.push(1);
-            }
-            self.body(kind != Kind::Read, out);
-        }
-        let len = (out.len() - at - 4) as u32;
-        out[at..at + 4].copy_from_slice(&len.to_be_bytes());
-    }
-
-    fn size(&self, _kind: Kind, begun: &[u8]) -> Option<usize> {
-        let len = begun.first_chunk::<4>()?;
-        Some(4 + u32::from_be_bytes(*len) as usize)
-    }
-
-    fn take(&mut self, kind: Kind, reply: &[u8]) -> Result<()> {
-        let (is_wanted, at) = match kind {
-            Kind::Read => (reply.len() == 24 + self.value.len() && reply[4..6] == [1, 2] && reply[24..] == self.value, 6),
-            Kind::Put => (reply.len() == 23 && reply[4..6] == [1, 1] && reply[14] == 1, 6),
-            Kind::Many => {
-                let all = reply.get(7..).unwrap_or_default().chunks(18);
-                let are_wanted = reply.len() == 7 + 18 * MANY && all.clone().all(|it| it[0] == 1 && it[9] == 1);
-                (are_wanted && reply[4..7] == [2, 5, MANY as u8], 8 + 18 * (MANY - 1))
-            }
-        };
-        match Craq::pass_at(reply, at) {
-            Some(pass) if is_wanted => self.pass = pass,
-            _ => return Err(bad(reply)),
-        }
-        Ok(())
-    }
-}
-
-/// GET or SET of one key, in the words of redis or of memcached's text protocol.
-struct Words {
-    read: Vec<u8>,
-    found: Vec<u8>,
-    put: Vec<u8>,
-    done: Vec<u8>,
-    /// How a refusal begins.
-    bad: u8,
-}
-
-impl Words {
-    fn of_redis(key: &str, value: &[u8]) -> Words {
-        let (len, size) = (key.len(), value.len());
-        let with = |begin: String| [begin.as_bytes(), value, b"\r\n"].concat();
-        Words {
-            read: format!("*2\r\n$3\r\nGET\r\n${len}\r\n{key}\r\n").into_bytes(),
-            found: with(format!("${size}\r\n")),
-            put: with(format!("*3\r\n$3\r\nSET\r\n${len}\r\n{key}\r\n${size}\r\n")),
-            done: b"+OK\r\n".to_vec(),
-            bad: b'-',
-        }
-    }
-
-    fn of_memcached(key: &str, value: &[u8]) -> Words {
-        let size = value.len();
-        Words {
-            read: format!("get {key}\r\n").into_bytes(),
-            found: [format!("VALUE {key} 0 {size}\r\n").as_bytes(), value, b"\r\nEND\r\n"].concat(),
-            put: [format!("set {key} 0 0 {size}\r\n").as_bytes(), value, b"\r\n"].concat(),
-            done: b"STORED\r\n".to_vec(),
-            bad: b'E',
-        }
-    }
-
-    fn reply(&self, kind: Kind) -> Vec<u8> {
-        if kind == Kind::Read { self.found.clone() } else { self.done.repeat(kind.times()) }
-    }
-}
-
-impl Asks for Words {
-    fn request(&mut self, kind: Kind, out: &mut Vec<u8>) {
-        for _ in 0..kind.times() {
-            out.extend(if kind == Kind::Read { &self.read } else { &self.put });
-        }
-    }
-
-    fn size(&self, kind: Kind, begun: &[u8]) -> Option<usize> {
-        // what does not begin as the wanted reply is taken as it came, and refused by `take`
-        let size = if kind == Kind::Read { self.found.len() } else { self.done.len() * kind.times() };
-        Some(if begun.first() == Some(&self.bad) && self.found[0] != self.bad { begun.len() } else { size })
-    }
-
-    fn take(&mut self, kind: Kind, reply: &[u8]) -> Result<()> {
-        if reply == self.reply(kind) { Ok(()) } else { Err(bad(reply)) }
-    }
-}
-
-/// Requests of etcd's JSON gateway, over HTTP 1.1. Eight puts together are one transaction.
-struct Etcd {
-    key: String,
-    value: String,
-}
-
-fn base64(bytes: &[u8]) -> String {
-    const LETTERS: &[u8; 64] = b"ABCDEFGHIJKLMNOPQRSTUVWXYZabcdefghijklmnopqrstuvwxyz0123456789+/";
-    let mut text = String::new();
-    for part in bytes.chunks(3) {
-        let all = part.iter().fold(0u32, |all, it| all << 8 | u32::from(*it)) << (8 * (3 - part.len()));
-        for at in 0..4 {
-            let letter = LETTERS[(all >> (18 - 6 * at) & 63) as usize] as char;
-            text.push(if at <= part.len() { letter } else { '=' });
-        }
-    }
-    text
-}
-
-impl Asks for Etcd {
-    fn request(&mut self, kind: Kind, out: &mut Vec<u8>) {
-        let Etcd { key, value } = self;
-        let (path, body) = match kind {
-            Kind::Read => ("range", format!("{{\"key\":\"{key}\"}}")),
-            Kind::Put => ("put", format!("{{\"key\":\"{key}\",\"value\":\"{value}\"}}")),
-            Kind::Many => {
-                let puts: Vec<_> = (0..MANY)
-                    .map(|at| format!("{{\"requestPut\":{{\"key\":\"{}\",\"value\":\"{value}\"}}}}", base64(format!("{key}{at}").as_bytes())))
-                    .collect();
-                ("txn", format!("{{\"success\":[{}]}}", puts.join(",")))
-            }
-        };
-        let len = body.len();
-        out.extend(format!("POST /v3/kv/{path} HTTP/1.1\r\nHost: a\r\nContent-Length: {len}\r\n\r\n{body}").bytes());
-    }
-
-    fn size(&self, _kind: Kind, begun: &[u8]) -> Option<usize> {
-        let text = String::from_utf8_lossy(begun);
-        let (head, _) = text.split_once("\r\n\r\n")?;
-        let len = head.lines().find_map(|it| it.strip_prefix("Content-Length: ")?.parse::<usize>().ok())?;
-        Some(head.len() + 4 + len)
-    }
-
-    fn take(&mut self, _kind: Kind, reply: &[u8]) -> Result<()> {
-        if reply.starts_with(b"HTTP/1.1 200") { Ok(()) } else { Err(bad(reply)) }
-    }
-}
-
-/// What the C library's `poll` is told of a connection, and tells: std links that library, and has no call of its own for it.
+/// A descriptor as the C library's `poll` takes it. std links that library and has no call of its own for it.
 #[repr(C)]
 struct Polled {
     fd: c_int,
@@ -292,18 +89,24 @@ struct Polled {
 
 unsafe extern "C" {
     fn poll(all: *mut Polled, count: c_ulong, milliseconds: c_int) -> c_int;
+    fn prctl(option: c_int, value: c_ulong, ...) -> c_int;
 }
 
-/// `poll` finds that there is something to read. One whose descriptor is `NOT_POLLED` is left out.
+/// The event that there is something to read. A descriptor `NOT_POLLED` is left out.
 const READABLE: c_short = 1;
 const NOT_POLLED: c_int = -1;
-/// So many milliseconds without a reply on any of its connections end a thread.
+/// Milliseconds without a reply on any connection after which a thread gives up.
 const SILENCE: c_int = 10_000;
+/// An open loop that a server does not keep up with ends after this many times the span that was asked for.
+const MOST_SPANS: u32 = 3;
+/// Linux wakes a sleeping thread up to this option's nanoseconds late, 50,000 by default.
+const PR_SET_TIMERSLACK: c_int = 29;
 
 /// A connection with at most one request under way.
 struct Connection {
     stream: TcpStream,
-    asks: Box<dyn Asks>,
+    protocol: Box<dyn Protocol>,
+    keys: Keys,
     kind: Kind,
     out: Vec<u8>,
     reply: Vec<u8>,
@@ -311,109 +114,130 @@ struct Connection {
 }
 
 impl Connection {
-    fn open(address: &str, asks: Box<dyn Asks>) -> Result<Connection> {
-        let stream = connect(address)?;
-        Ok(Connection { stream, asks, kind: Kind::Read, out: Vec::new(), reply: vec![0; 16384], got: 0 })
+    fn open(address: &str, protocol: Box<dyn Protocol>, keys: Keys) -> Result<Connection> {
+        let stream = TcpStream::connect(address)?;
+        stream.set_nodelay(true)?;
+        Ok(Connection { stream, protocol, keys, kind: Kind::Read, out: Vec::new(), reply: vec![0; 16384], got: 0 })
     }
 
-    /// Sends the next request.
+    /// Sends a request for random keys.
     fn ask(&mut self, kind: Kind) -> Result<()> {
         (self.kind, self.got) = (kind, 0);
         self.out.clear();
-        self.asks.request(kind, &mut self.out);
+        let keys = &mut self.keys;
+        self.protocol.request(kind, &mut || keys.next(), &mut self.out);
         self.stream.write_all(&self.out)
     }
 
-    /// Reads once; whether the reply is whole now.
+    /// Reads once, and returns whether the reply is whole.
     fn hears(&mut self) -> Result<bool> {
         match self.stream.read(&mut self.reply[self.got..])? {
             0 => return Err(ErrorKind::UnexpectedEof.into()),
             more => self.got += more,
         }
         let begun = &self.reply[..self.got];
-        let is_whole = self.asks.size(self.kind, begun).is_some_and(|size| self.got >= size);
+        let is_whole = self.protocol.size(self.kind, begun).is_some_and(|size| self.got >= size);
         if is_whole {
-            self.asks.take(self.kind, begun)?;
+            self.protocol.take(self.kind, begun)?;
         }
         Ok(is_whole)
     }
 
-    /// One request and its reply.
-    fn exchange(&mut self, kind: Kind) -> Result<()> {
-        self.ask(kind)?;
+    fn waits_for_reply(&mut self) -> Result<()> {
         while !self.hears()? {}
         Ok(())
     }
+
+    /// Writes one key.
+    fn put(&mut self, key: u64) -> Result<()> {
+        (self.kind, self.got) = (Kind::Put, 0);
+        self.out.clear();
+        self.protocol.request(Kind::Put, &mut || key, &mut self.out);
+        self.stream.write_all(&self.out)?;
+        self.waits_for_reply()
+    }
 }
 
-fn connect(address: &str) -> Result<TcpStream> {
-    let stream = TcpStream::connect(address)?;
-    stream.set_nodelay(true)?;
-    Ok(stream)
-}
-
-/// What is measured.
+/// A run: the command line.
 #[derive(Clone)]
 struct Load {
-    server: String,
+    setting: Setting,
     address: String,
     mix: Mix,
     connections: usize,
     span: Duration,
-    size: usize,
-    chains: usize,
-    /// The threads that have all the connections between them; 0: each connection has one.
+    /// Threads that share the connections; 0 for a thread for each connection.
     threads: usize,
+    /// Requests a second of an open loop; 0 for a closed loop.
+    rate: f64,
+    is_filled: bool,
+    /// The first client id of the run, above those of earlier runs: nanoseconds since 1970.
+    client: u64,
 }
 
 impl Load {
-    /// What connection `at` asks. Each has a key, and as a writer an id, of its own.
-    fn asks_of(&self, at: usize, client: u64) -> Box<dyn Asks> {
-        let (key, value) = (key(at), value(self.size));
-        match self.server.as_str() {
-            "redis" => Box::new(Words::of_redis(&key, &value)),
-            "memcached" => Box::new(Words::of_memcached(&key, &value)),
-            "etcd" => Box::new(Etcd { key: base64(key.as_bytes()), value: base64(&value) }),
-            _ => {
-                let node = if self.mix == Mix::ReadsAll { NODES[at % NODES.len()] } else { NODES[0] };
-                Box::new(Craq { key, value, chain: (at % self.chains) as u16, node, client, number: 0, pass: 0 })
-            }
-        }
+    /// Opens a connection. Its client id is unique on the server if `first` is another number for each use of `at`.
+    fn open(&self, at: usize, first: u64) -> Result<Connection> {
+        let protocol = protocol(&self.setting, self.mix.readers(), at, first + at as u64);
+        Connection::open(&self.address, protocol, Keys::new(at as u64, self.setting.keys))
     }
 
-    /// Each object is written once, before anything is measured.
-    fn prepare(&self) -> Result<()> {
-        let puts = Load { mix: Mix::Puts, ..self.clone() };
-        for at in 0..self.connections {
-            let asks = puts.asks_of(at, (self.connections + at) as u64);
-            Connection::open(&self.address, asks)?.exchange(Kind::Put)?;
-        }
-        Ok(())
+    /// Writes each key once.
+    fn fill(&self) -> Result<()> {
+        let writers = self.connections.min(self.setting.keys as usize);
+        let first = self.client + self.connections as u64;
+        thread::scope(|scope| {
+            let all: Vec<_> = (0..writers)
+                .map(|at| {
+                    scope.spawn(move || {
+                        let mut one = self.open(at, first)?;
+                        (at as u64..self.setting.keys).step_by(writers).try_for_each(|key| one.put(key))
+                    })
+                })
+                .collect();
+            all.into_iter().try_for_each(|it| it.join().expect("a thread that writes"))
+        })
     }
 
-    /// The connections of a thread: each `step`th from this one on.
-    fn open_from(&self, first: usize, step: usize) -> Result<Vec<Connection>> {
-        (first..self.connections).step_by(step).map(|at| Connection::open(&self.address, self.asks_of(at, at as u64))).collect()
-    }
-
-    /// The times of one connection's exchanges, until the span is over.
-    fn times_of_one(&self, one: &mut Connection) -> Result<Vec<Duration>> {
+    /// Returns the latencies of a connection's requests in a closed loop.
+    fn closed(&self, at: usize, one: &mut Connection) -> Result<Vec<Duration>> {
         let (began, mut times) = (Instant::now(), Vec::with_capacity(1 << 18));
         loop {
             let before = began.elapsed();
             if before >= self.span {
                 return Ok(times);
             }
-            one.exchange(self.mix.kind(times.len()))?;
+            one.ask(self.mix.kind(at + times.len()))?;
+            one.waits_for_reply()?;
             times.push(began.elapsed() - before);
         }
     }
 
-    /// The times of the exchanges of several connections, each of which asks again as soon as it is seen to be answered, until the
-    /// span is over.
-    fn times_of_several(&self, several: &mut [Connection]) -> Result<Vec<Duration>> {
+    /// Returns the latencies of a connection's requests in an open loop: from the moment that each was due.
+    fn paced(&self, at: usize, one: &mut Connection) -> Result<Vec<Duration>> {
+        // SAFETY: this sets a number of the calling thread.
+        unsafe { prctl(PR_SET_TIMERSLACK, 1 as c_ulong) };
+        let gap = self.connections as f64 / self.rate;
+        let (began, mut times) = (Instant::now(), Vec::with_capacity(1 << 16));
+        loop {
+            let due = Duration::from_secs_f64((times.len() as f64 + at as f64 / self.connections as f64) * gap);
+            if due >= self.span || began.elapsed() > MOST_SPANS * self.span {
+                return Ok(times);
+            }
+            if let Some(early) = due.checked_sub(began.elapsed()) {
+                thread::sleep(early);
+            }
+            one.ask(self.mix.kind(at + times.len()))?;
+            one.waits_for_reply()?;
+            times.push(began.elapsed().saturating_sub(due));
+        }
+    }
+
+    /// Returns the latencies of the requests of several connections in a closed loop, each asking again once it is answered.
+    fn shared(&self, several: &mut [Connection]) -> Result<Vec<Duration>> {
         let (began, mut times) = (Instant::now(), Vec::with_capacity(1 << 20));
-        let mut polled: Vec<_> = several.iter().map(|it| Polled { fd: it.stream.as_raw_fd(), wanted: READABLE, found: 0 }).collect();
+        let mut polled: Vec<_> =
+            several.iter().map(|it| Polled { fd: it.stream.as_raw_fd(), wanted: READABLE, found: 0 }).collect();
         let mut asked = vec![Duration::ZERO; several.len()];
         let mut sent = 0;
         for it in several.iter_mut() {
@@ -421,7 +245,7 @@ impl Load {
             sent += 1;
         }
         while sent > times.len() {
-            // SAFETY: `polled` has so many members, and nobody else has them while they are polled.
+            // SAFETY: `polled` has this length, and nothing else refers to it during the call.
             match unsafe { poll(polled.as_mut_ptr(), polled.len() as c_ulong, SILENCE) } {
                 0 => return Err(ErrorKind::TimedOut.into()),
                 found if found < 0 => return Err(Error::last_os_error()),
@@ -445,68 +269,96 @@ impl Load {
         Ok(times)
     }
 
-    /// The times of all exchanges.
-    fn all_times(&self) -> Result<Vec<Duration>> {
+    /// Runs the connections of one thread: each `step`th from this one on.
+    fn run_from(&self, first: usize, step: usize, begin: &Barrier) -> Result<Vec<Duration>> {
+        let made: Result<Vec<_>> = (first..self.connections).step_by(step).map(|at| self.open(at, self.client)).collect();
+        begin.wait();
+        match made?.as_mut_slice() {
+            [one] if self.rate > 0.0 => self.paced(first, one),
+            [one] => self.closed(first, one),
+            several => self.shared(several),
+        }
+    }
+
+    /// Returns all latencies, and the time that the run took.
+    fn latencies(&self) -> Result<(Vec<Duration>, Duration)> {
         let threads = if self.threads == 0 { self.connections } else { self.threads.min(self.connections) };
-        let begin = Barrier::new(threads);
+        let begin = Barrier::new(threads + 1);
         thread::scope(|scope| {
-            let threads: Vec<_> = (0..threads)
-                .map(|first| {
-                    let begin = &begin;
-                    scope.spawn(move || {
-                        let made = self.open_from(first, threads);
-                        begin.wait();
-                        match made?.as_mut_slice() {
-                            [one] => self.times_of_one(one),
-                            several => self.times_of_several(several),
-                        }
-                    })
-                })
-                .collect();
-            let mut all = Vec::new();
+            let begin = &begin;
+            let threads: Vec<_> =
+                (0..threads).map(|first| scope.spawn(move || self.run_from(first, threads, begin))).collect();
+            begin.wait();
+            let (began, mut all) = (Instant::now(), Vec::new());
             for it in threads {
                 all.extend(it.join().expect("a thread of connections")?);
             }
-            Ok(all)
+            Ok((all, began.elapsed()))
         })
     }
 
     fn run(&self) -> Result<()> {
-        self.prepare()?;
-        let mut all = self.all_times()?;
+        if self.mix == Mix::Fill || !self.is_filled {
+            self.fill()?;
+        }
+        if self.mix == Mix::Fill {
+            return Ok(());
+        }
+        let (mut all, took) = self.latencies()?;
         if all.is_empty() {
             return Err(Error::new(ErrorKind::TimedOut, "no reply came"));
         }
         all.sort_unstable();
-        let at = |part: f64| all[(all.len() as f64 * part) as usize].as_nanos() as f64 / 1000.0;
-        let rate = all.len() as f64 / self.span.as_secs_f64();
-        println!("{} {rate:.0} {:.1} {:.1}", all.len(), at(0.5), at(0.99));
+        let at = |part: f64| all[((all.len() - 1) as f64 * part) as usize].as_nanos() as f64 / 1000.0;
+        let rate = all.len() as f64 / took.as_secs_f64();
+        println!("{} {rate:.0} {:.1} {:.1} {:.1} {:.1}", all.len(), at(0.5), at(0.99), at(0.999), at(1.0));
         Ok(())
     }
 }
 
-/// The words of the command line.
+/// Returns the value of an option, or `usual` if it is not given; `None` if its word is no number.
+fn number<T: std::str::FromStr>(options: &[String], name: &str, usual: T) -> Option<T> {
+    match options.chunks(2).find(|it| it[0] == name) {
+        Some(it) => it.get(1)?.parse().ok(),
+        None => Some(usual),
+    }
+}
+
+/// Parses the command line.
 fn load_of(words: &[String]) -> Option<Load> {
-    let [server, address, mix, connections, seconds, more @ ..] = words else {
+    const OPTIONS: [&str; 6] = ["--keys", "--size", "--chains", "--threads", "--rate", "--filled"];
+    let [server, address, mix, connections, seconds, options @ ..] = words else {
         return None;
     };
-    let number = |at: usize, usual: usize| more.get(at).map_or(Some(usual), |it| it.parse().ok());
-    Some(Load {
+    if options.chunks(2).any(|it| it.len() < 2 || !OPTIONS.contains(&it[0].as_str())) {
+        return None;
+    }
+    let setting = Setting {
         server: server.clone(),
+        size: number(options, "--size", 16)?,
+        chains: number(options, "--chains", 1).filter(|it| *it > 0)?,
+        keys: number(options, "--keys", 10_000).filter(|it| *it > 0)?,
+    };
+    Some(Load {
+        setting,
         address: address.clone(),
         mix: Mix::of(mix)?,
-        connections: connections.parse().ok()?,
+        connections: connections.parse().ok().filter(|it| *it > 0)?,
         span: Duration::try_from_secs_f64(seconds.parse().ok()?).ok()?,
-        size: number(0, 16)?,
-        chains: number(1, 1).filter(|it| *it > 0)?,
-        threads: number(2, 0)?,
+        threads: number(options, "--threads", 0)?,
+        rate: number(options, "--rate", 0.0)?,
+        is_filled: options.iter().any(|it| it == "--filled"),
+        client: SystemTime::now().duration_since(UNIX_EPOCH).ok()?.as_nanos() as u64,
     })
 }
 
 fn main() {
     let words: Vec<String> = env::args().skip(1).collect();
-    let Some(load) = load_of(&words) else {
-        eprintln!("load craq|redis|memcached|etcd ADDRESS reads-one|reads-all|puts|tenth|many CONNECTIONS SECONDS [SIZE [CHAINS [THREADS]]]");
+    let usable = load_of(&words).filter(|it| it.rate <= 0.0 || it.threads == 0);
+    let Some(load) = usable else {
+        let mixes: Vec<_> = Mix::NAMES.iter().map(|it| it.0).collect();
+        eprintln!("load craq|redis|memcached|etcd ADDRESS {} CONNECTIONS SECONDS", mixes.join("|"));
+        eprintln!("    [--keys N] [--size N] [--chains N] [--threads N, or --rate N] [--filled yes]");
         process::exit(2);
     };
     if let Err(fault) = load.run() {

@@ -1,188 +1,262 @@
-#!/usr/bin/env python3
-"""Measures a server beside redis, in one run.
+"""Measures craqd beside redis and memcached in one run, and writes a table, a chart and the data.
 
-    benchmarks/server/measure.py CRAQD [--redis REDIS_SERVER] [--threads 2,3] [--connections 50,1,200] [--mixes puts,reads-one]
-        [--beside memcached,etcd] [--size N] [--chains N] [--rounds N] [--seconds N] [--load-threads N]
-        [--journal]
+    benchmarks/server/measure CRAQD [--out FOLDER] [--quick] [OPTION ..]
 
-CRAQD is the program as ./build made it, REDIS_SERVER `redis-server` where it is not named. The load client, load.rs, is built by
-`rustc -O`. Each figure is of a fresh server; in each round the servers are measured in turn, and the medians of the rounds are
-printed. How many times those of redis a server's figures are is told of each round by itself, since a machine may be slower in another
-round, and the median of that is printed. The first line says which part of the processors' time was idle, and which part the machine
-gave to other guests (steal). On a terminal a line on standard error tells how far it is. What it prints is the form of RESULTS.md, with
-which tools/pages/check compares README.md.
+CRAQD is the program as ./build made it. `rustc -O` builds the load client load.rs, and
+`redis-server` and `memcached` are Debian's packages. With --out it writes RESULTS.md, RESULTS.svg
+and RESULTS.csv into that folder; the table is also printed.
+
+In each round, and for each number of keys, all servers are started, and each key is written once.
+Then each mix of requests is measured on one server after another, while the others are stopped
+(SIGSTOP). The table has the median of the rounds, and in brackets the least and the greatest. The
+ratios to redis are those of each round, so a slow minute slows both.
+
+Closed loop: each connection sends its next request once it has the reply. Open loop (--rates):
+requests are due at fixed moments, spread evenly over the connections, and a latency counts from the
+moment that the request was due.
+
+Processor time is the server's, of all its threads. Memory is resident memory once each key is written.
 """
 import argparse
+import csv
 import os
-import re
-import socket
-import statistics
+import shutil
 import subprocess
 import sys
 import tempfile
 import time
+from typing import NamedTuple
+
+from benchmarks.server import report, servers
 
 HERE = os.path.dirname(os.path.realpath(__file__))
-# What ./serve adds to the environment of craqd, unless it is set there.
-AS_SERVED = {"GLIBC_TUNABLES": "glibc.malloc.tcache_count=2000:glibc.malloc.mmap_threshold=33554432:glibc.malloc.trim_threshold=268435456"}
-# What is asked, and what it is called. Of redis reads are GET and puts SET.
+# The mixes of load.rs, and what the table calls them. Reads are GET of redis, puts SET.
 MIXES = {
+    "puts": "puts at the head",
     "reads-one": "strong reads at one node",
     "reads-all": "strong reads at all three nodes",
-    "puts": "puts at the head",
+    "half": "half puts, half strong reads at all three nodes",
+    "half-one": "half puts, half strong reads at the head",
     "tenth": "a tenth puts, the rest strong reads at one node",
     "many": "eight puts together",
 }
 
 
-def plan(chains):
-    return "".join(f'[[chain]]\nname = "chain{it}"\nnodes = [1, 2, 3]\n' for it in range(chains))
+class Case(NamedTuple):
+    """One row of the table, without its server: a mix, the number of keys and connections, and the
+    rate, 0 if closed."""
+
+    mix: str
+    keys: int
+    connections: int
+    rate: int
 
 
-def free_port():
-    with socket.create_server(("127.0.0.1", 0)) as it:
-        return str(it.getsockname()[1])
+class Measure(NamedTuple):
+    """The result of one run: replies, replies a second, latencies and processor time a reply in
+    microseconds, and bytes."""
+
+    replies: float
+    rate: float
+    median: float
+    late: float
+    later: float
+    latest: float
+    processor: float
+    memory: float
 
 
-def once_listening(server, port):
-    for _ in range(200):
-        try:
-            socket.create_connection(("127.0.0.1", int(port))).close()
-            return server, port
-        except OSError:
-            time.sleep(0.05)
-    return sys.exit(f"{server.args[0]} does not listen")
+def load_words(load, server, case, options):
+    """Returns the command of the load client for a case."""
+    words = [load, server.protocol, server.address, case.mix, str(case.connections), str(options.seconds)]
+    words += ["--keys", str(case.keys), "--size", str(options.size), "--chains", str(options.chains),
+              "--filled", "yes"]
+    if case.rate:
+        return [*words, "--rate", str(case.rate)]
+    return [*words, "--threads", str(options.load_threads)]
 
 
-def craqd(options, threads, folder):
-    path = os.path.join(folder, "plan.toml")
-    with open(path, "w", encoding="utf-8") as it:
-        it.write(plan(options.chains))
-    # With journals the server is one that ends with its input, which stays open.
-    words = [os.path.realpath(options.craqd), *(["--journal", "--until-input-ends"] if options.journal else [])]
-    words += ["--threads", str(threads), path, "127.0.0.1:0"]
-    server = subprocess.Popen(words, stdin=subprocess.PIPE, stdout=subprocess.PIPE, stderr=subprocess.DEVNULL, text=True, env=AS_SERVED | os.environ)
-    found = re.fullmatch(r"listening (\d+)\n", server.stdout.readline())
-    return server, found[1] if found else sys.exit("craqd does not listen")
+def measured(load, server, case, options):
+    """Runs the load client on a server whose keys are written."""
+    before = server.seconds()
+    ran = subprocess.run(load_words(load, server, case, options), capture_output=True, text=True)
+    if ran.returncode:
+        sys.exit(f"measure: {server.protocol}, {MIXES[case.mix]}: {ran.stderr}")
+    found = [float(it) for it in ran.stdout.split()]
+    return Measure(*found, (server.seconds() - before) * 1e6 / found[0], server.bytes())
 
 
-def redis(options, folder):
-    port = free_port()
-    words = [options.redis, "--port", port, "--save", "", "--appendonly", "no", "--dir", folder]
-    return once_listening(subprocess.Popen(words, stdout=subprocess.DEVNULL), port)
+def filled(load, server, keys, options):
+    """Writes each key once, and returns the bytes of memory that a key then takes."""
+    before = server.bytes()
+    words = load_words(load, server, Case("fill", keys, 50, 0), options)
+    subprocess.run(words, check=True)
+    return server.bytes(), (server.bytes() - before) / keys
 
 
-def memcached(_options, _folder):
-    port = free_port()
-    return once_listening(subprocess.Popen(["memcached", "-l", "127.0.0.1", "-p", port, "-U", "0", "-u", "nobody"]), port)
+def cases_of(options, keys):
+    """Returns the cases of a number of keys: the mixes in a closed loop, then those in an open loop
+    at each rate."""
+    closed = [Case(mix, keys, many, 0) for many in options.connections for mix in options.mixes]
+    if keys != options.keys[0]:
+        return closed
+    return closed + [Case(mix, keys, options.connections[0], rate) for mix in options.open
+                     for rate in options.rates]
 
 
-def etcd(_options, folder):
-    port, peers = free_port(), "http://127.0.0.1:" + free_port()
-    here = f"http://127.0.0.1:{port}"
-    words = ["etcd", "--data-dir", os.path.join(folder, "data"), "--log-level", "error"]
-    words += ["--listen-client-urls", here, "--advertise-client-urls", here]
-    words += ["--listen-peer-urls", peers, "--initial-advertise-peer-urls", peers, "--initial-cluster", f"default={peers}"]
-    found = once_listening(subprocess.Popen(words, stdout=subprocess.DEVNULL, stderr=subprocess.DEVNULL), port)
-    time.sleep(2)
-    return found
+class Run:
+    """All that is measured: by case and server a list with a measure of each round; by keys and
+    server the memory."""
 
+    def __init__(self, options, load):
+        self.options, self.load = options, load
+        self.starts = servers.starters(options)
+        self.found, self.memory = {}, {}
 
-def measured(load, kind, start, mix, connections, options):
-    """Replies, replies a second, median and 99th percentile, and the processor's time that the server took of each reply."""
-    with tempfile.TemporaryDirectory() as folder:
-        server, port = start(options, folder)
-        try:
-            # Of another name than the others is craqd, with its threads.
-            words = [load, kind if kind in OTHERS else "craq", f"127.0.0.1:{port}", mix, str(connections), str(options.seconds), str(options.size), str(options.chains), str(options.load_threads)]
-            found = [float(it) for it in subprocess.run(words, check=True, capture_output=True, text=True).stdout.split()]
-            with open(f"/proc/{server.pid}/stat", encoding="ascii") as it:
-                spent = sum(map(int, it.read().rpartition(")")[2].split()[11:13])) * 10_000
-            return [*found, spent / found[0]]
-        finally:
-            server.kill()
-            server.wait()
+    def tell(self, *words):
+        if sys.stderr.isatty():
+            sys.stderr.write(f"\r\033[K{', '.join(map(str, words))}\r")
+
+    def started(self, keys, folder):
+        """Starts each server, writes the keys, and leaves it stopped."""
+        running = {}
+        for name, start in self.starts.items():
+            self.tell(f"{keys:,} keys are written to {name}")
+            os.makedirs(os.path.join(folder, name))
+            running[name] = server = start(os.path.join(folder, name))
+            self.memory.setdefault((keys, name), []).append(filled(self.load, server, keys, self.options))
+            server.rest()
+        return running
+
+    def round(self, number, keys):
+        """Measures each case of a number of keys once, on each server in turn."""
+        with tempfile.TemporaryDirectory() as folder:
+            running = {}
+            try:
+                running.update(self.started(keys, folder))
+                for case in cases_of(self.options, keys):
+                    for name, server in running.items():
+                        self.tell(f"round {number} of {self.options.rounds}", f"{keys:,} keys",
+                                  MIXES[case.mix], name)
+                        server.wake()
+                        measure = measured(self.load, server, case, self.options)
+                        server.rest()
+                        self.found.setdefault((case, name), []).append(measure)
+            finally:
+                for server in running.values():
+                    server.kill()
 
 
 def times_of_processors():
-    """All time of the processors so far, that in which they were idle, and that which other guests had."""
+    """Returns all time of the processors so far, the idle part, and the part that other guests had."""
     with open("/proc/stat", encoding="ascii") as it:
         times = [int(it) for it in it.readline().split()[1:9]]
     return sum(times), times[3] + times[4], times[7]
 
 
-OTHERS = {"redis": redis, "memcached": memcached, "etcd": etcd}
-
-
-def servers_of(options):
-    servers = {"craqd": lambda options, room: craqd(options, 0, room)}
-    for it in options.threads:
-        servers[f"craqd --threads {it}"] = lambda options, room, it=it: craqd(options, it, room)
-    return servers | {it: OTHERS[it] for it in ["redis", *options.beside]}
-
-
-def medians_of(rounds):
-    return [statistics.median(it) for it in zip(*rounds)]
-
-
-def rows(options, servers, found):
-    yield "| Asked | Connections | Server | Replies | A second | Median, µs | 99th percentile, µs | Processor time a reply, µs | Times redis | 99th, times redis |"
-    yield "|---|---|---|---|---|---|---|---|---|---|"
-    for connections in options.connections:
-        for mix in options.mixes:
-            for kind in servers:
-                rounds, beside = found[mix, connections, kind], found[mix, connections, "redis"]
-                replies, rate, middle, late, spent = medians_of(rounds)
-                _, rates, _, lates, _ = medians_of([[mine / its for mine, its in zip(*both)] for both in zip(rounds, beside)])
-                ratios = f"{rates:.2f} | {lates:.2f}" if kind != "redis" else " | "
-                yield f"| {MIXES[mix]} | {connections} | {kind} | {replies:,.0f} | {rate:,.0f} | {middle:,.0f} | {late:,.0f} | {spent:.1f} | {ratios} |"
-
-
-def words_of(text):
-    return text.split(",")
+def heading(options, before):
+    """Returns the line above the table: the day, what was asked for, and how busy the machine was."""
+    all_time, idle, steal = (late - early for early, late in zip(before, times_of_processors()))
+    busy = f"idle {idle / all_time:.0%}, steal {steal / all_time:.0%}, {os.cpu_count()} processors"
+    chains = f"{options.chains} chain{'s' if options.chains > 1 else ''} of three nodes"
+    values = f"values of {options.size} bytes, {chains}"
+    client = f", a load client of {options.load_threads} threads" if options.load_threads else ""
+    day = time.strftime("%Y-%m-%d", time.gmtime())
+    return f"{day}: {options.seconds:g} s, {options.rounds} rounds, {values}{client}, {busy}"
 
 
 def numbers_of(text):
     return [int(it) for it in text.split(",")]
 
 
-def main():
-    reads = argparse.ArgumentParser(description=__doc__, formatter_class=argparse.RawDescriptionHelpFormatter)
-    reads.add_argument("craqd")
-    reads.add_argument("--redis", default="redis-server")
-    reads.add_argument("--rounds", type=int, default=3)
-    reads.add_argument("--connections", type=numbers_of, default=[50], help="so many connections, one after another")
-    reads.add_argument("--seconds", type=float, default=2)
-    reads.add_argument("--journal", action="store_true")
-    reads.add_argument("--threads", type=numbers_of, default=[], help="beside a thread a connection, so many threads for all")
-    reads.add_argument("--mixes", type=words_of, default=["reads-one", "reads-all", "puts"], help="of " + ",".join(MIXES))
-    reads.add_argument("--beside", type=words_of, default=[], help="further servers: memcached,etcd")
+def names_of(known):
+    """Returns a reader of names with commas between them, each of which has to be known."""
+    def read(text):
+        found = [it for it in text.split(",") if it]
+        if set(found) - set(known):
+            raise argparse.ArgumentTypeError(f"the names are {','.join(known)}")
+        return found
+    return read
+
+
+def asked_for():
+    reads = argparse.ArgumentParser(prog="benchmarks/server/measure", description=__doc__,
+                                    formatter_class=argparse.RawDescriptionHelpFormatter)
+    reads.add_argument("craqd", metavar="CRAQD")
+    reads.add_argument("--out", metavar="FOLDER",
+                       help="the folder for RESULTS.md, RESULTS.svg and RESULTS.csv")
+    reads.add_argument("--keys", type=numbers_of, default=[10_000, 50, 1_000_000],
+                       help="numbers of keys: 10000,50,1000000")
+    reads.add_argument("--mixes", type=names_of(MIXES), default=["puts", "reads-one", "reads-all", "half"],
+                       help="mixes of the closed loop, of " + ",".join(MIXES))
+    reads.add_argument("--connections", type=numbers_of, default=[50], help="numbers of connections: 50")
+    reads.add_argument("--rates", type=numbers_of, default=[5_000, 20_000, 30_000, 40_000],
+                       help="requests a second of the open loop, for the first number of keys; 0 for none")
+    reads.add_argument("--open", type=names_of(MIXES), default=["puts"], help="mixes of the open loop: puts")
+    reads.add_argument("--threads", type=numbers_of, default=[2, 0],
+                       help="event loops of craqd, a server for each: 2,0; 0 is a thread for each connection")
+    reads.add_argument("--beside", type=names_of(servers.OTHERS), default=["redis", "memcached"],
+                       help="other servers, of redis,memcached,etcd")
+    reads.add_argument("--redis", default="redis-server", help="the program of redis")
+    reads.add_argument("--rounds", type=int, default=5)
+    reads.add_argument("--seconds", type=float, default=2, help="seconds of each run")
     reads.add_argument("--size", type=int, default=16, help="bytes of a value")
-    reads.add_argument("--chains", type=int, default=1, help="chains that the connections are spread over")
-    reads.add_argument("--load-threads", type=int, default=0, help="threads of the load client; 0: one a connection")
+    reads.add_argument("--chains", type=int, default=1, help="chains that the keys are spread over")
+    reads.add_argument("--load-threads", type=int, default=0,
+                       help="threads of the load client; 0: one a connection")
+    reads.add_argument("--journal", action="store_true", help="craqd keeps journals")
+    reads.add_argument("--quick", action="store_true",
+                       help="one round of 0.3 s, up to 10,000 keys, to try the command")
     options = reads.parse_args()
+    options.rates = [it for it in options.rates if it]
+    if options.quick:
+        options.rounds, options.seconds, options.keys = 1, 0.3, [it for it in options.keys if it <= 10_000]
+    return options
+
+
+def build(folder):
+    """Builds the load client and returns its path."""
+    if not shutil.which("rustc"):
+        sys.exit("measure: needs rustc on the path")
+    load = os.path.join(folder, "load")
+    subprocess.run(["rustc", "-O", "--edition", "2024", "-o", load, os.path.join(HERE, "load.rs")],
+                   check=True)
+    return load
+
+
+def write(folder, name, text):
+    with open(os.path.join(folder, name), "w", encoding="utf-8") as it:
+        it.write(text)
+
+
+def write_data(folder, run):
+    """Writes a line for each measure of each round."""
+    with open(os.path.join(folder, "RESULTS.csv"), "w", encoding="utf-8", newline="") as it:
+        lines = csv.writer(it, lineterminator="\n")
+        lines.writerow([*Case._fields[:3], "due_a_second", "server", "round", "replies", "replies_a_second",
+                        "median_us",
+                        "99th_us", "99.9th_us", "longest_us", "processor_us", "memory_bytes"])
+        for (case, name), rounds in run.found.items():
+            for number, measure in enumerate(rounds, 1):
+                lines.writerow([*case, name, number, *(f"{it:.10g}" for it in measure)])
+
+
+def main():
+    options = asked_for()
+    before = times_of_processors()
     with tempfile.TemporaryDirectory() as folder:
-        load = os.path.join(folder, "load")
-        subprocess.run(["rustc", "-O", "--edition", "2024", "-o", load, os.path.join(HERE, "load.rs")], check=True)
-        servers = servers_of(options)
-        found, before = {}, times_of_processors()
-        for turn in range(options.rounds):
-            for connections in options.connections:
-                for mix in options.mixes:
-                    for kind, start in servers.items():
-                        if sys.stderr.isatty():
-                            sys.stderr.write(f"\rround {turn + 1} of {options.rounds}: {MIXES[mix]}, {connections} connections, {kind}{'':20}\r")
-                        measure = measured(load, kind, start, mix, connections, options)
-                        found.setdefault((mix, connections, kind), []).append(measure)
-        after = times_of_processors()
-    day = time.strftime("%-d %B %Y", time.gmtime())
-    all_time, idle, steal = (late - early for early, late in zip(before, after))
-    busy = f"idle {idle / all_time:.0%}, steal {steal / all_time:.0%}, load average {os.getloadavg()[0]:.1f}, {os.cpu_count()} processors"
-    values = f"values of {options.size} bytes, {options.chains} chain{'s' if options.chains > 1 else ''}"
-    client = f", a load client of {options.load_threads} threads" if options.load_threads else ""
-    print(f"{day}: {options.seconds:g} s, {options.rounds} rounds, {values}{client}, {busy}\n")
-    for row in rows(options, servers, found):
-        print(row)
+        run = Run(options, build(folder))
+        for number in range(1, options.rounds + 1):
+            for keys in options.keys:
+                run.round(number, keys)
+    run.tell()
+    text = report.page(heading(options, before), run, MIXES)
+    print(text, end="")
+    if options.out:
+        os.makedirs(options.out, exist_ok=True)
+        write(options.out, "RESULTS.md", text)
+        write(options.out, "RESULTS.svg", report.chart(run, MIXES))
+        write_data(options.out, run)
 
 
 if __name__ == "__main__":

@@ -1,5 +1,5 @@
-//! The messages between nodes and from clients as bytes, in plain Rust with std alone: what
-//! `craq_wire` and `craq_frames` do, without proofs. It is there to compare speeds with.
+//! Encodes and decodes the messages between nodes and from clients in plain Rust, on std alone. It
+//! does what `craq_wire` and `craq_frames` do, without proofs, and is there to compare speeds with.
 use std::time::Instant;
 
 struct BadFrame;
@@ -378,7 +378,7 @@ fn encode_link(m: &LinkMessage) -> Vec<u8> {
     buffer
 }
 
-// ---- messages from clients
+// ---- requests from clients
 
 type Object = (u16, Vec<u8>);
 

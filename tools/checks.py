@@ -5,8 +5,8 @@ import traceback
 
 
 class Checks:
-    """How many checks passed and failed. A failed one is told on standard error, after the title; with `progress`, on a terminal, also
-    which part runs."""
+    """How many checks passed and failed. A failed one is told on standard error, after the title;
+    with `progress`, on a terminal, also which part runs."""
 
     def __init__(self, title, progress=False):
         self.title, self.passed, self.failed = title, 0, 0
@@ -22,8 +22,17 @@ class Checks:
     def same(self, what, found, wanted):
         self.that(found == wanted, f"{what}: found {shortened(found)}, wanted {shortened(wanted)}")
 
+    def same_items(self, what, found, wanted):
+        """Compares two lists: what one of them has alone, and their order."""
+        missing = [it for it in wanted if it not in found]
+        strange = [it for it in found if it not in wanted]
+        self.that(not missing, f"{what} lacks {', '.join(map(str, missing))}")
+        self.that(not strange, f"{what} has {', '.join(map(str, strange))}, which is not there")
+        self.that(missing or strange or list(found) == list(wanted), f"{what} is in another order")
+
     def part(self, what, run, *given):
-        """Runs a part of the checks. What stops it is a check that failed, and the next part is run as ever."""
+        """Runs a part of the checks. What stops it is a check that failed, and the next part is run
+        as ever."""
         if self.progress:
             sys.stderr.write(f"\r{self.title}: {what}{'':30}\r")
         try:
@@ -37,7 +46,8 @@ class Checks:
         """Runs a part of the checks, and prints a line that tells what came of it."""
         passed, failed, began = self.passed, self.failed, time.time()
         self.part(what, run, *given)
-        print(f"{self.title}: {what}: {self.passed - passed} passed, {self.failed - failed} failed, {time.time() - began:.0f} s", flush=True)
+        print(f"{self.title}: {what}: {self.passed - passed} passed, {self.failed - failed} failed, "
+              f"{time.time() - began:.0f} s", flush=True)
 
 
 def shortened(it):

@@ -4,7 +4,8 @@ import subprocess
 
 
 def help_text():
-    ran = subprocess.run(["rt", "--help"], stdin=subprocess.DEVNULL, stdout=subprocess.PIPE, stderr=subprocess.STDOUT, text=True, errors="replace")
+    ran = subprocess.run(["rt", "--help"], stdin=subprocess.DEVNULL, stdout=subprocess.PIPE,
+                         stderr=subprocess.STDOUT, text=True, errors="replace")
     return ran.stdout
 
 

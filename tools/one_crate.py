@@ -1,11 +1,12 @@
-"""Tests one crate: its proof, what it prints where it is a program, its edits, and apart from them those of wrong/."""
+"""Tests one crate: its proof, what it prints where it is a program, its edits, and apart from them
+those of wrong/."""
 import os
 import shutil
 import subprocess
 import sys
 import tempfile
 
-import repository
+from tools import repository
 
 PATIENCE = 120
 
@@ -27,12 +28,14 @@ def built(name):
     program = repository.path("crates", name, "out", name)
     if os.path.exists(program):
         os.remove(program)
-    subprocess.run(["rt", "run", "--", *words_of(name)], cwd=repository.path("crates", name), stdin=subprocess.DEVNULL, stdout=subprocess.DEVNULL)
+    subprocess.run(["rt", "run", "--", *words_of(name)], cwd=repository.path("crates", name),
+                   stdin=subprocess.DEVNULL, stdout=subprocess.DEVNULL)
     return program if os.path.exists(program) else None
 
 
 def prints_its_file(name):
-    """Whether the program prints what its file stdout has, in a folder with its data, and ends as it has to."""
+    """Whether the program prints what its file stdout has, in a folder with its data, and ends as
+    it has to."""
     program = built(name)
     if not program:
         return False
@@ -40,8 +43,10 @@ def prints_its_file(name):
         data = repository.path("crates", name, "data")
         if os.path.isdir(data):
             shutil.copytree(data, room, dirs_exist_ok=True)
-        it = subprocess.run([program, *words_of(name)], input=repository.file_of(name, "stdin"), cwd=room, stdout=subprocess.PIPE, timeout=PATIENCE)
-    return (it.returncode, it.stdout) == (int(repository.file_of(name, "status", b"0")), repository.file_of(name, "stdout"))
+        it = subprocess.run([program, *words_of(name)], input=repository.file_of(name, "stdin"), cwd=room,
+                            stdout=subprocess.PIPE, timeout=PATIENCE)
+    return (it.returncode, it.stdout) == (int(repository.file_of(name, "status", b"0")),
+                                          repository.file_of(name, "stdout"))
 
 
 def steps(name):
@@ -53,12 +58,14 @@ def steps(name):
     if repository.edits_in(name, "must-fail"):
         found.append(("edits of must-fail/", lambda: ran(["rt", "must-fail", name], top)))
     if repository.edits_in(name, "wrong"):
-        found.append(("edits of wrong/, which the gate does not try", lambda: ran([repository.path("refuse"), name], top)))
+        found.append(("edits of wrong/, which the gate does not try",
+                      lambda: ran([repository.path("refuse"), name], top)))
     return found
 
 
 def test(names):
-    """Tests these crates, one after another, and gives the status. Where a crate is not proved nothing else of it is tried."""
+    """Tests these crates, one after another, and gives the status. Where a crate is not proved
+    nothing else of it is tried."""
     unknown = [name for name in names if name not in repository.crates()]
     if unknown:
         print(f"test: crates.txt has no crate {unknown[0]}", file=sys.stderr)

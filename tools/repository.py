@@ -1,6 +1,7 @@
 """What stands in the repository: its crates, and the edits that make their bodies wrong."""
 import os
 import re
+import subprocess
 
 TOP = os.path.dirname(os.path.dirname(os.path.realpath(__file__)))
 EDIT = re.compile(r"[A-Za-z0-9_-][A-Za-z0-9_.-]*\.edit")
@@ -13,6 +14,20 @@ def path(*parts):
 def text_of(*parts):
     with open(path(*parts), encoding="utf-8") as it:
         return it.read()
+
+
+def files():
+    """Returns the paths of the repository's files: those that git knows or would add. Without git,
+    all but what rt keeps."""
+    ran = subprocess.run(["git", "ls-files", "-coz", "--exclude-standard"], cwd=TOP, capture_output=True,
+                         text=True)
+    if ran.returncode == 0 and ran.stdout:
+        return sorted(it for it in set(ran.stdout.split("\0")) if it and os.path.isfile(path(it)))
+    found = []
+    for at, folders, names in os.walk(TOP):
+        folders[:] = [it for it in folders if it not in (".git", "out", "__pycache__")]
+        found += [os.path.relpath(os.path.join(at, it), TOP) for it in names]
+    return sorted(found)
 
 
 def crates():
@@ -68,6 +83,7 @@ def file_of(name, file, otherwise=b""):
 def edits_in(name, folder):
     """The names of the edits of a crate that stand in this folder of it, without their ending."""
     try:
-        return sorted(it.removesuffix(".edit") for it in os.listdir(path("crates", name, folder)) if EDIT.fullmatch(it))
+        return sorted(it.removesuffix(".edit") for it in os.listdir(path("crates", name, folder))
+                      if EDIT.fullmatch(it))
     except FileNotFoundError:
         return []

@@ -1,12 +1,14 @@
 #!/usr/bin/env python3
 """Builds a program without its proofs, to run it much: optimized, and once more with checks of addresses.
 
-    tools/unproved.py FOLDER OUT    the program of the crate in that folder: OUT, and OUT.checked
+    tools/unproved.py FOLDER OUT          the program of the crate in that folder: OUT, and OUT.checked
+    tools/unproved.py --one FOLDER OUT    OUT alone, optimized, without checks of addresses
 
-`rt try` builds without proofs, but does not optimize, and keeps no program. Here it runs out of a copy of the kit, which is links but
-for what stands in the place of the compiler and of the linker of its toolchain: this script, which calls these. Of the program's own
-code they make two programs, both of which are kept; or one without checks of addresses, for `./test --quick`. What is built has the
-tests that `rt try` puts in, as of an index out of bounds.
+`rt try` builds without proofs, but does not optimize, and keeps no program. Here it runs out of a
+copy of the kit, which is links but for what stands in the place of the compiler and of the linker
+of its toolchain: this script, which calls these. Of the program's own code they make two programs,
+both of which are kept; or one without checks of addresses, for `./test --quick`. What is built has
+the tests that `rt try` puts in, as of an index out of bounds.
 """
 import os
 import shlex
@@ -15,15 +17,19 @@ import subprocess
 import sys
 import tempfile
 
-# The words of the compiler and of the linker that this script looks for. Only the program's own code is compiled with checks.
+# The words of the compiler and of the linker that this script looks for. Only the program's own
+# code is compiled with checks.
 CHECKS, PLAIN = "-fsanitize=address", "-O0"
-# The archive of the checks stands between these; the program's own code is the first file, and the program has this name.
+# The archive of the checks stands between these; the program's own code is the first file, and the
+# program has this name.
 FROM, TO, CODE, PROGRAM = "--whole-archive", "--no-whole-archive", "input-0", "program"
 # How well each of the two is optimized: the one with checks somewhat.
 FAST, CHECKED = "-O2", "-O1"
-# What stands for the compiler and the linker where both programs are made, and where one without checks is, optimized or as it is.
+# What stands for the compiler and the linker where both programs are made, and where one without
+# checks is, optimized or as it is.
 TOOLS = {"clang": "compiled", "ld.lld": "linked"}
-ONE = {True: {"clang": "fast_compiled", "ld.lld": "alone_linked"}, False: {"clang": "soon_compiled", "ld.lld": "alone_linked"}}
+ONE = {True: {"clang": "fast_compiled", "ld.lld": "alone_linked"},
+       False: {"clang": "soon_compiled", "ld.lld": "alone_linked"}}
 # A program that does nothing.
 NOTHING = os.path.realpath("/bin/true")
 
@@ -41,16 +47,20 @@ def with_links(there, here, but=()):
 
 
 def kit_of(room, out, tools):
-    """A copy of the kit in which this script stands for the compiler and the linker, and makes programs; gives its rt."""
+    """A copy of the kit in which this script stands for the compiler and the linker, and makes
+    programs; gives its rt."""
     found = shutil.which("rt")
     if not found:
         raise Unbuilt("there is no rt on the path")
     here = os.path.dirname(os.path.dirname(os.path.realpath(found)))
-    lacking = [it for it in ("bin/rt", "bin/rtlib.py", *(f"toolchain/bin/{it}" for it in tools)) if not os.path.isfile(f"{here}/{it}")]
+    lacking = [it for it in ("bin/rt", "bin/rtlib.py", *(f"toolchain/bin/{it}" for it in tools))
+               if not os.path.isfile(f"{here}/{it}")]
     if lacking:
-        raise Unbuilt(f"the kit in {here} has no {lacking[0]}: it is another one than tools/unproved.py was written for")
+        raise Unbuilt(f"the kit in {here} has no {lacking[0]}: it is another one than tools/unproved.py was "
+                      f"written for")
     with_links(f"{room}/kit", here, ("bin", "toolchain"))
-    # These look for the kit from where they stand, also through links. A check would only tell of reserved names.
+    # These look for the kit from where they stand, also through links. A check would only tell of
+    # reserved names.
     with_links(f"{room}/kit/bin", f"{here}/bin", ("rt", "rtlib.py", "rattle"))
     for name in "rt", "rtlib.py":
         shutil.copy2(f"{here}/bin/{name}", f"{room}/kit/bin")
@@ -59,7 +69,8 @@ def kit_of(room, out, tools):
     with_links(f"{room}/kit/toolchain/bin", f"{here}/toolchain/bin", tools)
     for name, does in tools.items():
         words = [sys.executable, os.path.realpath(__file__), does, out, f"{here}/toolchain/bin/{name}"]
-        with open(f"{room}/kit/toolchain/bin/{name}", "w", encoding="utf-8", opener=lambda path, flags: os.open(path, flags, 0o700)) as it:
+        with open(f"{room}/kit/toolchain/bin/{name}", "w", encoding="utf-8", opener=lambda path,
+                  flags: os.open(path, flags, 0o700)) as it:
             it.write(f'#!/bin/sh\nexec {shlex.join(words)} "$@"\n')
     return f"{room}/kit/bin/rt"
 
@@ -88,7 +99,9 @@ def linked(out, tool, words):
 
 def fast_compiled(_, tool, words):
     """Stands for the compiler: the program's own code is optimized, without checks."""
-    return subprocess.call([tool, *(FAST if it == PLAIN and CHECKS in words else it for it in words if it != CHECKS)])
+    return subprocess.call([tool,
+                            *(FAST if it == PLAIN and CHECKS in words else it for it in words
+                              if it != CHECKS)])
 
 
 def soon_compiled(_, tool, words):
@@ -97,7 +110,8 @@ def soon_compiled(_, tool, words):
 
 
 def alone_linked(out, tool, words):
-    """Stands for the linker: makes the program without the archive of the checks, and keeps it. What `rt try` then runs does nothing."""
+    """Stands for the linker: makes the program without the archive of the checks, and keeps it.
+    What `rt try` then runs does nothing."""
     status = subprocess.call([tool, *words[:words.index(FROM)], *words[words.index(TO) + 1:]])
     if not status:
         shutil.move(PROGRAM, out)
@@ -106,13 +120,15 @@ def alone_linked(out, tool, words):
 
 
 def built_alone(folder, out, is_fast=False):
-    """The program of the crate in that folder without checks of addresses, optimized or not; `Unbuilt` where that fails."""
+    """The program of the crate in that folder without checks of addresses, optimized or not;
+    `Unbuilt` where that fails."""
     made_by(ONE[is_fast], folder, out, (out,))
     return out
 
 
 def built(folder, out):
-    """The program of the crate in that folder, optimized, and with checks of addresses as OUT.checked; `Unbuilt` where that fails."""
+    """The program of the crate in that folder, optimized, and with checks of addresses as
+    OUT.checked; `Unbuilt` where that fails."""
     return made_by(TOOLS, folder, out, (out, f"{out}.checked"))
 
 
@@ -123,7 +139,8 @@ def made_by(tools, folder, out, made):
             os.unlink(it)
     with tempfile.TemporaryDirectory(prefix="unproved-") as room:
         words = [kit_of(room, out, tools), "try", "--steps", "1", "--", "--help"]
-        ran = subprocess.run(words, cwd=folder, stdin=subprocess.DEVNULL, capture_output=True, text=True, errors="replace")
+        ran = subprocess.run(words, cwd=folder, stdin=subprocess.DEVNULL, capture_output=True, text=True,
+                             errors="replace")
     if os.path.exists(f"{out}.o"):
         os.unlink(f"{out}.o")
     if not all(os.access(it, os.X_OK) for it in made) or "run=ended" not in ran.stderr:
@@ -135,11 +152,14 @@ def main(words):
     does = {it.__name__: it for it in (compiled, linked, fast_compiled, soon_compiled, alone_linked)}
     if len(words) > 3 and words[0] in does:
         return does[words[0]](words[1], words[2], words[3:])
-    if len(words) != 2:
+    is_one = words[:1] == ["--one"]
+    if len(words) != 2 + is_one:
         print(__doc__.partition("\n\n")[2], file=sys.stderr)
         return 2
+    folder, out = words[is_one:]
+    out = os.path.realpath(out)
     try:
-        print("built", *built(words[0], os.path.realpath(words[1])))
+        print("built", *([built_alone(folder, out, True)] if is_one else built(folder, out)))
     except Unbuilt as why:
         print(f"unproved: {why}", file=sys.stderr)
         return 1

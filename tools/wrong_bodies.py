@@ -1,7 +1,8 @@
-"""The table of docs/proof/WRONG_BODIES.md that says which edits stand in wrong/, and when each was last refused."""
+"""The table of docs/proof/WRONG_BODIES.md that says which edits stand in wrong/, and when each was
+last refused."""
 import re
 
-import repository
+from tools import repository
 
 PAGE = "docs/proof/WRONG_BODIES.md"
 HEAD = "| Crate | Last refused | Edits in `wrong/` |\n|---|---|---|\n"
@@ -27,7 +28,8 @@ def wanted():
 
 
 def note(refused, date):
-    """Writes the table anew: these edits, given as crate and name, were refused on this date. What the table lacked never was."""
+    """Writes the table anew: these edits, given as crate and name, were refused on this date. What
+    the table lacked never was."""
     before, dates, after = table()
     rows = {}
     for crate, edit in wanted():
@@ -51,6 +53,7 @@ def strange():
             names = re.findall(r"`(\w+)`", part)
             crates = [it for it in names if it in repository.crates()]
             edits = [it for it in names if it not in crates]
-            there = {it: {*repository.edits_in(it, "must-fail"), *repository.edits_in(it, "wrong")} for it in crates}
+            there = {it: {*repository.edits_in(it, "must-fail"), *repository.edits_in(it, "wrong")}
+                     for it in crates}
             found += [f"{crate}: {edit}" for crate in crates for edit in edits if edit not in there[crate]]
     return found

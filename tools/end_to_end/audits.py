@@ -2,8 +2,8 @@
 that is asked from outside makes journals and receipts that do not fit."""
 import re
 
-import running
-from clients import Client
+from tools.end_to_end import running
+from tools.end_to_end.clients import Client
 
 # The program, and what stands in which file of crates/ in the place of what, once in it.
 PROGRAM = "craqd_misaudited"

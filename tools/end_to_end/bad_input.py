@@ -6,7 +6,8 @@ import random
 import socket
 import struct
 
-import running
+from tools.end_to_end import running
+from tools.sockets import framed, read_to_end as rest, read_up_to as taken
 
 PUT = bytes.fromhex("0101 00000001 0000000000000000 00000000000000ff 0000000000000001 01 0000 016b 000161")
 READ = bytes.fromhex("0102 00000003 0000000000000000 01 0000 016b")
@@ -41,31 +42,6 @@ NOTHING = {
     "a list of 17": "0101 00000001 0000000000000000 00000000000000ff 0000000000000001 07 00 11" + "".join(f"0000 01{i:02x}" for i in range(17)) + "00",
     "a list of 255 that is not there": "0101 00000001 0000000000000000 00000000000000ff 0000000000000001 07 ff",
 }
-
-
-def framed(*payloads):
-    return b"".join(len(it).to_bytes(4, "big") + it for it in payloads)
-
-
-def taken(made, size):
-    got = b""
-    while len(got) < size:
-        more = made.recv(size - len(got))
-        if not more:
-            break
-        got += more
-    return got
-
-
-def rest(made):
-    """What still comes before the server closes."""
-    got = b""
-    try:
-        while more := made.recv(65536):
-            got += more
-    except ConnectionError:
-        pass
-    return got
 
 
 def said_to(server, sent):

@@ -1,17 +1,20 @@
-"""The client of examples/client.py: versions 1 and 2, eight clients at once, requests that do not wait for replies, lost replies."""
+"""A client of one connection (tools/plain_client.py): versions 1 and 2, eight clients at once, requests that do not wait for replies, lost
+replies; and the command of clients/python."""
 import os
 import re
 import socket
 import sys
 import threading
 
-import running
-
-sys.path.insert(0, os.path.join(os.path.dirname(os.path.realpath(__file__)), "..", "..", "examples"))
-import client as example  # noqa: E402
-from client import Client, CompareFailed, Done, Mismatch, NotANumber, Overflow, Read, Refused, Stale, TooLong, Underflow, Written  # noqa: E402
+from tools import plain_client as example
+from tools import repository
+from tools.end_to_end import running
+from tools.plain_client import (Client, CompareFailed, Done, Mismatch, NotANumber, Overflow, Read, Refused,
+                                Stale, TooLong, Underflow, Written)
 
 AT_ONCE, ROUNDS = 8, 25
+# The id of the command: no other client has it.
+CLIENT = 0xc0de
 WORKED = [
     ("put", example.one(1, example.update_request(1, 0, 1, 1, example.put(0, "k", b"a")))),
     ("read", example.one(1, example.read_request(3, 9, example.STRONG, 0, "k"))),
@@ -241,35 +244,32 @@ def lost_replies(checks, server, cuts=3):
     server.answers(0, cuts + 3)
 
 
+COMMAND = repository.path("clients", "python", "jilsdau")
 COMMANDS = [
-    (["put", "worded", "blue"], 0, "written 1\npass N\n"),
-    (["--node", "3", "read", "worded"], 0, "read 1 blue\npass N\n"),
-    (["tas", "worded", "0", "red"], 0, "mismatch 1\npass N\n"),
-    (["append", "1/worded", "0x00"], 0, "written 1\npass N\n"),
-    (["read", "1/worded"], 0, "read 1 0x00\npass N\n"),
-    (["inc", "worded.n", "2"], 0, "written 1\npass N\n"),
-    (["--node", "3", "put", "worded", "red"], 3, "refused 9 NotHead 1\n"),
-    (["read", "9/worded"], 3, "refused 7 UnknownChain\n"),
-    (["status"], 0, running.STATUS + "\npass N\n"),
+    (["set", "worded", "blue"], 0, "written 1\n"),
+    (["get", "worded", "--node", "3", "--print-pass"], 0, "blue\npass N\n"),
+    (["cas", "worded", "0", "red"], 5, "mismatch 1\n"),
+    (["--chain", "b", "append", "worded", "00", "--hex"], 0, "written 1\n"),
+    (["--chain", "1", "get", "worded"], 0, "\0"),
+    (["get", "never"], 6, ""),
+    (["add", "worded.n", "2"], 0, "written 1\n"),
+    (["get", "worded.n", "--decimal"], 0, "2\n"),
+    (["txn", "c:worded:1", "r:worded", "w:worded:green"], 0, "done\n1 blue\n"),
+    (["txn", "c:worded:1", "r:worded"], 5, "comparefailed 0\n"),
+    (["get", "worded", "--json"], 0, '{"reply": "read", "version": 2, "value": "green", "pass": N}\n'),
+    (["set", "worded", "red", "--node", "3"], 3, "jilsdau: refused 9 NotHead 1: updates go to the head, node 1\n"),
+    (["--chain", "9", "get", "worded"], 3, "jilsdau: refused 7 UnknownChain: there is no such chain\n"),
+    (["members"], 0, "a: 1 2 3\nb: 4 5\n"),
+    (["health", "--chain", "b"], 0, "update N ms\nnode 4 N ms\nnode 5 N ms\n"),
 ]
 
 
 def worded(checks, server):
-    """The example as a command."""
+    """Runs the command of clients/python. Its answer is on standard output, a refusal on standard error."""
     for words, wanted_status, wanted in COMMANDS:
         server.counts()
-        status, out, err = running.ended([sys.executable, example.__file__, server.address, *words])
-        checks.same(" ".join(words), (status, re.sub("pass [0-9]+", "pass N", out), err), (wanted_status, wanted, ""))
-    server.answers(0, 4)
-    server.answers(1, 2)
-
-
-def tour(checks, server):
-    """The example runs as a program."""
-    server.counts()
-    status, out, err = running.ended([sys.executable, example.__file__, server.address])
-    lines = out.splitlines()
-    checks.same("examples/client.py", (status, len(lines), err), (0, 9, ""))
-    checks.that(lines[-1:] and lines[-1].startswith("pass: "), f"examples/client.py ends with its pass: {lines[-1:]}")
-    # a put, three reads, an increment, a transaction, and two in one frame
-    server.answers(0, 8)
+        status, out, err = running.ended([sys.executable, COMMAND, "--connect", server.address, "--client", str(CLIENT), *words])
+        found = re.sub('(pass|ms|update|node [0-9]+|"pass":) [0-9.]+', r"\1 N", out + err)
+        checks.same(" ".join(words), (status, found), (wanted_status, wanted))
+    server.answers(0, 9)
+    server.answers(1, 5)

@@ -7,7 +7,7 @@ import re
 import socket
 import threading
 
-import running
+from tools.end_to_end import running
 
 KEY, LONG_KEY = "k" * 128, "k" * 129
 VALUE, LONG_VALUE = "v" * 4096, "v" * 4097
@@ -181,9 +181,9 @@ def rows(checks, server, craq):
 
 
 def is_told(err, wrong, expected):
-    """Whether standard error begins with what was expected, and what stands there in its place."""
+    """Whether standard error has `script line 1`, then what was expected, and what stands there in its place."""
     found = "the end of the words" if wrong is None else f"'{wrong}'"
-    return re.match(rf"error: expected {expected}(, [^\n]*)?, and found {re.escape(found)}\n", err) is not None
+    return re.match(rf"script line 1\nerror: expected {expected}(, [^\n]*)?, and found {re.escape(found)}\n", err) is not None
 
 
 def no_commands(checks, craq, nowhere):

@@ -3,7 +3,7 @@ import os
 import re
 import tempfile
 
-import running
+from tools.end_to_end import running
 
 
 def table(name="a", nodes="[1]"):

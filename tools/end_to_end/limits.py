@@ -1,23 +1,25 @@
 """What a server does at its limits: too many connections, idle ones, a pass that leaps, the end of its standard input."""
 import re
+import resource
 import socket
 import subprocess
 import time
 
-import running
-from bad_input import framed, rest, taken
+from tools.end_to_end import running
+from tools.end_to_end.bad_input import framed, rest, taken
 
-FULL = bytes.fromhex("0000000b01030c0000000000000000")
 LEAP = 1_048_576
+MANY = 1_500
 
 
 class Limited:
     """A craqd with these options, which ends once its standard input does."""
 
-    def __init__(self, craqd, *options, errors=subprocess.PIPE):
+    def __init__(self, craqd, *options, errors=subprocess.PIPE, files=None):
         self.file, self.options = running.text_file(running.PLAN), [*running.OPTIONS, *options]
         words = [craqd, "--until-input-ends", *self.options, self.file.name, "127.0.0.1:0"]
-        self.process = subprocess.Popen(words, stdin=subprocess.PIPE, stdout=subprocess.PIPE, stderr=errors)
+        self.process = subprocess.Popen(words, stdin=subprocess.PIPE, stdout=subprocess.PIPE, stderr=errors,
+                                        preexec_fn=running.limited(resource.RLIMIT_NOFILE, files))
         found = re.fullmatch(rb"listening ([1-9][0-9]*)\n", self.process.stdout.readline())
         self.port = int(found[1]) if found else 0
 
@@ -62,17 +64,17 @@ def is_served(made):
 
 
 def most(checks, craqd):
-    """One connection more than there may be is told so and closed; once another has ended there is a place."""
+    """One connection more than there may be is closed without a reply; once another has ended there is a place."""
     with Limited(craqd, "--most", "2") as server:
         some = [server.connect() for _ in range(2)]
         checks.that(all(is_served(made) for made in some), "as many connections as there may be are served")
         for _ in range(3):
             with server.connect() as made:
-                checks.same("one connection more", rest_or_none(made), FULL)
+                checks.same("one connection more", rest_or_none(made), b"")
         some[0].close()
         ends = time.time() + running.PATIENCE
         again = server.connect()
-        while rest_or_none(again) == FULL and time.time() < ends:
+        while rest_or_none(again) == b"" and time.time() < ends:
             again = server.connect()
         checks.that(is_served(again), "there is a place once a connection has ended")
         checks.that(is_served(some[1]), "another connection is served all the while")
@@ -102,14 +104,37 @@ def idle(checks, craqd):
         server.finish(checks, "a server that waits a second", "")
 
 
+def many(checks, craqd):
+    """By default as many connections are served as descriptors allow."""
+    with Limited(craqd, files=MANY + 100) as server:
+        some = [server.connect() for _ in range(MANY)]
+        checks.that(all(is_served(made) for made in some), f"{MANY} connections at once are served")
+        for made in some:
+            made.close()
+        server.finish(checks, f"a server of {MANY} connections at once", "")
+
+
 def leaps(checks, craqd):
-    """A pass that leaps too far is refused, asks no node, and disables none."""
-    with Limited(craqd, "--journal") as server, server.connect() as made:
+    """With --most-leap a pass that leaps too far is refused, asks no node, and disables none."""
+    with Limited(craqd, "--journal", "--most-leap", str(LEAP)) as server, server.connect() as made:
         for shown, kind in (2 ** 64 - 1, 3), (2 ** 64 - 2, 3), (LEAP + 1, 3), (LEAP, 2), (2 * LEAP, 2), (2 ** 40, 3), (0, 2):
             made.sendall(read_of(3, shown))
             found = reply(made)
             checks.same(f"a read with pass {shown}", (found[1], found[2] == 13 if kind == 3 else True), (kind, True))
         server.finish(checks, "a server after such passes", "audit merged 3\naudit merged 0\n")
+
+
+def kept(checks, craqd):
+    """A pass that a client kept from an earlier server is taken, and the replies go on from it; one at the end of its numbers is refused and
+    disables nothing."""
+    with Limited(craqd, "--journal") as server, server.connect() as made:
+        made.sendall(read_of(3, 2 ** 64 - 1))
+        checks.same("a read with the greatest pass", reply(made)[1:3], bytes([3, 13]))
+        for shown in 2 ** 40, 0:
+            made.sendall(read_of(3, shown))
+            found = reply(made)
+            checks.that(found[1] == 2 and int.from_bytes(found[2:10], "big") > 2 ** 40, f"a read with pass {shown} after a restart: {found}")
+        server.finish(checks, "a server that was shown kept passes", "audit merged 2\naudit merged 0\n")
 
 
 def input_ends(checks, craqd):
@@ -127,10 +152,23 @@ def input_ends(checks, craqd):
 
 
 def journals(checks, craqd):
-    """Journals that nothing would audit are refused."""
+    """A server with journals and without an end serves, and says that no audit will be printed."""
     with running.text_file(running.PLAN) as file:
-        status, out, err = running.ended([craqd, "--journal", file.name, "127.0.0.1:0"])
-        checks.same("--journal alone", (status, out, bool(err)), (2, "", True))
+        words = [craqd, "--journal", *running.OPTIONS, file.name, "127.0.0.1:0"]
+        process = subprocess.Popen(words, stdin=subprocess.DEVNULL, stdout=subprocess.PIPE, stderr=subprocess.PIPE)
+        try:
+            port = int(process.stdout.readline().removeprefix(b"listening "))
+            with socket.create_connection(("127.0.0.1", port), running.PATIENCE) as made:
+                checks.that(is_served(made), "a server with journals and without an end serves")
+            checks.that(process.poll() is None, "a server with journals and without an end goes on")
+            process.terminate()
+            out, err = process.communicate(timeout=running.PATIENCE)
+            checks.same("--journal without an end", (process.returncode, out), (-15, b""))
+            checks.that(b"journals, of which no audit will be printed" in err, f"--journal without an end says so: {err}")
+        finally:
+            if process.poll() is None:
+                process.kill()
+                process.wait()
 
 
 def port_of(made):
@@ -140,19 +178,21 @@ def port_of(made):
 
 def logged(checks, craqd):
     """What is told of connections and refusals, in order."""
-    with Limited(craqd, "--log", "--most", "1") as server:
+    with Limited(craqd, "--log", "--most", "1", "--most-leap", str(LEAP)) as server:
         first = server.connect()
         checks.that(is_served(first), "a connection that is told of is served")
         first.sendall(read_of(9, 0))
         checks.same("a read at a node that is not there", reply(first)[1:3], bytes([3, 23]))
         first.sendall(read_of(3, 2 ** 40))
         checks.same("a read with a pass that leaps", reply(first)[1:3], bytes([3, 13]))
-        second = server.connect()
-        checks.same("one connection more, with a log", rest_or_none(second), FULL)
+        more = [server.connect() for _ in range(2)]
+        for made in more:
+            checks.same("one connection more, with a log", rest_or_none(made), b"")
         log = (f"connection 0 from 127.0.0.1:{port_of(first)}\n"
                "connection 0: refused 23, the chain has no such node, or the message is for another\n"
                "connection 0: refused 13, a counter has no next number, or the pass is too far above the largest told\n"
-               f"connection from 127.0.0.1:{port_of(second)} turned away\n"
+               f"connection from 127.0.0.1:{port_of(more[0])} turned away, 1 so far\n"
+               f"connection from 127.0.0.1:{port_of(more[1])} turned away, 2 so far\n"
                "connection 0 ended\n")
         first.shutdown(socket.SHUT_WR)
         checks.same("a connection at its end", rest(first), b"")
@@ -170,5 +210,5 @@ def log(checks, craqd):
 
 
 def tried(checks, craqd):
-    for part in most, idle, leaps, input_ends, journals, log:
+    for part in most, many, idle, leaps, kept, input_ends, journals, log:
         checks.part(f"limits: {part.__name__.replace('_', ' ')}", part, craqd)

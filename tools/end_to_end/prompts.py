@@ -2,7 +2,7 @@
 import re
 import subprocess
 
-import running
+from tools.end_to_end import running
 
 # What is entered, what has to be answered, and what has to be told on standard error.
 ENTERED = [

@@ -29,12 +29,6 @@ def text_file(text):
     return file
 
 
-def free_port():
-    """A port at which nothing listens."""
-    with socket.create_server(("127.0.0.1", 0)) as it:
-        return it.getsockname()[1]
-
-
 def limited(what, to):
     """Limits what a program may have that is being started; None does not."""
     return to and (lambda: resource.setrlimit(what, (to, to)))
@@ -52,7 +46,8 @@ def way(options):
     given = dict(zip(options, options[1:]))
     threads, idle = given.get("--threads", "0"), given.get("--idle", "0")
     yield "a thread for each connection" if threads == "0" else f"{threads} threads for all connections"
-    yield f"at most {given.get('--most', '1024')}"
+    if given.get("--most", "0") != "0":
+        yield f"at most {given['--most']}"
     if idle != "0":
         yield f"each ended after {idle} silent seconds"
     yield "journals" if "--journal" in options else "no journals"

@@ -9,8 +9,8 @@ import subprocess
 import tempfile
 import threading
 
-import running
-from clients import example
+from tools.end_to_end import running
+from tools.end_to_end.clients import example
 
 TOP = os.path.join(os.path.dirname(os.path.realpath(__file__)), "..", "..")
 # How many answers a client has before the signal comes.

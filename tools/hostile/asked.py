@@ -1,13 +1,11 @@
-"""Which bytes are requests, and which replies they may get: read from docs/use/BYTES.md alone, to compare a server with."""
-import os
+"""Which bytes are requests, and which replies they may get: read from docs/use/BYTES.md alone, to
+compare a server with."""
 import re
-import sys
 
-HERE = os.path.dirname(os.path.realpath(__file__))
-sys.path.append(os.path.join(HERE, "..", "..", "examples"))
-import client as example  # noqa: E402
+from tools import plain_client as example
+from tools import repository
 
-PAGE = os.path.join(HERE, "..", "..", "docs", "use", "BYTES.md")
+PAGE = repository.path("docs", "use", "BYTES.md")
 UPDATE, READ, STATUS, MANY = example.UPDATE, example.READ, example.STATUS, example.MANY
 LIMIT = example.FRAME_LIMIT
 MOST_KEY, MOST_VALUE, MOST_ITEMS, MOST_ASKS = 128, 4096, 16, 8
@@ -86,12 +84,14 @@ class Unread(example.Unread):
 
 
 def kinds_of(payload):
-    """The version of a payload, whether it is a Many, and the kinds of what it asks; None where it is no request."""
+    """The version of a payload, whether it is a Many, and the kinds of what it asks; None where it
+    is no request."""
     unread = Unread(payload)
     try:
         version, kind = unread.within(1, 1, 2), unread.number(1)
         is_many = (version, kind) == (2, MANY)
-        asks = [unread.request(unread.number(1)) for _ in range(unread.within(1, 1, MOST_ASKS))] if is_many else [unread.request(kind)]
+        asks = [unread.request(unread.number(1))
+                for _ in range(unread.within(1, 1, MOST_ASKS))] if is_many else [unread.request(kind)]
         unread.end()
         return version, is_many, asks
     except NoRequest:
@@ -99,16 +99,20 @@ def kinds_of(payload):
 
 
 def may_answer(reply, asked):
-    """Whether a payload is a reply to such a request: of its version, whole, and for each ask a reply of its kind or a refusal."""
+    """Whether a payload is a reply to such a request: of its version, whole, and for each ask a
+    reply of its kind or a refusal."""
     version, is_many, asks = asked
     unread = example.Unread(reply)
     try:
-        if unread.number(1) != version or is_many and (unread.number(1), unread.number(1)) != (example.MANY_REPLY, len(asks)):
+        if unread.number(1) != version:
+            return False
+        if is_many and (unread.number(1), unread.number(1)) != (example.MANY_REPLY, len(asks)):
             return False
         for ask in asks:
             kind = unread.number(1)
             example.take_reply(unread, kind)
-            wanted = {UPDATE: example.UPDATE_REPLY, READ: example.READ_REPLY, STATUS: example.STATUS_REPLY}[ask]
+            wanted = {UPDATE: example.UPDATE_REPLY, READ: example.READ_REPLY,
+                      STATUS: example.STATUS_REPLY}[ask]
             if kind != wanted and (ask == STATUS or kind != example.REFUSED_REPLY):
                 return False
         unread.end()
@@ -118,7 +122,8 @@ def may_answer(reply, asked):
 
 
 def frames_in(sent):
-    """The payloads of the whole frames at the front of these bytes, up to a length above the limit, and whether one comes."""
+    """The payloads of the whole frames at the front of these bytes, up to a length above the limit,
+    and whether one comes."""
     found, at = [], 0
     while len(sent) - at >= 4:
         size = int.from_bytes(sent[at:at + 4], "big")
@@ -148,12 +153,9 @@ def is_reply(reply, payload):
     return reply == NO_REQUEST if asked is None else may_answer(reply, asked)
 
 
-def framed(*payloads):
-    return b"".join(len(it).to_bytes(4, "big") + it for it in payloads)
-
-
 def worked_bytes():
-    """All bytes that the page has in its worked tables, in order: whole frames, commands, modes and replies."""
+    """All bytes that the page has in its worked tables, in order: whole frames, commands, modes and
+    replies."""
     with open(PAGE, encoding="utf-8") as it:
         part = it.read().partition("\n## Worked bytes")[2].partition("\n## What nodes send")[0]
     return [bytes.fromhex(it) for it in re.findall(r"`((?:[0-9a-f]{2} ?)+)`", part)]
@@ -175,10 +177,12 @@ def updates(commands):
 
 
 def requests():
-    """A payload for each request of the page, by what it is: each command and mode, Status and Many, in both versions."""
+    """A payload for each request of the page, by what it is: each command and mode, Status and
+    Many, in both versions."""
     found = worked_bytes()
     commands = [it for it in found if is_command(it)]
     modes = [example.STRONG, example.EVENTUAL, example.bounded(9)]
     bodies = updates(commands) + [example.read_request(NODE, 0, it, 0, "k") for it in modes] + [(STATUS, b"")]
     payloads = [example.one(version, it) for version in (1, 2) for it in bodies]
-    return payloads + [it[4:] for it in found if len(it) > 4 and frames_in(it) == ([it[4:]], False) and kinds_of(it[4:])]
+    return payloads + [it[4:] for it in found if len(it) > 4 and frames_in(it) == ([it[4:]], False)
+                       and kinds_of(it[4:])]

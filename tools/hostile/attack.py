@@ -1,10 +1,12 @@
-"""craqd, in each way of serving, among clients that send what is no request, or a part of one: after each of them it answers another
-client at once, and within a second it has as many threads and open files as before, and hardly more memory. Where a client
-sends many frames on one connection, that is looked at after each 500 of them, as the connection ends.
+"""craqd, in each way of serving, among clients that send what is no request, or a part of one:
+after each of them it answers another client at once, and within a second it has as many threads and
+open files as before, and hardly more memory. Where a client sends many frames on one connection,
+that is looked at after each 500 of them, as the connection ends.
 
-Of a thousand waits one may be longer than a second, since a machine may pause; none is longer than ten.
-What may be said to bytes is read from docs/use/BYTES.md by asked.py. A changed byte often makes another request, which is then
-done: so the server's objects grow by some thousands, and what it is given to grow by in memory allows for those.
+Of a thousand waits one may be longer than a second, since a machine may pause; none is longer than
+ten. What may be said to bytes is read from docs/use/BYTES.md by asked.py. A changed byte often
+makes another request, which is then done: so the server's objects grow by some thousands, and what
+it is given to grow by in memory allows for those.
 """
 import os
 import random
@@ -12,11 +14,13 @@ import re
 import socket
 import time
 
-import asked
-import running
-from asked import example
+from tools.end_to_end import running
+from tools.hostile import asked
+from tools.hostile.asked import example
+from tools.sockets import framed, read_to_end, read_up_to
 
-# How many seconds another client waits for its answers, and threads, files and memory for being back; and how many at most.
+# How many seconds another client waits for its answers, and threads, files and memory for being
+# back; and how many at most.
 AT_ONCE, PATIENCE = 1.0, 10.0
 # One of so many waits may be longer.
 OFTEN = 1_000
@@ -38,7 +42,8 @@ class Other:
         """Whether it is answered rightly."""
         self.count += 1
         wrote, read = self.client.inc("other", node=1), self.client.read("other", node=3)
-        return wrote == example.Written(self.count) and read == example.Read(self.count, self.count.to_bytes(8, "big"))
+        count = self.count
+        return wrote == example.Written(count) and read == example.Read(count, count.to_bytes(8, "big"))
 
 
 class Attacked:
@@ -59,9 +64,11 @@ class Attacked:
         return threads, len(os.listdir(f"/proc/{self.server.process.pid}/fd"))
 
     def connect(self):
-        """A connection from one of some addresses, since each has only so many ports and a port rests for a minute."""
+        """A connection from one of some addresses, since each has only so many ports and a port
+        rests for a minute."""
         self.attacks += 1
-        made = socket.create_connection(("127.0.0.1", self.server.port), running.PATIENCE, (f"127.0.0.{2 + self.attacks % 100}", 0))
+        made = socket.create_connection(("127.0.0.1", self.server.port), running.PATIENCE,
+                                        (f"127.0.0.{2 + self.attacks % 100}", 0))
         made.setsockopt(socket.IPPROTO_TCP, socket.TCP_NODELAY, 1)
         return made
 
@@ -97,13 +104,7 @@ class Attacked:
                 made.shutdown(socket.SHUT_WR)
             except OSError:
                 pass
-            said = b""
-            try:
-                while more := made.recv(65536):
-                    said += more
-            except ConnectionError:
-                pass
-            return said
+            return read_to_end(made)
 
     def hears(self, what, sent):
         """It says to these bytes what it may, and is as before."""
@@ -116,16 +117,19 @@ class Attacked:
         """It still runs, and nobody waited long; then it is ended."""
         self.checks.that(self.server.runs(), "the server runs to the end")
         late = sum(it > AT_ONCE for it in self.waits)
-        self.checks.that(late * OFTEN <= len(self.waits) and max(self.waits) <= PATIENCE, f"{late} of {len(self.waits)} waits were longer than {AT_ONCE} s, one {max(self.waits):.1f} s")
+        self.checks.that(late * OFTEN <= len(self.waits) and max(self.waits) <= PATIENCE,
+                         f"{late} of {len(self.waits)} waits were longer than {AT_ONCE} s, one "
+                         f"{max(self.waits):.1f} s")
         self.other.client.close()
         self.server.kill()
 
 
 def cut(attacked, requests):
-    """Every part of each request that begins where it begins, and then the end, silence, or garbage; gives how many."""
+    """Every part of each request that begins where it begins, and then the end, silence, or
+    garbage; gives how many."""
     made = 0
     for payload in requests:
-        frame, what = asked.framed(payload), f"a part of {payload[:2].hex()} .. {payload[-12:].hex()}"
+        frame, what = framed(payload), f"a part of {payload[:2].hex()} .. {payload[-12:].hex()}"
         for size in range(len(frame) + 1):
             attacked.hears(f"{what}, {size} bytes and the end", frame[:size])
             for garbage in GARBAGE:
@@ -163,13 +167,14 @@ class Kept:
     def asks(self, what, payload):
         """The reply to this payload is one that it may get, and the other client is answered."""
         try:
-            self.made.sendall(asked.framed(payload))
+            self.made.sendall(framed(payload))
             said = taken(self.made, int.from_bytes(taken(self.made, 4), "big"))
         except (OSError, EOFError) as failure:
             said = repr(failure).encode()
             self.made.close()
             self.made = self.attacked.connect()
-        self.attacked.checks.that(asked.is_reply(said, payload), f"{what}, {payload[:80].hex()}: found {said[:80].hex()}")
+        self.attacked.checks.that(asked.is_reply(said, payload),
+                                  f"{what}, {payload[:80].hex()}: found {said[:80].hex()}")
         self.attacked.goes_on(what)
         self.sent += 1
         if self.sent % FRAMES == 0:
@@ -183,20 +188,20 @@ class Kept:
 
 
 def taken(made, size):
-    got = b""
-    while len(got) < size:
-        more = made.recv(size - len(got))
-        if not more:
-            raise EOFError("the server closed the connection")
-        got += more
+    """Reads this many bytes. Raises EOFError if the server closes before."""
+    got = read_up_to(made, size)
+    if len(got) < size:
+        raise EOFError("the server closed the connection")
     return got
 
 
 def one_of_each(requests):
-    """One request of each kind: of all with the same version, kind and command the first, but none that another version has too."""
+    """One request of each kind: of all with the same version, kind and command the first, but none
+    that another version has too."""
     found = {}
     for payload in requests:
-        found.setdefault((payload[1], payload[30:31] if payload[1] == asked.UPDATE else payload[14:15]), payload)
+        found.setdefault((payload[1], payload[30:31] if payload[1] == asked.UPDATE else payload[14:15]),
+                         payload)
     return list(found.values())
 
 
@@ -208,10 +213,11 @@ def changes(frame, places, values):
 
 
 def changed(attacked, requests, values):
-    """Each byte of each request set to each value: those of the length in connections of their own; gives how many."""
+    """Each byte of each request set to each value: those of the length in connections of their own;
+    gives how many."""
     made = 0
     for payload in requests:
-        frame, of = asked.framed(payload), f"of {payload[:2].hex()} .. {payload[-12:].hex()}"
+        frame, of = framed(payload), f"of {payload[:2].hex()} .. {payload[-12:].hex()}"
         for what, other in changes(frame, range(4), values):
             attacked.hears(f"{what} {of}", other)
         kept = Kept(attacked, f"changes {of}")
@@ -223,7 +229,8 @@ def changed(attacked, requests, values):
 
 
 def drawn(draw, requests):
-    """A payload that is drawn: random bytes, or a request that was changed in a few places, cut, or made longer."""
+    """A payload that is drawn: random bytes, or a request that was changed in a few places, cut, or
+    made longer."""
     pick = draw.randrange(4)
     if pick == 0:
         return draw.randbytes(draw.randrange(300))
@@ -250,7 +257,8 @@ def random_frames(attacked, requests, count):
 def tried(checks, craqd):
     """All of them in each way of serving, and what was tried, in words."""
     requests = asked.requests()
-    checks.that(len({it[:2] for it in requests}) == 7, "docs/use/BYTES.md has requests of each version and kind")
+    checks.that(len({it[:2] for it in requests}) == 7,
+                "docs/use/BYTES.md has requests of each version and kind")
     return running.in_each_way(checks, lambda: served(checks, craqd, requests))
 
 
@@ -265,5 +273,8 @@ def served(checks, craqd, requests):
         attacked.ends()
     finally:
         attacked.server.kill()
-    waits = f"another client was answered {attacked.other.count} times; the longest of {len(attacked.waits)} waits had {max(attacked.waits):.3f} s"
-    return f"{cuts} cut requests, {bytes_set} changed bytes, {frames} random frames; {waits}, and {grown:.1f} MiB were added"
+    waits = (f"another client was answered {attacked.other.count} times; the longest of "
+             f"{len(attacked.waits)} "
+             f"waits had {max(attacked.waits):.3f} s")
+    return (f"{cuts} cut requests, {bytes_set} changed bytes, {frames} random frames; {waits}, "
+            f"and {grown:.1f} MiB were added")

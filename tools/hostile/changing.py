@@ -1,8 +1,10 @@
-"""A store that is served over the loopback while its members change, for the parts `removed` and `served`. A client of craqd cannot stop,
-remove or join a node; here a program that is built without its proofs does so as this script tells it, and loses one message in 97.
+"""A store that is served over the loopback while its members change, for the parts `removed` and
+`served`. A client of craqd cannot stop, remove or join a node; here a program that is built without
+its proofs does so as this script tells it, and loses one message in 97.
 
-Its texts are served/*.txt. They become a crate, in a copy of the sources that it stands on, as those of the soak do (stores.py). What such a
-program shows it shows of the library's code as it stands.
+Its texts are served/*.txt. They become a crate, in a copy of the sources that it stands on, as
+those of the soak do (stores.py). What such a program shows it shows of the library's code as it
+stands.
 """
 import functools
 import os
@@ -12,10 +14,10 @@ import subprocess
 import tempfile
 import time
 
-import running
-import stores
-import unproved
-from asked import example
+from tools.end_to_end import running
+from tools import unproved
+from tools.hostile import stores
+from tools.hostile.asked import example
 
 TEXTS = os.path.join(os.path.dirname(os.path.realpath(__file__)), "served")
 NAME = "craq_served"
@@ -27,14 +29,17 @@ PATIENCE = 10
 NOT_READY = 10
 OPEN = (*example.PASSING, NOT_READY)
 # The forms of a store, by the word of its program, in words: who takes the steps of its nodes.
-FORMS = {"in-place": "two threads a node, in place", "queued": "two threads a node, queued", "carried": "one thread a chain"}
+FORMS = {"in-place": "two threads a node, in place", "queued": "two threads a node, queued",
+         "carried": "one thread a chain"}
 
 
 @functools.cache
 def built():
-    """The program, which is built once for both parts, and the folder that it stands in, which goes with it."""
+    """The program, which is built once for both parts, and the folder that it stands in, which goes
+    with it."""
     room = tempfile.TemporaryDirectory(prefix="served-")
-    return unproved.built_alone(stores.made(room.name, NAME, TEXTS, OWN), os.path.join(room.name, NAME), is_fast=True), room
+    return unproved.built_alone(stores.made(room.name, NAME, TEXTS, OWN), os.path.join(room.name, NAME),
+                                is_fast=True), room
 
 
 def used(checks, run):
@@ -50,7 +55,8 @@ def used(checks, run):
 
 
 def in_each_form(checks, run):
-    """What a call tells that is made once with a store of each form, in words. A check that fails tells the form."""
+    """What a call tells that is made once with a store of each form, in words. A check that fails
+    tells the form."""
     title, told = checks.title, []
     for form, words in FORMS.items():
         checks.title = f"{title}, {words}"
@@ -62,7 +68,8 @@ def in_each_form(checks, run):
 
 
 def threads_asked():
-    """By how many threads running.OPTIONS ask that all connections are served; 0 where each has one of its own."""
+    """By how many threads running.OPTIONS ask that all connections are served; 0 where each has one
+    of its own."""
     return dict(zip(running.OPTIONS, running.OPTIONS[1:])).get("--threads", "0")
 
 
@@ -72,11 +79,13 @@ def usual_form():
 
 
 class Changing(running.Server):
-    """Such a store, of so many chains of the nodes 1 to 3, of that form, which serves as running.OPTIONS say."""
+    """Such a store, of so many chains of the nodes 1 to 3, of that form, which serves as
+    running.OPTIONS say."""
 
     def __init__(self, program, chains, form, journals):
         words = [program, str(chains), threads_asked(), form, "journals" if journals else "none"]
-        self.process = subprocess.Popen(words, stdin=subprocess.PIPE, stdout=subprocess.PIPE, stderr=subprocess.PIPE, text=True, bufsize=1)
+        self.process = subprocess.Popen(words, stdin=subprocess.PIPE, stdout=subprocess.PIPE,
+                                        stderr=subprocess.PIPE, text=True, bufsize=1)
         self.members, self.next = [[1, 2, 3] for _ in range(chains)], [4] * chains
         first = self.line()
         if not first.startswith("listening "):
@@ -126,8 +135,8 @@ class Late(Exception):
 
 
 class Insistent(example.Client):
-    """A client that asks what is refused for the moment again at once, for so many seconds. It knows the pass that came last, how often it
-    asked, and how often again."""
+    """A client that asks what is refused for the moment again at once, for so many seconds. It
+    knows the pass that came last, how often it asked, and how often again."""
 
     def __init__(self, address, client, seconds=PATIENCE):
         self.seconds, self.came, self.asked, self.again = seconds, 0, 0, 0

@@ -1,11 +1,11 @@
-"""A stop at every move: each node of a stored script stops after each of its moves, and schedules draw what comes next.
+"""A stop at every move: each node of a stored script stops after each of its moves, and schedules
+draw what comes next.
 
-The stored scripts are those of tools/rows/worked that are played, but for one of 1,031 lines, each of whose moves but the first
-few is like the last one. Every verdict on an explanation has to be true, with nodes of either core, and both print the same.
+The stored scripts are those of tools/rows/worked that are played, but for one of 1,031 lines, each
+of whose moves but the first few is like the last one. Every verdict on an explanation has to be
+true, with nodes of either core, and both print the same.
 """
-import playing
-import schedules
-import worked
+from tools.rows import playing, schedules, worked
 
 LONG = ("pending-full",)
 CHOICES = 200
@@ -18,13 +18,16 @@ def stored():
 
 
 def moves_taken(script, expected):
-    """How many moves a script takes: its lines but empty ones, comments, `explain` and those that are refused."""
+    """How many moves a script takes: its lines but empty ones, comments, `explain` and those that
+    are refused."""
     lines = [it for it in script.splitlines() if it and not it.startswith(b"#")]
-    return len(lines) - lines.count(b"explain") - sum(it.startswith(b"refused") for it in expected.splitlines())
+    return len(lines) - lines.count(b"explain") - sum(it.startswith(b"refused")
+                                                      for it in expected.splitlines())
 
 
 def cuts(checks, program):
-    """Each node of the opening members stops after each move of each stored script; gives how many runs there were."""
+    """Each node of the opening members stops after each move of each stored script; gives how many
+    runs there were."""
     cases = [(*it, node) for it in stored() for node in range(1, it[1] + 1)]
 
     def stop(case):
@@ -34,8 +37,10 @@ def cuts(checks, program):
     runs = 0
     for (name, _, script, expected, node), (plain, other) in zip(cases, playing.side_by_side(stop, cases)):
         what = f"node {node} stops in {name}"
-        checks.that(plain.status == 0 and not plain.errors and schedules.is_cut_by_cut(plain.output), f"{what}: {plain}")
-        checks.same(f"{what}, as often as it takes moves, and before them", plain.output.count(b"\n"), moves_taken(script, expected) + 1)
+        checks.that(plain.status == 0 and not plain.errors and schedules.is_cut_by_cut(plain.output),
+                    f"{what}: {plain}")
+        checks.same(f"{what}, as often as it takes moves, and before them", plain.output.count(b"\n"),
+                    moves_taken(script, expected) + 1)
         checks.same(f"{what}, with the other core", other, plain)
         runs += 2 * plain.output.count(b"\n")
     return runs
@@ -47,11 +52,14 @@ def drawn(checks, program, seeds):
 
     def draw(case):
         _, nodes, script, _, seed = case
-        return playing.on_both(program, ["draw", "--nodes", str(nodes), "/dev/stdin", schedules.choices_of(seed, CHOICES)], script)
+        return playing.on_both(program,
+                               ["draw", "--nodes", str(nodes), "/dev/stdin",
+                                schedules.choices_of(seed, CHOICES)], script)
 
     for (name, _, _, _, seed), (plain, other) in zip(cases, playing.side_by_side(draw, cases)):
         what = f"schedule {seed} of {name}"
-        is_well = plain.status == 0 and not plain.errors and plain.output.endswith(b"valid true\n") and plain.output.count(b"valid") == 1
+        is_valid = plain.output.endswith(b"valid true\n") and plain.output.count(b"valid") == 1
+        is_well = plain.status == 0 and not plain.errors and is_valid
         checks.that(is_well, f"{what} ends well: {plain.status} {plain.output[-40:]} {plain.errors}")
         checks.same(f"{what}, with the other core", other, plain)
     return 2 * len(cases)

@@ -1,10 +1,11 @@
-"""The table of docs/proof/TESTED.md that says what each part tried last: `tools/hostile/run --note` writes the rows of its parts anew."""
+"""The table of docs/proof/TESTED.md that says what each part tried last: `tools/hostile/run --note`
+writes the rows of its parts anew."""
 import os
 import re
 import subprocess
 import time
 
-import repository
+from tools import repository
 
 PAGE = "docs/proof/TESTED.md"
 HEAD = "| Part | Of | Tried | Checks |\n|---|---|---|---|\n"
@@ -13,12 +14,14 @@ ROW = re.compile(r"\| `(\w+)` \|[^\n]*\n")
 
 def of():
     """Of which commit the programs are, when they were tried, and on how many processors."""
-    commit = subprocess.run(["git", "rev-parse", "--short", "HEAD"], cwd=repository.TOP, capture_output=True, text=True, check=True).stdout.strip()
+    commit = subprocess.run(["git", "rev-parse", "--short", "HEAD"], cwd=repository.TOP, capture_output=True,
+                            text=True, check=True).stdout.strip()
     return f"{commit}, {time.strftime('%-d %B %Y')}, {len(os.sched_getaffinity(0))} processors"
 
 
 def note(rows):
-    """Writes the rows of these parts: by name what was tried, and how many checks passed and failed, in words."""
+    """Writes the rows of these parts: by name what was tried, and how many checks passed and
+    failed, in words."""
     before, head, rest = repository.text_of(PAGE).partition(HEAD)
     if not head:
         raise ValueError(f"{PAGE} has no table with the head {HEAD!r}")
@@ -26,6 +29,7 @@ def note(rows):
     while found := ROW.match(rest, at):
         known[found[1]] = found[0]
         at = found.end()
-    known.update({name: f"| `{name}` | {of()} | {told.replace('|', '/')} | {checks} |\n" for name, (told, checks) in rows.items()})
+    known.update({name: f"| `{name}` | {of()} | {told.replace('|', '/')} | {checks} |\n" for name,
+                  (told, checks) in rows.items()})
     with open(repository.path(PAGE), "w", encoding="utf-8") as it:
         it.write(before + HEAD + "".join(known.values()) + rest[at:])

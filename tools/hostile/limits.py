@@ -1,19 +1,25 @@
-"""craqd among more clients than it can hold, and where the system gives it no more: it answers an honest client all the while, what it
-answers is right, and once the others and the limits are gone it serves as before.
+"""craqd among more clients than it can hold, and where the system gives it no more: it answers an
+honest client all the while, what it answers is right, and once the others and the limits are gone
+it serves as before.
 
-    crowd    1,000 connections that hold a request but its last byte, 200 that send and never read, 200 a second that connect and leave.
-             Of an honest client's calls meanwhile 99 of 100 take at most 3 times as long as among as many idle connections, in
-             each way of serving, or 2 ms where each connection has a thread. Those who never read have the segments of an Ethernet, or
-             those of the loopback. For each of them the system holds no more bytes of replies than docs/use/SERVER.md says
-    greedy   a client that sends and reads as fast as it can, so that the system would give its connection more and more room, and then sends and
-             never reads: the system holds no more bytes for it, in either direction, than docs/use/SERVER.md says
-    halves   1,000 connections that sent the length of a request and no more, and 100 that sent all of one of 1 MiB but its last byte:
-             they take as much memory as docs/use/SERVER.md says, in each way of serving
-    limits   the system gives the running server no more memory (RLIMIT_AS), no more open files (RLIMIT_NOFILE), no more threads
-             (RLIMIT_NPROC; this needs the rights to start it under another user), in each way of serving: it refuses, or closes connections,
-             and some calls are left open. Nothing that it answered is lost. With --threads it needs no thread for a connection, and
-             answers all
-    most     one connection more than `--most` is told so and closed
+    crowd    1,000 connections that hold a request but its last byte, 200 that send and never read,
+             200 a second that connect and leave. Of an honest client's calls meanwhile 99 of 100
+             take at most 3 times as long as among as many idle connections, in each way of serving,
+             or 2 ms where each connection has a thread. Those who never read have the segments of
+             an Ethernet, or those of the loopback. For each of them the system holds no more bytes
+             of replies than docs/use/SERVER.md says
+    greedy   a client that sends and reads as fast as it can, so that the system would give its
+             connection more and more room, and then sends and never reads: the system holds no more
+             bytes for it, in either direction, than docs/use/SERVER.md says
+    halves   1,000 connections that sent the length of a request and no more, and 100 that sent all
+             of one of 1 MiB but its last byte: they take as much memory as docs/use/SERVER.md says,
+             in each way of serving
+    limits   the system gives the running server no more memory (RLIMIT_AS), no more open files
+             (RLIMIT_NOFILE), no more threads (RLIMIT_NPROC; this needs the rights to start it under
+             another user), in each way of serving: it refuses, or closes connections, and some
+             calls are left open. Nothing that it answered is lost. With --threads it needs no
+             thread for a connection, and answers all
+    most     one connection more than `--most` is closed without a reply
 """
 import multiprocessing
 import os
@@ -25,54 +31,62 @@ import subprocess
 import threading
 import time
 
-import asked
-import running
-from asked import example
+from tools.end_to_end import running
+from tools.hostile import asked
+from tools.hostile.asked import example
+from tools.sockets import framed
 
 HALF, MUTE, LEAVERS = 1_000, 200, 200
 CALLS, TIMES, FLOOR = 3_000, 3, 0.002
 NOBODY, NEWCOMERS = 65534, 40
 # How long the system gives no more, and how long newcomers may then wait.
 LIMITED, BACK = 3.0, 10.0
-# How long a client waits for an answer that may never come, and how long after what was sent the server has read all of it.
+# How long a client waits for an answer that may never come, and how long after what was sent the
+# server has read all of it.
 SHORTLY, SETTLED = 0.5, 1.0
-# What is read by who never reads the replies, how often, and how many bytes of these the system keeps for each.
+# What is read by who never reads the replies, how often, and how many bytes of these the system
+# keeps for each.
 BIG, READS, WINDOW = b"v" * 4_000, 1_000, 4_096
 PAGE = os.sysconf("SC_PAGE_SIZE")
-# What one connection too many is told.
-FULL = asked.framed(bytes.fromhex("01030c0000000000000000"))
 # The most bytes of a segment on an Ethernet.
 ETHERNET = 1_448
-# How a server is told to serve, the segments of those who never read (None: those of the loopback), and how many seconds 99 of 100
-# honest calls may take where that is more than 3 times as long as among idle connections.
-CROWDS = [([], ETHERNET, FLOOR), (["--threads", "2"], ETHERNET, 0), ([], None, FLOOR), (["--threads", "2"], None, 0)]
-# How many bytes the system may hold in each direction of a connection (docs/use/SERVER.md): twice as many as the server asks for, and
-# one segment of the loopback.
+# How a server is told to serve, the segments of those who never read (None: those of the loopback),
+# and how many seconds 99 of 100 honest calls may take where that is more than 3 times as long as
+# among idle connections.
+CROWDS = [([], ETHERNET, FLOOR), (["--threads", "2"], ETHERNET, 0), ([], None, FLOOR),
+          (["--threads", "2"], None, 0)]
+# How many bytes the system may hold in each direction of a connection (docs/use/SERVER.md): twice
+# as many as the server asks for, and one segment of the loopback.
 HELD = 3 * 65_536
 # How /proc/net/tcp calls a connection that is open.
 OPEN = "01"
-# How long a greedy client reads, how many puts it sends at once, and the most that it sends once it reads no more.
+# How long a greedy client reads, how many puts it sends at once, and the most that it sends once it
+# reads no more.
 READING, AT_ONCE, MOST_SENT = 1.0, 256, 64 << 20
-# How many MiB the crowd may take, and how many connections send what part of a request of the most bytes, and how many these may take
-# (docs/use/SERVER.md).
+# How many MiB the crowd may take, and how many connections send what part of a request of the most
+# bytes, and how many these may take (docs/use/SERVER.md).
 CROWD_TAKES = 110
 LENGTH = asked.LIMIT.to_bytes(4, "big")
-HALVES = {"the length of a request": (1_000, LENGTH, 40), "a request of 1 MiB but its last byte": (100, LENGTH + bytes(asked.LIMIT - 1), 110)}
+HALVES = {"the length of a request": (1_000, LENGTH, 40),
+          "a request of 1 MiB but its last byte": (100, LENGTH + bytes(asked.LIMIT - 1), 110)}
 
 
 class Crowded(running.Server):
-    """A server for many connections, with the options of running.OPTIONS and these, whose user may have so many threads where that is
-    wanted."""
+    """A server for many connections, with the options of running.OPTIONS and these, whose user may
+    have so many threads where that is wanted."""
 
     def __init__(self, craqd, most=None, threads=None, way=()):
-        words = [*running.OPTIONS, *way, *(["--most", str(most)] if most else []), "--connections", str(2**32 - 1)]
+        words = [*running.OPTIONS, *way, *(["--most", str(most)] if most else []), "--connections",
+                 str(2**32 - 1)]
         self.file, self.left, self.answered = running.text_file(running.PLAN), 2**32 - 1, {}
         os.chmod(self.file.name, 0o644)
         # The system limits the threads of a user, and not those of root.
         other = {"user": NOBODY, "group": NOBODY, "extra_groups": []} if threads and os.getuid() == 0 else {}
         raised = min(65_536, resource.getrlimit(resource.RLIMIT_NOFILE)[1])
-        limit = running.limited(resource.RLIMIT_NPROC, threads) if threads else running.limited(resource.RLIMIT_NOFILE, raised)
-        self.process = subprocess.Popen([craqd, *words, self.file.name, "127.0.0.1:0"], stdin=subprocess.DEVNULL, stdout=subprocess.PIPE,
+        of, most = (resource.RLIMIT_NPROC, threads) if threads else (resource.RLIMIT_NOFILE, raised)
+        limit = running.limited(of, most)
+        self.process = subprocess.Popen([craqd, *words, self.file.name, "127.0.0.1:0"],
+                                        stdin=subprocess.DEVNULL, stdout=subprocess.PIPE,
                                         stderr=subprocess.PIPE, preexec_fn=limit, **other)
         self.first = self.process.stdout.readline().decode()
         self.port = int(re.fullmatch(r"listening ([1-9][0-9]*)\n", self.first)[1])
@@ -88,8 +102,8 @@ class Crowded(running.Server):
             return int(it.read().split()[0]) * PAGE
 
     def held(self):
-        """How many bytes the system holds for a connection at most: of those that its client has not taken, and of those that the server has
-        not read."""
+        """How many bytes the system holds for a connection at most: of those that its client has
+        not taken, and of those that the server has not read."""
         with open("/proc/net/tcp", encoding="ascii") as it:
             rows = [line.split() for line in it]
         held = [row[4].split(":") for row in rows if row[1].endswith(f":{self.port:04X}") and row[3] == OPEN]
@@ -110,16 +124,19 @@ class Crowded(running.Server):
 
 
 class Honest:
-    """A client that puts new objects, asks again under the same number what was not answered, and knows what was answered."""
+    """A client that puts new objects, asks again under the same number what was not answered, and
+    knows what was answered."""
 
     def __init__(self, server, id, patience=running.PATIENCE):
-        self.server, self.id, self.patience, self.number, self.connection, self.shown = server, id, patience, 1, None, 0
+        self.server, self.id, self.patience = server, id, patience
+        self.number, self.connection, self.shown = 1, None, 0
         self.written, self.wrong, self.open = {}, [], None
 
     def request(self, value):
         """The request of a put; what was not answered is asked again as it was."""
         self.open = value = self.open or value
-        return example.update_request(1, self.shown, self.id, self.number, example.put(0, f"{self.id}-{self.number}", value))
+        return example.update_request(1, self.shown, self.id, self.number,
+                                      example.put(0, f"{self.id}-{self.number}", value))
 
     def tries(self, value):
         """Puts a new object, once; whether that was answered."""
@@ -180,7 +197,8 @@ def slowest_of_most(client, count):
 
 
 def held(server, count, sends, window=None, segment=None):
-    """So many connections, each after it sent this; the system takes so many bytes for a reader that never reads."""
+    """So many connections, each after it sent this; the system takes so many bytes for a reader
+    that never reads."""
     made = []
     for at in range(count):
         it = server.connect_from(at, window, segment)
@@ -195,7 +213,7 @@ def held(server, count, sends, window=None, segment=None):
 
 def big_reads():
     """The bytes of many reads of a large value."""
-    return asked.framed(example.one(1, example.read_request(1, 0, example.STRONG, 0, "big"))) * READS
+    return framed(example.one(1, example.read_request(1, 0, example.STRONG, 0, "big"))) * READS
 
 
 def leave(server, over):
@@ -208,7 +226,8 @@ def leave(server, over):
 
 def crowd(checks, craqd, way, segment, most):
     """The crowd, and what was seen, in words."""
-    name = f"{' '.join(way) or 'a thread for each connection'}, segments of {'an Ethernet' if segment else 'the loopback'}"
+    segments = "an Ethernet" if segment else "the loopback"
+    name = f"{' '.join(way) or 'a thread for each connection'}, segments of {segments}"
     server = Crowded(craqd, HALF + MUTE + LEAVERS + 200, way=way)
     over = multiprocessing.Event()
     try:
@@ -221,7 +240,7 @@ def crowd(checks, craqd, way, segment, most):
         alone, with_idle = slowest_of_most(client, CALLS), server.memory()
         for it in idle:
             it.close()
-        request = asked.framed(example.one(1, example.update_request(1, 0, 99, 1, example.put(0, "held", b"held"))))
+        request = framed(example.one(1, example.update_request(1, 0, 99, 1, example.put(0, "held", b"held"))))
         halves = held(server, HALF, request[:-1])
         with_halves = server.memory()
         mute = held(server, MUTE, big_reads(), WINDOW, segment)
@@ -232,13 +251,19 @@ def crowd(checks, craqd, way, segment, most):
         over.set()
         leaver.join()
         checks.that(among <= max(TIMES * alone, most),
-                    f"99 of 100 calls take {among * 1000:.2f} ms among the crowd, {alone * 1000:.2f} among idle connections ({name})")
-        checks.that(with_all - bare <= CROWD_TAKES, f"the crowd takes {with_all - bare:.0f} MiB, {CROWD_TAKES} at most ({name})")
-        checks.that(unread <= HELD, f"the system holds {unread} bytes of replies for a client that never reads, {HELD} at most ({name})")
+                    f"99 of 100 calls take {among * 1000:.2f} ms among the crowd, {alone * 1000:.2f} among "
+                    f"idle connections ({name})")
+        checks.that(with_all - bare <= CROWD_TAKES,
+                    f"the crowd takes {with_all - bare:.0f} MiB, {CROWD_TAKES} at most ({name})")
+        checks.that(unread <= HELD, f"the system holds {unread} bytes of replies for a client that never "
+                    f"reads, {HELD} at most ({name})")
         has_gone(checks, name, client, halves + mute)
-        return (f"{name}: 99 of 100 calls within {alone * 1000:.2f} ms among {HALF + MUTE + LEAVERS} idle connections and {among * 1000:.2f} ms "
-                f"among the crowd; {bare:.0f} MiB, {with_idle:.0f} with the idle, {with_halves:.0f} with {HALF} half requests, "
-                f"{with_all:.0f} with the crowd, for each of which the system held at most {unread} bytes of replies")
+        return (f"{name}: 99 of 100 calls within {alone * 1000:.2f} ms among {HALF + MUTE + LEAVERS} idle "
+                f"connections and {among * 1000:.2f} ms "
+                f"among the crowd; {bare:.0f} MiB, {with_idle:.0f} with the idle, {with_halves:.0f} with "
+                f"{HALF} half requests, "
+                f"{with_all:.0f} with the crowd, for each of which the system held at most {unread} bytes of "
+                f"replies")
     finally:
         over.set()
         server.kill()
@@ -261,10 +286,12 @@ def read_until(connection, until):
 
 
 def greedy(checks, craqd):
-    """The system holds no more for a client that it served fast than for any other; gives how much, in words."""
+    """The system holds no more for a client that it served fast than for any other; gives how much,
+    in words."""
     server = Crowded(craqd)
     try:
-        put = asked.framed(example.one(1, example.update_request(1, 0, 99, 1, example.put(0, "big", BIG)))) * AT_ONCE
+        put = framed(example.one(1,
+                                 example.update_request(1, 0, 99, 1, example.put(0, "big", BIG)))) * AT_ONCE
         made, until, held_then = server.connect_from(0), time.monotonic() + READING, []
         reader = threading.Thread(target=read_until, args=(made, until))
         reader.start()
@@ -280,7 +307,8 @@ def greedy(checks, craqd):
         except TimeoutError:
             pass
         unread, unasked = (max(it) for it in zip(*held_then, server.held()))
-        checks.that(max(unread, unasked) <= HELD, f"for a greedy client the system holds {unread} bytes of replies and {unasked} of requests, {HELD} at most")
+        checks.that(max(unread, unasked) <= HELD, f"for a greedy client the system holds {unread} bytes of "
+                    f"replies and {unasked} of requests, {HELD} at most")
         checks.that(is_answered_at_last(Honest(server, 1)), "a client is answered beside a greedy one")
         made.close()
         return f"for a greedy client the system held {unread} bytes of replies and {unasked} of requests"
@@ -292,7 +320,8 @@ class Few:
     """One client that is there from the start, and many that come."""
 
     def __init__(self, server):
-        self.server, self.all = server, [Honest(server, it, SHORTLY) for it in (1, *range(100, 100 + NEWCOMERS))]
+        self.server, self.all = server, [Honest(server, it, SHORTLY)
+                                         for it in (1, *range(100, 100 + NEWCOMERS))]
         self.answered = self.left_open = self.first_left_open = 0
         for _ in range(50):
             self.all[0].tries(b"a")
@@ -308,21 +337,28 @@ class Few:
                 self.first_left_open += not done[1]
 
     def ends(self, checks, name, is_felt=True, is_first_served=True):
-        """Calls were left open where the limit is felt, and none else, nor any of the client that was there where it is served all the while; all
-        are answered now, and what was ever answered is there. Gives what was seen, in words."""
+        """Calls were left open where the limit is felt, and none else, nor any of the client that
+        was there where it is served all the while; all are answered now, and what was ever answered
+        is there. Gives what was seen, in words."""
         checks.that(self.server.runs(), f"the server goes on with {name} at their limit")
-        checks.that(not self.first_left_open or not is_first_served, f"with {name} at their limit {self.first_left_open} calls of who was there are left open")
-        checks.that((self.left_open > 0) == is_felt and self.answered > 0, f"with {name} at their limit {self.answered} calls are answered, {self.left_open} left open")
+        checks.that(not self.first_left_open or not is_first_served, f"with {name} at their limit "
+                    f"{self.first_left_open} calls of who was there are left open")
+        checks.that((self.left_open > 0) == is_felt and self.answered > 0, f"with {name} at their limit "
+                    f"{self.answered} calls are answered, {self.left_open} left open")
         for it in self.all:
-            checks.that(is_answered_at_last(it), f"client {it.id} is answered once {name} are no more at their limit")
+            checks.that(is_answered_at_last(it),
+                        f"client {it.id} is answered once {name} are no more at their limit")
             it.drop()
-        checks.same(f"wrong answers with {name} at their limit", [it.wrong for it in self.all if it.wrong][:3], [])
-        checks.same(f"what was answered with {name} at their limit and is lost", [lost for it in self.all for lost in it.finds()][:3], [])
+        checks.same(f"wrong answers with {name} at their limit",
+                    [it.wrong for it in self.all if it.wrong][:3], [])
+        checks.same(f"what was answered with {name} at their limit and is lost",
+                    [lost for it in self.all for lost in it.finds()][:3], [])
         return f"{name} at their limit: {self.answered} answers, {self.left_open} left open"
 
 
 def holds_halves(checks, craqd):
-    """Connections that sent a part of a request take no more memory than they may; gives how much, in words."""
+    """Connections that sent a part of a request take no more memory than they may; gives how much,
+    in words."""
     told = []
     for what, (count, part, most) in HALVES.items():
         server = Crowded(craqd, count + 10)
@@ -331,10 +367,12 @@ def holds_halves(checks, craqd):
             checks.that(is_answered_at_last(client), "a client is answered before others send half requests")
             before = server.memory()
             some = held(server, count, part)
-            checks.that(is_answered_at_last(client), f"a client is answered beside {count} connections that sent {what}")
+            checks.that(is_answered_at_last(client),
+                        f"a client is answered beside {count} connections that sent {what}")
             time.sleep(SETTLED)
             grown = server.memory() - before
-            checks.that(grown <= most, f"{count} connections that sent {what} take {grown:.0f} MiB, {most} at most")
+            checks.that(grown <= most,
+                        f"{count} connections that sent {what} take {grown:.0f} MiB, {most} at most")
             told.append(f"{count} connections that sent {what} took {grown:.0f} MiB")
             for it in some:
                 it.close()
@@ -359,7 +397,8 @@ def limited(checks, craqd, name, what):
 
 
 def limited_threads(checks, craqd):
-    """The system gives no more threads while some connections are held, each of which has one unless a few threads serve all."""
+    """The system gives no more threads while some connections are held, each of which has one
+    unless a few threads serve all."""
     server = Crowded(craqd)
     own = server.threads()
     server.kill()
@@ -390,15 +429,17 @@ def told_at_once(made):
 
 
 def one_too_many(checks, craqd):
-    """One connection more than may be is told that there are too many, and closed; once one has gone another is served."""
+    """One connection more than may be is closed without a reply; once one has gone another is
+    served."""
     server = Crowded(craqd, most=8)
     try:
         some = [example.Connection(server.address) for _ in range(8)]
         for it in some:
             it.send(example.one(1, example.read_request(1, 0, example.STRONG, 0, "k")))
-            checks.same("a connection of as many as may be", example.replies_of(it.receive())[0][1], example.Read(0, b""))
+            checks.same("a connection of as many as may be", example.replies_of(it.receive())[0][1],
+                        example.Read(0, b""))
         with socket.create_connection(("127.0.0.1", server.port), SHORTLY) as more:
-            checks.same("one connection too many is told", told_at_once(more), (FULL, True))
+            checks.same("one connection too many is closed without a reply", told_at_once(more), (b"", True))
         some.pop().close()
         checks.that(is_answered_at_last(Honest(server, 1)), "a connection is served once another has gone")
         for it in some:
@@ -409,12 +450,17 @@ def one_too_many(checks, craqd):
 
 
 def limits(checks, craqd):
-    """Half requests, a greedy client, the three limits and one connection too many in one way of serving, and what was seen, in words."""
-    told = [holds_halves(checks, craqd), greedy(checks, craqd), limited(checks, craqd, "open files", resource.RLIMIT_NOFILE), limited(checks, craqd, "memory", resource.RLIMIT_AS)]
-    told.append(limited_threads(checks, craqd) if os.getuid() == 0 else "the limit of threads is left out: only root can start craqd under another user")
+    """Half requests, a greedy client, the three limits and one connection too many in one way of
+    serving, and what was seen, in words."""
+    told = [holds_halves(checks, craqd), greedy(checks, craqd),
+            limited(checks, craqd, "open files", resource.RLIMIT_NOFILE),
+            limited(checks, craqd, "memory", resource.RLIMIT_AS)]
+    told.append(limited_threads(checks, craqd) if os.getuid() == 0
+                else "the limit of threads is left out: only root can start craqd under another user")
     return ", ".join([*told, one_too_many(checks, craqd)])
 
 
 def tried(checks, craqd):
     """All of them, and what was tried, in words."""
-    return "; ".join([*(crowd(checks, craqd, *it) for it in CROWDS), running.in_each_way(checks, lambda: limits(checks, craqd))])
+    return "; ".join([*(crowd(checks, craqd, *it) for it in CROWDS),
+                      running.in_each_way(checks, lambda: limits(checks, craqd))])

@@ -1,12 +1,14 @@
 """Each ask for memory refused in turn, in the programs as they were built.
 
-A library that is loaded before the programs' own (refusals.c) refuses the Nth one alone. craq_lab plays scripts: it prints what it
-prints with ample memory, or ends with `no memory` and prints nothing of the script. Since it ends then, this shows nothing of a move
-that is tried again after a refusal.
+A library that is loaded before the programs' own (refusals.c) refuses the Nth one alone. craq_lab
+plays scripts: it prints what it prints with ample memory, or ends with `no memory` and prints
+nothing of the script. Since it ends then, this shows nothing of a move that is tried again after a
+refusal.
 
-Which asks are in a step of a node, say, is counted by the names that the program has of its calls: a move that takes nothing asks for no
-memory there. Where a program has no such names, or its calls do not keep frames, that is left out, and so said: programs that are built without
-proofs (`rt try`) keep them, those of the gate and of ./build do not.
+Which asks are in a step of a node, say, is counted by the names that the program has of its calls:
+a move that takes nothing asks for no memory there. Where a program has no such names, or its calls
+do not keep frames, that is left out, and so said: programs that are built without proofs (`rt try`)
+keep them, those of the gate and of ./build do not.
 """
 import itertools
 import os
@@ -15,15 +17,16 @@ import subprocess
 import tempfile
 from typing import NamedTuple
 
-import every_stop
-import playing
-import worked
+from tools.hostile import every_stop
+from tools.rows import playing, worked
 
 SOURCE = os.path.join(os.path.dirname(os.path.realpath(__file__)), "refusals.c")
-PLAYED = ("put-then-read-everywhere", "acknowledged-while-a-query-travels", "join-while-the-tail-is-removed", "mini-transactions", "copy-in-parts",
+PLAYED = ("put-then-read-everywhere", "acknowledged-while-a-query-travels", "join-while-the-tail-is-removed",
+          "mini-transactions", "copy-in-parts",
           "stops-at-the-head", "draw-one-schedule")
 # Calls whose asks for memory are counted by themselves, where the program has them by name.
-LAB_CALLS = {"Core::step": r"craq_node::core_over_past::\w+::step::", "ChainCore::take": r"craq_chain::chain::ChainCore::take::",
+LAB_CALLS = {"Core::step": r"craq_node::core_over_past::\w+::step::",
+             "ChainCore::take": r"craq_chain::chain::ChainCore::take::",
              "explain_run": r"craq_explain::replay::explain_run_of$", "check": r"craq_check::verdict::check$"}
 PATIENCE, NO_MEMORY = 60, 3
 
@@ -34,17 +37,20 @@ class Library:
     def __init__(self, folder):
         self.folder, self.made = folder, itertools.count()
         self.file = os.path.join(folder, "refusals.so")
-        subprocess.run(["cc", "-O1", "-fno-omit-frame-pointer", "-fPIC", "-shared", "-o", self.file, SOURCE], check=True)
+        subprocess.run(["cc", "-O1", "-fno-omit-frame-pointer", "-fPIC", "-shared", "-o", self.file, SOURCE],
+                       check=True)
 
     def refusing(self, **what):
         """The environment of a program, and the file in which the library tells of it."""
         told = os.path.join(self.folder, f"told-{next(self.made)}")
-        return {"LD_PRELOAD": self.file, "REFUSE_TOLD": told, **{f"REFUSE_{name.upper()}": str(it) for name, it in what.items()}}
+        return {"LD_PRELOAD": self.file, "REFUSE_TOLD": told,
+                **{f"REFUSE_{name.upper()}": str(it) for name, it in what.items()}}
 
 
 class Under(NamedTuple):
-    """What the library tells of a program: whether something was refused; how many asks for memory and threads counted, as far as that was told;
-    and how often it told that, which is once for each call of REFUSE_CALL, and once where the program ends by `exit`."""
+    """What the library tells of a program: whether something was refused; how many asks for memory
+    and threads counted, as far as that was told; and how often it told that, which is once for each
+    call of REFUSE_CALL, and once where the program ends by `exit`."""
 
     refused: bool
     memory: int
@@ -66,17 +72,19 @@ def told_in(env):
 
 
 def keeps_frames(program, start):
-    """Whether the call that begins there links its frame to the one that called it, as the library needs it."""
+    """Whether the call that begins there links its frame to the one that called it, as the library
+    needs it."""
     words = ["objdump", "-d", f"--start-address={start}", f"--stop-address={start + 8}", program]
     text = subprocess.run(words, capture_output=True, text=True, errors="replace").stdout
     return bool(re.search(r"push +%rbp\n.*mov +%rsp,%rbp\n", text))
 
 
 def ranges(program, pattern):
-    """Where the calls of this name are in the program, as the library takes it; empty where it does not see them: they have no name, or
-    do not keep frames."""
+    """Where the calls of this name are in the program, as the library takes it; empty where it does
+    not see them: they have no name, or do not keep frames."""
     found = []
-    for line in subprocess.run(["nm", "-S", "--defined-only", program], capture_output=True, text=True, errors="replace").stdout.splitlines():
+    for line in subprocess.run(["nm", "-S", "--defined-only", program], capture_output=True, text=True,
+                               errors="replace").stdout.splitlines():
         words = line.split(None, 3)
         if len(words) == 4 and re.match(pattern, words[3]):
             start, size = int(words[0], 16), int(words[1], 16)
@@ -104,7 +112,8 @@ def told_under(library, program, words, script, **what):
 
 
 def played(checks, library, program):
-    """Each ask for memory refused while a script is played; gives how many were, and how many asks each named call has."""
+    """Each ask for memory refused while a script is played; gives how many were, and how many asks
+    each named call has."""
     refused = 0
     within = {name: ranges(program, pattern) for name, pattern in LAB_CALLS.items()}
     asked = {name: 0 for name, found in within.items() if found}
@@ -116,33 +125,41 @@ def played(checks, library, program):
         for name in asked:
             asked[name] += told_under(library, program, words, script, within=within[name])[1].memory
         numbers = range(1, asks + 2)
-        runs = playing.side_by_side(lambda at: told_under(library, program, words, script, memory=at), numbers)
+        runs = playing.side_by_side(lambda at: told_under(library, program, words, script, memory=at),
+                                    numbers)
         for at, (told, under) in zip(numbers, runs):
             fits = told in (playing.Told(0, expected, b""), playing.Told(NO_MEMORY, b"", b"no memory\n"))
             checks.that(fits, f"{what}, ask for memory {at} refused: {told}")
-            checks.same(f"{what}: whether ask for memory {at} of {asks} was refused", under.refused, at <= asks)
+            checks.same(f"{what}: whether ask for memory {at} of {asks} was refused", under.refused,
+                        at <= asks)
             refused += under.refused
     return refused, asked
 
 
 def quiet(checks, library, program):
-    """A message that is ignored, and a stop, ask for no memory in the step of a node; gives how many moves and which reasons were seen."""
+    """A message that is ignored, and a stop, ask for no memory in the step of a node; gives how
+    many moves and which reasons were seen."""
     step, seen, reasons = ranges(program, LAB_CALLS["Core::step"]), 0, set()
-    cases = [(name, nodes, script.splitlines(keepends=True), core) for name, nodes, script, _ in every_stop.stored() for core in playing.CORES]
+    cases = [(name, nodes, script.splitlines(keepends=True), core) for name, nodes, script,
+             _ in every_stop.stored() for core in playing.CORES]
 
     def prefixes(case):
         _, nodes, lines, core = case
         words = playing.with_core(["play", "--nodes", str(nodes), "/dev/stdin"], core)
-        return [told_under(library, program, words, b"".join(lines[:size]), within=step) for size in range(len(lines) + 1)]
+        return [told_under(library, program, words, b"".join(lines[:size]), within=step)
+                for size in range(len(lines) + 1)]
 
-    for (name, _, lines, core), runs in zip(cases if step else [], playing.side_by_side(prefixes, cases if step else [])):
+    for (name, _, lines, core), runs in zip(cases if step else [],
+                                            playing.side_by_side(prefixes, cases if step else [])):
         for line, (before, asks), (after, more) in zip(lines, runs, runs[1:]):
             said = after.output[len(before.output):].decode()
             if said.startswith("ignored ") or line.startswith(b"stop ") and said == "ok\n":
-                checks.same(f"asks for memory in the step of {line.decode().strip()} in {name} with {core}, which is told {said.strip()}", more.memory, asks.memory)
+                checks.same(f"asks for memory in the step of {line.decode().strip()} in {name} with {core}, "
+                            f"which is told {said.strip()}", more.memory, asks.memory)
                 seen += 1
                 reasons.add(said.strip() if said != "ok\n" else "stop")
-    checks.that(not step or "stop" in reasons and len(reasons) > 1, f"the scripts have messages that are ignored, and stops: {reasons}")
+    checks.that(not step or "stop" in reasons and len(reasons) > 1,
+                f"the scripts have messages that are ignored, and stops: {reasons}")
     return seen, sorted(reasons)
 
 
@@ -153,5 +170,7 @@ def tried(checks, craq_lab):
         scripts, asks = played(checks, library, craq_lab)
         moves, reasons = quiet(checks, library, craq_lab)
     named = ", ".join(f"{count} in {name}" for name, count in asks.items())
-    seen = f"{named}; {moves} moves ask for none: {', '.join(reasons)}" if named else "in which call is not seen in this program"
+    seen = "in which call is not seen in this program"
+    if named:
+        seen = f"{named}; {moves} moves ask for none: {', '.join(reasons)}"
     return f"{scripts} refused asks for memory; {seen}"

@@ -1,8 +1,10 @@
-"""Each ask for memory, and each thread, refused in turn in a server that is asked meanwhile, in each way of serving (refused.py tells how).
+"""Each ask for memory, and each thread, refused in turn in a server that is asked meanwhile, in
+each way of serving (refused.py tells how).
 
-A server that has told its port answers: what it refuses for want of memory, or closes, is asked again with its number, every ask has its
-answer in the end, no update is done twice, and the audits confirm what was answered. In its end it may tell `no memory`, of a connection
-or of an audit. One that has not told its port ends with `no memory` and nothing else.
+A server that has told its port answers: what it refuses for want of memory, or closes, is asked
+again with its number, every ask has its answer in the end, no update is done twice, and the audits
+confirm what was answered. In its end it may tell `no memory`, of a connection or of an audit. One
+that has not told its port ends with `no memory` and nothing else.
 """
 import re
 import subprocess
@@ -10,10 +12,10 @@ import tempfile
 import time
 from typing import NamedTuple
 
-import playing
-import refused
-import running
-from asked import example
+from tools.end_to_end import running
+from tools.hostile import refused
+from tools.hostile.asked import example
+from tools.rows import playing
 
 # What the server is asked in each run, and how often the same may be asked again.
 CLIENT, CONNECTIONS, AGAIN, PATIENCE = 77, 24, 12, 10
@@ -79,7 +81,8 @@ def answers(asker):
     yield "a put", asker.updates(example.put(0, "k", b"a")), Written(1)
     yield "an append", asker.updates(example.append(0, "k", b"b" * 300)), Written(2)
     yield "an increment", asker.updates(example.increment(0, "n", 7)), Written(1)
-    yield "a transaction", asker.updates(example.mini(0, [("n", 1)], ["k"], [("z", b"1")])), example.Done([Read(2, b"a" + b"b" * 300)])
+    mini = example.mini(0, [("n", 1)], ["k"], [("z", b"1")])
+    yield "a transaction", asker.updates(mini), example.Done([Read(2, b"a" + b"b" * 300)])
     asker.close()
     yield "a decrement", asker.updates(example.decrement(0, "n", 2)), Written(2)
     for node in 1, 2, 3:
@@ -94,7 +97,8 @@ def answers(asker):
 
 
 class Run(NamedTuple):
-    """How a server ran with something refused: what was wrong, its status, whether it told its port, and whether something was refused."""
+    """How a server ran with something refused: what was wrong, its status, whether it told its
+    port, and whether something was refused."""
 
     faults: list
     status: int
@@ -117,14 +121,15 @@ def ended(server):
 
 
 def audited(out, answered, asked, is_whole):
-    """Whether the end of a server's output confirms at least so many answered asks of chain 0, at most those that were asked; where that need
-    not be whole, an audit may be lacking."""
+    """Whether the end of a server's output confirms at least so many answered asks of chain 0, at
+    most those that were asked; where that need not be whole, an audit may be lacking."""
     found = re.fullmatch(r"(?:audit merged ([0-9]+)\n(audit merged 0\n)?)?", out)
     return bool(found) and (found[2] or not is_whole) and (not found[1] or answered <= int(found[1]) <= asked)
 
 
 def asked_all(asker):
-    """What was wrong with the answers that came, and how many of asks of the chain were right, until all came or the server ended, which is wrong."""
+    """What was wrong with the answers that came, and how many of asks of the chain were right,
+    until all came or the server ended, which is wrong."""
     faults, right = [], 0
     try:
         for what, found, wanted in answers(asker):
@@ -149,7 +154,8 @@ def served(craqd, env):
     has_no_memory = (status, re.sub(server.served(), "", err, count=1)) == (refused.NO_MEMORY, "no memory\n")
     is_well = has_no_memory or re.fullmatch(server.served(), err) and status == 0
     if server.port:
-        is_well = is_well and right == ASKS and audited(out[len(server.first):], right, asker.asked, not has_no_memory)
+        is_well = is_well and right == ASKS and audited(out[len(server.first):], right, asker.asked,
+                                                        not has_no_memory)
     else:
         is_well = has_no_memory and not out
     if not is_well:
@@ -158,14 +164,15 @@ def served(craqd, env):
 
 
 def attacked(checks, library, craqd, what, count, name):
-    """One server for each number up to this, in which that ask for memory or thread is refused; gives in how many it was once they
-    listened, and what came of all, in words."""
+    """One server for each number up to this, in which that ask for memory or thread is refused;
+    gives in how many it was once they listened, and what came of all, in words."""
     numbers = range(1, count + 1)
     runs = playing.side_by_side(lambda at: served(craqd, library.refusing(**{what: at})), numbers)
     for at, run in zip(numbers, runs):
         checks.that(not run.faults, f"{what} {at} refused in craqd: {run.faults}")
     met = [it for it in runs if it.refused]
-    early, in_the_end = sum(not it.listened for it in met), sum(it.listened and it.status == refused.NO_MEMORY for it in met)
+    early, in_the_end = sum(not it.listened for it in met), sum(it.listened and it.status == refused.NO_MEMORY
+                                                                for it in met)
     checks.that(early > 0, f"some {name} are refused before craqd listens")
     told = f"{len(met)} {name} refused, {early} of them before it listened"
     return len(met) - early, f"{told}, and {in_the_end} that it told in the end"
@@ -175,7 +182,8 @@ def all_of(checks, library, craqd):
     """Each ask for memory and each thread refused in one way of serving, and what was tried, in words."""
     checks.same("craqd with ample memory", served(craqd, library.refusing()), Run([], 0, True, False))
     late, memory = attacked(checks, library, craqd, "memory", MEMORY, "asks for memory")
-    checks.that(late > MEMORY // 2, f"more than half of {MEMORY} asks for memory are refused after craqd listens: {late}")
+    checks.that(late > MEMORY // 2,
+                f"more than half of {MEMORY} asks for memory are refused after craqd listens: {late}")
     return f"{memory}; {attacked(checks, library, craqd, 'thread', THREADS, 'threads')[1]}"
 
 

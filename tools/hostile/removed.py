@@ -1,15 +1,17 @@
 """A node that is removed from a store without journals lets its objects go.
 
-In each way of serving a chain is filled with some MiB of objects. Then its members are replaced many times: the head, the middle or the tail
-by turns stops, is removed, and another node joins, which comes to hold all objects. The memory of the process does not grow by what was held
-by those that went. The process has as many threads as before.
+In each way of serving a chain is filled with some MiB of objects. Then its members are replaced
+many times: the head, the middle or the tail by turns stops, is removed, and another node joins,
+which comes to hold all objects. The memory of the process does not grow by what was held by those
+that went. The process has as many threads as before.
 """
-import changing
-from asked import example
+from tools.hostile import changing
+from tools.hostile.asked import example
 
 OBJECTS, VALUE, ATONCE = 2_000, b"v" * 4_000, 8
-# After how many turns the memory counts, how many there are, and how many MiB more there may be in one of the rest: where nodes stay these 20 turns
-# add 160. What comes and goes between two turns is up to 20.
+# After how many turns the memory counts, how many there are, and how many MiB more there may be in
+# one of the rest: where nodes stay these 20 turns add 160. What comes and goes between two turns is
+# up to 20.
 FIRST, TURNS, GROWTH = 10, 30, 48
 # How many seconds a node that joined may take to hold all objects.
 COPIED = 60
@@ -49,12 +51,16 @@ def replaces_all(checks, program):
             replaced(checks, store, client, turn)
             memory.append(store.memory())
         checks.that(max(memory[FIRST:]) <= max(memory[:FIRST]) + GROWTH,
-                    f"nodes that were removed let their objects go: {max(memory[:FIRST]):.0f} MiB in {FIRST} turns, {max(memory[FIRST:]):.0f} afterwards")
+                    f"nodes that were removed let their objects go: {max(memory[:FIRST]):.0f} MiB in {FIRST} "
+                    f"turns, {max(memory[FIRST:]):.0f} afterwards")
         checks.same(f"threads after {TURNS} removals and joins", store.threads(), threads)
-        checks.that(filled - empty >= OBJECTS * len(VALUE) * 3 / 2**20, f"{filled - empty:.0f} MiB are added by what three nodes hold")
+        checks.that(filled - empty >= OBJECTS * len(VALUE) * 3 / 2**20,
+                    f"{filled - empty:.0f} MiB are added by what three nodes hold")
         client.close()
         checks.same("how the store ends", store.ends(), (0, [], ""))
-        return f"{TURNS} removals of nodes that held {OBJECTS * len(VALUE) / 2**20:.0f} MiB: {filled:.0f} MiB before, {memory[FIRST - 1]:.0f} after {FIRST} and {memory[-1]:.0f} after all"
+        return (f"{TURNS} removals of nodes that held {OBJECTS * len(VALUE) / 2**20:.0f} MiB: {filled:.0f} "
+                f"MiB "
+                f"before, {memory[FIRST - 1]:.0f} after {FIRST} and {memory[-1]:.0f} after all")
     finally:
         store.kill()
 

@@ -1,14 +1,20 @@
-"""What a server promises a client, while its members change: in each way of serving clients ask a store of each form, of some chains, over TCP, and
-all the while a member of some chain stops, is removed, and another joins (changing.py). One message in 97 is lost.
+"""What a server promises a client, while its members change: in each way of serving clients ask a
+store of each form, of some chains, over TCP, and all the while a member of some chain stops, is
+removed, and another joins (changing.py). One message in 97 is lost.
 
-Each process of clients has some, which ask one thing after another with the client of examples/client.py, lose replies and ask again, and look at
-all that a client can see:
+Each process of clients has some, which ask one thing after another with the client of
+tools/plain_client.py, lose replies and ask again, and look at all that a client can see:
 
-- the versions of an object that one client alone writes follow one another, and a strong read of it gives what was put, at each member
-- the versions that all clients were given of an object that they count up together are 1, 2, 3 and so on, each given once
-- no version of it that is written or read strongly is older than any answer, of any client, that ended before it was asked
-- no strong read that shows a pass, whoever was told it, is older than any answer that came with that pass or a smaller one
-- an update that is asked again with its number has the reply that it had, whether that was lost or not, and whoever is the head now
+- the versions of an object that one client alone writes follow one another, and a strong read of it
+  gives what was put, at each member
+- the versions that all clients were given of an object that they count up together are 1, 2, 3 and
+  so on, each given once
+- no version of it that is written or read strongly is older than any answer, of any client, that
+  ended before it was asked
+- no strong read that shows a pass, whoever was told it, is older than any answer that came with
+  that pass or a smaller one
+- an update that is asked again with its number has the reply that it had, whether that was lost or
+  not, and whoever is the head now
 - each call is answered in ten seconds, however often it is refused meanwhile
 
 In the end no chain has lost an answer, by an audit of all its nodes, those that went too.
@@ -18,21 +24,21 @@ import random
 import re
 import time
 
-import changing
-import soak
-from asked import example
+from tools.hostile import changing, soak
+from tools.hostile.asked import example
 
 CHAINS, PROCESSES, ATONCE = 8, 3, 4
-# Clients ask until so many asks are answered, for so many seconds at most. How often they lose a reply, and how many numbers of updates back
-# they ask again.
+# Clients ask until so many asks are answered, for so many seconds at most. How often they lose a
+# reply, and how many numbers of updates back they ask again.
 ANSWERED, MOST_SECONDS, LOST, KEPT = 100_000, 900, 0.02, 4
-# How long a stopped member stays, in seconds, at most, and how many changes of members each store has to make in a second.
+# How long a stopped member stays, in seconds, at most, and how many changes of members each store
+# has to make in a second.
 STAYS, DUE = 0.05, 2
 
 
 class Asker:
-    """A client. It writes an object of its own in each chain. What all know of a chain: the newest version of the object that they count up,
-    and the largest pass."""
+    """A client. It writes an object of its own in each chain. What all know of a chain: the newest
+    version of the object that they count up, and the largest pass."""
 
     def __init__(self, address, id, draw, seen, newest, passes):
         self.client = changing.Insistent(address, id)
@@ -40,7 +46,8 @@ class Asker:
         self.own, self.replies = [[] for _ in range(CHAINS)], [{} for _ in range(CHAINS)]
 
     def asks(self):
-        """Asks one thing of some chain. What it sent, and whether that was answered, counts for that chain."""
+        """Asks one thing of some chain. What it sent, and whether that was answered, counts for
+        that chain."""
         chain, before, pick = self.draw.randrange(CHAINS), self.client.asked, self.draw.random()
         try:
             if pick < 0.3:
@@ -71,13 +78,15 @@ class Asker:
         own, number = self.own[chain], self.client.next_number(chain)
         own.append(b"%d/%d" % (self.id, number))
         told = self.updates(chain, number, example.put(chain, f"own-{self.id}", own[-1]))
-        self.is_told(told == example.Written(len(own)), chain, f"a put of its own object, of version {len(own)}", told)
+        self.is_told(told == example.Written(len(own)), chain,
+                     f"a put of its own object, of version {len(own)}", told)
         self.replies[chain][number] = told
 
     def counts(self, chain):
         number, before = self.client.next_number(chain), self.newest[chain]
         told = self.updates(chain, number, example.increment(chain, "shared", 1))
-        self.is_told(isinstance(told, example.Written) and told.version > before, chain, f"a count after version {before}", told)
+        self.is_told(isinstance(told, example.Written) and told.version > before, chain,
+                     f"a count after version {before}", told)
         self.replies[chain][number] = told
         if isinstance(told, example.Written):
             self.seen.counted[chain].append(told.version)
@@ -86,21 +95,24 @@ class Asker:
     def repeats(self, chain):
         """An update of the last ones again, with another command: its reply is the first one."""
         number = self.draw.choice(sorted(self.replies[chain])[-KEPT:])
-        told, wanted = self.updates(chain, number, example.put(chain, "never", b"")), self.replies[chain][number]
+        told, wanted = self.updates(chain, number,
+                                    example.put(chain, "never", b"")), self.replies[chain][number]
         self.seen.repeated += 1
         self.is_told(told == wanted, chain, f"update {number} again, which had {wanted}", told)
 
     def reads_own(self, chain):
         own = self.own[chain]
         told = self.client.read(f"own-{self.id}", chain=chain)
-        self.is_told(told == example.Read(len(own), own[-1] if own else b""), chain, f"a read of its own object, of version {len(own)}", told)
+        self.is_told(told == example.Read(len(own), own[-1] if own else b""), chain,
+                     f"a read of its own object, of version {len(own)}", told)
 
     def reads_shared(self, chain):
         """A strong read. Half of them show the largest pass that any client was told."""
         before, shown = self.newest[chain], self.draw.choice([0, self.passes[chain]])
         self.client.shown = max(self.client.shown, shown)
         told = self.client.read("shared", chain=chain)
-        is_read = isinstance(told, example.Read) and told.value == (told.version.to_bytes(8, "big") if told.version else b"")
+        is_read = isinstance(told, example.Read) and told.value == (told.version.to_bytes(8, "big")
+                                                                    if told.version else b"")
         self.is_told(is_read and told.version >= before, chain, f"a strong read after version {before}", told)
         if is_read:
             self.seen.showed[chain] += [(shown, told.version)] if shown else []
@@ -114,7 +126,8 @@ class Asker:
 
 
 def asking(at, address, newest, passes, answered, over, given):
-    """A process: its clients ask by turns until it is over, and it gives what they saw; meanwhile all see how many asks were answered."""
+    """A process: its clients ask by turns until it is over, and it gives what they saw; meanwhile
+    all see how many asks were answered."""
     seen, again = soak.Seen(CHAINS), 0
     try:
         draw = random.Random(at)
@@ -132,8 +145,10 @@ def asking(at, address, newest, passes, answered, over, given):
 
 
 def changed(checks, store, answered, given):
-    """Members change until enough asks were answered, or clients found something wrong, or time is up; gives how often, by chain."""
-    draw, changes, client = random.Random(7), [0] * CHAINS, changing.Insistent(store.address, 1 + PROCESSES * ATONCE)
+    """Members change until enough asks were answered, or clients found something wrong, or time is
+    up; gives how often, by chain."""
+    draw, changes = random.Random(7), [0] * CHAINS
+    client = changing.Insistent(store.address, 1 + PROCESSES * ATONCE)
     until = time.monotonic() + MOST_SECONDS
     while sum(answered) < ANSWERED and time.monotonic() < until and given.empty() and store.runs():
         chain, place = draw.randrange(CHAINS), draw.randrange(3)
@@ -142,24 +157,27 @@ def changed(checks, store, answered, given):
         checks.same("what comes of a removal and a join", store.replaces(chain, place), ("done", "done"))
         client.chains = client.status()
         checks.same(f"the members of chain {chain} after that", client.members(chain), store.members[chain])
-        client.ask_again(lambda: client.asks_read("shared", example.EVENTUAL, chain, store.members[chain][-1]), True)
+        client.ask_again(lambda: client.asks_read("shared", example.EVENTUAL, chain,
+                                                  store.members[chain][-1]), True)
         changes[chain] += 1
     client.close()
     return changes
 
 
 def ends(checks, store, seen, looks):
-    """The store ends, and each chain is audited with all that was answered; beside the clients' asks so many looked at members that joined.
-    Gives how many audits were merged."""
+    """The store ends, and each chain is audited with all that was answered; beside the clients'
+    asks so many looked at members that joined. Gives how many audits were merged."""
     status, lines, err = store.ends()
     checks.same("how the store ends", (status, err), (0, ""))
     checks.same("how many chains are audited", len(lines), CHAINS)
     merged = 0
     for chain, line in enumerate(lines):
-        answered, asked = (sum(counts(it)[chain] for it in seen) for counts in (lambda it: it.answered, lambda it: it.asked))
+        answered, asked = (sum(counts(it)[chain] for it in seen)
+                           for counts in (lambda it: it.answered, lambda it: it.asked))
         found = re.fullmatch(rf"chain {chain} merged (\d+)", line)
         merged += found is not None
-        checks.that(found and answered <= int(found[1]) - looks[chain] <= asked, f"{line}, {looks[chain]} of them looks, of {answered} answers to {asked} asks")
+        checks.that(found and answered <= int(found[1]) - looks[chain] <= asked,
+                    f"{line}, {looks[chain]} of them looks, of {answered} answers to {asked} asks")
     return merged
 
 
@@ -168,8 +186,11 @@ def serves(checks, program, form):
     store = changing.Changing(program, CHAINS, form, journals=True)
     try:
         newest, passes = (multiprocessing.Array("Q", CHAINS, lock=False) for _ in range(2))
-        answered, given, over = multiprocessing.Array("Q", PROCESSES, lock=False), multiprocessing.Queue(), multiprocessing.Event()
-        some = [multiprocessing.Process(target=asking, args=(at, store.address, newest, passes, answered, over, given), daemon=True) for at in range(PROCESSES)]
+        answered = multiprocessing.Array("Q", PROCESSES, lock=False)
+        given, over = multiprocessing.Queue(), multiprocessing.Event()
+        some = [multiprocessing.Process(target=asking,
+                                        args=(at, store.address, newest, passes, answered, over, given),
+                                        daemon=True) for at in range(PROCESSES)]
         for it in some:
             it.start()
         began = time.monotonic()
@@ -189,13 +210,18 @@ def serves(checks, program, form):
 
 def told(checks, seen, seconds, changes, again, merged):
     """What was tried, in words; enough of it was."""
-    answered, lost, repeated = sum(sum(it.answered) for it in seen), sum(it.lost for it in seen), sum(it.repeated for it in seen)
+    answered = sum(sum(it.answered) for it in seen)
+    lost, repeated = sum(it.lost for it in seen), sum(it.repeated for it in seen)
     checks.that(answered >= ANSWERED and changes >= DUE * seconds and min(lost, repeated, again) > 0,
-                f"members change {changes} times, {answered} asks are answered, {lost} replies lost, {repeated} updates repeated, {again} asked again")
-    return (f"{answered} asks answered and {again} asked again in {seconds:.0f} s while {changes} members stopped, were removed and others joined, "
+                f"members change {changes} times, {answered} asks are answered, {lost} replies lost, "
+                f"{repeated} updates repeated, {again} asked again")
+    return (f"{answered} asks answered and {again} asked again in {seconds:.0f} s while {changes} members "
+            f"stopped, were removed and others joined, "
             f"{lost} replies lost, {repeated} updates repeated, {merged} audits merged")
 
 
 def tried(checks):
     """It in each way of serving, with a store of each form, and what was tried, in words."""
-    return changing.used(checks, lambda program: changing.in_each_form(checks, lambda form: serves(checks, program, form)))
+    return changing.used(checks,
+                         lambda program: changing.in_each_form(checks,
+                                                               lambda form: serves(checks, program, form)))

@@ -1,26 +1,35 @@
-"""A soak: for some minutes clients ask stores on threads whose nodes stop, go and join, then processes ask a server of 64 chains, and
-random scripts are played.
+"""A soak: for some minutes clients ask stores on threads whose nodes stop, go and join, then
+processes ask a server of 64 chains, and random scripts are played.
 
-Most of the time, where `rt` is there to build them, programs without proofs run stores of 64 chains, one after another (stores.py): first
-with checks of addresses and of lost memory, then optimized. They lose messages, let some come twice or late, stop nodes, take them out and have
-others join. Their clients look at what the clients below look at, each chain is audited with every receipt, and the memory of the process
-is back after the stores. The run of a chain in which something is wrong is kept as a file that `craq_lab play` reads. What building
-takes is told, and does not count as time of the soak.
+Most of the time, where `rt` is there to build them, programs without proofs run stores of 64
+chains, one after another (stores.py): first with checks of addresses and of lost memory, then
+optimized. They lose messages, let some come twice or late, stop nodes, take them out and have
+others join. Their clients look at what the clients below look at, each chain is audited with every
+receipt, and the memory of the process is back after the stores. The run of a chain in which
+something is wrong is kept as a file that `craq_lab play` reads. What building takes is told, and
+does not count as time of the soak.
 
-The rest of the time processes ask a server, in each way of serving, lose replies and ask again. The server runs once with journals, which are
-audited in its end, and once without, where its memory may not grow, since the clients and their objects stay the same. Each process has some connections, one client each, and looks at all that a client can see:
+The rest of the time processes ask a server, in each way of serving, lose replies and ask again. The
+server runs once with journals, which are audited in its end, and once without, where its memory may
+not grow, since the clients and their objects stay the same. Each process has some connections, one
+client each, and looks at all that a client can see:
 
-- the versions of an object that one client alone writes follow one another, and a read of it gives what was put
-- the versions that all clients were given of an object that they count up together are 1, 2, 3 and so on, each given once
+- the versions of an object that one client alone writes follow one another, and a read of it gives
+  what was put
+- the versions that all clients were given of an object that they count up together are 1, 2, 3 and
+  so on, each given once
 - no strong read is older than any answer, of any process, that ended before it was asked
-- no strong read that shows a pass, whoever was told it, is older than any answer that came with that pass or a smaller one
+- no strong read that shows a pass, whoever was told it, is older than any answer that came with
+  that pass or a smaller one
 - an update that is asked again with its number has the reply that it had, whether that was lost or not
 
-A running server lets no client stop, remove or join a node. These come up in the stores and in the random scripts, with lost, late and
-repeated messages: both cores print the same, and the verdict on schedules that are drawn of them is true. A script for which that fails is
-kept as a file that `craq_lab play` reads.
+A running server lets no client stop, remove or join a node. These come up in the stores and in the
+random scripts, with lost, late and repeated messages: both cores print the same, and the verdict on
+schedules that are drawn of them is true. A script for which that fails is kept as a file that
+`craq_lab play` reads.
 
-Five minutes on four processors have to make a million answered calls, a thousand stops and a thousand joins; other times as many as are due.
+Five minutes on four processors have to make a million answered calls, a thousand stops and a
+thousand joins; other times as many as are due.
 """
 import bisect
 import collections
@@ -33,12 +42,10 @@ import shutil
 import tempfile
 import time
 
-import playing
-import running
-import schedules
-import scripts
-import stores
-from asked import example
+from tools.end_to_end import running
+from tools.hostile import stores
+from tools.hostile.asked import example
+from tools.rows import playing, schedules, scripts
 
 CHAINS, NODES = 64, (1, 2, 3)
 # How many processes ask, how many connections each has at a time, and how often each may connect in all.
@@ -51,11 +58,14 @@ STORED = 0.6
 JOURNALED = 120
 # How many MiB a server without journals may grow by from the second tenth of its time on.
 GROWTH = 24
-# How many processes play scripts, how far apart their seeds begin, and how many schedules are drawn of a script.
+# How many processes play scripts, how far apart their seeds begin, and how many schedules are drawn
+# of a script.
 PLAYERS, FAR, DRAWS = 2, 1_000_000, 3
 # What is counted in all parts together, with its name in words.
-COUNTED = {"answered": "calls answered", "stops": "stops", "joins": "joins", "lost": "messages lost", "late": "messages or work late", "twice": "messages that came twice",
-           "unheard": "replies lost", "repeated": "updates repeated", "passes": "reads with a pass", "merged": "audits merged"}
+COUNTED = {"answered": "calls answered", "stops": "stops", "joins": "joins", "lost": "messages lost",
+           "late": "messages or work late", "twice": "messages that came twice",
+           "unheard": "replies lost", "repeated": "updates repeated", "passes": "reads with a pass",
+           "merged": "audits merged"}
 # What five minutes on four processors have to make.
 DUE = {"answered": 1_000_000, "stops": 1_000, "joins": 1_000}
 
@@ -70,7 +80,8 @@ class Seen:
     def __init__(self, chains=CHAINS):
         self.faults, self.counted = [], {chain: [] for chain in range(chains)}
         self.asked, self.answered = [0] * chains, [0] * chains
-        # By chain, of the object that all count up: the pass and the version of each answer, and of each read with a pass what it showed.
+        # By chain, of the object that all count up: the pass and the version of each answer, and of
+        # each read with a pass what it showed.
         self.told, self.showed = [[] for _ in range(chains)], [[] for _ in range(chains)]
         self.lost = self.repeated = 0
 
@@ -80,11 +91,12 @@ class Seen:
 
 
 class Writer:
-    """A client with a connection. It writes an object of its own in each chain. What all know of a chain: the newest version of the object that
-    they count up, and the largest pass."""
+    """A client with a connection. It writes an object of its own in each chain. What all know of a
+    chain: the newest version of the object that they count up, and the largest pass."""
 
     def __init__(self, address, id, draw, seen, newest, passes, budget):
-        self.address, self.id, self.draw, self.seen, self.newest, self.passes, self.budget = address, id, draw, seen, newest, passes, budget
+        self.address, self.id, self.draw, self.budget = address, id, draw, budget
+        self.seen, self.newest, self.passes = seen, newest, passes
         self.connection, self.shown = None, 0
         self.numbers, self.own = [0] * CHAINS, [[] for _ in range(CHAINS)]
         self.replies = [{} for _ in range(CHAINS)]
@@ -118,7 +130,8 @@ class Writer:
         node, shown = self.draw.choice(NODES), self.draw.choice([0, self.passes[chain]])
         if pick < 0.75:
             return "own", None, example.read_request(node, shown, example.STRONG, chain, self.key())
-        return "shared", (self.newest[chain], shown), example.read_request(node, shown, example.STRONG, chain, "shared")
+        read = example.read_request(node, shown, example.STRONG, chain, "shared")
+        return "shared", (self.newest[chain], shown), read
 
     def begin(self):
         """Chooses some asks of one chain."""
@@ -149,7 +162,8 @@ class Writer:
         for _ in range(20):
             replies = example.replies_of(self.connection.receive())
             told = [it for _, it in replies]
-            if len(told) == len(self.asks) and not any(isinstance(it, example.Refused) and it.number in OPEN for it in told):
+            if len(told) == len(self.asks) and not any(isinstance(it, example.Refused) and it.number in OPEN
+                                                       for it in told):
                 break
             time.sleep(0.01)
             self.send()
@@ -174,12 +188,15 @@ class Writer:
                 self.learn(told.version, shown)
             self.keep(needed, told)
         elif kind == "again":
-            seen.that(told == self.replies[chain].get(needed, told), f"{where}, wanted {self.replies[chain].get(needed)}")
+            seen.that(told == self.replies[chain].get(needed, told),
+                      f"{where}, wanted {self.replies[chain].get(needed)}")
         elif kind == "own":
             seen.that(told in self.own_reads(), f"{where}, wanted version {len(own)}")
         else:
-            value = told.version.to_bytes(8, "big") if isinstance(told, example.Read) and told.version else b""
-            seen.that(isinstance(told, example.Read) and told.version >= needed[0] and told.value == value, where)
+            has_version = isinstance(told, example.Read) and told.version
+            value = told.version.to_bytes(8, "big") if has_version else b""
+            seen.that(isinstance(told, example.Read) and told.version >= needed[0] and told.value == value,
+                      where)
             if isinstance(told, example.Read):
                 seen.showed[chain] += [(needed[1], told.version)] if needed[1] else []
                 self.learn(told.version, shown)
@@ -191,9 +208,11 @@ class Writer:
         self.passes[self.chain] = max(self.passes[self.chain], shown)
 
     def own_reads(self):
-        """What may be read of this client's object: its newest; where the same was asked before, also what it puts then."""
+        """What may be read of this client's object: its newest; where the same was asked before,
+        also what it puts then."""
         own = self.own[self.chain]
-        values = (own[-1:] or [b""]) + (self.coming[len(self.coming) - self.left_to_put():] if self.sent > 1 else [])
+        values = (own[-1:] or [b""]) + (self.coming[len(self.coming) - self.left_to_put():] if self.sent > 1
+                                        else [])
         return [example.Read(len(own) + at, it) for at, it in enumerate(values)]
 
     def left_to_put(self):
@@ -213,7 +232,8 @@ def asking(at, address, newest, passes, until, given):
     seen = Seen()
     try:
         draw = random.Random(at)
-        writers = [Writer(address, at * ATONCE + it, draw, seen, newest, passes, CONNECTS // ATONCE) for it in range(ATONCE)]
+        writers = [Writer(address, at * ATONCE + it, draw, seen, newest, passes, CONNECTS // ATONCE)
+                   for it in range(ATONCE)]
         while time.monotonic() < until and not seen.faults:
             for it in writers:
                 it.begin()
@@ -236,15 +256,20 @@ def looked_at(checks, seen):
         checks.same("what a process of clients found wrong", it.faults, [])
     for chain in range(len(seen[0].asked)):
         versions = sorted(version for it in seen for version in it.counted[chain])
-        checks.same(f"the versions that all were given in chain {chain}", versions, list(range(1, len(versions) + 1)))
-        told, showed = (sorted(pair for it in seen for pair in pairs(it)[chain]) for pairs in (lambda it: it.told, lambda it: it.showed))
-        checks.same(f"reads of chain {chain} that are older than an answer of no larger pass than they showed", older(told, showed)[:3], [])
+        checks.same(f"the versions that all were given in chain {chain}", versions,
+                    list(range(1, len(versions) + 1)))
+        told, showed = (sorted(pair for it in seen for pair in pairs(it)[chain])
+                        for pairs in (lambda it: it.told, lambda it: it.showed))
+        what = f"reads of chain {chain} that are older than an answer of no larger pass than they showed"
+        checks.same(what, older(told, showed)[:3], [])
 
 
 def older(told, showed):
-    """Of the reads that showed a pass, as pairs of that and a version: those older than an answer, as such a pair, that came with no larger one."""
+    """Of the reads that showed a pass, as pairs of that and a version: those older than an answer,
+    as such a pair, that came with no larger one."""
     passes, newest = [it for it, _ in told], [*itertools.accumulate((it for _, it in told), max, initial=0)]
-    return [(shown, version) for shown, version in showed if version < newest[bisect.bisect_right(passes, shown)]]
+    return [(shown, version) for shown, version in showed
+            if version < newest[bisect.bisect_right(passes, shown)]]
 
 
 def memory_of(server, until):
@@ -260,12 +285,15 @@ def memory_of(server, until):
 
 
 def served(checks, craqd, seconds, journal):
-    """One server that is asked for so long; gives what was counted, and how many asks were answered, in words."""
+    """One server that is asked for so long; gives what was counted, and how many asks were
+    answered, in words."""
     server = running.Server(craqd, plan(), PROCESSES * CONNECTS + 1, journal=journal)
     try:
         newest, passes = (multiprocessing.Array("Q", CHAINS, lock=False) for _ in range(2))
         given, until = multiprocessing.Queue(), time.monotonic() + seconds
-        some = [multiprocessing.Process(target=asking, args=(at, server.address, newest, passes, until, given), daemon=True) for at in range(PROCESSES)]
+        some = [multiprocessing.Process(target=asking,
+                                        args=(at, server.address, newest, passes, until, given), daemon=True)
+                for at in range(PROCESSES)]
         for it in some:
             it.start()
         early, late = memory_of(server, until)
@@ -276,20 +304,27 @@ def served(checks, craqd, seconds, journal):
         server.counts(PROCESSES * CONNECTS - sum(left for _, left in found))
         looked_at(checks, seen)
         if not journal:
-            checks.that(late <= early + GROWTH, f"a server without journals grows from {early:.0f} to {late:.0f} MiB")
+            checks.that(late <= early + GROWTH,
+                        f"a server without journals grows from {early:.0f} to {late:.0f} MiB")
         ends(checks, server, seen, journal)
     finally:
         server.kill()
-    counts = collections.Counter(answered=sum(sum(it.answered) for it in seen), unheard=sum(it.lost for it in seen), repeated=sum(it.repeated for it in seen),
-                                 passes=sum(len(pairs) for it in seen for pairs in it.showed), merged=CHAINS if journal else 0)
+    counts = collections.Counter(answered=sum(sum(it.answered) for it in seen),
+                                 unheard=sum(it.lost for it in seen),
+                                 repeated=sum(it.repeated for it in seen),
+                                 passes=sum(len(pairs) for it in seen for pairs in it.showed),
+                                 merged=CHAINS if journal else 0)
     asks, lost, again, shown = (counts[it] for it in ("answered", "unheard", "repeated", "passes"))
-    checks.that(min(asks, lost, again, shown) > 0, f"the soak asks a server, loses replies, repeats updates and shows passes: {counts}")
-    return counts, (f"{asks} asks answered {'with' if journal else 'without'} journals, {shown} of them reads of what all count up with a pass, "
+    checks.that(min(asks, lost, again, shown) > 0,
+                f"the soak asks a server, loses replies, repeats updates and shows passes: {counts}")
+    return counts, (f"{asks} asks answered {'with' if journal else 'without'} journals, {shown} of them "
+                    f"reads of what all count up with a pass, "
                     f"{lost} replies lost, {again} updates repeated, {early:.0f} to {late:.0f} MiB")
 
 
 def asked_for(checks, craqd, seconds, counts):
-    """A server with journals, and one without, for so long together; adds to the counts, and gives what was seen, in words."""
+    """A server with journals, and one without, for so long together; adds to the counts, and gives
+    what was seen, in words."""
     journaled, told = min(seconds / 2, JOURNALED), []
     for each, journal in (journaled, True), (seconds - journaled, False):
         more, words = served(checks, craqd, each, journal)
@@ -304,13 +339,15 @@ def ends(checks, server, seen, journal):
         server.connect().close()
     out, err = server.process.communicate(timeout=running.PATIENCE * 30)
     checks.same("how the server of the soak ends", server.process.returncode, 0)
-    checks.that(re.fullmatch(server.served(), err.decode()), f"the server of the soak: on standard error {err.decode()!r}")
+    checks.that(re.fullmatch(server.served(), err.decode()),
+                f"the server of the soak: on standard error {err.decode()!r}")
     audits = out.decode().splitlines()
     checks.same("how many chains are audited", len(audits), CHAINS if journal else 0)
     for chain, line in enumerate(audits):
         answered, asked = sum(it.answered[chain] for it in seen), sum(it.asked[chain] for it in seen)
         merged = int(line.rpartition(" ")[2]) if line.startswith("audit merged ") else -1
-        checks.that(answered <= merged <= asked, f"chain {chain}: {line}, of {answered} answers to {asked} asks")
+        checks.that(answered <= merged <= asked,
+                    f"chain {chain}: {line}, of {answered} answers to {asked} asks")
 
 
 def script_of(craq_lab, seed):
@@ -325,7 +362,8 @@ def script_of(craq_lab, seed):
     arrivals = [int(it) for it in re.findall(rb"^deliver (\d+)$", text, re.M)]
     late = sum(number < largest for number, largest in zip(arrivals[1:], itertools.accumulate(arrivals, max)))
     twice = len(arrivals) - len({*arrivals})
-    return text, is_well, collections.Counter(scripts=1, stops=text.count(b"\nstop "), joins=text.count(b"\njoin "), late=late, twice=twice)
+    return text, is_well, collections.Counter(scripts=1, stops=text.count(b"\nstop "),
+                                              joins=text.count(b"\njoin "), late=late, twice=twice)
 
 
 def scripted(craq_lab, seed, until, given):
@@ -351,7 +389,8 @@ def is_enough(checks, counts, minutes, names):
     """As much was done as is due in so many minutes on the processors that there are, of four at most."""
     share = minutes / 5 * min(4, len(os.sched_getaffinity(0))) / 4
     for name in names:
-        checks.that(counts[name] >= DUE[name] * share, f"{COUNTED[name]} in {minutes} minutes: {counts[name]}, of {DUE[name] * share:.0f} that are due")
+        checks.that(counts[name] >= DUE[name] * share, f"{COUNTED[name]} in {minutes} minutes: "
+                    f"{counts[name]}, of {DUE[name] * share:.0f} that are due")
 
 
 def tried(checks, craq_lab, craqd, minutes):
@@ -370,16 +409,19 @@ def tried(checks, craq_lab, craqd, minutes):
 def scripts_and_servers(checks, craq_lab, craqd, minutes):
     """Servers that are asked, beside random scripts; gives what was counted, and what was tried, in words."""
     seed, given, until = int(time.time()), multiprocessing.Queue(), time.monotonic() + minutes * 60
-    beside = [multiprocessing.Process(target=scripted, args=(craq_lab, seed + at * FAR, until, given), daemon=True) for at in range(PLAYERS)]
+    beside = [multiprocessing.Process(target=scripted, args=(craq_lab, seed + at * FAR, until, given),
+                                      daemon=True) for at in range(PLAYERS)]
     for it in beside:
         it.start()
     counts = collections.Counter()
-    told = running.in_each_way(checks, lambda: asked_for(checks, craqd, minutes * 60 / len(running.WAYS), counts))
+    told = running.in_each_way(checks,
+                               lambda: asked_for(checks, craqd, minutes * 60 / len(running.WAYS), counts))
     played = [given.get(timeout=minutes * 60 + running.PATIENCE * 30) for _ in beside]
     for it in beside:
         it.join()
     checks.same("scripts of the soak that failed", [name for _, failed in played for name in failed], [])
     checks.that(min(it["scripts"] for it, _ in played) > 0, "the soak plays scripts")
     more = sum((it for it, _ in played), collections.Counter())
-    return counts + more, (f"{told}; {more['scripts']} scripts from seed {seed} on, {more['stops']} stops and {more['joins']} joins in them, "
+    return counts + more, (f"{told}; {more['scripts']} scripts from seed {seed} on, {more['stops']} stops "
+                           f"and {more['joins']} joins in them, "
                            f"{DRAWS * more['scripts']} schedules")

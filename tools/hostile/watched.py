@@ -1,8 +1,8 @@
-"""The programs under valgrind, Debian's package: the worked scripts with either core, and a server under load for a minute, in each way
-of serving.
+"""The programs under valgrind, Debian's package: the worked scripts with either core, and a server
+under load for a minute, in each way of serving.
 
-It reports what is read or written where nothing may be, what is used without a value, and what is lost to all: none of these.
-Where it is not installed the part is left out, and says so.
+It reports what is read or written where nothing may be, what is used without a value, and what is
+lost to all: none of these. Where it is not installed the part is left out, and says so.
 """
 import os
 import random
@@ -11,19 +11,20 @@ import subprocess
 import tempfile
 import time
 
-import asked
-import attack
-import every_stop
-import playing
-import running
+from tools.end_to_end import running
+from tools.hostile import asked, attack, every_stop
+from tools.rows import playing
+from tools.sockets import framed
 
-WORDS = ("valgrind", "-q", "--error-exitcode=9", "--leak-check=full", "--show-leak-kinds=definite", "--errors-for-leak-kinds=definite")
+WORDS = ("valgrind", "-q", "--error-exitcode=9", "--leak-check=full", "--show-leak-kinds=definite",
+         "--errors-for-leak-kinds=definite")
 CONNECTIONS, PATIENCE = 200, 900
 
 
 def scripts(checks, craq_lab):
     """Each stored script, with each core; gives how many."""
-    cases = [(name, nodes, script, expected, core) for name, nodes, script, expected in every_stop.stored() for core in playing.CORES]
+    cases = [(name, nodes, script, expected, core) for name, nodes, script, expected in every_stop.stored()
+             for core in playing.CORES]
 
     def play(case):
         _, nodes, script, _, core = case
@@ -37,7 +38,8 @@ def scripts(checks, craq_lab):
 
 
 def load(checks, server, seconds):
-    """Asks of one client, and random frames of another that comes anew now and then; gives how many asks there were."""
+    """Asks of one client, and random frames of another that comes anew now and then; gives how many
+    asks there were."""
     other, draw, requests, made = attack.Other(server), random.Random(5), asked.requests(), 0
     until = time.monotonic() + seconds
     while time.monotonic() < until and server.left > 2:
@@ -45,9 +47,10 @@ def load(checks, server, seconds):
             for _ in range(50):
                 checks.that(other.is_answered(), "another client is answered under valgrind")
                 payload = attack.drawn(draw, requests)
-                frames.sendall(asked.framed(payload))
+                frames.sendall(framed(payload))
                 said = attack.taken(frames, int.from_bytes(attack.taken(frames, 4), "big"))
-                checks.that(asked.is_reply(said, payload), f"{payload[:80].hex()} under valgrind: found {said[:80].hex()}")
+                checks.that(asked.is_reply(said, payload),
+                            f"{payload[:80].hex()} under valgrind: found {said[:80].hex()}")
                 made += 3
     other.client.close()
     return made
@@ -74,4 +77,5 @@ def tried(checks, craq_lab, craqd, seconds=60):
     if not shutil.which(WORDS[0]):
         return "left out: valgrind is not installed"
     played = scripts(checks, craq_lab)
-    return f"{played} scripts; " + running.in_each_way(checks, lambda: f"{served(checks, craqd, seconds)} asks of a server in {seconds} s")
+    return f"{played} scripts; " + running.in_each_way(checks, lambda: f"{served(checks, craqd, seconds)} "
+                                                       f"asks of a server in {seconds} s")

@@ -1,9 +1,10 @@
-#!/usr/bin/env python3
-"""Shows that parts of `./test --quick` fail where something is wrong: a file in another layout, a byte of a worked script's
-output, and a server that answers nothing. Each part looks at a copy of what it needs, once as it is and once with the fault; in the
-place of the programs there are stubs: one prints what the worked scripts of this checkout say, and one tells its status or nothing.
+"""Shows that parts of `./test --quick` fail if something is wrong: a file in another layout, a byte
+of a worked script's output, a server that answers nothing, a phrase that is refused, and a public
+call that is missing. Each part checks a copy of what it needs, once unchanged and once with the
+fault. Stubs stand for the programs: one prints what the worked scripts of this checkout say, and
+one answers with its status or not at all.
 
-    tools/quick/faults.py
+    tools/python tools.quick.faults
 
 The last line is 'faults: N passed, M failed', and the status 1 where one failed. `./test --quick` runs it.
 """
@@ -14,47 +15,39 @@ import subprocess
 import sys
 import tempfile
 
-sys.dont_write_bytecode = True
-HERE = os.path.dirname(os.path.realpath(__file__))
-TOOLS = os.path.dirname(HERE)
-TOP = os.path.dirname(TOOLS)
-sys.path.insert(0, TOOLS)
-from checks import Checks  # noqa: E402
+from tools import repository
+from tools.checks import Checks
 
 # The crate whose layout is looked at, and the line of it that is laid out otherwise.
 CRATE = "craq_names"
 LAID_OUT = ("src/lib.rt", "mod order;\n", "mod   order;\n")
+# The path of the Python code: of this checkout, and of the copy if it begins otherwise.
+PATH = os.environ["PYTHONPATH"]
 # The worked script one byte of whose output is changed.
 WORKED = "append-to-the-limit"
 
 # Runs a part of the checks in a copy, and says how many passed and failed.
 PART = """
-import importlib, os, sys
-tools, module, function, *given = sys.argv[1:]
-sys.dont_write_bytecode = True
-sys.path[:0] = [os.path.join(tools, it) for it in ("quick", ".", "rows", "end_to_end")]
-from checks import Checks
+import importlib, sys
+module, function, *given = sys.argv[1:]
+from tools.checks import Checks
 checks = Checks("quick")
 checks.part(function, getattr(importlib.import_module(module), function), *given)
 print(checks.passed, checks.failed)
 """
 
-# In the place of craq_lab: it prints what the worked script of this checkout says whose file it is given.
-PLAYS = """#!/usr/bin/env python3
+# A stub of craq_lab: it prints the output of the worked script of this checkout whose file it is given.
+PLAYS = """#!/usr/bin/env -S PYTHONPATH={path} python3 -B
 import os, sys
-sys.dont_write_bytecode = True
-sys.path[:0] = [{tools!r}, {tools!r} + "/rows"]
-import worked
+from tools.rows import worked
 name = next(os.path.basename(it).removesuffix(".script") for it in sys.argv if it.endswith(".script"))
 sys.stdout.buffer.write(worked.bytes_of(f"worked/{{name}}.expected"))
 """
 
-# In the place of craqd: it listens, and tells its status to who asks; or, as the first word says, it answers nothing.
-LISTENS = """#!/usr/bin/env python3
-import socket, sys
-sys.dont_write_bytecode = True
-sys.path[:0] = [{tools!r}, {tools!r} + "/end_to_end"]
-import bad_input, running
+# A stub of craqd: it listens, and answers each client with its status, or answers nothing.
+LISTENS = """#!/usr/bin/env -S PYTHONPATH={path} python3 -B
+import socket
+from tools.end_to_end import bad_input, running
 made = socket.create_server(("127.0.0.1", 0))
 print("listening", made.getsockname()[1], flush=True)
 held = []
@@ -70,11 +63,12 @@ class Copy:
 
     def __init__(self, room):
         self.top = os.path.join(room, "copy")
-        for folder in "tools", "examples":
-            shutil.copytree(os.path.join(TOP, folder), self.path(folder), ignore=shutil.ignore_patterns("__pycache__"))
+        for folder in "tools", "examples", "clients":
+            shutil.copytree(repository.path(folder), self.path(folder),
+                            ignore=shutil.ignore_patterns("__pycache__"))
         for part in "src", "specs", "proofs":
-            shutil.copytree(os.path.join(TOP, "crates", CRATE, part), self.path("crates", CRATE, part))
-        with open(os.path.join(TOP, "crates.txt"), encoding="utf-8") as it:
+            shutil.copytree(repository.path("crates", CRATE, part), self.path("crates", CRATE, part))
+        with open(repository.path("crates.txt"), encoding="utf-8") as it:
             line = next(line for line in it if line.startswith(f"{CRATE}:"))
         with open(self.path("crates.txt"), "w", encoding="utf-8") as it:
             it.write(line)
@@ -93,39 +87,50 @@ class Copy:
 
     def stub(self, name, text, **given):
         """A program in the place of another."""
-        stub = self.path(name)
+        stub = self.path("stubs", name)
+        os.makedirs(os.path.dirname(stub), exist_ok=True)
         with open(stub, "w", encoding="utf-8") as it:
-            it.write(text.format(tools=TOOLS, **given))
+            it.write(text.format(path=PATH, **given))
         os.chmod(stub, os.stat(stub).st_mode | stat.S_IXUSR)
         return stub
 
     def part(self, module, function, *given):
         """How many checks of a part passed and failed, and what it told."""
-        ran = subprocess.run([sys.executable, "-c", PART, self.path("tools"), module, function, *given], cwd=self.top,
-                             stdin=subprocess.DEVNULL, capture_output=True, text=True)
+        path = PATH.replace(repository.TOP, self.top)
+        ran = subprocess.run([sys.executable, "-B", "-c", PART, module, function, *given], cwd=self.top,
+                             env={**os.environ, "PYTHONPATH": path}, stdin=subprocess.DEVNULL,
+                             capture_output=True, text=True)
         if ran.returncode:
             raise ValueError(f"{module}.{function} stopped: {ran.stderr[-600:]}")
         passed, failed = ran.stdout.split()[-2:]
         return int(passed), int(failed), ran.stderr
 
+    def style(self):
+        """Returns the findings of tools/style in the copy, without what to write instead."""
+        ran = subprocess.run([self.path("tools/style"), *(self.path("crates", CRATE, it) for it in ("src",))],
+                             capture_output=True, text=True)
+        return [it.rpartition(": ")[0] for it in ran.stdout.splitlines()[:-1] if "refused.rt" in it]
+
 
 def layout(checks, room):
     """A file that rt fmt would lay out otherwise."""
     copy = Copy(room)
-    passed, failed, told = copy.part("layout", "formatted", tempfile.mkdtemp(dir=room))
+    passed, failed, told = copy.part("tools.quick.layout", "formatted", tempfile.mkdtemp(dir=room))
     checks.that(passed > 0 and failed == 0, f"the layout as it is: {passed} passed, {failed} failed: {told}")
     file, old, new = LAID_OUT
     copy.changed(f"crates/{CRATE}/{file}", old.encode(), new.encode())
-    _, failed, told = copy.part("layout", "formatted", tempfile.mkdtemp(dir=room))
-    checks.that(failed == 1 and f"found ['{file}'], wanted []" in told, f"another layout of {file}: {failed} failed: {told}")
+    _, failed, told = copy.part("tools.quick.layout", "formatted", tempfile.mkdtemp(dir=room))
+    checks.that(failed == 1 and f"found ['{file}'], wanted []" in told,
+                f"another layout of {file}: {failed} failed: {told}")
 
 
 def worked_byte(checks, room):
     """One byte of what a worked script prints."""
     copy = Copy(room)
-    played = "worked", "scripts", copy.stub("craq_lab", PLAYS)
+    played = "tools.rows.worked", "scripts", copy.stub("craq_lab", PLAYS)
     passed, failed, told = copy.part(*played)
-    checks.that(passed > 100 and failed == 0, f"the worked scripts as they are: {passed} passed, {failed} failed: {told[-600:]}")
+    checks.that(passed > 100 and failed == 0,
+                f"the worked scripts as they are: {passed} passed, {failed} failed: {told[-600:]}")
     file = f"tools/rows/worked/{WORKED}.expected"
     with open(copy.path(file), "rb") as it:
         text = it.read()
@@ -133,21 +138,49 @@ def worked_byte(checks, room):
         it.write(text[:-2] + bytes([text[-2] ^ 1]) + text[-1:])
     _, failed, told = copy.part(*played)
     names = [f"{WORKED} with {core}: " for core in ("no core named", "plain", "list")]
-    checks.that(failed == 3 and all(it in told for it in names), f"a byte of {file} is wrong: {failed} failed: {told[-600:]}")
+    checks.that(failed == 3 and all(it in told for it in names),
+                f"a byte of {file} is wrong: {failed} failed: {told[-600:]}")
 
 
 def silent(checks, room):
     """A server that takes connections and answers nothing."""
     copy = Copy(room)
-    passed, failed, told = copy.part("served", "answers", copy.stub("craqd", LISTENS, mute=False))
-    checks.same(f"a server that tells its status, asked for that alone: {told[-600:]}", (passed, failed), (1, 0))
-    passed, failed, told = copy.part("served", "serves", copy.stub("mute", LISTENS, mute=True), "/bin/false")
-    checks.same(f"a server that answers nothing: {told[-600:]}", (passed, failed, "found TimeoutError" in told), (0, 1, True))
+    passed, failed, told = copy.part("tools.quick.served", "answers", copy.stub("craqd", LISTENS, mute=False))
+    checks.same(f"a server that tells its status, asked for that alone: {told[-600:]}", (passed, failed),
+                (1, 0))
+    passed, failed, told = copy.part("tools.quick.served", "serves", copy.stub("mute", LISTENS, mute=True),
+                                     "/bin/false")
+    checks.same(f"a server that answers nothing: {told[-600:]}",
+                (passed, failed, "found TimeoutError" in told), (0, 1, True))
+
+
+def refused_phrase(checks, room):
+    """A comment with a phrase that tools/style refuses, and a docstring that begins with one."""
+    copy = Copy(room)
+    checks.same("the style of an unchanged copy", copy.style(), [])
+    file = f"crates/{CRATE}/src/refused.rt"
+    with open(copy.path(file), "w", encoding="utf-8") as it:
+        it.write("//! Whether it fits.\n// It `for good` stays for good, if ever.\nconst TOLD: &str = \"to "
+                 "whoever asks\";\n")
+    checks.same("the style of a copy with three faults", copy.style(),
+                [f"{file}:1: 'Whether'", f"{file}:2: 'for good'", f"{file}:3: 'whoever'"])
+
+
+def missing_call(checks, room):
+    """A public call of the specification that is private, or has another signature."""
+    copy, file = Copy(room), f"crates/{CRATE}/src/number.rt"
+    before = copy.part("tools.pages.surface", "surface")
+    for old, new in (b"pub fn next(self)", b"fn next(self)"), (b"pub fn join(self, other: Pass)",
+                                                               b"pub fn join(self, other: u64)"):
+        copy.changed(file, old, new)
+        after = copy.part("tools.pages.surface", "surface")
+        checks.same(f"missing calls after a change of {old}: {after[2][-600:]}", after[1], before[1] + 1)
+        before = after
 
 
 def main():
     checks = Checks("faults")
-    for part in layout, worked_byte, silent:
+    for part in layout, worked_byte, silent, refused_phrase, missing_call:
         with tempfile.TemporaryDirectory(prefix="faults-") as room:
             checks.part(part.__doc__, part, os.path.realpath(room))
     print(f"faults: {checks.passed} passed, {checks.failed} failed")

@@ -1,12 +1,8 @@
-"""craq_lab without its proofs: the worked scripts with either core, texts that are no scripts, pictures and explanations, and some of the
-schedules and random scripts that tools/rows/run plays."""
-import pictures
-import playing
-import recovery
-import schedules
-import scripts
-import tries
-import worked
+"""craq_lab without its proofs: the worked scripts with either core, texts that are no scripts,
+pictures and explanations, and some of the schedules and random scripts that tools/rows/run
+plays."""
+from tools.quick import tries
+from tools.rows import pictures, playing, recovery, schedules, scripts, worked
 
 SCHEDULES, SCRIPTS, RECOVERIES = 40, 40, 10
 
@@ -15,10 +11,13 @@ def plays(checks, program):
     """What the program prints of all these; not optimized and beside others it is slow."""
     playing.PATIENCE = tries.SECONDS
     for what, part, *given in (
-            ("worked scripts", worked.scripts), ("texts that are no scripts", worked.no_scripts), ("pictures", pictures.pictures),
+            ("worked scripts", worked.scripts), ("texts that are no scripts",
+                                                 worked.no_scripts), ("pictures", pictures.pictures),
             ("pictures in the pages", pictures.in_pages), ("explanations that are checked", pictures.claims),
             ("schedules that are drawn", schedules.drawn, SCHEDULES), ("nodes that stop", schedules.stopped),
-            ("random scripts", scripts.random_scripts, SCRIPTS), ("scripts that rounds follow", recovery.worked_recoveries),
+            ("random scripts", scripts.random_scripts, SCRIPTS), ("scripts that rounds follow",
+                                                                  recovery.worked_recoveries),
             ("random scripts that rounds follow", recovery.random_recoveries, RECOVERIES)):
         checks.part(what, part, program, *given)
-    return f"{len(worked.rows())} worked scripts, {SCHEDULES} schedules, {SCRIPTS} random scripts and {RECOVERIES} with rounds"
+    return (f"{len(worked.rows())} worked scripts, {SCHEDULES} schedules, {SCRIPTS} random scripts and "
+            f"{RECOVERIES} with rounds")

@@ -4,8 +4,7 @@ import re
 import shutil
 import subprocess
 
-import repository
-import wrong_bodies
+from tools import repository, wrong_bodies
 
 PARTS = ("src", "specs", "proofs")
 ENDINGS = {"src": ".rt", "specs": ".antt", "proofs": ".antt", "must-fail": ".edit", "wrong": ".edit"}
@@ -17,7 +16,8 @@ def root_of(name):
 
 
 def folders(checks):
-    """crates.txt and the folders agree, and each crate has its root file, which begins with what the crate is for."""
+    """crates.txt and the folders agree, and each crate has its root file, which begins with what
+    the crate is for."""
     known = sorted(repository.crates())
     checks.same("the folders of crates/", sorted(os.listdir(repository.path("crates"))), known)
     for name in known:
@@ -26,7 +26,8 @@ def folders(checks):
             checks.that(False, f"{name} has no {root_of(name)}")
             continue
         text = repository.text_of(file)
-        checks.that(re.match(r"(//!( .+)?\n)+#!\[tactic\(auto\b", text), f"{name}/{root_of(name)} begins with lines '//! ..', and then #![tactic(auto)]")
+        checks.that(re.match(r"(//!( .+)?\n)+#!\[tactic\(auto\b", text),
+                    f"{name}/{root_of(name)} begins with lines '//! ..', and then #![tactic(auto)]")
 
 
 def stray(checks):
@@ -35,7 +36,8 @@ def stray(checks):
         top = repository.path("crates", name)
         checks.same(f"what stands in crates/{name}", sorted({*os.listdir(top)} - BESIDE), [])
         for part, ending in ENDINGS.items():
-            found = [it for _, _, files in os.walk(f"{top}/{part}") for it in files if not it.endswith((ending, ".md"))]
+            found = [it for _, _, files in os.walk(f"{top}/{part}") for it in files
+                     if not it.endswith((ending, ".md"))]
             checks.same(f"files of crates/{name}/{part}", found, [])
         for part in "specs", "proofs":
             listed(checks, name, part)
@@ -48,10 +50,12 @@ def modules(checks, name):
     for folder, _, files in os.walk(f"{top}/src"):
         is_top = folder == f"{top}/src"
         root = root_of(name) if is_top else f"{os.path.relpath(folder, top)}.rt"
-        found = {it.removesuffix(".rt") for it in files if it.endswith(".rt")} - ({"lib", "main"} if is_top else set())
+        found = {it.removesuffix(".rt") for it in files
+                 if it.endswith(".rt")} - ({"lib", "main"} if is_top else set())
         text = repository.text_of(top, root) if os.path.isfile(f"{top}/{root}") else ""
         named = {*re.findall(r"(?m)^\s*(?:pub(?:\(crate\))? )?mod (\w+);", text)}
-        checks.same(f"modules of crates/{name}/{os.path.relpath(folder, top)} that {root} does not name", sorted(found - named), [])
+        checks.same(f"modules of crates/{name}/{os.path.relpath(folder, top)} that {root} does not name",
+                    sorted(found - named), [])
 
 
 def listed(checks, name, part):
@@ -59,7 +63,8 @@ def listed(checks, name, part):
     top = repository.path("crates", name, part)
     if os.path.isdir(top):
         found = {it.removesuffix(".antt") for it in os.listdir(top) if it.endswith(".antt")} - {"Lib"}
-        named = {*re.findall(r"(?m)^(?:pub )?mod (\w+)", repository.text_of(top, "Lib.antt"))} if os.path.isfile(f"{top}/Lib.antt") else set()
+        text = repository.text_of(top, "Lib.antt") if os.path.isfile(f"{top}/Lib.antt") else ""
+        named = {*re.findall(r"(?m)^(?:pub )?mod (\w+)", text)}
         checks.same(f"files of crates/{name}/{part} that Lib.antt does not name", sorted(found - named), [])
 
 
@@ -90,8 +95,10 @@ def edits(checks):
             for edit in repository.edits_in(name, folder):
                 fault = fault_of(name, repository.path("crates", name, folder, f"{edit}.edit"))
                 checks.that(not fault, f"crates/{name}/{folder}/{edit}.edit: {fault}")
-    checks.same("edits of wrong/ that docs/proof/WRONG_BODIES.md lacks, or has too many (./refuse --write NAME)", wrong_bodies.unlike(), [])
-    checks.same("edits that docs/proof/WRONG_BODIES.md names and that are not there", wrong_bodies.strange(), [])
+    checks.same("edits of wrong/ that docs/proof/WRONG_BODIES.md lacks, or has too many (./refuse --write "
+                "NAME)", wrong_bodies.unlike(), [])
+    checks.same("edits that docs/proof/WRONG_BODIES.md names and that are not there", wrong_bodies.strange(),
+                [])
 
 
 def formatted(checks, room):
@@ -104,7 +111,8 @@ def formatted(checks, room):
     shutil.copy2(repository.path("crates.txt"), room)
     for name in repository.crates():
         there = os.path.join(room, "crates", name)
-        ran = subprocess.run(["rt", "fmt"], cwd=there, stdout=subprocess.PIPE, stderr=subprocess.STDOUT, text=True, errors="replace")
+        ran = subprocess.run(["rt", "fmt"], cwd=there, stdout=subprocess.PIPE, stderr=subprocess.STDOUT,
+                             text=True, errors="replace")
         checks.that(ran.returncode == 0, f"rt fmt in crates/{name}: {ran.stdout[-300:]}")
         checks.same(f"files of crates/{name} that rt fmt lays out otherwise", changed(name, there), [])
 
@@ -115,7 +123,8 @@ def changed(name, there):
     for at, _, files in os.walk(there):
         for file in files:
             inside = os.path.relpath(os.path.join(at, file), there)
-            with open(os.path.join(at, file), "rb") as it, open(repository.path("crates", name, inside), "rb") as own:
+            with open(os.path.join(at, file), "rb") as it, open(repository.path("crates", name, inside),
+                                                                "rb") as own:
                 if it.read() != own.read():
                     found.append(inside)
     return sorted(found)

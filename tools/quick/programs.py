@@ -4,16 +4,17 @@ import shutil
 import tempfile
 import threading
 
-import audits
-import repository
-import unproved
+from tools.end_to_end import audits
+from tools import repository, unproved
 
 # Those that run longer than it takes to optimize them.
 OPTIMIZED = ("craq_part_tests",)
-# Those of changed sources: of which crate, and what stands in which file of crates/ in the place of what. One makes fewer calls, the other
-# audits that do not fit.
+# Those of changed sources: of which crate, and what stands in which file of crates/ in the place of
+# what. One makes fewer calls, the other audits that do not fit.
 CHANGED = {
-    "craq_thread_tests": ("craq_thread_tests", [("craq_thread_tests/src/changes.rt", "const CALLS: u64 = 2500;", "const CALLS: u64 = 100;")]),
+    "craq_thread_tests": ("craq_thread_tests",
+                          [("craq_thread_tests/src/changes.rt", "const CALLS: u64 = 2500;",
+                            "const CALLS: u64 = 100;")]),
     audits.PROGRAM: ("craqd", audits.CHANGES),
 }
 
@@ -45,7 +46,8 @@ def built(name, path):
 
 
 class Programs:
-    """The programs in a folder: one that is there is taken as it is, and any other is built there when it is first asked for."""
+    """The programs in a folder: one that is there is taken as it is, and any other is built there
+    when it is first asked for."""
 
     def __init__(self, folder):
         os.makedirs(folder, exist_ok=True)

@@ -1,9 +1,8 @@
-"""craqd and craq without their proofs, from end to end: a server, commands and clients. What looks at a clock or at the memory of a
-server is left to tools/end_to_end/run, since other programs run beside these."""
-import bad_input
-import clients
-import commands
-import running
+"""craqd and craq without their proofs, from end to end: a server, commands and clients. What looks
+at a clock or at the memory of a server is left to tools/end_to_end/run, since other programs run
+beside these."""
+from tools.end_to_end import bad_input, clients, commands, running
+from tools.sockets import free_port
 
 CONNECTIONS = 1_600
 # How many seconds an answer may take where others run beside.
@@ -38,8 +37,7 @@ def asked(checks, server, craq):
     checks.part("requests that are none", bad_input.no_requests, server)
     checks.part("bytes that are cut", bad_input.cuts, server)
     checks.part("lost replies", clients.lost_replies, server)
-    checks.part("the example", clients.tour, server)
-    checks.part("the example as a command", clients.worded, server)
+    checks.part("the command in Python", clients.worded, server)
     audits = "".join(f"audit merged {server.answered.get(chain, 0)}\n" for chain in (0, 1))
     server.finish(checks, "craqd --journal", audits)
     return f"{sum(server.answered.values())} asks answered"
@@ -49,7 +47,7 @@ def serves(checks, craqd, craq):
     """The helps, command lines, and a server; one that does not answer is asked no more."""
     if not answers(checks, craqd):
         return "a server that does not answer"
-    running.PATIENCE, nowhere = PATIENCE, f"127.0.0.1:{running.free_port()}"
+    running.PATIENCE, nowhere = PATIENCE, f"127.0.0.1:{free_port()}"
     checks.part("the page of bytes", clients.page)
     checks.part("help", commands.helps, craq, craqd)
     checks.part("command lines", commands.no_commands, craq, nowhere)

@@ -1,8 +1,8 @@
-#!/usr/bin/env python3
-"""Tries the scripts at the top of the repository, ./serve, ./play, ./build, ./plant, ./refuse, ./hostile and ./test, with a stub in
-the place of `rt`: so it takes seconds, and shows what the scripts do themselves.
+"""Tries the scripts at the top of the repository, ./serve, ./play, ./build, ./plant, ./refuse,
+./release, ./hostile and ./test, with a stub of `rt`: so it takes seconds, and shows what the scripts
+do themselves.
 
-    tools/quick/top.py
+    tools/python tools.quick.top
 
 The last line is 'top: N passed, M failed', and the status 1 where one failed. `./test --quick` runs it.
 """
@@ -10,61 +10,45 @@ import itertools
 import os
 import shutil
 import signal
-import socket
 import stat
 import subprocess
 import sys
 import tempfile
 import time
 
-sys.dont_write_bytecode = True
-HERE = os.path.dirname(os.path.realpath(__file__))
-TOP = os.path.dirname(os.path.dirname(HERE))
-sys.path.insert(0, os.path.dirname(HERE))
-from checks import Checks  # noqa: E402
+from tools import repository
+from tools.checks import Checks
 
-SCRIPTS = ("serve", "play", "build", "plant", "refuse", "hostile", "test")
+SCRIPTS = ("serve", "play", "build", "plant", "refuse", "release", "hostile", "test")
 PROGRAMS = ("craq_lab", "craqd", "craq")
 PATIENCE = 30
 NO_RT = "needs Rattle's command rt on the path\n"
 
-# In rt's place: it notes its words, and does what a file of the command's name beside it says.
+# The stub of rt: it notes its words, and runs the file of the command's name beside it.
 RT = """#!/usr/bin/env bash
 here=$(dirname "$0")
 echo "$(basename "$PWD"): $*" >>"$here/words"
 [ ! -f "$here/do-$1" ] || . "$here/do-$1"
 """
 
-# In the place of `rt try` of craqd: it prints what it was given, and listens at the last word until it is ended.
-LISTENS = """
-exec python3 -c '
-import socket, sys, time
-host, _, port = sys.argv[1].rpartition(":")
-it = socket.create_server((host, int(port)))
-while True:
-    it.accept()[0].close()
-' "${@: -1}"
+# A stub of tools/unproved.py: it notes its words, and makes a program of this text, or fails if there
+# is none.
+BUILDS = """import os, sys
+with open({words!r}, "a", encoding="utf-8") as it:
+    it.write("unproved: " + " ".join(sys.argv[1:]) + "\\n")
+text = {text!r}
+if not text:
+    sys.exit("no program")
+with open(sys.argv[-1], "w", encoding="utf-8", opener=lambda path, flags: os.open(path, flags, 0o700)) as it:
+    it.write("#!/usr/bin/env bash\\n" + text)
 """
-
-
-# The same, which is over after one connection, as by --connections 1.
-LISTENS_ONCE = """
-exec python3 -c '
-import socket, sys
-host, _, port = sys.argv[1].rpartition(":")
-it = socket.create_server((host, int(port)))
-it.accept()
-print("listening " + port)
-print("audit merged 1")
-print("craqd serves", file=sys.stderr)
-print("checked: ended status=3", file=sys.stderr)
-sys.exit(3)
-' "${@: -1}"
-"""
+# A stub of craqd: it prints that it listens and what it was given, and ends in order with its standard
+# input.
+SERVES = 'echo "listening 7123"; echo "$*" >&2; cat >/dev/null; echo "audit merged 0"; exit 3\n'
 
 
 class Clone:
-    """A copy of what the scripts need, with a stub in rt's place."""
+    """A copy of the files that the scripts need, with a stub of rt."""
 
     def __init__(self, room):
         self.top, self.bin = os.path.join(room, "clone"), os.path.join(room, "bin")
@@ -72,8 +56,10 @@ class Clone:
         for name in SCRIPTS:
             self.copy(name)
         for folder in "tools", "examples":
-            shutil.copytree(os.path.join(TOP, folder), os.path.join(self.top, folder), ignore=shutil.ignore_patterns("__pycache__"))
-        self.write("crates.txt", "craq_names:\ncraq_lab: craq_names\ncraqd: craq_names\ncraq: craq_names\ncraq_part_tests: craq_names\n")
+            shutil.copytree(repository.path(folder), os.path.join(self.top, folder),
+                            ignore=shutil.ignore_patterns("__pycache__"))
+        self.write("crates.txt", "craq_names:\ncraq_lab: craq_names\ncraqd: craq_names\ncraq: "
+                   "craq_names\ncraq_part_tests: craq_names\n")
         self.copy("HANDLES")
         self.write("crates/craq_names/src/lib.rt", "//! A library.\n")
         self.write("crates/craq_names/wrong/never.edit", "file: src/lib.rt\nold: A\nnew: B\n")
@@ -84,7 +70,7 @@ class Clone:
 
     def copy(self, name):
         os.makedirs(self.top, exist_ok=True)
-        shutil.copy2(os.path.join(TOP, name), self.top)
+        shutil.copy2(repository.path(name), self.top)
 
     def write(self, name, text):
         file = os.path.join(self.top, name)
@@ -114,18 +100,26 @@ class Clone:
             found = []
         return found
 
+    def builds_unproved(self, text):
+        """What tools/unproved.py makes: a program of this bash text, or none where it is empty."""
+        self.write("tools/unproved.py", BUILDS.format(words=os.path.join(self.bin, "words"), text=text))
+
     def built(self, name, text):
         """A program that ./build would have made of the present sources."""
         self.executable(os.path.join(self.top, f"crates/{name}/out/{name}"), "#!/usr/bin/env bash\n" + text)
-        sum_of = subprocess.run(["tools/sources", "."], cwd=self.top, check=True, capture_output=True, text=True).stdout
+        sum_of = subprocess.run(["tools/sources", "."], cwd=self.top, check=True, capture_output=True,
+                                text=True).stdout
         self.write(f"crates/{name}/out/{name}.of", sum_of)
 
     def started(self, *words, has_rt=True, alone=False):
-        """A script that runs, from another folder than its own; alone: in a group of processes of its own. SIGINT is ignored in what a
-        shell runs in the background, and bash cannot trap what was ignored before it began."""
+        """A script that runs, from another folder than its own; alone: in a group of processes of
+        its own. SIGINT is ignored in what a shell runs in the background, and bash cannot trap what
+        was ignored before it began."""
         path = (self.bin + ":" if has_rt else "") + "/usr/bin:/bin"
-        return subprocess.Popen([os.path.join(self.top, words[0]), *words[1:]], cwd=self.bin, env={**os.environ, "PATH": path},
-                                stdin=subprocess.DEVNULL, stdout=subprocess.PIPE, stderr=subprocess.PIPE, text=True, start_new_session=alone,
+        return subprocess.Popen([os.path.join(self.top, words[0]), *words[1:]], cwd=self.bin,
+                                env={**os.environ, "PATH": path},
+                                stdin=subprocess.DEVNULL, stdout=subprocess.PIPE, stderr=subprocess.PIPE,
+                                text=True, start_new_session=alone,
                                 preexec_fn=lambda: signal.signal(signal.SIGINT, signal.SIG_DFL))
 
     def ran(self, *words, has_rt=True):
@@ -142,99 +136,112 @@ def has_no_rt(checks, clone):
         checks.same(f"./{name} without rt", (status, err.partition(": ")[2]), (1, NO_RT))
 
 
+def loops():
+    """How many event loops ./serve asks for."""
+    return max(1, len(os.sched_getaffinity(0)) // 2)
+
+
+def told(clone, connect="--connect 127.0.0.1:7123 "):
+    """The commands that ./serve prints while no craq is built."""
+    python = f"  python3 {clone.top}/clients/python/jilsdau {connect}"
+    return ["Ask it from another terminal, as by:",
+            *(python + it for it in ("set colour blue", "get colour", "health"))]
+
+
 def serve_unproved(checks, clone):
-    """./serve on a fresh clone builds the server without proofs, says so, and ends with all that it started."""
-    clone.rt_does("try", LISTENS)
-    plan = os.path.join(clone.top, "examples", "plan.toml")
-    for words in ["serve"], ["serve", plan, "127.0.0.1:0"]:
-        clone.words()
-        it = clone.started(*words)
+    """./serve on a fresh clone builds the server without proofs, says so, keeps it until the sources
+    change, and ends it in order."""
+    plan, words = os.path.join(clone.top, "examples", "plan.toml"), []
+    for text, built in (SERVES, True), ("never", False):
+        clone.builds_unproved(text)
+        it = clone.started("serve")
         try:
-            first = it.stdout.readline()
-            port = first.removeprefix("listening ").strip()
-            checks.that(first.startswith("listening ") and port.isdigit(), f"./serve tells where it listens: {first!r}")
-            lines = [it.stdout.readline().strip() for _ in range(4)]
-            checks.same("how to ask it", lines[1:], [f"{clone.top}/examples/client.py 127.0.0.1:{port} put colour blue",
-                                                     f"{clone.top}/examples/client.py 127.0.0.1:{port} read colour",
-                                                     f"{clone.top}/examples/client.py help"])
-            asked = clone.words()
-            checks.that(len(asked) == 1 and asked[0].startswith("craqd: try ") and f"plan.toml={plan}" in asked[0]
-                        and asked[0].endswith(f" -- plan.toml 127.0.0.1:{port}"), f"what rt is asked: {asked}")
+            lines = [it.stdout.readline().rstrip("\n") for _ in range(5)]
+            checks.same("what ./serve tells", lines, ["listening 7123", *told(clone)])
+            words = clone.words()
+            checks.same("whether it builds", len(words), int(built))
             it.send_signal(signal.SIGTERM)
-            _, err = it.communicate(timeout=PATIENCE)
-            checks.same("how it ends", it.returncode, 143)
-            checks.same("how often it says that it is not proved", err.count("WITHOUT its proofs"), 2)
-            checks.that(is_free(port), "the server ends with ./serve")
+            out, err = it.communicate(timeout=PATIENCE)
+            checks.same("how it ends", (out, it.returncode), ("audit merged 0\n", 3))
+            checks.same("how often it says that it is not proved", err.count("WITHOUT its proofs"), 1 + built)
+            checks.that(f"--until-input-ends --threads {loops()} {plan} 127.0.0.1:7000\n" in err,
+                        f"what the server is given: {err}")
         finally:
             it.kill()
-
-
-def is_free(port):
-    """Whether nothing listens at a port of the loopback, after a while at most."""
-    until = time.time() + PATIENCE
-    while time.time() < until:
-        if subprocess.run(["bash", "-c", f"exec 3<>/dev/tcp/127.0.0.1/{port}"], stderr=subprocess.DEVNULL).returncode:
-            return True
-        time.sleep(0.1)
-    return False
-
-
-def serve_ends_itself(checks, clone):
-    """./serve makes no connection to the server without proofs, passes on what it said once it has ended, and its status; where another
-    listens it says so and builds nothing."""
-    clone.rt_does("try", LISTENS_ONCE)
-    it = clone.started("serve", "--connections", "1")
-    port = it.stdout.readline().removeprefix("listening ").strip()
-    time.sleep(1.5)
-    checks.same("whether it is over before a connection", it.poll(), None)
-    clone.words()
-    status, out, err = clone.ran("serve", os.path.join(clone.top, "examples", "plan.toml"), f"127.0.0.1:{port}")
-    checks.same("a port that is taken", (status, out, err, clone.words()), (4, "", f"cannot listen on 127.0.0.1:{port}\n", []))
-    socket.create_connection(("127.0.0.1", int(port))).close()
-    out, err = it.communicate(timeout=PATIENCE)
-    checks.same("what comes in the end", (it.returncode, out.splitlines()[-1], out.count("listening")), (3, "audit merged 1", 0))
-    checks.same("what comes on standard error in the end", (err.splitlines()[-1], err.count("checked")), ("craqd serves", 0))
-
-
-def serve_fails(checks, clone):
-    """./serve passes on why the server did not start, and its status."""
-    clone.rt_does("try", "echo 'cannot listen on nowhere'; echo 'checked: ended status=4'; exit 4\n")
+        if built:
+            built_as = f"unproved: --one {clone.top}/crates/craqd {clone.top}/out/"
+            checks.that(words and words[0].startswith(built_as), f"what is built: {words}")
+    clone.write("crates/craq_names/src/lib.rt", "//! A library that was changed.\n")
+    clone.builds_unproved("")
     status, out, err = clone.ran("serve")
-    checks.same("a server that ends at once", (status, out, err.splitlines()[-1]), (4, "", "cannot listen on nowhere"))
-    status, out, err = clone.ran("serve", "nowhere.toml")
-    checks.that((status, out) == (2, "") and err.startswith("cannot read "), f"a plan that is not there: {status} {err}")
-    clone.words()
-    status, out, err = clone.ran("serve", "--journal")
-    checks.same("journals without an end", (status, out, "--connections" in err, clone.words()), (2, "", True, []))
+    checks.same("sources that do not build", (status, out, err.splitlines()[-1], len(clone.words())),
+                (1, "", "no program", 1))
+    checks.same("what is left of the build", sorted(os.listdir(os.path.join(clone.top, "out"))),
+                ["craqd", "craqd.of"])
+    clone.builds_unproved("exit 4\n")
+    status, out, err = clone.ran("serve", plan, "127.0.0.1:7001")
+    checks.same("a server that cannot listen", (status, out), (4, ""))
+    checks.that(err.endswith("nothing can listen at 127.0.0.1:7001; with 127.0.0.1:0 the system chooses a "
+                             "free port\n"), f"what it tells: {err}")
+
+
+def serve_build_ended(checks, clone):
+    """./serve ends a build at SIGTERM and SIGINT, and leaves nothing of it."""
+    for ending, status in (signal.SIGTERM, 143), (signal.SIGINT, 130):
+        clone.write("tools/unproved.py", "import time\nwhile True:\n    time.sleep(1)\n")
+        it = clone.started("serve", alone=True)
+        until = time.time() + PATIENCE
+        while not os.path.isdir(os.path.join(clone.top, "out")) and time.time() < until:
+            time.sleep(0.05)
+        time.sleep(0.5)
+        it.send_signal(ending)
+        it.communicate(timeout=PATIENCE)
+        checks.same(f"a build at {ending.name}", (it.returncode, os.listdir(os.path.join(clone.top, "out"))),
+                    (status, []))
+        os.rmdir(os.path.join(clone.top, "out"))
 
 
 def serve_proved(checks, clone):
     """./serve starts the program that ./build made of the present sources, and no other."""
-    clone.rt_does("try", "exit 4\n")
+    clone.builds_unproved("")
     clone.built("craqd", 'echo "listening 7123"; echo "audit merged 1" >&2; echo "$#: $*"\n')
     plan = os.path.join(clone.top, "examples", "plan.toml")
     clone.words()
     status, out, _ = clone.ran("serve", plan, "127.0.0.1:7123")
     lines = out.splitlines()
-    checks.same("the proved server", (status, lines[0], lines[-1]), (0, "listening 7123", f"3: --until-input-ends {plan} 127.0.0.1:7123"))
+    threads = f"--threads {loops()}"
+    checks.same("the proved server", (status, lines[0], lines[-1]),
+                (0, "listening 7123", f"5: --until-input-ends {threads} {plan} 127.0.0.1:7123"))
+    checks.same("its commands", lines[1:5], told(clone))
     _, out, _ = clone.ran("serve", "--journal", "--until-input-ends", "--most", "9", plan)
-    checks.same("its options", out.splitlines()[-1], f"6: --until-input-ends --journal --most 9 {plan} 127.0.0.1:0")
-    checks.that(any("examples/client.py 127.0.0.1:7123 put" in it for it in lines), f"it tells of the client in Python: {lines}")
+    checks.same("its options", out.splitlines()[-1],
+                f"8: --until-input-ends --journal --most 9 {threads} {plan} 127.0.0.1:7000")
+    _, out, _ = clone.ran("serve", "--threads", "0", plan, "127.0.0.1:0")
+    checks.same("threads that are given", out.splitlines()[-1],
+                f"5: --until-input-ends --threads 0 {plan} 127.0.0.1:0")
+    clone.built("craqd", 'echo "listening 7000"\n')
+    _, out, _ = clone.ran("serve")
+    checks.same("commands at the default address", out.splitlines()[1:], told(clone, ""))
     clone.built("craq", "exit 0\n")
-    _, out, _ = clone.ran("serve", plan, "127.0.0.1:7123")
-    checks.that("crates/craq/out/craq --connect 127.0.0.1:7123 --node 1 put 1 1 colour blue" in out, f"it tells of craq once that is built: {out}")
+    _, out, _ = clone.ran("serve", plan)
+    checks.that("crates/craq/out/craq --connect 127.0.0.1:7000 --node 1 read strong colour" in out,
+                f"it tells of craq once that is built: {out}")
     status, out, _ = clone.ran("serve", "--help")
     checks.that(status == 0 and out.startswith("Serves a store") and "OPTION" in out, f"its help: {out}")
-    checks.same("rt is not asked", clone.words(), [])
+    status, out, err = clone.ran("serve", "nowhere.toml")
+    checks.that((status, out) == (2, "") and err.startswith("cannot read "),
+                f"a plan that is not there: {status} {err}")
+    checks.same("nothing is built", clone.words(), [])
     source = clone.write("crates/craqd/src/main.rt", "//! A program that was changed.\n")
-    checks.same("after a change of the sources", clone.ran("serve")[0], 4)
-    checks.that(clone.words() != [], "rt is asked after a change of the sources")
+    checks.same("after a change of the sources", clone.ran("serve")[0], 1)
+    checks.that(clone.words() != [], "it builds after a change of the sources")
     clone.write(source, "//! A program.\n")
 
 
 def serve_ends(checks, clone):
-    """./serve ends the proved server in order: at SIGTERM or SIGINT its standard input ends, and what it then prints is passed on. Where they
-    come to the server too, as by a terminal's Ctrl-C or by timeout, it goes on. Another signal, a second later, ends it at once."""
+    """./serve ends the proved server in order: at SIGTERM or SIGINT its standard input ends, and
+    what it then prints is passed on. Where they come to the server too, as by a terminal's Ctrl-C
+    or by timeout, it goes on. Another signal, a second later, ends it at once."""
     for ending, send in itertools.product((signal.SIGTERM, signal.SIGINT), (os.kill, os.killpg)):
         clone.built("craqd", 'echo "listening 7123"; cat >/dev/null; echo "audit merged 0"; exit 3\n')
         it = clone.started("serve", "--journal", alone=True)
@@ -242,7 +249,8 @@ def serve_ends(checks, clone):
         time.sleep(0.3)
         send(it.pid, ending)
         out, _ = it.communicate(timeout=PATIENCE)
-        checks.same(f"./serve at {ending.name} by {send.__name__}", (first, out.splitlines()[-1], it.returncode), ("listening 7123\n", "audit merged 0", 3))
+        checks.same(f"./serve at {ending.name} by {send.__name__}",
+                    (first, out.splitlines()[-1], it.returncode), ("listening 7123\n", "audit merged 0", 3))
     clone.built("craqd", 'echo "listening 7123"; exec sleep 1000\n')
     it = clone.started("serve", alone=True)
     it.stdout.readline()
@@ -254,123 +262,214 @@ def serve_ends(checks, clone):
 
 
 def play(checks, clone):
-    """./play plays the sample or a script, by the proved program where it is there, and passes its status on."""
-    clone.rt_does("try", 'echo "played"; echo "checked: ended status=2" >&2; echo "script line 1" >&2; exit 2\n')
+    """./play plays the sample or a script, by the proved program where it is there, and passes its
+    status on."""
+    clone.rt_does("try",
+                  'echo "played"; echo "checked: ended status=2" >&2; echo "script line 1" >&2; exit 2\n')
     clone.words()
     status, out, err = clone.ran("play")
-    checks.same("the sample without proofs", (status, out, err.splitlines()[1:]), (2, "played\n", ["script line 1"]))
+    checks.same("the sample without proofs", (status, out, err.splitlines()[1:]),
+                (2, "played\n", ["script line 1"]))
     script = clone.write("some.script", "put\n")
     clone.ran("play", "--nodes", "2", script)
     sample = os.path.join(clone.top, "crates/craq_lab/stdin")
-    checks.same("what rt is asked", clone.words(), [f"craq_lab: try --data script={sample} -- play script", f"craq_lab: try --data script={script} -- play --nodes 2 script"])
+    checks.same("what rt is asked", clone.words(),
+                [f"craq_lab: try --data script={sample} -- play script",
+                 f"craq_lab: try --data script={script} -- play --nodes 2 script"])
     clone.built("craq_lab", 'echo "$*"; exit 3\n')
-    checks.same("the proved program", clone.ran("play", "--core", "plain", script), (3, f"play --core plain {script}\n", ""))
+    checks.same("the proved program", clone.ran("play", "--core", "plain", script),
+                (3, f"play --core plain {script}\n", ""))
     clone.words()
     status, out, _ = clone.ran("play", "--help")
-    checks.that(status == 0 and out.startswith("Plays a script") and clone.words() == [], f"its help: {status} {out}")
+    checks.that(status == 0 and out.startswith("Plays a script") and clone.words() == [],
+                f"its help: {status} {out}")
 
 
 def build(checks, clone):
-    """./build proves and then marks each program with its sources; where a proof fails it says so and marks none."""
+    """./build proves and then marks each program with its sources; where a proof fails it says so
+    and marks none."""
     for name in PROGRAMS:
         shutil.rmtree(os.path.join(clone.top, f"crates/{name}/out"), ignore_errors=True)
     clone.words()
     status, out, _ = clone.ran("build", "--help")
-    checks.that(status == 0 and out.startswith("Proves every crate") and clone.words() == [], f"its help: {status} {out}")
+    checks.that(status == 0 and out.startswith("Proves every crate") and clone.words() == [],
+                f"its help: {status} {out}")
     clone.rt_does("all", "")
     clone.rt_does("run", 'mkdir -p out; cp /bin/true "out/$(basename "$PWD")"\n')
     clone.words()
     status, out, _ = clone.ran("build")
-    checks.that(status == 0 and out.startswith("build: every crate is proved and craq_lab craqd craq are built"), f"./build: {status} {out}")
+    checks.that(status == 0
+                and out.startswith("build: every crate is proved and craq_lab craqd craq are built"),
+                f"./build: {status} {out}")
     asked = clone.words()
     checks.that(asked[:1] and asked[0].startswith("clone: all check --jobs "), f"it proves first: {asked}")
     checks.same("then it builds", asked[1:], [f"{name}: run -- --help" for name in PROGRAMS])
     sum_of = subprocess.run(["tools/sources", "."], cwd=clone.top, capture_output=True, text=True).stdout
-    marks = [open(os.path.join(clone.top, f"crates/{name}/out/{name}.of"), encoding="utf-8").read() for name in PROGRAMS]
+    marks = [open(os.path.join(clone.top, f"crates/{name}/out/{name}.of"), encoding="utf-8").read()
+             for name in PROGRAMS]
     checks.same("each program's mark", marks, [sum_of] * 3)
     clone.rt_does("all", "echo 'craq_names: not proved'; exit 1\n")
     status, out, err = clone.ran("build")
     checks.same("a proof that fails", (status, out, err), (1, "", "craq_names: not proved\n"))
-    left = [name for name in PROGRAMS if os.path.exists(os.path.join(clone.top, f"crates/{name}/out/{name}.of"))]
+    left = [name for name in PROGRAMS
+            if os.path.exists(os.path.join(clone.top, f"crates/{name}/out/{name}.of"))]
     checks.same("programs that are marked after it", left, [])
 
 
 def plant(checks, clone):
-    """./plant prints what the contracts let through, of every crate but those of tests, or of the named ones."""
-    clone.rt_does("plant", "echo '  proves  f: returns its argument'; echo '  refused g'; echo 'plant: proves=1 refused=1'\n")
+    """./plant prints what the contracts let through, of every crate but those of tests, or of the
+    named ones."""
+    clone.rt_does("plant", "echo '  proves  f: returns its argument'; echo '  refused g'; echo 'plant: "
+                  "proves=1 refused=1'\n")
     clone.words()
     status, out, _ = clone.ran("plant", "craq_names")
-    checks.same("one crate", (status, out), (0, "craq_names: proves  f: returns its argument\ncraq_names: plant: proves=1 refused=1\n"))
+    checks.same("one crate", (status, out),
+                (0, "craq_names: proves  f: returns its argument\ncraq_names: plant: proves=1 refused=1\n"))
     checks.same("what rt is asked", clone.words(), ["craq_names: plant --max 1000 --minutes 60"])
     clone.ran("plant")
-    checks.same("all crates", [it.partition(":")[0] for it in clone.words()], ["craq_names", "craq_lab", "craqd", "craq"])
+    checks.same("all crates", [it.partition(":")[0] for it in clone.words()],
+                ["craq_names", "craq_lab", "craqd", "craq"])
     clone.rt_does("plant", "echo 'not proved'; exit 2\n")
-    checks.same("a crate that is not proved", clone.ran("plant", "craq_names")[:2], (2, "craq_names: rt plant judged nothing: not proved\n"))
+    checks.same("a crate that is not proved", clone.ran("plant", "craq_names")[:2],
+                (2, "craq_names: rt plant judged nothing: not proved\n"))
     checks.same("a crate that there is not", clone.ran("plant", "no_such_crate")[0], 2)
     clone.words()
     status, out, _ = clone.ran("plant", "--help")
-    checks.that(status == 0 and out.startswith("Tries wrong bodies") and clone.words() == [], f"its help: {status} {out}")
+    checks.that(status == 0 and out.startswith("Tries wrong bodies") and clone.words() == [],
+                f"its help: {status} {out}")
 
 
 def refuse(checks, clone):
-    """./refuse has `rt ci NAME..`, or `rt must-fail` where that takes no names, try the edits of wrong/ in a copy, and counts those that are refused."""
+    """./refuse has `rt ci NAME..`, or `rt must-fail` where that takes no names, try the edits of
+    wrong/ in a copy, and counts those that are refused."""
     for help, verb in ("  rt ci [NAME..]  the gate", "ci"), ("  rt ci           the gate", "must-fail"):
         clone.rt_does("--help", f"echo '{help}' >&2\n")
-        for said, wanted in (("refused, as it must be", (0, "1 refused, 0 not")), ("NOT REFUSED", (1, "0 refused, 1 not"))):
-            clone.rt_does(verb, f"test -e crates/craq_names/must-fail/never.edit || exit 3\necho 'rt: must-fail craq_names/never.edit: {said}'\n")
+        for said, wanted in (("refused, as it must be", (0, "1 refused, 0 not")),
+                             ("NOT REFUSED", (1, "0 refused, 1 not"))):
+            clone.rt_does(verb, f"test -e crates/craq_names/must-fail/never.edit || exit 3\necho 'rt: "
+                          f"must-fail craq_names/never.edit: {said}'\n")
             clone.words()
             status, out, err = clone.ran("refuse")
-            checks.same(f"an edit that is {said}", (status, out.splitlines()[-1], err), (*wanted, f"refuse: rt {verb} tries the edits\n"))
+            checks.same(f"an edit that is {said}", (status, out.splitlines()[-1], err),
+                        (*wanted, f"refuse: rt {verb} tries the edits\n"))
             checks.that(out.startswith(f"craq_names/never: {said}\n"), f"its line: {out}")
             checks.that(clone.words()[-1].endswith(f": {verb} craq_names"), f"rt is asked to {verb}")
     status, out, err = clone.ran("refuse", "craq_lab")
-    checks.same("a crate without wrong/", (status, out, err), (2, "", "refuse: craq_lab is no crate with a folder wrong/; there are craq_names\n"))
+    checks.same("a crate without wrong/", (status, out, err),
+                (2, "", "refuse: craq_lab is no crate with a folder wrong/; there are craq_names\n"))
+
+
+def release(checks, clone):
+    """./release packs the proved programs of the present sources alone; with options it builds
+    programs or takes those of a folder."""
+    clone.write("tools/release/pack.py", "import os, sys\nprint(sys.argv[1], "
+                "sorted(os.listdir(sys.argv[2])), sys.argv[3], os.path.isdir(sys.argv[3]))\n")
+    status, out, err = clone.ran("release")
+    checks.that((status, out) == (1, "") and "craqd is not proved and built" in err,
+                f"without programs: {status} {out} {err}")
+    for name in PROGRAMS:
+        clone.built(name, "exit 0\n")
+    names, folder = sorted(PROGRAMS), os.path.join(clone.top, "some", "folder")
+    checks.same("the proved programs", clone.ran("release", folder),
+                (0, f"proved {names} {folder} True\n", ""))
+    checks.same("the folder by default", clone.ran("release"),
+                (0, f"proved {names} {clone.top}/out True\n", ""))
+    clone.builds_unproved("exit 0\n")
+    clone.words()
+    checks.same("programs without proofs", clone.ran("release", "--unproved")[:2],
+                (0, f"unproved {names} {clone.top}/out True\n"))
+    checks.same("what is built", [it.split()[2] for it in clone.words()],
+                [f"{clone.top}/crates/{name}" for name in ("craqd", "craq", "craq_lab")])
+    built = os.path.join(clone.top, "built")
+    for name in PROGRAMS:
+        clone.write(os.path.join(built, name), "")
+    checks.same("programs of a folder", clone.ran("release", "--programs", built, folder)[:2],
+                (0, f"unproved {names} {folder} True\n"))
+    clone.builds_unproved("")
+    checks.that(clone.ran("release", "--unproved")[0] != 0, "a program that cannot be built")
+    clone.write("crates/craq_lab/src/main.rt", "//! A program that was changed.\n")
+    checks.same("after a change of the sources", clone.ran("release")[:2], (1, ""))
+    checks.same("an option that there is not", clone.ran("release", "--some")[0], 2)
+    status, out, _ = clone.ran("release", "--help")
+    checks.that(status == 0 and out.startswith("Makes an archive"), f"its help: {status} {out}")
 
 
 def hostile(checks, clone):
     """./hostile needs programs, and gives them to tools/hostile/run with all words."""
     shutil.rmtree(os.path.join(clone.top, "crates/craqd/out"), ignore_errors=True)
-    checks.same("./hostile without programs", clone.ran("hostile"), (1, "", "hostile: there are no programs yet: ./build makes them\n"))
+    checks.same("./hostile without programs", clone.ran("hostile"),
+                (1, "", "hostile: there are no programs yet: ./build makes them\n"))
     clone.executable(os.path.join(clone.top, "tools/hostile/run"), '#!/usr/bin/env bash\necho "$*"\n')
     checks.same("its help, without programs", clone.ran("hostile", "--help"), (0, "--help\n", ""))
-    checks.same("its programs of a folder", clone.ran("hostile", "--programs", "/some", "--only", "stops"), (0, "--only stops /some/craq_lab /some/craqd\n", ""))
+    checks.same("its programs of a folder", clone.ran("hostile", "--programs", "/some", "--only", "stops"),
+                (0, "--only stops /some/craq_lab /some/craqd\n", ""))
     for name in "craq_lab", "craqd":
         clone.built(name, "exit 0\n")
     outs = " ".join(os.path.join(clone.top, f"crates/{name}/out/{name}") for name in ("craq_lab", "craqd"))
-    checks.same("its programs of ./build", clone.ran("hostile", "--minutes", "2"), (0, f"--minutes 2 {outs}\n", ""))
+    checks.same("its programs of ./build", clone.ran("hostile", "--minutes", "2"),
+                (0, f"--minutes 2 {outs}\n", ""))
 
 
 def test(checks, clone):
-    """./test ends with the gate's last line and status; --anew is the gate's; bad words are refused."""
-    run_after = ["pages/check", "lint", "rows/run", "end_to_end/run", "end_to_end/run", "pages/try", "hostile/run"]
-    for tool in *run_after, "quick/run":
-        clone.write(f"tools/{tool}", f"#!/usr/bin/env python3\nimport sys\nprint('{tool}', *sys.argv[1:])\n")
-    clone.rt_does("ci", "echo 'rt: craq_names proved'; echo '5 passed, 0 failed'\n")
-    for words, help, asked in ([], "", "ci"), (["--anew"], "rt ci [--anew]", "ci --anew"), (["--anew"], "rt ci", "ci"):
+    """./test checks texts first, then runs the gate and tries programs, and ends with the gate's
+    last line and status."""
+    run_before = ["pages/check", "lint", "style"]
+    run_after = ["rows/run", "end_to_end/run", "end_to_end/run", "clients/run", "release/try",
+                 "pages/try", "hostile/run"]
+    for tool in *run_before, *run_after, "quick/run":
+        clone.executable(os.path.join(clone.top, "tools", tool), f"#!/usr/bin/env bash\necho {tool} \"$@\"\n")
+    clone.rt_does("ci", "echo 'gate'; echo 'rt: craq_names proved'; echo '5 passed, 0 failed'\n")
+    anew = ["--anew"]
+    for words, help, asked in ([], "", "ci"), (anew, "rt ci [--anew]", "ci --anew"), (anew, "rt ci", "ci"):
         clone.rt_does("--help", f"echo '{help}'\n")
         clone.words()
         status, out, _ = clone.ran("test", *words)
-        checks.same(f"./test {words}", (status, out.splitlines()[-1], clone.words()[-1]), (0, "5 passed, 0 failed", f"clone: {asked}"))
-        after = [it.split()[0] for it in out.splitlines() if it.partition(" ")[0] in run_after]
-        checks.same("what runs after the gate", after, run_after)
-    clone.write("tools/pages/try", "print('pages: 0 passed, 1 failed')\nraise SystemExit(1)\n")
+        checks.same(f"./test {words}", (status, out.splitlines()[-1], clone.words()[-1]),
+                    (0, "5 passed, 0 failed", f"clone: {asked}"))
+        ran = [it.split()[0] for it in out.splitlines()
+               if it.partition(" ")[0] in [*run_before, "gate", *run_after]]
+        checks.same("the order of what runs", ran, [*run_before, "gate", *run_after])
+    test_without_cc(checks, clone)
+    clone.executable(os.path.join(clone.top, "tools/pages/try"),
+                     "#!/usr/bin/env bash\necho 'pages: 0 passed, 1 failed'\nexit 1\n")
     status, out, _ = clone.ran("test")
-    checks.same("a script after the gate that fails", (status, out.splitlines()[-1]), (1, "pages: 0 passed, 1 failed"))
-    for tool in "lint", "pages/check":
-        clone.write(f"tools/{tool}", f"#!/usr/bin/env bash\necho {tool}: 1 fault\nexit 1\n")
-        status, out, _ = clone.ran("test")
-        checks.same(f"tools/{tool} that fails", (status, out.splitlines()[-1], "rows/run" in out), (1, f"{tool}: 1 fault", False))
+    checks.same("a script after the gate that fails", (status, out.splitlines()[-1]),
+                (1, "pages: 0 passed, 1 failed"))
     clone.rt_does("ci", "echo '4 passed, 1 failed'; exit 1\n")
     status, out, _ = clone.ran("test")
-    checks.same("a gate that fails", (status, out.splitlines()[-1], "rows/run" in out), (1, "4 passed, 1 failed", False))
+    checks.same("a gate that fails", (status, out.splitlines()[-1], "rows/run" in out),
+                (1, "4 passed, 1 failed", False))
+    for tool in reversed(run_before):
+        clone.executable(os.path.join(clone.top, "tools", tool),
+                         f"#!/usr/bin/env bash\necho {tool}: 1 fault\nexit 1\n")
+        clone.words()
+        status, out, _ = clone.ran("test")
+        checks.same(f"tools/{tool} that fails", (status, f"{tool}: 1 fault" in out, clone.words()),
+                    (1, True, []))
     checks.same("./test --quick", clone.ran("test", "--quick")[:2], (0, "quick/run\n"))
     checks.same("a word that there is not", clone.ran("test", "--some")[0], 2)
-    checks.same("a crate that there is not", clone.ran("test", "no_such_crate"), (2, "", "test: crates.txt has no crate no_such_crate\n"))
+    checks.same("a crate that there is not", clone.ran("test", "no_such_crate"),
+                (2, "", "test: crates.txt has no crate no_such_crate\n"))
+
+
+def test_without_cc(checks, clone):
+    """./test does not start on a machine without a C compiler."""
+    here = os.path.join(os.path.dirname(clone.bin), "without-cc")
+    os.makedirs(here)
+    for name in "rt", "python3", "env", "bash", "dirname", "realpath":
+        os.symlink(os.path.join(clone.bin, "rt") if name == "rt" else shutil.which(name),
+                   os.path.join(here, name))
+    clone.words()
+    ran = subprocess.run([sys.executable, os.path.join(clone.top, "test")], env={"PATH": here},
+                         capture_output=True, text=True)
+    checks.same("without cc", (ran.returncode, "needs a C compiler cc" in ran.stderr, clone.words()),
+                (1, True, []))
 
 
 def main():
     checks = Checks("top")
-    for part in has_no_rt, serve_unproved, serve_ends_itself, serve_fails, serve_proved, serve_ends, play, build, plant, refuse, hostile, test:
+    serving = has_no_rt, serve_unproved, serve_build_ended, serve_proved, serve_ends
+    for part in *serving, play, build, plant, refuse, release, hostile, test:
         with tempfile.TemporaryDirectory(prefix="top-") as room:
             checks.part(part.__doc__, part, Clone(os.path.realpath(room)))
     print(f"top: {checks.passed} passed, {checks.failed} failed")

@@ -5,35 +5,40 @@ import shutil
 import subprocess
 import tempfile
 
-import repository
+from tools import repository
 
 # What a program may take, also where many others run.
 SECONDS = 900
-# The tests on threads are smaller here: the words that the program is given, and what then stands three times in the place of what in its
-# file stdout. The calls of one case are fewer as it is built (programs.py).
+# The tests on threads are smaller here: the words that the program is given, and what then stands
+# three times in the place of what in its file stdout. The calls of one case are fewer as it is
+# built (programs.py).
 SMALLER = {
     "craq_thread_tests": (
         ["20", "2", "200"],
         {b"10000 calls come back, 5000 of them puts": b"400 calls come back, 200 of them puts",
-         b"turns 100:": b"turns 20:", b"ask, times 20:": b"ask, times 2:", b"at least 2000:": b"at least 200:"},
+         b"turns 100:": b"turns 20:", b"ask, times 20:": b"ask, times 2:",
+         b"at least 2000:": b"at least 200:"},
     ),
 }
 
 
 def passes(checks, *words):
     """A script of the repository ends well; gives its last line."""
-    ran = subprocess.run(words, stdin=subprocess.DEVNULL, stdout=subprocess.PIPE, stderr=subprocess.STDOUT, text=True, errors="replace")
+    ran = subprocess.run(words, stdin=subprocess.DEVNULL, stdout=subprocess.PIPE, stderr=subprocess.STDOUT,
+                         text=True, errors="replace")
     checks.that(ran.returncode == 0, f"{' '.join(words)}: {ran.stdout[-3000:]}")
     return ran.stdout.strip().rpartition("\n")[2]
 
 
 def ran(name, program, words):
-    """Runs a program as the gate does, in a new folder with the files of data/; what it printed, and its status."""
+    """Runs a program as the gate does, in a new folder with the files of data/; what it printed,
+    and its status."""
     data = repository.path("crates", name, "data")
     with tempfile.TemporaryDirectory(prefix="quick-") as room:
         if os.path.isdir(data):
             shutil.copytree(data, room, dirs_exist_ok=True)
-        it = subprocess.run([program, *words], cwd=room, input=repository.file_of(name, "stdin"), stdout=subprocess.PIPE, stderr=subprocess.PIPE,
+        it = subprocess.run([program, *words], cwd=room, input=repository.file_of(name, "stdin"),
+                            stdout=subprocess.PIPE, stderr=subprocess.PIPE,
                             env={}, timeout=SECONDS)
     return it.returncode, it.stdout, it.stderr.decode(errors="replace")
 
@@ -45,7 +50,8 @@ def unlike(found, wanted):
 
 
 def prints_its_file(checks, name, program):
-    """A program prints what its file stdout has, given the words of its file args; or less, where it is smaller here."""
+    """A program prints what its file stdout has, given the words of its file args; or less, where
+    it is smaller here."""
     wanted = repository.file_of(name, "stdout")
     words, fewer = SMALLER.get(name, (repository.file_of(name, "args").decode().splitlines(), {}))
     for many, few in fewer.items():
@@ -53,5 +59,6 @@ def prints_its_file(checks, name, program):
         wanted = wanted.replace(many, few)
     status, found, errors = ran(name, program, words)
     checks.same(f"lines that {name} prints otherwise", unlike(found, wanted), [])
-    checks.same(f"the status of {name}, which told {errors[-300:]!r}", status, int(repository.file_of(name, "status", b"0")))
+    checks.same(f"the status of {name}, which told {errors[-300:]!r}", status,
+                int(repository.file_of(name, "status", b"0")))
     return f"{len(wanted.splitlines())} lines"

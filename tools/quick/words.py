@@ -1,9 +1,7 @@
 """Words that no text of the repository says, and names that are none."""
-import os
 import re
-import subprocess
 
-import repository
+from tools import repository
 
 LIST = "tools/quick/words.txt"
 PAGE = "docs/develop/ARCHITECTURE.md"
@@ -12,25 +10,14 @@ CRATE = re.compile(r"\bcraq_[a-z_]*[a-z]\b")
 OTHER_NAMES = re.compile(r"craq_\w*bench|craq_soak|craq_served")
 
 
-def files():
-    """The files of the tree that are text, by git's word; of a tree without git, all files but what rt and python keep."""
-    ran = subprocess.run(["git", "ls-files", "-z"], cwd=repository.TOP, capture_output=True)
-    if ran.returncode == 0 and ran.stdout:
-        return sorted(it for it in ran.stdout.decode().split("\0") if it and os.path.isfile(repository.path(it)))
-    found = []
-    for at, folders, names in os.walk(repository.TOP):
-        folders[:] = [it for it in folders if it not in (".git", "out", "__pycache__")]
-        found += [os.path.relpath(os.path.join(at, it), repository.TOP) for it in names]
-    return sorted(found)
-
-
 def patterns():
-    rows = [line.partition("  ") for line in repository.text_of(LIST).splitlines() if not line.startswith("#")]
+    rows = [line.partition("  ") for line in repository.text_of(LIST).splitlines()
+            if not line.startswith("#")]
     return [(re.compile(pattern), why.strip()) for pattern, _, why in rows]
 
 
 def texts():
-    for name in files():
+    for name in repository.files():
         try:
             yield name, repository.text_of(name)
         except UnicodeDecodeError:

@@ -1,4 +1,5 @@
-"""Pictures of the worked scripts, compared with what `play` prints of them, and explanations that are checked."""
+"""Pictures of the worked scripts, compared with what `play` prints of them, and explanations that
+are checked."""
 import collections
 import json
 import os
@@ -6,8 +7,7 @@ import re
 import tempfile
 import xml.etree.ElementTree as xml
 
-import playing
-import worked
+from tools.rows import playing, worked
 
 SVG = "{http://www.w3.org/2000/svg}"
 TOP = os.path.dirname(os.path.dirname(worked.HERE))
@@ -24,7 +24,8 @@ NEVER_SENT = "deliver 18446744073709551615"
 
 
 def steps(program, words, script):
-    """What `play` prints of each line of a script that is none of a comment, `explain` or empty, with the line; and the last explanation."""
+    """What `play` prints of each line of a script that is none of a comment, `explain` or empty,
+    with the line; and the last explanation."""
     lines = [it for it in script.decode().splitlines() if it and not it.startswith("#") and it != "explain"]
     text = "".join(f"{line}\n{NEVER_SENT}\n" for line in lines) + "explain\n"
     told = playing.told(program, [it for it in words if it != worked.SCRIPT], text.encode())
@@ -40,7 +41,8 @@ def steps(program, words, script):
 
 
 def wanted_in(program, words, script):
-    """How often each kind of shape has to stand in the picture of a script, and the numbers of updates committed after its moves."""
+    """How often each kind of shape has to stand in the picture of a script, and the numbers of
+    updates committed after its moves."""
     taken, explanation = steps(program, words, script)
     count, sent, arrived = collections.Counter(), 0, set()
     for line, printed in taken:
@@ -61,11 +63,13 @@ def wanted_in(program, words, script):
 
 def shown_in(picture):
     """How often each kind of shape stands in a picture, and the numbers at its side."""
-    classes = [(it.get("class"), it) for it in xml.fromstring(picture).iter() if it.tag in (SVG + "path", SVG + "circle", SVG + "text")]
+    classes = [(it.get("class"), it) for it in xml.fromstring(picture).iter()
+               if it.tag in (SVG + "path", SVG + "circle", SVG + "text")]
     kinds = {"move", "halt", "ignored", "message", "answer", "dot", "label", "lost"}
     count = collections.Counter(kind for kind, _ in classes if kind in kinds)
     side = max(int(it.get("x")) for _, it in classes if it.get("x"))
-    return dict(count), [int(it.text) for kind, it in classes if kind in ("faint", "grown") and it.get("x") == str(side)]
+    return dict(count), [int(it.text) for kind, it in classes if kind in ("faint", "grown")
+                         and it.get("x") == str(side)]
 
 
 def reasons(program, words, script):
@@ -75,7 +79,8 @@ def reasons(program, words, script):
 
 
 def pictures(checks, program):
-    """The picture of each worked script has an arrow for each message, a row for each move, each answer, and what is committed."""
+    """The picture of each worked script has an arrow for each message, a row for each move, each
+    answer, and what is committed."""
     for name, words, script, _ in worked.rows():
         if words[0] != "play":
             continue
@@ -89,13 +94,15 @@ def pictures(checks, program):
         checks.same(f"the shapes of {name}", count, wanted)
         checks.same(f"the side of {name}", side, explanation["lens"])
         told = [it.split()[1] for it in re.findall(rb'class="why"[^>]*>(m\d+ \w+)<', plain.output)]
-        checks.same(f"the reasons of {name}", sorted(it.decode() for it in told), reasons(program, words, script))
+        checks.same(f"the reasons of {name}", sorted(it.decode() for it in told),
+                    reasons(program, words, script))
 
 
 def in_pages(checks, program):
     """The pictures that the pages show are what `picture` prints, and no others stand beside them."""
     folder = os.path.join(TOP, "docs/pictures")
-    checks.same("the files of docs/pictures", sorted(os.listdir(folder)), sorted(f"{name}.svg" for name in PAGES))
+    checks.same("the files of docs/pictures", sorted(os.listdir(folder)),
+                sorted(f"{name}.svg" for name in PAGES))
     for name, script in PAGES.items():
         told = playing.told(program, ["picture", os.path.join(TOP, script)], b"")
         with open(os.path.join(folder, f"{name}.svg"), "rb") as it:
@@ -103,7 +110,8 @@ def in_pages(checks, program):
 
 
 def spoiled(explanation):
-    """Explanations that do not hold where this one does: without the last update, with one more move, with a place that is elsewhere."""
+    """Explanations that do not hold where this one does: without the last update, with one more
+    move, with a place that is elsewhere."""
     asks, lens, places = (explanation[it] for it in ("asks", "lens", "places"))
     yield {"asks": asks, "lens": lens + lens[-1:] + [0] * (not lens), "places": places}
     if asks:
@@ -143,21 +151,24 @@ def checked(program, words, file, text):
 
 
 def claims(checks, program):
-    """The explanation of each worked script holds of it, and others do not; a text that is none is refused."""
+    """The explanation of each worked script holds of it, and others do not; a text that is none is
+    refused."""
     for name, words, script, _ in worked.rows():
         if words[0] != "play":
             continue
         file = os.path.join(worked.HERE, f"worked/{name}.script")
         _, explanation = steps(program, words, script)
         whole = json.dumps(explanation, indent=1).encode()
-        checks.same(f"the explanation of {name}", checked(program, words, file, whole), playing.Told(0, b"true\n", b""))
+        checks.same(f"the explanation of {name}", checked(program, words, file, whole),
+                    playing.Told(0, b"true\n", b""))
         for other in spoiled(explanation):
             told = checked(program, words, file, json.dumps(other).encode())
             checks.same(f"another explanation of {name}: {other}", told, playing.Told(0, b"false\n", b""))
     words, file = ["play", worked.SCRIPT], os.path.join(worked.HERE, "worked/explain-nothing.script")
     for text, wanted in NO_EXPLANATIONS:
         told = checked(program, words, file, text.encode())
-        checks.same(f"{text!r} as an explanation", told, playing.Told(2, b"", f"claimed: {wanted}\n".encode()))
+        checks.same(f"{text!r} as an explanation", told,
+                    playing.Told(2, b"", f"claimed: {wanted}\n".encode()))
     told = checked(program, words, file, b'{"asks":[\xff')
     checks.same("bytes that are no text", told, playing.Told(2, b"", b"claimed: not UTF-8 at byte 9\n"))
     told = playing.told(program, ["check", file, "nowhere"], b"")

@@ -17,7 +17,8 @@ class Told(NamedTuple):
 
 
 def told(program, words, script):
-    """Runs the program with these words on this script, which it reads from standard input where no word names a file."""
+    """Runs the program with these words on this script, which it reads from standard input where no
+    word names a file."""
     ran = subprocess.run([program, *words], input=script, capture_output=True, timeout=PATIENCE)
     return Told(ran.returncode, ran.stdout, ran.stderr)
 

@@ -1,15 +1,16 @@
-#!/usr/bin/env python3
 """Plays scripts, after which rounds bring about recovery, on craq_lab, with nodes of either core.
 
-    tools/rows/recovery.py [--scripts N] CRAQ_LAB [NAME..]     the program, as the gate or ./build made it
+    tools/rows/recovery [--scripts N] CRAQ_LAB [NAME..]     the program, as the gate or ./build made it
 
-A round is what craq_recovery says: the master ticks, each member ticks, and then, in each of two hops, the messages arrive that
-were sent since the last time, in order. What the last hop brings about is lost. So many rounds follow each script: two more than
-twice as many as it leaves members. Each member has to serve then, and both cores have to print the same.
+A round is what craq_recovery says: the master ticks, each member ticks, and then, in each of two
+hops, the messages arrive that were sent since the last time, in order. What the last hop brings
+about is lost. So many rounds follow each script: two more than twice as many as it leaves members.
+Each member has to serve then, and both cores have to print the same.
 
-Played are the scripts of recoveries/, or those of them that are named. After some of them the rounds are played again as a wrong
-machine takes them, one that repeats too little: then some member does not serve. Where none is named, N scripts follow that seeds
-determine (400, if no number is given). The last line is 'N passed, M failed', and the status 1 where a check failed.
+Played are the scripts of recoveries/, or those of them that are named. After some of them the
+rounds are played again as a wrong machine takes them, one that repeats too little: then some member
+does not serve. Where none is named, N scripts follow that seeds determine (400, if no number is
+given). The last line is 'N passed, M failed', and the status 1 where a check failed.
 """
 import os
 import random
@@ -18,23 +19,23 @@ import sys
 import time
 from typing import NamedTuple
 
-sys.dont_write_bytecode = True
+from tools.checks import Checks
+from tools.rows import playing, scripts
+
 HERE = os.path.dirname(os.path.realpath(__file__))
-sys.path[:0] = [HERE, os.path.dirname(HERE)]
-import playing  # noqa: E402
-import scripts  # noqa: E402
-from checks import Checks  # noqa: E402
 
 HOPS = 2
 SCRIPTS = 400
-# What is asked once the rounds are over: an update of a number that no script gives, and a read at each member.
+# What is asked once the rounds are over: an update of a number that no script gives, and a read at
+# each member.
 LAST = "put {} 0 1000000 k0 recovered"
 # Of so many scripts at least half have a ready member left, and of these a fifth has one that is not ready.
 LEFT, UNREADY = 2, 10
 
 
 class Machine(NamedTuple):
-    """What a machine leaves out: what its ticks don't send, what none of its steps sends, and whether its master ticks."""
+    """What a machine leaves out: what its ticks don't send, what none of its steps sends, and
+    whether its master ticks."""
 
     name: str
     at_ticks: tuple = ()
@@ -46,8 +47,8 @@ RIGHT = Machine("the machine as it is")
 
 
 class Example(NamedTuple):
-    """A script of recoveries/, how many nodes begin, the members that it leaves, whether rounds bring about recovery, and a wrong
-    machine whose rounds do not."""
+    """A script of recoveries/, how many nodes begin, the members that it leaves, whether rounds
+    bring about recovery, and a wrong machine whose rounds do not."""
 
     name: str
     nodes: int
@@ -67,15 +68,19 @@ EXAMPLES = (
     Example("a-tail-lost-twice", 3, (1,)),
     Example("no-ready-member", 1, (2,), recovers=False),
     Example("a-member-never-told", 2, (1,), wrong=Machine("a master that does not tick", master=False)),
-    Example("an-acknowledgement-lost", 2, (1, 2), wrong=Machine("a tail that does not repeat its acknowledgement", at_ticks=("ack",))),
-    Example("a-question-lost", 2, (1, 2), wrong=Machine("a node that asks once which version is committed", at_ticks=("query",))),
-    Example("an-entry-lost", 2, (1, 2), wrong=Machine("a node that does not repeat its entries", at_ticks=("entry", "batch"))),
+    Example("an-acknowledgement-lost", 2, (1, 2),
+            wrong=Machine("a tail that does not repeat its acknowledgement", at_ticks=("ack",))),
+    Example("a-question-lost", 2, (1, 2),
+            wrong=Machine("a node that asks once which version is committed", at_ticks=("query",))),
+    Example("an-entry-lost", 2, (1, 2),
+            wrong=Machine("a node that does not repeat its entries", at_ticks=("entry", "batch"))),
     Example("a-floor-lost", 1, (1, 2), wrong=Machine("a node that says no floor", ever=("floor",))),
 )
 
 
 class Ended(NamedTuple):
-    """A script with its rounds, what is printed up to the end of the rounds, what both cores print of all, and what there was."""
+    """A script with its rounds, what is printed up to the end of the rounds, what both cores print
+    of all, and what there was."""
 
     text: bytes
     quiet: bytes
@@ -117,7 +122,8 @@ class Rounds:
         return self.output().count(b"\nanswer") - before
 
     def hop(self, first, unsent=()):
-        """The messages from this number on arrive, but none at a node that stopped. The number of the next one."""
+        """The messages from this number on arrive, but none at a node that stopped. The number of
+        the next one."""
         sent = messages(self.output())
         for at, (to, kind) in enumerate(sent[first - 1 :], first):
             if to in self.members and kind not in (*unsent, *self.machine.ever):
@@ -148,7 +154,8 @@ def ended(it):
     it.ready()
     quiet = it.output()
     it.last_asks()
-    return Ended(it.text, quiet, [told.output for told in playing.on_both(it.program, it.words, it.text)], ready, it.members, rounds)
+    return Ended(it.text, quiet, [told.output for told in playing.on_both(it.program, it.words, it.text)],
+                 ready, it.members, rounds)
 
 
 def recovered(program, kind, seed):
@@ -164,7 +171,8 @@ def recovered(program, kind, seed):
 
 
 def read_last(output, members):
-    """What each member answered to its last ask, a read; None where one refused it, or an ask before it waits."""
+    """What each member answered to its last ask, a read; None where one refused it, or an ask
+    before it waits."""
     seen = []
     for node in members:
         tickets, last = answers(output, node)
@@ -175,7 +183,8 @@ def read_last(output, members):
 
 
 def is_served(it):
-    """After the rounds each member takes asks and none waits; and then each one reads what was written last."""
+    """After the rounds each member takes asks and none waits; and then each one reads what was
+    written last."""
     if read_last(it.quiet, it.members) is None:
         return False
     seen = {*(read_last(it.outputs[0], it.members) or [])}
@@ -184,28 +193,34 @@ def is_served(it):
 
 def worked_recoveries(checks, program, names=()):
     """Rounds after scripts of which it is known what they leave, and wrong rounds after some of them."""
-    checks.same("the scripts of recoveries/", sorted(os.listdir(os.path.join(HERE, "recoveries"))), sorted(f"{it.name}.script" for it in EXAMPLES))
+    checks.same("the scripts of recoveries/", sorted(os.listdir(os.path.join(HERE, "recoveries"))),
+                sorted(f"{it.name}.script" for it in EXAMPLES))
     chosen = [it for it in EXAMPLES if not names or it.name in names]
     cases = [(it, machine) for it in chosen for machine in (RIGHT, it.wrong) if machine is not None]
-    ends = playing.side_by_side(lambda it: ended(Rounds(program, it[0].nodes, it[0].lines, it[0].members, it[1])), cases)
+    ends = playing.side_by_side(lambda it: ended(Rounds(program, it[0].nodes, it[0].lines, it[0].members,
+                                                        it[1])), cases)
     for (example, machine), it in zip(cases, ends):
         serve = example.recovers and machine is RIGHT
         checks.same(f"{example.name}, with rounds of {machine.name}", it.outputs[1], it.outputs[0])
-        checks.same(f"{example.name}: its members serve after {it.rounds} rounds of {machine.name}", is_served(it), serve)
+        checks.same(f"{example.name}: its members serve after {it.rounds} rounds of {machine.name}",
+                    is_served(it), serve)
 
 
 def random_recoveries(checks, program, count):
-    """So many scripts with rounds: both cores print the same, and each member serves in the end, with nothing left to answer."""
+    """So many scripts with rounds: both cores print the same, and each member serves in the end,
+    with nothing left to answer."""
     cases = [(scripts.KINDS[seed % len(scripts.KINDS)], seed) for seed in range(count)]
     ended = [it for it in playing.side_by_side(lambda it: recovered(program, *it), cases)]
     for (kind, seed), it in zip(cases, ended):
         if it is not None:
             checks.same(f"script {seed} of {kind} with rounds", it.outputs[1], it.outputs[0])
-            checks.that(is_served(it), f"script {seed} of {kind}: {len(it.members)} members serve after {it.rounds} rounds")
+            checks.that(is_served(it),
+                        f"script {seed} of {kind}: {len(it.members)} members serve after {it.rounds} rounds")
     left = [it for it in ended if it is not None]
     unready = [it for it in left if it.ready < len(it.members)]
     checks.that(len(left) * LEFT >= count, f"{len(left)} of {count} scripts leave a ready member")
-    checks.that(len(unready) * UNREADY >= len(left), f"{len(unready)} of {len(left)} leave one that is not ready")
+    checks.that(len(unready) * UNREADY >= len(left),
+                f"{len(unready)} of {len(left)} leave one that is not ready")
 
 
 def main(words):
@@ -223,7 +238,8 @@ def main(words):
     checks.told("scripts that rounds follow", worked_recoveries, program, names)
     if not names:
         checks.told("random scripts that rounds follow", random_recoveries, program, count)
-    print(f"recovery: {len(names) or len(EXAMPLES)} worked scripts and {0 if names else count} random ones, with rounds, in {time.time() - began:.0f} s")
+    print(f"recovery: {len(names) or len(EXAMPLES)} worked scripts and {0 if names else count} random ones, "
+          f"with rounds, in {time.time() - began:.0f} s")
     print(f"{checks.passed} passed, {checks.failed} failed")
     return 1 if checks.failed else 0
 

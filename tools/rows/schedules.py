@@ -4,8 +4,7 @@ A schedule ends with whether `check` passes the explanation of its run, which it
 """
 import re
 
-import playing
-import worked
+from tools.rows import playing, worked
 
 CHOICES = 250
 NODES = (1, 2, 3, 4)
@@ -15,7 +14,8 @@ CUT = re.compile(rb"cut (\d+) committed \d+ valid true\n")
 
 
 def choices_of(seed, count=CHOICES):
-    """So many choices of a seed: the upper bits of the numbers of a linear congruential generator (that of ANSI C's example of rand)."""
+    """So many choices of a seed: the upper bits of the numbers of a linear congruential generator
+    (that of ANSI C's example of rand)."""
     x, found = seed, []
     for _ in range(count):
         x = (1103515245 * x + 12345) % 2**31
@@ -33,10 +33,13 @@ def drawn(checks, program, count):
     seeds = range(1, count + 1)
 
     def draw(seed):
-        return playing.on_both(program, ["draw", "--nodes", str(nodes_of_seed(seed)), "/dev/stdin", choices_of(seed)], script)
+        return playing.on_both(program,
+                               ["draw", "--nodes", str(nodes_of_seed(seed)), "/dev/stdin", choices_of(seed)],
+                               script)
 
     for seed, (plain, other) in zip(seeds, playing.side_by_side(draw, seeds)):
-        checks.that(plain.status == 0 and plain.output.endswith(b"valid true\n"), f"schedule {seed} ends well: {plain.output[-40:]} {plain.errors}")
+        checks.that(plain.status == 0 and plain.output.endswith(b"valid true\n"),
+                    f"schedule {seed} ends well: {plain.output[-40:]} {plain.errors}")
         checks.that(plain.output.count(b"valid") == 1, f"schedule {seed} has one verdict")
         checks.same(f"schedule {seed}", other, plain)
 
@@ -52,8 +55,10 @@ def is_cut_by_cut(output):
 
 
 def stopped(checks, program):
-    """Each node stops after each move of each short worked script: both cores print the same, and each verdict is true."""
-    plays = [(name, nodes_of(words), script) for name, words, script, _ in worked.rows() if words[0] == "play" and script.count(b"\n") <= MOST_LINES]
+    """Each node stops after each move of each short worked script: both cores print the same, and
+    each verdict is true."""
+    plays = [(name, nodes_of(words), script) for name, words, script, _ in worked.rows() if words[0] == "play"
+             and script.count(b"\n") <= MOST_LINES]
     cases = [(name, nodes, script, node) for name, nodes, script in plays for node in range(1, nodes + 1)]
 
     def stop(case):
@@ -61,5 +66,6 @@ def stopped(checks, program):
         return playing.on_both(program, ["stops", "--nodes", str(nodes), "/dev/stdin", str(node)], script)
 
     for (name, _, _, node), (plain, other) in zip(cases, playing.side_by_side(stop, cases)):
-        checks.that(plain.status == 0 and is_cut_by_cut(plain.output), f"node {node} stops in {name}: {plain}")
+        checks.that(plain.status == 0 and is_cut_by_cut(plain.output),
+                    f"node {node} stops in {name}: {plain}")
         checks.same(f"node {node} stops in {name}", other, plain)

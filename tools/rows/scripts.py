@@ -1,13 +1,13 @@
 """Scripts that a seed determines, each played with either core.
 
-A script is written a few lines at a time. What they print is looked at before the next are written, so that the script
-knows which messages there are.
+A script is written a few lines at a time. What they print is looked at before the next are written,
+so that the script knows which messages there are.
 """
 import random
 import re
 from typing import NamedTuple
 
-import playing
+from tools.rows import playing
 
 VALUES = ("0x", "a", "bc", "0x0000000000000007", "0xff00")
 # What has to come up in random scripts, all of them together.
@@ -51,7 +51,9 @@ class Script:
 
     def node(self):
         """A node that the chain may have had."""
-        return self.draw.choice(self.members) if self.draw.random() < 0.9 else self.draw.randint(1, self.ids + 1)
+        if self.draw.random() < 0.9:
+            return self.draw.choice(self.members)
+        return self.draw.randint(1, self.ids + 1)
 
     def object(self):
         return f"k{self.draw.randrange(self.kind.objects)}"
@@ -72,13 +74,15 @@ class Script:
     def update(self):
         """An update, at the head as a rule. Later ones have higher numbers as a rule."""
         node = self.members[0] if self.draw.random() < 0.9 else self.node()
-        number = max(1, self.asked // self.kind.clients + self.draw.randint(-2, 4) + self.kind.written // self.kind.clients)
+        number = max(1, self.asked // self.kind.clients + self.draw.randint(-2, 4)
+                     + self.kind.written // self.kind.clients)
         self.asked += 1
         who = f"{node} {self.draw.randrange(self.kind.clients)} {number}"
         pick = self.draw.choice(["put", "put", "append", "prepend", "tas", "inc", "dec", "mini"])
         if pick == "mini":
             return f"mini {who} {self.mini()}"
-        more = {"tas": f"{self.draw.randint(0, 4)} {self.value()}", "inc": str(self.draw.randint(0, 9)), "dec": str(self.draw.randint(0, 9))}
+        more = {"tas": f"{self.draw.randint(0, 4)} {self.value()}", "inc": str(self.draw.randint(0, 9)),
+                "dec": str(self.draw.randint(0, 9))}
         return f"{pick} {who} {self.object()} {more.get(pick) or self.value()}"
 
     def read(self):
@@ -122,7 +126,8 @@ class Script:
 
     def line(self):
         pick = self.draw.randrange(100)
-        for most, choose in ((18, self.update), (28, self.read), (32, self.tick), (33, self.removal), (34, self.join)):
+        for most, choose in ((18, self.update), (28, self.read), (32, self.tick), (33, self.removal),
+                             (34, self.join)):
             if pick <= most:
                 return choose()
         return self.delivery() if self.next <= self.sent or pick < 40 else self.update()
@@ -153,11 +158,14 @@ def sights(outputs):
 
 
 def random_scripts(checks, program, count):
-    """So many scripts: both cores print the same. In all of them each kind of message is sent, and asks are answered."""
+    """So many scripts: both cores print the same. In all of them each kind of message is sent, and
+    asks are answered."""
     cases = [(KINDS[seed % len(KINDS)], seed) for seed in range(count)]
     outputs = []
-    for (kind, seed), (text, (plain, other)) in zip(cases, playing.side_by_side(lambda it: played(program, *it), cases)):
-        checks.that(plain.status == 0 and not plain.errors, f"script {seed} of {kind} is played: {plain.errors}")
+    plays = playing.side_by_side(lambda it: played(program, *it), cases)
+    for (kind, seed), (text, (plain, other)) in zip(cases, plays):
+        checks.that(plain.status == 0 and not plain.errors,
+                    f"script {seed} of {kind} is played: {plain.errors}")
         checks.same(f"script {seed} of {kind}", other, plain)
         outputs.append(plain.output)
     kinds, reasons = sights(outputs)

@@ -1,14 +1,17 @@
-"""The worked scripts, whose output was worked out by hand from the definitions, and texts that are no scripts."""
+"""The worked scripts, whose output was worked out by hand from the definitions, and texts that are
+no scripts."""
 import json
 import os
 
-import playing
+from tools.rows import playing
 
 HERE = os.path.dirname(os.path.realpath(__file__))
 SCRIPT = "{}"
 # Command lines that are not played, and what is told of them.
-NOT_PLAYED = {("play", "nowhere"): b"cannot read nowhere\n", ("draw", "/dev/null", "1,x"): b"choices refused\n",
-              ("draw", "nowhere", "1"): b"cannot read nowhere\n", ("stops", "nowhere", "1"): b"cannot read nowhere\n"}
+NOT_PLAYED = {("play", "nowhere"): b"cannot read nowhere\n",
+              ("draw", "/dev/null", "1,x"): b"choices refused\n",
+              ("draw", "nowhere", "1"): b"cannot read nowhere\n",
+              ("stops", "nowhere", "1"): b"cannot read nowhere\n"}
 
 
 def bytes_of(name):
@@ -17,12 +20,14 @@ def bytes_of(name):
 
 
 def rows():
-    """The name of each worked script, the words of craq_lab with SCRIPT in the place of the file, its text and what it prints."""
+    """The name of each worked script, the words of craq_lab with SCRIPT in the place of the file,
+    its text and what it prints."""
     found = []
     for line in bytes_of("worked.txt").decode().splitlines():
         if not line.startswith("#"):
             name, words = line.split(": ")
-            found.append((name, words.split(" "), bytes_of(f"worked/{name}.script"), bytes_of(f"worked/{name}.expected")))
+            found.append((name, words.split(" "), bytes_of(f"worked/{name}.script"),
+                          bytes_of(f"worked/{name}.expected")))
     return found
 
 
@@ -50,21 +55,26 @@ def scripts(checks, program):
 def bad_texts():
     """Each text that is no script, with its first bad line."""
     forms = bytes_of("forms.script")
-    found = [(f"# first\n\nstop 1\n{line}\nstop x\n".encode(), 4) for line in json.loads(bytes_of("bad_lines.json"))]
+    found = [(f"# first\n\nstop 1\n{line}\nstop x\n".encode(), 4)
+             for line in json.loads(bytes_of("bad_lines.json"))]
     found += [(it["text"].encode(), it["line"]) for it in json.loads(bytes_of("bad_scripts.json"))]
     found.append((forms + b"\nstop x", forms.count(b"\n") + 2))
     return found
 
 
 def no_scripts(checks, program):
-    """A text that is no script is not played: its first bad line is told. The script of each form of line is one."""
+    """A text that is no script is not played: its first bad line is told. The script of each form
+    of line is one."""
     texts = bad_texts()
-    for (text, line), pair in zip(texts, playing.side_by_side(lambda it: playing.on_both(program, ["play"], it[0]), texts)):
+    for (text, line), pair in zip(texts,
+                                  playing.side_by_side(lambda it: playing.on_both(program, ["play"], it[0]),
+                                                       texts)):
         for core, told in zip(playing.CORES, pair):
             checks.same(f"{text!r} with {core}", told, playing.Told(2, b"", b"script line %d\n" % line))
     for words, errors in NOT_PLAYED.items():
         checks.same(" ".join(words), playing.told(program, words, b""), playing.Told(2, b"", errors))
-    checks.same("--version", playing.told(program, ["--version"], b""), playing.Told(0, b"craq_lab 0.1.0\n", b""))
+    checks.same("--version", playing.told(program, ["--version"], b""),
+                playing.Told(0, b"craq_lab 0.1.0\n", b""))
     plain, other = playing.on_both(program, ["play"], bytes_of("forms.script"))
     checks.that(plain.status == 0 and not plain.errors, f"each form of line is played: {plain.errors}")
     checks.same("each form of line", other, plain)

@@ -1,0 +1,1 @@
+"""Tools of the repository: they compare its texts, and try its programs."""

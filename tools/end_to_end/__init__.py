@@ -1,0 +1,1 @@
+"""Trials of the server and its command as processes."""

@@ -1,0 +1,1 @@
+"""Robustness tests of the built programs."""

@@ -1,0 +1,1 @@
+"""Checks of the pages: against the sources, and by running their commands."""

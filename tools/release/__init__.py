@@ -1,0 +1,1 @@
+"""Packs the programs into an archive, and tries it."""

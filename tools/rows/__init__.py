@@ -1,0 +1,1 @@
+"""Plays of scripts and schedules on craq_lab."""

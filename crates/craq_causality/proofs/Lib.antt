@@ -1,0 +1,13 @@
+pub mod Orders
+pub mod Numbers
+pub mod Arrivals
+pub mod Senders
+pub mod Masters
+pub mod Nodes
+pub mod Reached
+pub mod AtNodes
+pub mod AtMasters
+pub mod Walk
+pub mod Start
+pub mod Typed
+pub mod Growing

@@ -1,0 +1,2 @@
+pub mod Authors
+pub mod Causal

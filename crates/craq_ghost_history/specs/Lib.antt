@@ -1,0 +1,3 @@
+pub mod Authors
+pub mod Histories
+pub mod Views

@@ -1,0 +1,96 @@
+//! `Writer`: the right to one author's entries, which is given once; a node, a master or a client's session has it.
+ghost use Rattle.std.specs.Prelude.{◌≡◌, []};
+ghost use mathlib.Core.List.{IsPrefix};
+ghost use Rattle.craq_ghost_history.specs.Authors.{of};
+ghost use Rattle.craq_ghost_history.specs.Histories.{IsAdded, MayAdd};
+ghost use Rattle.craq_ghost_history.specs.Views.{IsWriter, author_of};
+
+use crate::history::{History, HistoryRule, Named, View};
+use crate::token::Token;
+use atomic_table::Seat;
+use std::marker::{Model, PhantomData};
+
+/// The right to one author's entries: no other writer adds any, and this one knows all of them. It has no bytes.
+#[derive(Drop)]
+pub struct Writer<E, X: HistoryRule<E>, N: Named> {
+    seat: Seat<u8, View<E>>,
+    of: PhantomData<(X, N)>,
+}
+
+impl<E, X: HistoryRule<E>, N: Named> Model for Writer<E, X, N> {
+    ghost use Rattle.craq_ghost_history.specs.Histories.{Written};
+    ghost use Rattle.craq_ghost_history.specs.Views.{IsWriter, author_of};
+
+    ghost Value = { Written E };
+
+    ghost view = { λ w. record { author = author_of w.seat.me.0.right; seen = w.seat.me.0.seen } };
+
+    ghost invariant = { λ w. IsWriter X.holds N.history w.seat };
+}
+
+impl<E, X: HistoryRule<E>, N: Named> Writer<E, X, N> {
+    /// Makes the writer of a seat.
+    pub(crate) fn of(seat: Seat<u8, View<E>>) -> Self
+        requires { IsWriter X.holds N.history seat }
+        ensures author { result.author ≡ author_of seat.me.0.right }
+        ensures seen { result.seen ≡ seat.me.0.seen }
+    {
+        Writer {
+            seat,
+            of: PhantomData,
+        }
+    }
+
+    /// Adds an entry of the author, after all that the writer has seen. Returns a token that has seen it.
+    pub fn add(&mut self, history: &History<E, X, N>, entry: &E) -> Token<E, X, N>
+        requires own { X.author entry.now ≡ self.old.author }
+        requires may { MayAdd X.author X.holds self.old.seen [] entry.now }
+        ensures added { IsAdded X.author self.old.seen [] entry.now self.new.seen }
+        ensures author { self.new.author ≡ self.old.author }
+        ensures token { result ≡ self.new.seen }
+    {
+        history.add(&mut self.seat, entry);
+        Token::of(history.tell(&mut self.seat))
+    }
+
+    /// Adds an entry of the author, after all that the writer and the token have seen. Returns a token that has seen it.
+    pub fn add_after(
+        &mut self,
+        history: &History<E, X, N>,
+        entry: &E,
+        told: Token<E, X, N>,
+    ) -> Token<E, X, N>
+        requires own { X.author entry.now ≡ self.old.author }
+        requires may { MayAdd X.author X.holds self.old.seen told entry.now }
+        ensures added { IsAdded X.author self.old.seen told entry.now self.new.seen }
+        ensures author { self.new.author ≡ self.old.author }
+        ensures token { result ≡ self.new.seen }
+    {
+        let Token { seat, of: _ } = told;
+        history.hear(&mut self.seat, seat);
+        history.add(&mut self.seat, entry);
+        Token::of(history.tell(&mut self.seat))
+    }
+
+    /// Sees all that there is, and so all that the token has seen. The author has no more entries by it.
+    pub fn learn(&mut self, history: &History<E, X, N>, told: Token<E, X, N>)
+        ensures this { IsPrefix self.old.seen self.new.seen }
+        ensures that { IsPrefix told self.new.seen }
+        ensures own { of X.author self.old.author self.new.seen ≡ of X.author self.old.author self.old.seen }
+        ensures author { self.new.author ≡ self.old.author }
+        ensures holds { X.holds self.new.seen }
+    {
+        let Token { seat, of: _ } = told;
+        history.hear(&mut self.seat, seat);
+        history.look(&mut self.seat);
+    }
+
+    /// Returns a token that has seen as much.
+    pub fn token(&mut self, history: &History<E, X, N>) -> Token<E, X, N>
+        ensures token { result ≡ self.old.seen }
+        ensures same { self.new ≡ self.old }
+        ensures holds { X.holds self.old.seen }
+    {
+        Token::of(history.tell(&mut self.seat))
+    }
+}

@@ -1,0 +1,77 @@
+-- Where an accepted call stands: after the client made it, and so after all that the client had seen before it.
+use Rattle.std.proofs.Common.{◌≡◌, ◌<◌, ℕ, List, [], ◌∷◌, ◌++◌, Option, Some, refl, sym, ap, subst, ◌∙◌, inl, inr, arith, append-nil}
+use Rattle.std.specs.List.{AllByRecursion}
+use Rattle.std.specs.Prelude.{Contains}
+use Rattle.std.specs.declared.snapshot.Snapshot.{Snapshot}
+use mathlib.Core.List.{IsPrefix}
+use Rattle.craq_names.specs.declared.name.NodeName.{NodeName}
+use Rattle.craq_model.specs.declared.ask.Ask.{Ask}
+use Rattle.craq_model.specs.declared.ask.Event.{Event}
+use Rattle.craq_model.specs.declared.step.Step.{Step}
+use Rattle.craq_causality.proofs.Orders.{all_in, from_contains, in_left, to_contains}
+use Rattle.craq_ghost_history.specs.Histories.{IsAdded}
+use Rattle.craq_ghost_history.proofs.Prefixes.{comparable}
+use Rattle.craq_store_history.specs.declared.entry.CallId.{CallId}
+use Rattle.craq_store_history.specs.declared.entry.Entry.{Entry}
+use Rattle.craq_store_history.specs.declared.entry.Entry.TheVariants.{Called, AtNode}
+use Rattle.craq_store_history.specs.Chains.{Accepts, AreCalls, IsBelow, IsHistory, MayCall, WasCalled}
+use Rattle.craq_store_history.specs.Entries.{author_of}
+
+calls_at : (before done rest : List Entry) (e : Entry) → AreCalls before (done ++ e ∷ rest) → MayCall (before ++ done) e
+calls_at before [] rest e a = rw append-nil a.0
+calls_at before (d ∷ done) rest e a = subst (λ l. MayCall l e) (again before d done) (calls_at (before ++ d ∷ []) done rest e a.1)
+  where
+    again : (xs : List Entry) (x : Entry) (ys : List Entry) → (xs ++ x ∷ []) ++ ys ≡ xs ++ x ∷ ys
+    again [] x ys = refl
+    again (z ∷ zs) x ys = ap (λ l. z ∷ l) (again zs x ys)
+
+-- an entry may follow those before it
+pub may_call : (log done rest : List Entry) (e : Entry) → IsHistory log → log ≡ done ++ e ∷ rest → MayCall done e
+may_call log done rest e h is = calls_at [] done rest e (subst (AreCalls []) is h.calls)
+
+-- a call is made once
+pub once : (log before rest : List Entry) (call : CallId) (name other : NodeName) (ask a : Snapshot Ask) → IsHistory log → log ≡ before ++ Called call name ask ∷ rest → Contains before (Called call other a) → ⊥
+once log before rest call name other ask a h is there =
+    let less : call.number < call.number = all_in (IsBelow call) before (Called call other a) (may_call log before rest (Called call name ask) h is) (from_contains before (Called call other a) there) refl in
+    omega (arith, less)
+
+no_more : (ys : List Entry) (x : Entry) (xs : List Entry) → ys ++ x ∷ xs ≡ [] → ⊥
+no_more [] x xs h = cc
+no_more (y ∷ ys) x xs h = cc
+
+tails : (y z : Entry) (ys zs : List Entry) → y ∷ ys ≡ z ∷ zs → (y ≡ z) × (ys ≡ zs)
+tails y z ys zs h = (cc, cc)
+
+-- a list that is shorter than one with an entry at its end begins what is before that entry
+shorter : (before : List Entry) (x : Entry) (xs b : List Entry) (e : Entry) → before ++ x ∷ xs ≡ b ++ e ∷ [] → IsPrefix before b
+shorter [] x xs b e h = (b, refl)
+shorter (y ∷ ys) x xs [] e h = absurd (no_more ys x xs (tails y e (ys ++ x ∷ xs) [] h).1)
+shorter (y ∷ ys) x xs (z ∷ zs) e h =
+    let t = tails y z (ys ++ x ∷ xs) (zs ++ e ∷ []) h in
+    let p = shorter ys x xs zs e t.1 in
+    (p.0, ap (λ l. y ∷ l) p.1 ∙ ap (λ w. w ∷ zs) t.0)
+
+by_rest : (log mid b before rest more : List Entry) (call : CallId) (name : NodeName) (ask : Snapshot Ask) (q : List Entry) → IsHistory log → mid ≡ b ++ Called call name ask ∷ [] → log ≡ b ++ Called call name ask ∷ more
+    → (other : NodeName) (a : Snapshot Ask) → Contains before (Called call other a) → before ++ q ≡ mid → IsPrefix mid before
+by_rest log mid b before rest more call name ask [] h is at other a there e = ([], append-nil mid ∙ (sym e ∙ append-nil before))
+by_rest log mid b before rest more call name ask (x ∷ xs) h is at other a there e =
+    let p = shorter before x xs b (Called call name ask) (e ∙ is) in
+    let c : Entry = Called call other a in
+    absurd (once log b more call name other ask a h at (subst (λ l. Contains l c) p.1 (to_contains (before ++ p.0) c (in_left before p.0 c (from_contains before c there)))))
+
+again : (xs : List Entry) (x : Entry) (ys : List Entry) → (xs ++ x ∷ []) ++ ys ≡ xs ++ x ∷ ys
+again [] x ys = refl
+again (z ∷ zs) x ys = ap (λ l. z ∷ l) (again zs x ys)
+
+-- a step that accepts a call stands after the call, in every history that goes on from it
+pub accepted_later : (log seen told mid before rest : List Entry) (call : CallId) (name at : NodeName) (ask : Snapshot Ask) (stamp : ℕ) (event : Snapshot Event) (pass : ℕ) (step : Snapshot Step) → IsHistory log → IsAdded author_of seen told (Called call name ask) mid → IsPrefix mid log
+    → log ≡ before ++ AtNode at stamp event pass step (Some call) ∷ rest → IsPrefix mid before
+accepted_later log seen told mid before rest call name at ask stamp event pass step h a p is =
+    let e : Entry = AtNode at stamp event pass step (Some call) in
+    let c : Entry = Called call name ask in
+    let w : WasCalled before call at _ = (may_call log before rest e h is).2 in
+    let on : log ≡ a.before ++ c ∷ p.0 = sym p.1 ∙ (ap (λ l. l ++ p.0) a.now ∙ again a.before c p.0) in
+    elim (comparable mid before log p (e ∷ rest, sym is)) [
+      | inl shorter_mid ↦ shorter_mid
+      | inr q ↦ by_rest log mid a.before before rest p.0 call name ask q.0 h a.now on at w.0 w.1 q.1
+    ]

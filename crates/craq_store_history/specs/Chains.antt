@@ -1,0 +1,50 @@
+-- The rule of a store's history: the lines of each chain are in causal order, and each call is made once, before it is accepted.
+use Rattle.std.specs.Prelude.{◌≡◌, ◌<◌, ℕ, ⊤, List, [], ◌∷◌, ◌++◌, Contains, Option, Some, None}
+use Rattle.std.specs.List.{AllByRecursion}
+use Rattle.std.specs.declared.snapshot.Snapshot.{Snapshot}
+use Rattle.craq_names.specs.declared.name.NodeName.{NodeName}
+use Rattle.craq_model.specs.declared.ask.Ask.{Ask}
+use Rattle.craq_model.specs.declared.ask.Event.{Event}
+use Rattle.craq_model.specs.declared.ask.Event.TheVariants as events
+use Rattle.craq_seat.specs.Merge.{Line}
+use Rattle.craq_causality.specs.Causal.{AreCausal}
+use Rattle.craq_store_history.specs.declared.entry.CallId.{CallId}
+use Rattle.craq_store_history.specs.declared.entry.Entry.{Entry}
+use Rattle.craq_store_history.specs.declared.entry.Entry.TheVariants.{Opened, Called, AtNode, AtMaster}
+use Rattle.craq_store_history.specs.Entries.{lines_in, members_in}
+
+-- the lines of an opened chain are in causal order; a chain that is not opened has none
+abbrev pub ChainHolds : ℕ → Option (List ℕ) → List Line → Type 0
+ChainHolds c None lines = lines ≡ []
+ChainHolds c (Some members) lines = AreCausal c members lines
+
+-- the client has made no call of this number or above
+abbrev pub IsBelow : CallId → Entry → Type 0
+IsBelow call (Opened chain members) = ⊤
+IsBelow call (Called c name ask) = c.client ≡ call.client → c.number < call.number
+IsBelow call (AtNode name stamp event pass step c) = ⊤
+IsBelow call (AtMaster chain stamp event pass step) = ⊤
+
+-- the call was made, at this node, with this ask
+abbrev pub WasCalled : List Entry → CallId → NodeName → Ask → Type 0
+WasCalled before call name ask = (a : Snapshot Ask) × Contains before (Called call name a) × (a.value ≡ ask)
+
+-- a step that accepts a call comes after it, and its ask is the call's
+abbrev pub Accepts : List Entry → NodeName → Event → Option CallId → Type 0
+Accepts before name event None = ⊤
+Accepts before name event (Some call) = (ask : Ask) × (event ≡ events.Ask ask) × WasCalled before call name ask
+
+-- what an entry needs of those before it, for the calls
+abbrev pub MayCall : List Entry → Entry → Type 0
+MayCall before (Opened chain members) = ⊤
+MayCall before (Called call name ask) = AllByRecursion (IsBelow call) before
+MayCall before (AtNode name stamp event pass step call) = Accepts before name event.value call
+MayCall before (AtMaster chain stamp event pass step) = ⊤
+
+abbrev pub AreCalls : List Entry → List Entry → Type 0
+AreCalls before [] = ⊤
+AreCalls before (e ∷ es) = MayCall before e × AreCalls (before ++ e ∷ []) es
+
+pub record IsHistory (log : List Entry) : Type 0 where
+  pub chains : (c : ℕ) → ChainHolds c (members_in c log) (lines_in c log)
+  pub calls : AreCalls [] log

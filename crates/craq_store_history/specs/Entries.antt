@@ -1,0 +1,53 @@
+-- Entries of a store's history: whose each is, and what it is of a chain.
+use Rattle.std.specs.Prelude.{◌≡◌, ◌<◌, ℕ, ◌==◌, if◌then◌else◌, ⊤, List, [], ◌∷◌, ◌++◌, Option, Some, None}
+use Rattle.std.specs.declared.snapshot.Snapshot.{Snapshot}
+use Rattle.craq_model.specs.declared.ask.Event.{Event}
+use Rattle.craq_model.specs.declared.step.Step.{Step}
+use Rattle.craq_seat.specs.declared.journal.BookEvent.{BookEvent}
+use Rattle.craq_seat.specs.declared.journal.Record.{Record}
+use Rattle.craq_seat.specs.Merge.{Line, book_line, node_line}
+use Rattle.craq_ghost_history.specs.declared.author.Author.{Author}
+use Rattle.craq_ghost_history.specs.declared.author.Author.TheVariants.{Node, Client}
+use Rattle.craq_store_history.specs.declared.entry.Entry.{Entry}
+use Rattle.craq_store_history.specs.declared.entry.Entry.TheVariants.{Opened, Called, AtNode, AtMaster}
+
+abbrev pub author_of : Entry → Author
+author_of (Opened chain members) = Node chain 0
+author_of (Called call name ask) = Client call.client
+author_of (AtNode name stamp event pass step call) = Node name.chain name.node
+author_of (AtMaster chain stamp event pass step) = Node chain 0
+
+-- a step as its author's journal would keep it
+abbrev pub node_record : ℕ → Snapshot Event → ℕ → Snapshot Step → Record Event
+node_record stamp event pass step = record { stamp = stamp; event = event.value; pass = pass; step = step.value }
+
+abbrev pub master_record : ℕ → BookEvent → ℕ → Snapshot Step → Record BookEvent
+master_record stamp event pass step = record { stamp = stamp; event = event; pass = pass; step = step.value }
+
+-- the line of a chain that an entry is, if it is one
+abbrev pub line_in : ℕ → Entry → List Line
+line_in c (Opened chain members) = []
+line_in c (Called call name ask) = []
+line_in c (AtNode name stamp event pass step call) = if name.chain == c then node_line name.node (node_record stamp event pass step) ∷ [] else []
+line_in c (AtMaster chain stamp event pass step) = if chain == c then book_line (master_record stamp event pass step) ∷ [] else []
+
+-- the lines of a chain
+unfoldable pub lines_in : ℕ → List Entry → List Line
+lines_in c [] = []
+lines_in c (e ∷ es) = line_in c e ++ lines_in c es
+
+-- the first members of a chain that an entry opens
+abbrev pub opened_by : ℕ → Entry → Option (List ℕ)
+opened_by c (Opened chain members) = if chain == c then Some members.value else None
+opened_by c (Called call name ask) = None
+opened_by c (AtNode name stamp event pass step call) = None
+opened_by c (AtMaster chain stamp event pass step) = None
+
+abbrev pub first_some : {A : Type 0} → Option A → Option A → Option A
+first_some (Some x) y = Some x
+first_some None y = y
+
+-- the first members of a chain, once it is opened
+unfoldable pub members_in : ℕ → List Entry → Option (List ℕ)
+members_in c [] = None
+members_in c (e ∷ es) = first_some (opened_by c e) (members_in c es)

@@ -1,0 +1,58 @@
+//! Laws: functions without bodies, whose contracts are the theorems.
+ghost use Rattle.std.specs.Prelude.{◌≡◌, ◌++◌, ◌∷◌, ℕ, List, [], Option, Some};
+ghost use mathlib.Core.List.{IsPrefix};
+ghost use Rattle.std.specs.declared.snapshot.Snapshot.{Snapshot};
+ghost use Rattle.craq_names.specs.declared.name.NodeName.{NodeName};
+ghost use Rattle.craq_model.specs.declared.ask.Ask.{Ask};
+ghost use Rattle.craq_model.specs.declared.ask.Event.{Event};
+ghost use Rattle.craq_model.specs.declared.step.Step.{Step};
+ghost use Rattle.craq_model.specs.Plain.{Plain};
+ghost use Rattle.craq_epochs.specs.Mastered.{Mastered};
+ghost use Rattle.craq_runs.specs.Typed.{IsTypedRunOf};
+ghost use Rattle.craq_seat.specs.declared.journal.BookEvent.{BookEvent};
+ghost use Rattle.craq_seat.specs.Merge.{run_of};
+ghost use Rattle.craq_causality.specs.Causal.{AreFew};
+ghost use Rattle.craq_ghost_history.specs.Histories.{IsAdded, MayAdd};
+ghost use Rattle.craq_store_history.specs.declared.entry.CallId.{CallId};
+ghost use Rattle.craq_store_history.specs.declared.entry.Entry.{Entry};
+ghost use Rattle.craq_store_history.specs.declared.entry.Entry.TheVariants.{Opened, Called, AtNode, AtMaster};
+ghost use Rattle.craq_store_history.specs.Chains.{Accepts, IsHistory};
+ghost use Rattle.craq_store_history.specs.Entries.{author_of, lines_in, master_record, members_in, node_record};
+ghost use Rattle.craq_store_history.specs.Steps.{IsMasterAt, IsNodeAt, MayMake, MayOpen, MayOrder, MayStep};
+
+/// The lines of each chain that was opened are a run of it, in every history that keeps the rule.
+pub fn each_chain_is_a_run()
+    ensures { (log : List Entry) (chain : ℕ) (members : List ℕ) → IsHistory log → members_in chain log ≡ Some members → AreFew (lines_in chain log)
+        → IsTypedRunOf chain (run_of members (lines_in chain log)) }
+{}
+
+/// Each author knows enough to add its entry, whatever the others have added. A history without entries keeps the rule.
+pub fn authors_keep_the_rule()
+    ensures empty { IsHistory [] }
+    ensures opened { (chain : ℕ) (seen told : List Entry) (members : Snapshot (List ℕ)) → MayOpen chain seen members.value
+        → MayAdd author_of IsHistory seen told (Opened chain members) }
+    ensures called { (seen told : List Entry) (call : CallId) (name : NodeName) (ask : Snapshot Ask) → MayMake seen call
+        → MayAdd author_of IsHistory seen told (Called call name ask) }
+    ensures node { (name : NodeName) (seen told : List Entry) (stamp : ℕ) (event : Snapshot Event) (pass : ℕ) (step : Snapshot Step) (call : Option CallId) (next : Plain)
+        → MayStep name seen told (node_record stamp event pass step) call next → MayAdd author_of IsHistory seen told (AtNode name stamp event pass step call) }
+    ensures master { (chain : ℕ) (seen told : List Entry) (stamp : ℕ) (event : BookEvent) (pass : ℕ) (step : Snapshot Step) (next : Mastered)
+        → MayOrder chain seen told (master_record stamp event pass step) next → MayAdd author_of IsHistory seen told (AtMaster chain stamp event pass step) }
+{}
+
+/// After a step was added, the author's own entries replay to the node, or the master, after it.
+pub fn authors_are_replayed()
+    ensures node { (name : NodeName) (seen told new : List Entry) (stamp : ℕ) (event : Snapshot Event) (pass : ℕ) (step : Snapshot Step) (call : Option CallId) (next : Plain)
+        → MayStep name seen told (node_record stamp event pass step) call next → IsAdded author_of seen told (AtNode name stamp event pass step call) new → IsNodeAt name new next stamp }
+    ensures master { (chain : ℕ) (seen told new : List Entry) (stamp : ℕ) (event : BookEvent) (pass : ℕ) (step : Snapshot Step) (next : Mastered)
+        → MayOrder chain seen told (master_record stamp event pass step) next → IsAdded author_of seen told (AtMaster chain stamp event pass step) new → IsMasterAt chain new next stamp }
+{}
+
+/// A step that accepts a call stands after the call, asks what the call asks of this node, and stands after all that the
+/// client had seen before it.
+pub fn accepted_calls_follow()
+    ensures made { (log done rest : List Entry) (name : NodeName) (stamp : ℕ) (event : Snapshot Event) (pass : ℕ) (step : Snapshot Step) (call : CallId)
+        → IsHistory log → log ≡ done ++ AtNode name stamp event pass step (Some call) ∷ rest → Accepts done name event.value (Some call) }
+    ensures later { (log seen told mid done rest : List Entry) (call : CallId) (name at : NodeName) (ask : Snapshot Ask) (stamp : ℕ) (event : Snapshot Event) (pass : ℕ) (step : Snapshot Step)
+        → IsHistory log → IsAdded author_of seen told (Called call name ask) mid → IsPrefix mid log
+        → log ≡ done ++ AtNode at stamp event pass step (Some call) ∷ rest → IsPrefix mid done }
+{}

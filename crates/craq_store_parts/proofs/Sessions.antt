@@ -1,0 +1,34 @@
+-- The numbers of a session's calls.
+use Rattle.std.proofs.Common.{◌≡◌, ◌<◌, ℕ, suc, ◌+◌, List, [], ◌∷◌, ◌++◌, refl, sym, subst, arith}
+use Rattle.std.specs.List.{AllByRecursion}
+use Rattle.std.specs.declared.snapshot.Snapshot.{Snapshot}
+use Rattle.craq_names.specs.declared.name.NodeName.{NodeName}
+use Rattle.craq_model.specs.declared.ask.Ask.{Ask}
+use Rattle.craq_ghost_history.specs.Histories.{IsAdded}
+use Rattle.craq_store_history.specs.declared.entry.CallId.{CallId}
+use Rattle.craq_store_history.specs.declared.entry.Entry.{Entry}
+use Rattle.craq_store_history.specs.declared.entry.Entry.TheVariants.{Opened, Called, AtNode, AtMaster}
+use Rattle.craq_store_history.specs.Chains.{IsBelow}
+use Rattle.craq_store_history.specs.Entries.{author_of}
+use Rattle.craq_store_history.specs.Steps.{MayMake}
+use Rattle.craq_store_history.proofs.Calls.{below_later}
+
+abbrev call_of : ℕ → ℕ → CallId
+call_of client number = record { client = client; number = number }
+
+below_next : (client next : ℕ) (e : Entry) → IsBelow (call_of client next) e → IsBelow (call_of client (next + 1)) e
+below_next client next (Opened chain members) b = tt
+below_next client next (Called c name ask) b = λ same. let less = b same in omega (arith, less)
+below_next client next (AtNode name stamp event pass step c) b = tt
+below_next client next (AtMaster chain stamp event pass step) b = tt
+
+all_next : (client next : ℕ) (xs : List Entry) (e : Entry) → AllByRecursion (IsBelow (call_of client next)) xs → IsBelow (call_of client (next + 1)) e → AllByRecursion (IsBelow (call_of client (next + 1))) (xs ++ e ∷ [])
+all_next client next [] e a b = (b, tt)
+all_next client next (x ∷ xs) e a b = (below_next client next x a.0, all_next client next xs e a.1 b)
+
+-- after a call the next number is free
+pub fresh_after : (client next : ℕ) (seen told new : List Entry) (name : NodeName) (ask : Snapshot Ask) → MayMake seen (call_of client next) → IsAdded author_of seen told (Called (call_of client next) name ask) new → MayMake new (call_of client (next + 1))
+fresh_after client next seen told new name ask m a =
+    let call : CallId = call_of client next in
+    subst (AllByRecursion (IsBelow (call_of client (next + 1)))) (sym a.now)
+    (all_next client next a.before (Called call name ask) (below_later call seen a.before (sym a.own) m) (λ same. omega arith))

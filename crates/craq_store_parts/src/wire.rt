@@ -1,0 +1,68 @@
+//! `Wire`: the bytes of a message on their way, with what shows that it was sent; links carry it.
+ghost use Rattle.std.specs.Prelude.{◌≡◌, IfOk};
+ghost use Rattle.craq_causality.specs.Causal.{WasSent};
+ghost use Rattle.craq_store_history.specs.Entries.{lines_in};
+ghost use Rattle.craq_store_parts.specs.Sent.{IsSentAs};
+ghost use Rattle.craq_wire.specs.Spelling.{Spells};
+
+use bytes::Bytes;
+use craq_ghost_history::{Named, Token};
+use craq_model::LinkMessage;
+use craq_names::{ChainId, Refusal};
+use craq_store_history::{Entry, StoreRule};
+use craq_wire::decode;
+use std::alloc::Global;
+use std::marker::Model;
+
+/// The bytes of a message on their way: in the token's history a node of the chain, or its master, sent the message.
+#[derive(Drop)]
+pub struct Wire<N: Named> {
+    chain: ChainId,
+    bytes: Bytes,
+    token: Token<Entry, StoreRule, N>,
+}
+
+impl<N: Named> Model for Wire<N> {
+    ghost use Rattle.craq_store_parts.specs.Sent.{IsSentAs, Wired};
+
+    ghost Value = { Wired };
+
+    ghost view = { λ w. record { chain = w.chain; bytes = w.bytes } };
+
+    ghost invariant = { λ w. IsSentAs w.chain w.bytes w.token };
+}
+
+impl<N: Named> Wire<N> {
+    /// Puts bytes on their way that spell a message which was sent in the token's history.
+    pub fn new(chain: ChainId, bytes: Bytes, token: Token<Entry, StoreRule, N>) -> Self
+        requires { IsSentAs chain bytes token }
+        ensures chain { result.chain ≡ chain }
+        ensures bytes { result.bytes ≡ bytes }
+    {
+        Wire {
+            chain,
+            bytes,
+            token,
+        }
+    }
+
+    /// Reads the message, which was sent in the returned token's history. The one refusal is `Memory`, since the bytes
+    /// spell a message.
+    pub fn read(self, alloc: Global) -> Result<(LinkMessage, Token<Entry, StoreRule, N>), Refusal>
+        ensures sent { IfOk result (λ r. WasSent (lines_in self.chain r.1) r.0) }
+        ensures spelled { IfOk result (λ r. Spells r.0 self.bytes) }
+    {
+        let Wire {
+            chain: _,
+            bytes,
+            token,
+        } = self;
+        match decode(alloc, bytes.as_slice()) {
+            Ok(message) => Ok((message, token)),
+            Err(refusal) => {
+                drop(token);
+                Err(refusal)
+            }
+        }
+    }
+}

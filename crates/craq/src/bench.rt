@@ -1,4 +1,5 @@
-//! `craq bench`: a load of small puts and strong reads over several connections, and what came of it as a table; called by `main`.
+//! `craq bench`: a load of small puts and strong reads over several connections, and its results as
+//! a table; called by `main`.
 use crate::calling::{Asker, connection, exchange_over};
 use crate::fault::Fault;
 use crate::tally::Tally;
@@ -20,7 +21,7 @@ const PUT_VALUE: &str = "0123456789abcdef";
 const HEADINGS: &str =
     "request        answered   a second  refused   50% us   95% us   99% us   all us";
 
-/// What came of a load.
+/// The results of a load.
 #[derive(Drop)]
 struct Outcome {
     reads: Tally,
@@ -48,7 +49,7 @@ fn now<R: Clock>(rt: &R) -> Result<Duration, Fault> {
     }
 }
 
-/// Whether request `number` of a connection is a read: `reads` of 100 are, spread evenly.
+/// Returns whether request `number` of a connection is a read: `reads` of 100 are, spread evenly.
 fn is_read(number: u64, reads: u64) -> bool {
     let place = number % 100;
     place.saturating_mul(reads) % 100 < reads
@@ -173,7 +174,7 @@ where
     Ok(())
 }
 
-/// Runs one connection of a load, and adds what came of it.
+/// Runs one connection of a load, and adds its results.
 fn run_caller<R>(rt: &R, caller: &Caller<'_>, outcome: &Mutex<Outcome>)
 where
     R: AllocGlobal + Clock + Wait + Net<Listener = TcpListener, Stream = TcpStream>,
@@ -191,7 +192,7 @@ where
     }
 }
 
-/// Tells each second, on standard error, how many of the seconds are over.
+/// Prints on standard error, each second, how many of the seconds are over.
 fn tell_progress<R: Eprint + Clock>(rt: &R, seconds: u64) {
     for second in 0..seconds {
         thread::sleep(rt, Duration::from_secs(1));
@@ -216,7 +217,7 @@ fn print_tally<R: Print>(rt: &R, name: &str, tally: &Tally, seconds: u64) -> Res
     }
 }
 
-/// Prints what came of a load.
+/// Prints the results of a load.
 fn print_outcome<R: Print>(rt: &R, reads: &Tally, puts: &Tally, seconds: u64) -> Result<(), Fault> {
     if let Err(error) = println!(rt; "{HEADINGS}") {
         return Err(Fault::CannotPrint(error));
@@ -273,8 +274,9 @@ fn fresh_client<R: Clock>(rt: &R) -> Result<u64, Fault> {
     }
 }
 
-/// Asks a node for so many seconds over so many connections, one request each under way, and prints how many were answered and
-/// refused, and within which time half, 95 and 99 of 100 and all of the answers came. The puts are of clients of their own.
+/// Asks a node for a number of seconds over a number of connections, one request each under way,
+/// and prints how many were answered and refused, and within which time half, 95 and 99 of 100 and
+/// all of the answers came. The puts are of clients of their own.
 pub fn bench<R>(rt: R, asker: &Asker<'_>, load: &Load, has_progress: bool) -> Result<u8, Fault>
 where
     R: AllocGlobal + Print + Eprint + Clock + Threads + Wait,

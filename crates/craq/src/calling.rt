@@ -24,7 +24,7 @@ pub struct Asker<'a> {
 }
 
 impl<'a> Asker<'a> {
-    /// The same once more.
+    /// Returns a copy.
     pub fn same(&self) -> Asker<'a>
         ensures { result ≡ self.now }
     {
@@ -36,7 +36,7 @@ impl<'a> Asker<'a> {
     }
 }
 
-/// What is printed of a reply.
+/// The text that is printed of a reply.
 #[derive(Drop)]
 pub struct Shown {
     /// The answer, or the refusal, on a line of its own.
@@ -162,8 +162,8 @@ where
     Ok(reply)
 }
 
-/// Asks over a connection of its own, and gives what is to be printed of the answer. What is refused whatever the server says is
-/// not sent.
+/// Asks over a connection of its own, and gives what is to be printed of the answer. What is
+/// refused whatever the server says is not sent.
 pub fn shown_for<R>(rt: &R, asker: &Asker<'_>, request: &Request) -> Result<Shown, Fault>
 where
     R: AllocGlobal + Net<Listener = TcpListener, Stream = TcpStream>,

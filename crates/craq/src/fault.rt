@@ -1,5 +1,5 @@
-//! Why `craq` ends without an answer once its command line was read, with the text and the status of each reason; for `main`,
-//! `calling`, `shell`, `watch` and `bench`.
+//! Why `craq` ends without an answer once its command line was read, with the text and the status
+//! of each reason; for `main`, `calling`, `shell`, `watch` and `bench`.
 use craq_line::{CANNOT_PRINT, report_memory};
 use std::alloc::AllocError;
 use std::io;
@@ -17,7 +17,7 @@ pub enum Fault {
     Memory,
     /// There is no connection, or it broke.
     Connection,
-    /// Nothing can be read from the input, or the clock tells no time.
+    /// Nothing can be read from the input, or the clock gives no time.
     System,
     /// The output takes no text.
     CannotPrint(io::Error),
@@ -30,7 +30,7 @@ impl From<AllocError> for Fault {
 }
 
 impl Fault {
-    /// Tells what was wrong, and gives the status.
+    /// Prints what was wrong. Returns the status.
     pub fn report<R: Eprint>(self, rt: &R) -> io::Result<u8> {
         match self {
             Fault::Memory => report_memory(rt, REFUSED),

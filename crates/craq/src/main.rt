@@ -1,4 +1,5 @@
-//! The program with which people and scripts ask a server: `craq --connect ADDRESS --node N [--pass P] [COMMAND ..]`.
+//! The program with which people and scripts ask a server: `craq --connect ADDRESS --node N [--pass
+//! P] [COMMAND ..]`.
 #![tactic(auto)]
 
 mod bench;
@@ -23,14 +24,15 @@ use std::sync::Wait;
 use std::thread::Threads;
 use std::time::Clock;
 
-/// Whether the standard streams are terminals.
+/// Which standard streams are terminals.
 #[derive(Clone, Copy)]
 struct Terminals {
     input: bool,
     errors: bool,
 }
 
-/// Asks once, and prints the answer with its pass on a line of its own, or the refusal. Gives the status.
+/// Asks once, and prints the answer with its pass on a line of its own, or the refusal. Returns the
+/// status.
 fn ask_once<R>(rt: &R, asker: &Asker<'_>, request: &Request) -> Result<u8, Fault>
 where
     R: AllocGlobal + Print + Net<Listener = TcpListener, Stream = TcpStream>,
@@ -39,7 +41,7 @@ where
     print_shown(rt, &shown)
 }
 
-/// Prints an answer with its pass on a line of its own, or a refusal. Gives the status.
+/// Prints an answer with its pass on a line of its own, or a refusal. Returns the status.
 fn print_shown<R: Print>(rt: &R, shown: &Shown) -> Result<u8, Fault> {
     let text = shown.text.as_str();
     let (printed, status) = match shown.pass {
@@ -55,7 +57,7 @@ fn print_shown<R: Print>(rt: &R, shown: &Shown) -> Result<u8, Fault> {
     }
 }
 
-/// Does what a command line asks for. Gives the status.
+/// Does what a command line asks for. Returns the status.
 fn run_line<R>(rt: R, terminals: Terminals, line: &CallLine<'_>) -> Result<u8, Fault>
 where
     R: AllocGlobal + Input + Print + Eprint + Clock + Threads + Wait,
@@ -74,7 +76,7 @@ where
     }
 }
 
-/// Does what a command line asks for, and tells what was wrong. Gives the status.
+/// Does what a command line asks for, and prints what was wrong. Returns the status.
 fn run_and_report<R>(rt: R, terminals: Terminals, line: &CallLine<'_>) -> io::Result<u8>
 where
     R: AllocGlobal + Input + Print + Eprint + Clock + Threads + Wait,
@@ -86,15 +88,20 @@ where
     }
 }
 
-/// Tells what is wrong with the words of a command line, or prints the help that they ask for. Gives the status.
+/// Prints what is wrong with a command line, or the help that it asks for. Words of a command that
+/// fit no script line are `script line 1`, then what was expected. Returns the status.
 fn report_unread<R: Print + Eprint>(rt: &R, fault: &craq_line::Fault) -> io::Result<u8> {
     match fault {
         craq_line::Fault::Words(error) => report_words(rt, error, REFUSED),
+        craq_line::Fault::Command(error) => {
+            eprintln!(rt; "script line 1")?;
+            report_words(rt, error, REFUSED)
+        }
         craq_line::Fault::Memory => report_memory(rt, REFUSED),
     }
 }
 
-/// Does what these words of a command line ask for, and tells what was wrong. Gives the status.
+/// Does what these words of a command line ask for, and prints what was wrong. Returns the status.
 fn run_words<'a, R>(rt: R, terminals: Terminals, words: &'a [&'a str]) -> io::Result<u8>
 where
     R: AllocGlobal + Input + Print + Eprint + Clock + Threads + Wait,
@@ -106,7 +113,7 @@ where
     }
 }
 
-/// Does what these words of a command line ask for. Gives the status.
+/// Does what these words of a command line ask for. Returns the status.
 fn run_texts<R>(rt: R, terminals: Terminals, words: &[String]) -> io::Result<u8>
 where
     R: AllocGlobal + Input + Print + Eprint + Clock + Threads + Wait,
@@ -119,7 +126,7 @@ where
     run_words(rt, terminals, texts.as_slice())
 }
 
-/// Does what the command line asks for, where its words are text. Gives the status.
+/// Does what the command line asks for, where its words are text. Returns the status.
 fn run<R>(rt: R, terminals: Terminals) -> io::Result<u8>
 where
     R: AllocGlobal + Env + Input + Print + Eprint + Clock + Threads + Wait,

@@ -1,12 +1,12 @@
-//! `Session`: what a prompt remembers, which is whom it asks, the largest pass that it was given, and the lines that were
-//! entered; for `shell`.
+//! `Session`: what a prompt remembers, which is whom it asks, the largest pass that it was given,
+//! and the lines that were entered; for `shell`.
 ghost use Rattle.std.specs.Prelude.{◌≡◌, ◌++◌, [], ◌∷◌, max, OnOk, OnErr};
 
 use crate::calling::Asker;
 use craq_names::{NodeId, Pass};
 use std::alloc::{AllocError, Global};
 
-/// What a prompt remembers.
+/// The memory of a prompt.
 #[derive(Drop)]
 pub struct Session<'a> {
     /// Who is asked, with the largest pass that was given so far.
@@ -50,7 +50,7 @@ impl<'a> Session<'a> {
         self.asker.pass = self.asker.pass.join(pass);
     }
 
-    /// Keeps a line that was entered. It fails for want of memory alone, and then nothing is kept.
+    /// Keeps a line that was entered. Fails only when out of memory; nothing is kept then.
     pub fn keep(&mut self, line: String) -> Result<(), AllocError>
         ensures asker { self.new.asker ≡ self.old.asker }
         ensures ok { OnOk result (self.new.lines.items ≡ self.old.lines.items ++ line ∷ []) }

@@ -1,4 +1,5 @@
-//! `craq shell`: a prompt that asks one command after another, and shows each the passes of those before; called by `main`.
+//! `craq shell`: a prompt that asks one command after another, and shows each the passes of those
+//! before; called by `main`.
 use crate::calling::{Asker, Shown, shown_for};
 use crate::fault::Fault;
 use crate::session::Session;
@@ -9,7 +10,7 @@ use std::alloc::{AllocError, Global};
 use std::io::ErrorKind;
 use std::net::{Net, TcpListener, TcpStream};
 
-/// What `help` prints.
+/// The text of `help`.
 const HELP: &str = "put CLIENT NUMBER OBJECT VALUE             give the object a value
 tas CLIENT NUMBER OBJECT VERSION VALUE     the same, if the object has the version
 append, prepend CLIENT NUMBER OBJECT VALUE join the value to the end or the front
@@ -24,7 +25,7 @@ history                                    the lines so far, by number
 help, quit                                 this text; the end
 ";
 
-/// What one line of the prompt says.
+/// A line of the prompt, read.
 #[derive(Clone, Copy, Debug, PartialEq, Eq)]
 enum Said {
     Nothing,
@@ -36,7 +37,7 @@ enum Said {
     Command,
 }
 
-/// What a line says, by its words.
+/// Reads a line by its words.
 fn meaning_of(words: &[&str]) -> Said {
     let Some(first) = words.first() else {
         return Said::Nothing;
@@ -71,7 +72,7 @@ fn print_text<R: Print>(rt: &R, text: &str) -> Result<(), Fault> {
     }
 }
 
-/// Tells what was wrong with a line.
+/// Prints what was wrong with a line.
 fn print_wrong<R: Eprint>(rt: &R, told: &str) -> Result<(), Fault> {
     match eprintln!(rt; "error: {told}") {
         Ok(()) => Ok(()),
@@ -79,8 +80,8 @@ fn print_wrong<R: Eprint>(rt: &R, told: &str) -> Result<(), Fault> {
     }
 }
 
-/// Asks what the words of a command ask for, and prints the answer or what was wrong. Only where the output takes no text or
-/// there is no memory the prompt is over.
+/// Asks what the words of a command ask for, and prints the answer or what was wrong. Only where
+/// the output takes no text or there is no memory the prompt is over.
 fn ask<R>(rt: &R, session: &mut Session<'_>, words: &[&str]) -> Result<(), Fault>
 where
     R: AllocGlobal + Print + Eprint + Net<Listener = TcpListener, Stream = TcpStream>,
@@ -164,7 +165,8 @@ fn line_of_number<'b>(session: &'b Session<'_>, number: &str) -> Option<&'b Stri
     session.lines().get((number - 1) as usize)
 }
 
-/// The line that was meant by one that was entered, without blanks at its ends; none where it names a line that there is not.
+/// The line that was meant by one that was entered, without blanks at its ends; none where it names
+/// a line that there is not.
 fn meant(
     alloc: Global,
     session: &Session<'_>,
@@ -180,7 +182,7 @@ fn meant(
     }
 }
 
-/// Does what the words of a line say. Tells whether the prompt is over.
+/// Does what the words of a line say. Returns whether the prompt is over.
 fn run_words<R>(rt: &R, session: &mut Session<'_>, words: &[&str]) -> Result<bool, Fault>
 where
     R: AllocGlobal + Print + Eprint + Net<Listener = TcpListener, Stream = TcpStream>,
@@ -197,7 +199,7 @@ where
     Ok(false)
 }
 
-/// Does what a line says. Tells whether the prompt is over.
+/// Does what a line says. Returns whether the prompt is over.
 fn run_line<R>(rt: &R, session: &mut Session<'_>, line: &str) -> Result<bool, Fault>
 where
     R: AllocGlobal + Print + Eprint + Net<Listener = TcpListener, Stream = TcpStream>,
@@ -206,7 +208,8 @@ where
     run_words(rt, session, words.as_slice())
 }
 
-/// Does what the line says that was meant by what was entered, and keeps it. Tells whether the prompt is over.
+/// Does what the line says that was meant by what was entered, and keeps it. Returns whether the
+/// prompt is over.
 fn run_entered<R>(rt: &R, session: &mut Session<'_>, entered: &str) -> Result<bool, Fault>
 where
     R: AllocGlobal + Print + Eprint + Net<Listener = TcpListener, Stream = TcpStream>,
@@ -242,8 +245,8 @@ fn greet<R: Print>(rt: &R, asker: &Asker<'_>) -> Result<(), Fault> {
     }
 }
 
-/// Takes lines until one ends the prompt or there are no more. The prompt itself, and what stands around it, is printed for a
-/// terminal alone.
+/// Takes lines until one ends the prompt or there are no more. The prompt itself, and what stands
+/// around it, is printed for a terminal alone.
 pub fn shell<R>(rt: &R, asker: &Asker<'_>, at_terminal: bool) -> Result<u8, Fault>
 where
     R: AllocGlobal + Input + Print + Eprint + Net<Listener = TcpListener, Stream = TcpStream>,

@@ -3,20 +3,20 @@ ghost use Rattle.std.specs.Prelude.{◌≡◌, ◌<◌, ◌≤◌, ◌+◌, ◌-
 
 use std::alloc::{AllocError, Global};
 
-/// How many microseconds a bucket covers.
+/// The microseconds of a bucket.
 const BUCKET_MICROSECONDS: u64 = 10;
 
-/// How many buckets there are; the last has all times that are longer than those of the others.
+/// The number of buckets; the last has all longer times.
 const BUCKETS: usize = 10_001;
 
-/// How many requests took how long, in buckets of 10 microseconds up to 100 milliseconds.
+/// The times of requests, in buckets of 10 microseconds up to 100 milliseconds.
 #[derive(Drop)]
 pub struct Tally {
-    /// How many were answered, by the time that they took.
+    /// The number of answers in each bucket.
     counts: Vec<u64>,
-    /// How many were answered.
+    /// The number of answers.
     pub answered: u64,
-    /// How many were refused.
+    /// The number of refusals.
     pub refused: u64,
     /// The longest time that an answer took, in microseconds.
     pub longest: u64,
@@ -35,7 +35,7 @@ fn bucket_of(microseconds: u64) -> usize
 }
 
 impl Tally {
-    /// Nothing was answered yet. It fails for want of memory alone.
+    /// Makes an empty tally. Fails only when out of memory.
     pub fn new(alloc: Global) -> Result<Self, AllocError>
         ensures { IfOk result (λ t. (t.answered ≡ 0) × (t.refused ≡ 0) × (t.longest ≡ 0)) }
     {
@@ -47,7 +47,7 @@ impl Tally {
         })
     }
 
-    /// One more was answered, after so many microseconds.
+    /// Counts an answer that took this many microseconds.
     pub fn answer(&mut self, microseconds: u64)
         ensures answered { self.new.answered ≡ min (self.old.answered + 1) (2 ^ 64 - 1) }
         ensures refused { self.new.refused ≡ self.old.refused }
@@ -81,8 +81,8 @@ impl Tally {
         self.longest = self.longest.max(other.longest);
     }
 
-    /// The time, in microseconds and to 10 of them, within which so many of 100 answers came; the longest where it lies above 100
-    /// milliseconds, and 0 where nothing was answered.
+    /// The time, in microseconds and to 10 of them, within which `percent` of 100 answers came; the
+    /// longest where it lies above 100 milliseconds, and 0 where nothing was answered.
     pub fn within(&self, percent: u64) -> u64
         ensures { result ≤ self.now.longest }
     {

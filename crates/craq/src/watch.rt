@@ -7,7 +7,7 @@ use std::sync::Wait;
 use std::thread;
 use std::time::{Clock, Duration, Instant};
 
-/// How often the server is asked.
+/// The milliseconds between two requests.
 const PAUSE_MILLISECONDS: u64 = 200;
 
 /// The status of the server.
@@ -38,7 +38,7 @@ fn print_change<R: Print>(rt: &R, last: &str, next: &str) -> Result<(), Fault> {
     }
 }
 
-/// Whether so many seconds are over; never where there is no number.
+/// Returns whether this many seconds are over; never where there is no number.
 fn is_over<R: Clock>(rt: &R, began: &Instant, seconds: Option<u64>) -> Result<bool, Fault> {
     let Some(seconds) = seconds else {
         return Ok(false);
@@ -49,8 +49,8 @@ fn is_over<R: Clock>(rt: &R, began: &Instant, seconds: Option<u64>) -> Result<bo
     }
 }
 
-/// Prints the status of the server, and prints it again whenever it is another, for so many seconds; without end where there is
-/// no number.
+/// Prints the status of the server, and prints it again whenever it is another, for this many
+/// seconds; without end where there is no number.
 pub fn watch<R>(rt: &R, address: &str, seconds: Option<u64>) -> Result<u8, Fault>
 where
     R: AllocGlobal + Print + Clock + Wait + Net<Listener = TcpListener, Stream = TcpStream>,

@@ -1,4 +1,4 @@
--- A message that is not heeded is ignored.
+-- A message that is not current is ignored.
 use Rattle.std.proofs.Common.{◌≡◌, true, false, refl}
 use Rattle.craq_model.specs.declared.message.Body.{Body}
 use Rattle.craq_model.specs.declared.message.Body.TheVariants as bodies

@@ -1,4 +1,4 @@
--- What a node refuses, and what it ignores, before the rules of updates, of reads and of messages are asked.
+-- A node's refusals and ignored messages, before the rules of updates, reads and messages apply.
 use Rattle.std.specs.Prelude.{◌≡◌, ◌<◌, ⊤, true, false, Bool, ◌==◌, ◌||◌, if◌then◌else◌, Result, Ok, Err}
 use Rattle.craq_names.specs.Limits.{greatest}
 use Rattle.craq_names.specs.declared.refusal.Refusal.{Refusal}
@@ -16,29 +16,29 @@ use Rattle.craq_model.specs.Node.{event_turn, is_for}
 use Rattle.craq_model.specs.Plain.{Plain, newest}
 use Rattle.craq_model.specs.Settle.{Turn}
 
--- what the rules of updates, or of reads, say of an ask
+-- the result of the rules of updates, or of reads, for a request
 abbrev pub ruled_turn : Plain → Ask → Result Turn Refusal
 ruled_turn p (asks.Update u) = update_turn p u (said (newest p) u.client u.number)
 ruled_turn p (asks.Read mode object) = read_turn p mode object.key
 
--- there is a next ticket for the ask, and the node does with it what the rules of updates, or of reads, say
+-- the request has a next ticket, and the node's step is that of the rules
 pub record IsAdmittedAsk (p : Plain) (ask : Ask) : Type 0 where
   pub ticket : p.last_ticket < greatest
   pub ruled : ask_turn p ask ≡ ruled_turn p ask
 
--- an ask is admitted, or refused as a running node refuses it
+-- a request is admitted, or refused as a running node refuses it
 abbrev pub AdmitsAsk : Plain → Ask → Result Unit Refusal → Type 0
 AdmitsAsk p ask (Ok u) = IsAdmittedAsk p ask
 AdmitsAsk p ask (Err e) = ask_turn p ask ≡ Err e
 
--- an ask is left to the rules; a message is for this node
+-- a request is left to the rules; a message is for this node
 abbrev pub IsAdmitted : Plain → Event → Type 0
 IsAdmitted p (events.Ask ask) = IsAdmittedAsk p ask
 IsAdmitted p (events.Deliver m) = is_for p m ≡ true
 IsAdmitted p events.Tick = ⊤
 IsAdmitted p events.Stop = ⊤
 
--- a step before its counts are looked at: of its sends, and of the items in a message
+-- a step before its counts are tested: the number of its sends and of the items in a message
 abbrev pub uncounted_step : Plain → Event → Result Turn Refusal
 uncounted_step p e = if p.running then event_turn p e else Err refusals.Stopped
 
@@ -47,11 +47,11 @@ abbrev pub Admits : Plain → Event → Result Unit Refusal → Type 0
 Admits p e (Ok u) = (p.running ≡ true) × IsAdmitted p e
 Admits p e (Err x) = uncounted_step p e ≡ Err x
 
--- a membership is told
+-- the message is a membership
 abbrev pub tells_membership : Body → Bool
 tells_membership (Config members) = true
 tells_membership body = false
 
--- the message is of the node's epoch, or tells a membership
+-- the message has the node's epoch, or is a membership
 abbrev pub is_heeded : Plain → LinkMessage → Bool
 is_heeded p m = tells_membership m.body || (m.epoch == p.epoch)

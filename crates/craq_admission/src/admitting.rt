@@ -1,4 +1,4 @@
-//! Whether a node takes an event up, or refuses it before any rule is asked. `NodeCore` calls it first.
+//! Admission of an event at a node, before any rule applies. `NodeCore` calls this first.
 ghost use Rattle.std.specs.Prelude.{◌≡◌};
 ghost use Rattle.craq_history.specs.Nodes.{plain_of};
 ghost use Rattle.craq_admission.specs.Admitted.{Admits, AdmitsAsk};
@@ -9,7 +9,7 @@ use craq_history::{History, Node};
 use craq_model::{Ask, Event};
 use craq_names::Refusal;
 
-/// What an ask at a running node is refused for.
+/// Returns the refusal of a request at a running node, if there is one.
 #[tactic(auto, unfolding(craq_model::specs::Asks::ask_turn, craq_commands::specs::Evaluation::all_of_chain))]
 fn admit_ask<H: History>(node: &Node<H>, ask: &Ask) -> Result<(), Refusal>
     ensures { AdmitsAsk (plain_of H.past node.now) ask.now result }
@@ -39,11 +39,12 @@ fn admit_ask<H: History>(node: &Node<H>, ask: &Ask) -> Result<(), Refusal>
     Ok(())
 }
 
-/// Whether a node takes an event up. It takes no memory.
+/// Admits or refuses an event. Allocates nothing.
 ///
-/// The refusals, in order: `Stopped` at a stopped node; `WrongNode` for a message to another node or chain; of an ask
-/// `NotReady` at a node that is not ready, `TwoChains` where an object is of another chain, for an update `NotHead` at a
-/// node that is not first in its membership, and `Exhausted` where there is no next ticket.
+/// The errors, in order: `Stopped` at a stopped node; `WrongNode` for a message to another node or
+/// chain. For a request: `NotReady` at a node that is not ready; `TwoChains` if an object is of
+/// another chain; for an update `NotHead` at a node that is not first in its membership;
+/// `Exhausted` if there is no next ticket.
 pub fn admit<H: History>(node: &Node<H>, switch: &Switch, event: &Event) -> Result<(), Refusal>
     ensures { Admits (record (plain_of H.past node.now) { running = switch.now.running }) event.now result }
 {

@@ -1,4 +1,4 @@
-//! Whether a node heeds a message for it, by its epoch. `NodeCore` asks it before the rules of messages.
+//! The epoch test of a message. `NodeCore` calls it before the rules of messages.
 ghost use Rattle.std.specs.Prelude.{◌≡◌, false};
 ghost use Rattle.craq_history.specs.Nodes.{plain_of};
 ghost use Rattle.craq_model.specs.Deliveries.{delivery_turn};
@@ -8,8 +8,8 @@ ghost use Rattle.craq_admission.specs.Admitted.{is_heeded};
 use craq_history::{History, Node};
 use craq_model::{Body, LinkMessage, Why};
 
-/// Whether a message for this node is heeded: any but a membership has to be of the node's epoch, else it is ignored
-/// (`OtherEpoch`). It takes no memory.
+/// Returns true exactly if a message for this node is current: it is a membership or has the node's
+/// epoch. Any other message is ignored (`OtherEpoch`). Allocates nothing.
 #[tactic(auto, using(crate::proofs::Ignored::not_heeded))]
 pub fn is_heeded<H: History>(node: &Node<H>, message: &LinkMessage) -> bool
     ensures heeded { result ≡ is_heeded (plain_of H.past node.now) message.now }

@@ -1,6 +1,5 @@
-//! What a node refuses, and which messages it ignores, before the rules of updates, of reads and of messages are asked;
-//! called by `craq_node`.
-//! Code that runs in the program.
+//! A node's refusals and ignored messages, before the rules of updates, reads and messages.
+//! Runs in the program; `craq_node` calls it.
 #![tactic(auto)]
 
 mod admitting;

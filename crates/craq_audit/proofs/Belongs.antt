@@ -1,4 +1,4 @@
--- The ids of a chain's cells, and what else is so of these cells.
+-- The ids of a chain's cells, and other properties of these cells.
 use Rattle.std.proofs.Common.{◌≡◌, ◌≢◌, ◌≤◌, ◌⊎◌, ℕ, suc, List, [], ◌∷◌, ◌++◌, map, length, Option, Some, None, refl, sym, ap, subst, ◌∙◌, arith, inl, inr, length-append}
 use Rattle.std.specs.Prelude.{IsPermutation, IsSome}
 use Rattle.std.specs.List.{AllByRecursion}
@@ -22,7 +22,7 @@ use Rattle.craq_audit.specs.Journals.{journals_of, records_in}
 use Rattle.craq_audit.specs.Lookups.{BearsStop, Found, HoldsStop, IsCellOf, cells_of}
 use Rattle.craq_audit.proofs.Sendings.{stop_line, where_stopped}
 
--- ---- ids that are used once, and as many ids among which all of them are
+-- ---- distinct ids, and a list of the same length that contains them all
 
 record Split (xs : List ℕ) (x : ℕ) : Type 0 where
   pub front : List ℕ

@@ -23,7 +23,7 @@ all_push : {X : Type 0} (P : X → Type 0) (xs : List X) (x : X) → AllByRecurs
 all_push P [] x h p = (p, tt)
 all_push P (y ∷ xs) x h p = (h.0, all_push P xs x h.1 p)
 
--- found already at a lower node
+-- already found at a lower node
 pub best_stays : (j : Journals) (ns : List Kept) (n : Kept) (found : Option (ℕ × ℕ)) → ¬ MatchOption found ⊤ (λ f. n.0 < f.0) → IsBest j ns found → IsBest j (ns ++ n ∷ []) found
 best_stays j ns n None h b = absurd (h tt)
 best_stays j ns n (Some f) h b =

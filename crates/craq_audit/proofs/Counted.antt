@@ -1,4 +1,4 @@
--- The number of a message, by the sums of what was sent before each line.
+-- The number of a message, from the count of messages sent before each line.
 use Rattle.std.proofs.Common.{◌≡◌, ◌<◌, ◌≤◌, ℕ, zero, suc, ◌+◌, ◌==◌, ltb, Bool, true, false, List, [], ◌∷◌, ◌++◌, length, get_or, map, take, drop, refl, sym, ap, subst, ◌∙◌, arith, inl, inr, length-append}
 use Rattle.std.specs.Prelude.{◌||◌, ◌&&◌}
 use Rattle.std.specs.List.{AllByRecursion, AllWithin}
@@ -10,7 +10,7 @@ use Rattle.craq_merge.proofs.Numbers.{all_sent, first_is, not_first}
 use Rattle.craq_merge.proofs.Orders.{AreRising, IsIn, all_in, from_contains, rising}
 use Rattle.craq_audit.specs.Lines.{IsSentIn, sums_from}
 
--- the line stands before the sending of the message
+-- the line precedes the sending of the message
 abbrev pub is_below : LinkMessage → Line → Bool
 is_below m l = ltb l.stamp m.stamp || ((l.stamp == m.stamp) && ltb l.node m.sender)
 
@@ -66,7 +66,7 @@ number before (suc k) (d ∷ ds) m s r (inr i) e f low high =
     let is = t.1 in
     (omega (arith, within), omega (arith, is, n))
 
--- it is not above the number of all
+-- it is not above the number of all messages
 bounded : (ls : List Line) (m : LinkMessage) (s : Line) → AreRising ls → IsIn ls s → s.node ≡ m.sender → s.stamp ≡ m.stamp → m.index < length (sent_in s.step.outs) → number_among ls m ≤ length (all_sent ls)
 bounded [] m s r i e f less = absurd i
 bounded (d ∷ ds) m s r (inl x) e f less =

@@ -1,10 +1,10 @@
--- Loops that look for something in a list.
+-- Loops that search a list.
 use Rattle.std.proofs.Common.{◌≡◌, ◌<◌, ◌≤◌, ℕ, zero, suc, ◌+◌, List, [], ◌∷◌, length, take, drop, get_or, Some, sym, subst, ap, arith, inl, inr}
 use Rattle.std.specs.Prelude.{slice_get}
 use Rattle.std.specs.List.{AllByRecursion}
 use Rattle.craq_audit.specs.Lookups.{Found, IsFirstNot}
 
--- ---- one of them is so
+-- ---- one item has the property
 
 pub found_here : {X : Type 0} (P : X → Type 0) (xs : List X) (i : ℕ) (x : X) → i < length xs → x ≡ get_or xs i x → P x → Found P xs
 found_here P [] i x less is p = absurd (omega (arith, less))
@@ -31,7 +31,7 @@ none_left P (y ∷ xs) (suc i) h = none_left P xs i (omega (arith, h))
 pub not_found : {X : Type 0} (P : X → Type 0) (xs : List X) (i : ℕ) → length xs ≤ i → (Found P xs → Found P (drop i xs)) → ¬ Found P xs
 not_found P xs i h f = λ k. none_left P xs i h (f k)
 
--- ---- all of them are
+-- ---- all items have the property
 
 pub all_next : {X : Type 0} (P : X → Type 0) (xs : List X) (i : ℕ) (x : X) → i < length xs → x ≡ get_or xs i x → P x → AllByRecursion P (take i xs) → AllByRecursion P (take (i + 1) xs)
 all_next P [] i x less is p h = absurd (omega (arith, less))

@@ -18,7 +18,7 @@ use Rattle.craq_merge.proofs.Positions.{no_older}
 use Rattle.craq_audit.specs.Audited.{IsAudited}
 use Rattle.craq_audit.specs.Places.{IsPlaceOf}
 
--- ---- the answer of a strong call is a strong answer
+-- ---- the reply of a strong call is a strong reply
 
 kept_in : {X : Type 0} (p : X → Bool) (xs : List X) (x : X) → IsIn xs x → p x ≡ true → IsIn (filter p xs) x
 kept_in p [] x i t = absurd i
@@ -53,7 +53,7 @@ heads x y xs ys e = cc
 tails : (x y : ℕ × ℕ) (xs ys : List (ℕ × ℕ)) → x ∷ xs ≡ y ∷ ys → xs ≡ ys
 tails x y xs ys e = cc
 
--- the answer of a place's name
+-- the reply of a place's name
 answer_at : (ans : List Answered) (ps : List Place) (p : Place) → map place_name ps ≡ map answer_name ans → IsIn ps p → (a : Answered) × IsIn ans a × (place_name p ≡ answer_name a)
 answer_at [] [] p e i = absurd i
 answer_at [] (q ∷ ps) p e i = cc
@@ -62,7 +62,7 @@ answer_at (b ∷ ans) (q ∷ ps) p e (inl s) = (b, inl refl, ap place_name (sym 
 answer_at (b ∷ ans) (q ∷ ps) p e (inr i) =
     let t = answer_at ans ps p (tails (place_name q) (answer_name b) (map place_name ps) (map answer_name ans) e) i in (t.0, inr t.1, t.2)
 
--- the place of an answer's name
+-- the place of a reply's name
 place_at : (ans : List Answered) (ps : List Place) (a : Answered) → map place_name ps ≡ map answer_name ans → IsIn ans a → (p : Place) × IsIn ps p × (place_name p ≡ answer_name a)
 place_at [] ps a e i = absurd i
 place_at (b ∷ ans) [] a e i = cc
@@ -86,7 +86,7 @@ explained_at R (b ∷ ans) (q ∷ ps) a p e z d (inr i) (inr k) n =
 named_as : (c : Called) (p : Place) (answered : ℕ) → p.node ≡ c.call.asked.node → p.ticket ≡ c.call.ticket → place_name p ≡ answer_name (answer_of_call c answered)
 named_as c p answered e f = rw (e, f) refl
 
--- a strong call that stands in a run whose explanation is valid
+-- a strong call in a run whose explanation is valid
 strong_call : (lines : List Line) (run : Run) (c : Called) (w : IsWithin lines run c) → is_strong_ask c.call.ask ≡ true → IsIn (strong_answers (seen run)) (answer_of_call c w.answered)
 strong_call lines run c w t = strong_in (seen run) (answer_of_call c w.answered) (ask_of_call c w.asked) w.is_answer w.is_ask t
 

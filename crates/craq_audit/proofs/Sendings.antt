@@ -46,7 +46,7 @@ some_send step m sent e h =
     let z : 0 + m.index ≡ m.index = omega arith in
     let k : Some (named r m.index sent) ≡ Some m = ap (λ i. Some (named r i sent)) (sym z) ∙ sym (ap (option_map (named r (0 + m.index))) e) ∙ sym (named_at 0 m.index r (sent_in step.outs)) ∙ h in cc
 
--- ---- the cells that are looked at
+-- ---- the cells that are searched
 
 abbrev Lent : Type 0 → Type 0
 Lent C = Bor (Celled C Event)
@@ -103,7 +103,7 @@ sent_by_node book cs stamp m less f =
       to_named m (id_of c.now) r.stamp r.step own have.2 have.3,
     )
 
--- a line is of the book or of a node
+-- a line is of the master or of a node
 from_book : (rs : List (Record BookEvent)) (l : Line) (m : LinkMessage) → IsIn (map book_line rs) l → l.node ≡ m.sender → l.stamp ≡ m.stamp → slice_get (numbered_from 0 (record { node = l.node; stamp = l.stamp }) (sent_in l.step.outs)) m.index ≡ Some m → (m.sender ≡ 0) × HaveSent rs m
 from_book rs l m i e f h =
     let t = of_map book_line rs l i in

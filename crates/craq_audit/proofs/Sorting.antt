@@ -1,4 +1,4 @@
--- Lines that were sorted by stamp and node.
+-- Lines sorted by stamp and node.
 use Rattle.std.proofs.Common.{◌≡◌, ◌<◌, ◌⊎◌, ℕ, suc, ◌+◌, false, List, [], ◌∷◌, arith}
 use Rattle.std.specs.Borrow.{Bor}
 use Rattle.std.specs.Fn.{Called, ComputesKey}

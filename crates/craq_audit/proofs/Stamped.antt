@@ -1,4 +1,4 @@
--- The record of a stamp in a journal, whose stamps rise.
+-- The record of a stamp in a journal, whose stamps ascend.
 use Rattle.std.proofs.Common.{◌≡◌, ◌≢◌, Bool, ◌<◌, ◌≤◌, ℕ, zero, suc, ltb, true, false, List, [], ◌∷◌, length, get_or, Option, Some, None, refl, subst, ap, ◌∙◌, arith, inl, inr}
 use Rattle.std.specs.Prelude.{Contains}
 use Rattle.std.specs.List.Sorted.{IsNonDecreasingBy, IsPartitionPoint}
@@ -35,7 +35,7 @@ rising_by rs (first, last, h) i j d le less =
       | inr n ↦ (let s = strictly first last rs i j d h (omega (arith, le, n)) less in omega (arith, s))
     ]
 
--- a record of the stamp is the one at the first place whose stamp is not below
+-- a record of the stamp is the one at the first place whose stamp is not below it
 pub is_at : {E : Type 0} (rs : List (Record E)) (stamp place : ℕ) (r : Record E) → Rise rs → IsPartitionPoint (λ (y : Record E). ltb y.stamp stamp ≡ true) (λ (y : Record E). ltb y.stamp stamp ≡ false) rs place → Contains rs r → r.stamp ≡ stamp → (place < length rs) × (get_or rs place r ≡ r)
 is_at rs stamp place r (first, last, h) p (k, less, is) e =
     let own : (get_or rs k r).stamp ≡ stamp = ap (λ (y : Record _). y.stamp) is ∙ e in
@@ -55,7 +55,7 @@ is_at rs stamp place r (first, last, h) p (k, less, is) e =
         let b = ltb-false (get_or rs place r).stamp stamp (p.1 place r (omega arith) (omega (arith, after, less))) in
         absurd (omega (arith, up, b, own))
 
--- there, a record of another stamp is not it
+-- a record of another stamp in that place is not it
 pub not_at : {E : Type 0} (rs : List (Record E)) (stamp place : ℕ) (x r : Record E) → (place < length rs) × (get_or rs place r ≡ r) → x ≡ get_or rs place x → x ≡ r
 not_at rs stamp place x r at is = is ∙ get_or_default rs place x r at.0 ∙ at.1
 

@@ -1,4 +1,4 @@
--- What tests say.
+-- The results of tests.
 use Rattle.std.proofs.Common.{◌≡◌, ◌<◌, ℕ, Bool, true, false, List, [], ◌∷◌, Option, Some, None, refl, arith, inl, inr}
 use Rattle.std.specs.Prelude.{IsTrue, is_some, Contains}
 use Rattle.std.specs.Ordering.{is_ge, nat_cmp}

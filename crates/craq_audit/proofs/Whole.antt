@@ -1,4 +1,4 @@
--- Sorted lines of the journals of a chain's cells: their merge, a run, and what an audit answers.
+-- Sorted lines of the journals of a chain's cells: their merge, a run, and the result of an audit.
 use Rattle.std.proofs.Common.{◌≡◌, ◌<◌, ℕ, zero, suc, ◌+◌, List, [], ◌∷◌, length, take, Some, Result, Err, sym, subst, arith}
 use Rattle.std.specs.Prelude.{slice_get, IsPermutation}
 use Rattle.std.specs.List.{AllByRecursion}

@@ -1,4 +1,4 @@
--- What an audit of a chain's cells answers.
+-- The result of an audit of a chain's cells.
 use Rattle.std.specs.Prelude.{ℕ, List, Result, Ok, Err}
 use Rattle.std.specs.List.{AllByRecursion}
 use Rattle.craq_names.specs.declared.refusal.Refusal.{Refusal}
@@ -25,19 +25,19 @@ AllKeep book cells = AreKept book cells (journals_of book cells)
 abbrev pub CanBeAudited : {C : Type 0} → Celled Mastered BookEvent → List (Celled C Event) → Type 0
 CanBeAudited book cells = AllKeep book cells × AreOfChain book cells (journals_of book cells)
 
--- the run is the merge of the journals and a run of the chain, and each call receipt stands in it
+-- the run is the merge of the journals and a run of the chain, and it has each call receipt
 pub record IsAudited (chain : ℕ) (j : Journals) (receipts : List Called) (run : Run) : Type 0 where
   pub merged : IsMergedRun j receipts run
   pub run_of : IsTypedRunOf chain run
   pub calls : AllByRecursion (λ (c : Called). IsWithin merged.merge.0 run c) receipts
 
--- the answer holds of these journals: first the senders are looked for, then the receipts
+-- the finding holds of these journals: senders are tested first, then receipts
 abbrev pub Holds : ℕ → Journals → List Called → Audit → Type 0
 Holds chain j receipts (audits.NoSender node index) = SaysNoSender j node index
 Holds chain j receipts (audits.NoReceipt index) = SaysNoReceipt j receipts index
 Holds chain j receipts (audits.Merged run) = IsAudited chain j receipts run
 
--- why there is no answer: first the journals are looked for, then the chain; want of memory comes last
+-- the reason of a refusal: journals are tested first, then the chain; out of memory comes last
 abbrev pub IsRefused : {C : Type 0} → Celled Mastered BookEvent → List (Celled C Event) → List Called → Refusal → Type 0
 IsRefused book cells receipts refusals.JournalOff = ¬ AllKeep book cells
 IsRefused book cells receipts refusals.WrongNode = AllKeep book cells × ¬ AreOfChain book cells (journals_of book cells)
@@ -45,7 +45,7 @@ IsRefused book cells receipts refusals.Memory =
     CanBeAudited book cells × AreSent (journals_of book cells) × AllByRecursion (IsHeld (journals_of book cells)) receipts
 IsRefused book cells receipts e = ⊥
 
--- what an audit answers
+-- the result of an audit: a finding or a refusal
 abbrev pub Audits : {C : Type 0} → Celled Mastered BookEvent → List (Celled C Event) → List Called → Result Audit Refusal → Type 0
 Audits book cells receipts (Ok audit) = CanBeAudited book cells × Holds book.opening.name.chain (journals_of book cells) receipts audit
 Audits book cells receipts (Err e) = IsRefused book cells receipts e

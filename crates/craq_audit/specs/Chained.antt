@@ -1,4 +1,4 @@
--- Which cells are those of a chain.
+-- The cells of a chain.
 use Rattle.std.specs.Prelude.{◌≡◌, ◌⊎◌, ℕ, List, length}
 use Rattle.std.specs.List.{AllByRecursion}
 use Rattle.std.specs.Borrow.{Bor}

@@ -1,4 +1,4 @@
--- The journals that cells keep, and whether all of them keep one.
+-- The journals of cells, and the test that all cells keep one.
 use Rattle.std.specs.Prelude.{ℕ, List, [], map, Option, Some, None}
 use Rattle.std.specs.List.{AllByRecursion}
 use Rattle.craq_model.specs.declared.ask.Event.{Event}
@@ -10,7 +10,7 @@ use Rattle.craq_seat.specs.Books.{members_of}
 use Rattle.craq_seat.specs.Cells.{Celled}
 use Rattle.craq_seat.specs.Merge.{Journals}
 
--- the records of a journal, where one is kept
+-- the records of a journal, none if none is kept
 abbrev pub records_in : {E : Type 0} → Option (List (Record E)) → List (Record E)
 records_in None = []
 records_in (Some rs) = rs

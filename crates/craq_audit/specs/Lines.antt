@@ -1,4 +1,5 @@
--- The steps of a chain as code lends them, how many messages were sent before each, and what is so of one that arrived.
+-- The steps of a chain as code borrows them, the number of messages sent before each, and the
+-- sending of one that arrived.
 use Rattle.std.specs.Prelude.{◌≡◌, ◌<◌, ℕ, ◌+◌, List, [], ◌∷◌, length, Contains}
 use Rattle.craq_model.specs.declared.ask.Event.TheVariants as events
 use Rattle.craq_model.specs.declared.message.LinkMessage.{LinkMessage}
@@ -8,12 +9,12 @@ use Rattle.craq_seat.specs.Merge.{AtMaster, AtNode, Happening, Line, move_among}
 use Rattle.craq_audit.specs.declared.lines.Happened.{Happened}
 use Rattle.craq_audit.specs.declared.lines.Happened.TheVariants as lent
 
--- what happened, without the reference
+-- the event, without the reference
 abbrev pub happening : Happened → Happening
 happening (lent.AtNode event) = AtNode event.now
 happening (lent.AtMaster event) = AtMaster event.now
 
--- how many messages were sent before each line, where so many were sent before the first
+-- the number of messages sent before each line, starting from the count before the first
 abbrev pub sums_from : ℕ → List Line → List ℕ
 sums_from before [] = []
 sums_from before (l ∷ ls) = before ∷ sums_from (before + length (sent_in l.step.outs)) ls
@@ -26,10 +27,10 @@ pub record IsSentIn (lines : List Line) (m : LinkMessage) : Type 0 where
   pub stamp : line.stamp ≡ m.stamp
   pub index : m.index < length (sent_in line.step.outs)
 
--- so has each that arrived in these lines
+-- each message that arrives in a line has its sending among the lines
 abbrev pub IsArrivalIn : List Line → Line → Type 0
 IsArrivalIn lines l = (m : LinkMessage) → l.event ≡ AtNode (events.Deliver m) → IsSentIn lines m
 
--- a line as a move of the run that all lines are
+-- a line as a move of the run of all lines
 abbrev pub taken_among : List Line → Line → Taken
 taken_among lines l = record { chosen = move_among lines l.node l.event; step = l.step }

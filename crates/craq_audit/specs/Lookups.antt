@@ -1,4 +1,4 @@
--- What is looked for in journals.
+-- The lookups in journals.
 use Rattle.std.specs.Prelude.{◌≡◌, ◌<◌, ◌⊎◌, ℕ, ⊤, List, [], ◌∷◌, ◌++◌, map, take, IsSome, Option, None, Some, slice_get, Contains}
 use Rattle.std.specs.List.{AllByRecursion}
 use Rattle.std.specs.Borrow.{Bor}
@@ -30,24 +30,24 @@ cells_of {C} refs = map (λ (c : Bor (Celled C Event)). c.now) refs
 abbrev pub KeepsJournal : {C : Type 0} → Bor (Celled C Event) → Type 0
 KeepsJournal c = IsSome c.now.journal
 
--- it keeps what its type says
+-- the cell keeps the invariants of its type
 abbrev pub KeepsType : {C : Type 0} → (C → Plain → Type 0) → Bor (Celled C Event) → Type 0
 KeepsType represents c = IsKept represents c.now
 
--- it is the cell of this node
+-- the cell is that of this node
 abbrev pub IsCellOf : {C : Type 0} → ℕ → Bor (Celled C Event) → Type 0
 IsCellOf id c = id_of c.now ≡ id
 
--- one of them is so
+-- one of the items has the property
 abbrev pub Found : {X : Type 0} → (X → Type 0) → List X → Type 0
 Found P [] = ⊥
 Found P (x ∷ xs) = P x ⊎ Found P xs
 
--- the stamps of records rise
+-- the stamps of records ascend
 abbrev pub Rise : {E : Type 0} → List (Record E) → Type 0
 Rise rs = (first : ℕ) × (last : ℕ) × RisesTo first rs last
 
--- a message but for the name of its sending
+-- the messages are equal up to the name of the sending
 abbrev pub IsNamed : LinkMessage → LinkMessage → Type 0
 IsNamed sent m = named (record { node = m.sender; stamp = m.stamp }) m.index sent ≡ m
 
@@ -59,7 +59,7 @@ IsSend step m = slice_get (numbered_from 0 (record { node = m.sender; stamp = m.
 abbrev pub HaveSent : {E : Type 0} → List (Record E) → LinkMessage → Type 0
 HaveSent {E} rs m = (r : Record E) × Contains rs r × (r.stamp ≡ m.stamp) × IsSend r.step m
 
--- the node's journal has it
+-- the node's journal has the sending of a message
 abbrev pub HasSent : {C : Type 0} → LinkMessage → Bor (Celled C Event) → Type 0
 HasSent m c = (id_of c.now ≡ m.sender) × HaveSent (records_in c.now.journal) m
 
@@ -67,17 +67,17 @@ HasSent m c = (id_of c.now ≡ m.sender) × HaveSent (records_in c.now.journal) 
 abbrev pub HaveStop : List (Record Event) → ℕ → Type 0
 HaveStop rs stamp = (r : Record Event) × Contains rs r × (r.stamp ≡ stamp) × (r.event ≡ events.Stop)
 
--- the node's journal has it
+-- the node's journal has the stop of a receipt
 abbrev pub HasStop : {C : Type 0} → Receipt → Bor (Celled C Event) → Type 0
 HasStop stop c = (id_of c.now ≡ stop.node) × HaveStop (records_in c.now.journal) stop.stamp
 
--- the node's journal has the ask and the answer of a call
+-- the node's journal has the request and the reply of a call
 abbrev pub HasCall : {C : Type 0} → Called → Bor (Celled C Event) → Type 0
 HasCall call c =
     (id_of c.now ≡ call.call.asked.node) × IsAsked (records_in c.now.journal) call.call
     × IsAnswered (records_in c.now.journal) call.answered.stamp call.call.ticket call.answer
 
--- the call is held in a journal of these cells
+-- a journal of these cells holds the call
 abbrev pub HoldsCall : {C : Type 0} → List (Bor (Celled C Event)) → Called → Type 0
 HoldsCall cells call = (call.answered.node ≡ call.call.asked.node) × Found (HasCall call) cells
 
@@ -87,27 +87,29 @@ HoldsStop cells (books.Join id) = ⊤
 HoldsStop cells (books.Remove stopped stop) = (stop.node ≡ stopped.node) × Found (HasStop stop) cells
 HoldsStop cells books.Tick = ⊤
 
+-- a record's removal, if it is one, names a stop that a journal of these cells has
 abbrev pub BearsStop : {C : Type 0} → List (Bor (Celled C Event)) → Record BookEvent → Type 0
 BearsStop cells r = HoldsStop cells r.event
 
--- the first of them that is not so, counted from 0
+-- the first item without the property, counted from 0
 pub record IsFirstNot {X : Type 0} (P : X → Type 0) (xs : List X) (index : ℕ) : Type 0 where
   pub not_so : (x : X) × (slice_get xs index ≡ Some x) × ¬ P x
   pub earlier : AllByRecursion P (take index xs)
 
--- among these nodes, the first delivery of a message that was not sent: nodes rising, then journal index
+-- among these nodes, the first delivery of a message that was not sent: nodes ascending, then
+-- journal index
 pub record IsFirstOf (j : Journals) (nodes : List (ℕ × List (Record Event))) (node index : ℕ) : Type 0 where
   pub records : List (Record Event)
   pub journal : Contains nodes (node, records)
   pub first : IsFirstNot (HasSender j) records index
   pub lower : AllByRecursion (λ (n : ℕ × List (Record Event)). n.0 < node → AllByRecursion (HasSender j) n.1) nodes
 
--- what was found among these nodes so far: that, or all of their messages were sent
+-- the finding among these nodes so far: such a delivery, or all of their messages were sent
 abbrev pub IsBest : Journals → List (ℕ × List (Record Event)) → Option (ℕ × ℕ) → Type 0
 IsBest j nodes None = AllByRecursion (λ (n : ℕ × List (Record Event)). AllByRecursion (HasSender j) n.1) nodes
 IsBest j nodes (Some f) = IsFirstOf j nodes f.0 f.1
 
--- it is this out
+-- it is this output
 abbrev pub IsOut : Out → Out → Type 0
 IsOut wanted out = out ≡ wanted
 

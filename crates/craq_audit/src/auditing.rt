@@ -1,4 +1,5 @@
-//! The call of the crate, `audit`: its tests in order, and the merge that it answers; called by `craq_held`.
+//! `audit`, the function of the crate: its tests in order, and the merge that it returns; used by
+//! `craq_held`.
 ghost use Rattle.std.specs.Prelude.{◌≡◌};
 ghost use Rattle.craq_audit.specs.Audited.{Audits};
 ghost use Rattle.craq_audit.specs.Lookups.{cells_of};
@@ -14,27 +15,28 @@ use craq_node::Core;
 use craq_seat::{BookCell, CallReceipt, Cell};
 use std::alloc::Global;
 
-/// The audit of a chain: its master's cell, the cells of all nodes that ever were members, in any order, and call
-/// receipts of its desks. It tests what journals keep, and changes nothing (the merge and its tests are this
-/// project's profile).
+/// Audits a chain: its master's cell, the cells of all nodes that ever were members, in any order,
+/// and call receipts of its desks. Tests what the journals hold, and changes nothing (the merge and
+/// its tests are this project's profile).
 ///
-/// It tells the first of these that applies:
-/// 1. `JournalOff` where one of the cells keeps no journal.
-/// 2. `WrongNode` where the cells are not those of the book's chain, one for each id that ever was a member: a
-///    first member's opened with the first membership at stamp 0, a later one's without a membership at the stamp
-///    of its join; or where a removal bore another receipt than that of the step in which its node stopped.
-/// 3. `NoSender` for the first delivery (node ids rising, then index) of a message that is not, with its stamp, its
-///    index and all that it says, in a step of its sender's journal of a lower stamp.
-/// 4. `NoReceipt` for the first call receipt whose ask, under its ticket and its pass, or whose answer is not in its
-///    node's journal at the stamps that it shows.
-/// 5. `Memory` where memory is refused, or where more messages were sent than any memory holds.
+/// Returns the first of these that applies:
+/// 1. `JournalOff` if one of the cells keeps no journal.
+/// 2. `WrongNode` if the cells are not those of the master's chain, one for each id that ever was a
+///   member: a first member's opened with the first membership at stamp 0, a later one's without a
+///   membership at the stamp of its join; or if a removal had another receipt than that of the step
+///   in which its node stopped.
+/// 3. `NoSender` for the first delivery (node ids ascending, then index) of a message that is not,
+///   with its stamp, its index and its content, in a step of its sender's journal of a lower stamp.
+/// 4. `NoReceipt` for the first call receipt whose request, under its ticket and its pass, or whose
+///   reply is not in its node's journal at the receipt's stamps.
+/// 5. `Memory` if an allocation failed, or if more messages were sent than fit in any memory.
 ///
-/// Else `Merged`: the steps of all cells by stamp and, under one stamp, by node. That is a run of the chain, of
-/// which `explain_run` gives a valid explanation, and each call receipt is an ask and its answer in it; the ask
-/// stands after each step whose stamp its pass covers.
+/// Otherwise `Merged`: the steps of all cells by stamp and, under one stamp, by node. That is a run
+/// of the chain, and `explain_run` gives a valid explanation of it. Each call receipt is a request
+/// and its reply in the run; the request follows each step whose stamp its pass covers.
 ///
-/// Nothing but the merge takes memory. For n steps it takes about n log n comparisons; a message's sender is looked
-/// for among the cells, one after another.
+/// Only the merge allocates. It makes about n log n comparisons for n steps; a message's sender is
+/// looked for in one cell after another.
 pub fn audit<C: Core>(
     alloc: Global,
     book: &BookCell,

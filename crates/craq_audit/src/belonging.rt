@@ -1,4 +1,4 @@
-//! Whether cells are those of a chain; called by `audit` before it merges them.
+//! Tests whether cells are those of a chain; used by `audit` before it merges them.
 ghost use Rattle.std.specs.Prelude.{◌≡◌, ◌↔◌, IsTrue, IsSome, map, Contains};
 ghost use Rattle.std.specs.List.{AllByRecursion};
 ghost use Rattle.std.specs.Option.{option_copied};
@@ -21,7 +21,7 @@ use craq_names::{NodeId, Same, Stamp};
 use craq_node::Core;
 use craq_seat::{BookCell, BookEvent, Cell, Opening, Receipt, Record};
 
-/// Whether one of the cells is that of this node.
+/// Returns true if one of the cells is that of this node.
 fn has_cell<C: Core>(cells: &[&Cell<C>], id: NodeId) -> bool
     ensures { IsTrue result ↔ HasCell cells.now id }
 {
@@ -33,7 +33,7 @@ fn has_cell<C: Core>(cells: &[&Cell<C>], id: NodeId) -> bool
     false
 }
 
-/// Whether there are as many cells as ids, and one for each id.
+/// Returns true if there are as many cells as ids, and one for each id.
 fn have_ids<C: Core>(used: &[NodeId], cells: &[&Cell<C>]) -> bool
     ensures { IsTrue result ↔ HaveIds used.now cells.now }
 {
@@ -45,7 +45,7 @@ fn have_ids<C: Core>(used: &[NodeId], cells: &[&Cell<C>]) -> bool
     cells.len() == used.len()
 }
 
-/// Whether the two memberships are one, or there is neither.
+/// Returns true if the two memberships are equal, or both absent.
 fn is_same_config(one: &Option<Config>, other: &Option<Config>) -> bool
     ensures { IsTrue result ↔ (one.now ≡ other.now) }
 {
@@ -56,7 +56,7 @@ fn is_same_config(one: &Option<Config>, other: &Option<Config>) -> bool
     }
 }
 
-/// The members of the membership that a cell was opened with.
+/// Returns the members of the membership with which a cell was opened.
 pub(crate) fn members_of(opening: &Opening) -> &[NodeId]
     ensures { result.now ≡ books.members_of opening.now.config }
 {
@@ -66,14 +66,14 @@ pub(crate) fn members_of(opening: &Opening) -> &[NodeId]
     }
 }
 
-/// Whether the node is a member of the first membership.
+/// Returns true if the node is a member of the first membership.
 fn is_first_member(book: &BookCell, id: NodeId) -> bool
     ensures { IsTrue result ↔ Contains (books.members_of book.now.opening.config) id }
 {
     is_among(members_of(book.opening()), id)
 }
 
-/// Whether the cell was opened as that of a member of the first membership.
+/// Returns true if the cell was opened as that of a member of the first membership.
 fn is_opened_first(book: &BookCell, opening: &Opening) -> bool
     ensures { IsTrue result ↔ IsOpenedFirst book.now opening.now }
 {
@@ -82,7 +82,7 @@ fn is_opened_first(book: &BookCell, opening: &Opening) -> bool
         && is_first_member(book, opening.name.node)
 }
 
-/// Whether the event is this node's join.
+/// Returns true if the event is this node's join.
 fn is_join(event: &BookEvent, id: NodeId) -> bool
     ensures { IsTrue result ↔ (event.now ≡ BookEvent.Join id) }
 {
@@ -93,7 +93,7 @@ fn is_join(event: &BookEvent, id: NodeId) -> bool
     }
 }
 
-/// Whether the cell was opened as that of a node that joined.
+/// Returns true if the cell was opened as that of a node that joined.
 fn is_opened_later(records: &[Record<BookEvent>], opening: &Opening) -> bool
     requires { Rise records.now }
     ensures { IsTrue result ↔ IsOpenedLater records.now opening.now }
@@ -107,7 +107,7 @@ fn is_opened_later(records: &[Record<BookEvent>], opening: &Opening) -> bool
     }
 }
 
-/// Whether each cell is of the book's chain, and opened as its node became a member.
+/// Returns true if each cell is of the master's chain, and was opened as its node became a member.
 fn are_opened<C: Core>(book: &BookCell, cells: &[&Cell<C>]) -> bool
     ensures { IsTrue result ↔ AllByRecursion (IsOfChain book.now) cells.now }
 {
@@ -123,7 +123,7 @@ fn are_opened<C: Core>(book: &BookCell, cells: &[&Cell<C>]) -> bool
     true
 }
 
-/// Whether the records have the stop of this stamp.
+/// Returns true if the records have the stop of this stamp.
 fn have_stop(records: &[Record<Event>], stamp: Stamp) -> bool
     requires { Rise records.now }
     ensures { IsTrue result ↔ HaveStop records.now stamp }
@@ -137,7 +137,7 @@ fn have_stop(records: &[Record<Event>], stamp: Stamp) -> bool
     }
 }
 
-/// Whether the receipt names a step in which a node stopped.
+/// Returns true if the receipt names a step in which a node stopped.
 fn is_stop<C: Core>(cells: &[&Cell<C>], stop: &Receipt) -> bool
     ensures { IsTrue result ↔ Found (HasStop stop.now) cells.now }
 {
@@ -149,7 +149,8 @@ fn is_stop<C: Core>(cells: &[&Cell<C>], stop: &Receipt) -> bool
     false
 }
 
-/// Whether a removal names the step in which its node stopped.
+/// Returns true if a removal names the step in which its node stopped; always true for other
+/// events.
 fn names_its_stop<C: Core>(cells: &[&Cell<C>], event: &BookEvent) -> bool
     ensures { IsTrue result ↔ HoldsStop cells.now event.now }
 {
@@ -162,7 +163,7 @@ fn names_its_stop<C: Core>(cells: &[&Cell<C>], event: &BookEvent) -> bool
     }
 }
 
-/// Whether each removal does.
+/// Returns true if each removal names the step in which its node stopped.
 fn name_their_stops<C: Core>(cells: &[&Cell<C>], records: &[Record<BookEvent>]) -> bool
     ensures { IsTrue result ↔ AllByRecursion (BearsStop cells.now) records.now }
 {
@@ -174,8 +175,8 @@ fn name_their_stops<C: Core>(cells: &[&Cell<C>], records: &[Record<BookEvent>]) 
     true
 }
 
-/// Whether the cells are those of the book's chain: one for each id that ever was a member, opened as it became
-/// one; and each removal bore the receipt of its node's own stop.
+/// Returns true if the cells are those of the master's chain: one for each id that ever was a
+/// member, opened as it became one; and if each removal had the receipt of its node's own stop.
 pub(crate) fn are_of_chain<C: Core>(book: &BookCell, cells: &[&Cell<C>]) -> bool
     requires { IsSome book.now.journal }
     ensures { IsTrue result ↔ AreOfChain book.now (cells_of cells.now) (journals_of book.now (cells_of cells.now)) }

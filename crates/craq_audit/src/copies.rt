@@ -1,11 +1,11 @@
-//! Copies of steps; called by `merging`, whose run owns its steps while the journals keep theirs.
+//! Copies of steps; used by `merging`, whose run owns its steps while the journals keep theirs.
 ghost use Rattle.std.specs.Prelude.{◌≡◌, IfOk};
 
 use craq_model::{Out, Step};
 use craq_names::{Copied, Items};
 use std::alloc::{AllocError, Global};
 
-/// What a step says, as a value of its own.
+/// Copies an output of a step.
 fn copied_out(alloc: Global, out: &Out) -> Result<Out, AllocError>
     ensures { IfOk result (λ copy. copy ≡ out.now) }
 {
@@ -21,7 +21,7 @@ fn copied_out(alloc: Global, out: &Out) -> Result<Out, AllocError>
     }
 }
 
-/// All that a step says, likewise.
+/// Copies all outputs of a step.
 fn copied_outs(alloc: Global, outs: &[Out]) -> Result<Vec<Out>, AllocError>
     ensures { IfOk result (λ copy. copy.items ≡ outs.now) }
 {
@@ -32,7 +32,7 @@ fn copied_outs(alloc: Global, outs: &[Out]) -> Result<Vec<Out>, AllocError>
     Ok(copy)
 }
 
-/// The step as a value of its own.
+/// Copies a step.
 pub(crate) fn copied_step(alloc: Global, step: &Step) -> Result<Step, AllocError>
     ensures { IfOk result (λ copy. copy ≡ step.now) }
 {

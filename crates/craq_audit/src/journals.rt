@@ -1,4 +1,4 @@
-//! The records that cells keep; called by the modules that test and merge them.
+//! The records of cells; used by the modules that test and merge them.
 ghost use Rattle.std.specs.Prelude.{◌≡◌, ◌↔◌, Some, IfSome, IsSome, IsTrue, Contains};
 ghost use Rattle.std.specs.List.{AllByRecursion};
 ghost use Rattle.std.specs.Option.{option_copied};
@@ -17,7 +17,7 @@ use craq_names::Stamp;
 use craq_node::Core;
 use craq_seat::{BookCell, BookEvent, Cell, Record};
 
-/// The records of a node's journal; none where its cell keeps no journal.
+/// Returns the records of a node's journal, none if its cell keeps no journal.
 pub(crate) fn records_of<C: Core>(cell: &Cell<C>) -> &[Record<Event>]
     ensures records { result.now ≡ records_in cell.now.journal }
     ensures rising { Rise result.now }
@@ -28,7 +28,7 @@ pub(crate) fn records_of<C: Core>(cell: &Cell<C>) -> &[Record<Event>]
     }
 }
 
-/// The records of the master's journal; none where its cell keeps no journal.
+/// Returns the records of the master's journal, none if its cell keeps no journal.
 pub(crate) fn book_records(book: &BookCell) -> &[Record<BookEvent>]
     ensures records { result.now ≡ records_in book.now.journal }
     ensures rising { Rise result.now }
@@ -39,7 +39,8 @@ pub(crate) fn book_records(book: &BookCell) -> &[Record<BookEvent>]
     }
 }
 
-/// The record of this stamp, where there is one. It looks at few of the records, whose stamps rise.
+/// Returns the record of this stamp, if there is one. Looks at few of the records, whose stamps
+/// ascend.
 pub(crate) fn record_at<E>(records: &[Record<E>], stamp: Stamp) -> Option<&Record<E>>
     requires { Rise records.now }
     ensures found { IfSome result (λ r. Contains records.now r.now × (r.now.stamp ≡ stamp)) }
@@ -57,7 +58,7 @@ pub(crate) fn record_at<E>(records: &[Record<E>], stamp: Stamp) -> Option<&Recor
     }
 }
 
-/// Whether each of the cells keeps a journal.
+/// Returns true if each of the cells keeps a journal.
 fn are_kept<C: Core>(cells: &[&Cell<C>]) -> bool
     ensures { IsTrue result ↔ AllByRecursion KeepsJournal cells.now }
 {
@@ -69,14 +70,14 @@ fn are_kept<C: Core>(cells: &[&Cell<C>]) -> bool
     true
 }
 
-/// Whether the master's cell and all of the cells keep journals.
+/// Returns true if the master's cell and all of the cells keep journals.
 pub(crate) fn all_keep<C: Core>(book: &BookCell, cells: &[&Cell<C>]) -> bool
     ensures { IsTrue result ↔ AllKeep book.now (cells_of cells.now) }
 {
     book.journal().is_some() && are_kept(cells)
 }
 
-/// The cells keep what their type says. It does nothing.
+/// States that the cells keep the invariants of their type. Does nothing.
 pub(crate) fn keep_cells<C: Core>(cells: &[&Cell<C>])
     ensures { AllByRecursion (KeepsType C.represents) cells.now }
 {
@@ -85,7 +86,7 @@ pub(crate) fn keep_cells<C: Core>(cells: &[&Cell<C>])
     }
 }
 
-/// The master's cell keeps what its type says. It does nothing.
+/// States that the master's cell keeps the invariants of its type. Does nothing.
 pub(crate) fn keep_book(book: &BookCell)
     ensures { IsBook book.now }
 {

@@ -1,6 +1,5 @@
-//! The audit of a chain: the journals of its cells as one run, tested message by message and call by call; for
-//! `craq_held`, which has a running chain's cells. A crate apart since it takes no locks: cells are lent to it.
-//! Code that runs in the program; `later_answers_stand_no_lower` states a law.
+//! Audits a chain: merges its cells' journals into one run; tests each message and each call.
+//! Runs in the program, on cells that `craq_held` lends, without locks; states two laws.
 #![tactic(auto)]
 
 mod auditing;

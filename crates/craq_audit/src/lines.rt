@@ -1,4 +1,4 @@
-//! All steps of a chain, lent from its journals; called by `merging`, and read by `numbers`.
+//! All steps of a chain, borrowed from its journals; used by `merging` and `numbers`.
 ghost use Rattle.std.specs.Prelude.{◌≡◌, ◌++◌, map, IfOk, OnOk, IsPermutation};
 ghost use Rattle.craq_seat.specs.Merge.{all_lines, book_line, node_line};
 ghost use Rattle.craq_merge.specs.Sorted.{AreSorted};
@@ -13,14 +13,14 @@ use craq_seat::{BookCell, BookEvent, Cell, Record};
 use std::alloc::{AllocError, Global};
 use std::marker::Model;
 
-/// What happened: at a node, or at the master.
+/// An event at a node, or at the master.
 #[derive(Clone, Copy)]
 pub(crate) enum Happened<'a> {
     AtNode(&'a Event),
     AtMaster(&'a BookEvent),
 }
 
-/// A step of the chain, lent from the journal of the node that took it; node 0 is the master.
+/// A step of the chain, borrowed from the journal of its node; node 0 is the master.
 #[derive(Drop)]
 pub(crate) struct LentLine<'a> {
     node: NodeId,
@@ -41,28 +41,28 @@ impl<'a> Model for LentLine<'a> {
 impl<'a> LentLine<'a> {
     ghost use Rattle.craq_audit.specs.Lines.{happening};
 
-    /// The node that took the step.
+    /// Returns the node that took the step.
     pub(crate) fn node(&self) -> NodeId
         ensures { result ≡ self.now.node }
     {
         self.node
     }
 
-    /// The step's stamp.
+    /// Returns the step's stamp.
     pub(crate) fn stamp(&self) -> Stamp
         ensures { result ≡ self.now.stamp }
     {
         self.stamp
     }
 
-    /// What happened.
+    /// Returns the event.
     pub(crate) fn event(&self) -> Happened<'a>
         ensures { happening result ≡ self.now.event }
     {
         self.event
     }
 
-    /// The step.
+    /// Returns the step.
     pub(crate) fn step(&self) -> &'a Step
         ensures { result.now ≡ self.now.step }
     {
@@ -107,7 +107,7 @@ fn add_node<'a>(
     Ok(())
 }
 
-/// All steps of the journals.
+/// Returns all steps of the journals.
 fn all_lent<'a, C: Core>(
     alloc: Global,
     book: &'a BookCell,
@@ -123,7 +123,7 @@ fn all_lent<'a, C: Core>(
     Ok(lines)
 }
 
-/// The same steps by stamp and, under one stamp, by node.
+/// Sorts the steps by stamp and, under one stamp, by node.
 fn in_order<'a>(mut lines: Vec<LentLine<'a>>) -> Vec<LentLine<'a>>
     ensures same { IsPermutation lines.entry.items result.items }
     ensures sorted { AreSorted result.items }
@@ -132,7 +132,8 @@ fn in_order<'a>(mut lines: Vec<LentLine<'a>>) -> Vec<LentLine<'a>>
     lines
 }
 
-/// All steps of the journals, by stamp and, under one stamp, by node. It fails for want of memory alone.
+/// Returns all steps of the journals, by stamp and, under one stamp, by node. Fails only when out
+/// of memory.
 pub(crate) fn lines_of<'a, C: Core>(
     alloc: Global,
     book: &'a BookCell,

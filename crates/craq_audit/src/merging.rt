@@ -1,4 +1,4 @@
-//! The journals of a chain as one run; called by `audit` once its tests are passed.
+//! The journals of a chain as one run; used by `audit` once its tests have passed.
 ghost use Rattle.std.specs.Prelude.{◌≡◌, ◌≤◌, ℕ, List, flat_map, length, map, IfOk, IfErr, OnOk};
 ghost use Rattle.std.specs.List.{AllByRecursion};
 ghost use Rattle.craq_names.specs.Limits.{greatest};
@@ -28,7 +28,7 @@ use craq_runs::{Move, Run, Taken};
 use craq_seat::{BookCell, BookEvent, Cell};
 use std::alloc::{AllocError, Global};
 
-/// The move of an event at a node.
+/// Returns the move of an event at a node.
 fn node_move(
     alloc: Global,
     lines: &[LentLine],
@@ -53,7 +53,7 @@ fn node_move(
     }
 }
 
-/// The move of an event at the master.
+/// Returns the move of an event at the master.
 fn book_move(event: &BookEvent) -> Move
     ensures { (lines : List Line) (node : ℕ) → result ≡ move_among lines node (AtMaster event.now) }
 {
@@ -64,7 +64,7 @@ fn book_move(event: &BookEvent) -> Move
     }
 }
 
-/// A line as a move.
+/// Returns the move of a line.
 fn move_of(
     alloc: Global,
     lines: &[LentLine],
@@ -83,7 +83,7 @@ fn move_of(
     }
 }
 
-/// A line as a move with its step.
+/// Returns the move of a line with its step.
 fn taken_of(
     alloc: Global,
     lines: &[LentLine],
@@ -105,7 +105,7 @@ fn taken_of(
     })
 }
 
-/// The lines as moves with their steps.
+/// Returns the moves of the lines with their steps.
 fn moves_of(alloc: Global, lines: &[LentLine], sums: &[u64]) -> Result<Vec<Taken>, AllocError>
     requires order { AreInOrder lines.now }
     requires sums { sums.now ≡ sums_from 0 lines.now }
@@ -121,8 +121,8 @@ fn moves_of(alloc: Global, lines: &[LentLine], sums: &[u64]) -> Result<Vec<Taken
     Ok(moves)
 }
 
-/// The run that lines are, from the first members. `Memory` where memory is refused, or where more messages were
-/// sent than any memory holds.
+/// Returns the run of these lines, from the first members. `Memory` if an allocation failed, or if
+/// more messages were sent than fit in any memory.
 fn run_of(alloc: Global, members: &[NodeId], lines: &[LentLine]) -> Result<Run, Refusal>
     requires order { AreInOrder lines.now }
     requires sent { AllByRecursion (IsArrivalIn lines.now) lines.now }
@@ -140,8 +140,8 @@ fn run_of(alloc: Global, members: &[NodeId], lines: &[LentLine]) -> Result<Run, 
     })
 }
 
-/// The journals of a chain's cells as one run, where each message that arrived was sent. It fails for want of
-/// memory alone (`Memory`).
+/// Returns the journals of a chain's cells as one run, if each message that arrived was sent. Fails
+/// only when out of memory (`Memory`).
 pub(crate) fn merged<C: Core>(
     alloc: Global,
     book: &BookCell,

@@ -1,4 +1,5 @@
-//! The numbers of messages in a run; called by `merging`, since journals name messages by stamp and index.
+//! The numbers of messages in a run; used by `merging`, since journals name messages by stamp and
+//! index.
 ghost use Rattle.std.specs.Prelude.{◌≡◌, ◌≤◌, ◌<◌, flat_map, length, IfOk, IfErr, OnOk};
 ghost use Rattle.craq_names.specs.Limits.{greatest};
 ghost use Rattle.craq_runs.specs.Chain.{sent_in};
@@ -11,8 +12,8 @@ use craq_model::LinkMessage;
 use craq_names::Refusal;
 use std::alloc::Global;
 
-/// How many messages were sent before each line. `Memory` where memory is refused, or where more messages were
-/// sent than any memory holds.
+/// Returns the number of messages sent before each line. `Memory` if an allocation failed, or if
+/// more messages were sent than fit in any memory.
 pub(crate) fn sums_of(alloc: Global, lines: &[LentLine]) -> Result<Vec<u64>, Refusal>
     ensures sums { IfOk result (λ sums. sums.items ≡ sums_from 0 lines.now) }
     ensures count { OnOk result (length lines.now ≤ greatest) }
@@ -32,7 +33,7 @@ pub(crate) fn sums_of(alloc: Global, lines: &[LentLine]) -> Result<Vec<u64>, Ref
     Ok(sums)
 }
 
-/// The number of a message, from 1, among all that were sent. It looks at few of the lines.
+/// Returns the number of a message, from 1, among all that were sent. Looks at few of the lines.
 pub(crate) fn number_of(lines: &[LentLine], sums: &[u64], message: &LinkMessage) -> u64
     requires order { AreInOrder lines.now }
     requires sums { sums.now ≡ sums_from 0 lines.now }

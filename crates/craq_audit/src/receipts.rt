@@ -1,4 +1,4 @@
-//! The ask and the answer of each call receipt, looked up in the journals; called by `audit`.
+//! The request and the reply of each call receipt, looked up in the journals; used by `audit`.
 ghost use Rattle.std.specs.Prelude.{◌≡◌, ◌↔◌, Some, IsTrue, MatchOption};
 ghost use Rattle.std.specs.List.{AllByRecursion};
 ghost use Rattle.craq_seat.specs.Audits.{IsAnswered, IsAsked};
@@ -10,7 +10,7 @@ use craq_names::{Same, Stamp, Ticket};
 use craq_node::Core;
 use craq_seat::{CallReceipt, Cell, Record};
 
-/// Whether the event is this ask.
+/// Returns true if the event is this request.
 fn is_ask(event: &Event, ask: &Ask) -> bool
     ensures { IsTrue result ↔ (event.now ≡ Event.Ask ask.now) }
 {
@@ -22,7 +22,7 @@ fn is_ask(event: &Event, ask: &Ask) -> bool
     }
 }
 
-/// Whether one of the outs is this answer.
+/// Returns true if one of the outputs is this reply.
 fn has_answer(outs: &[Out], ticket: Ticket, answer: &Answer) -> bool
     ensures { IsTrue result ↔ Found (IsOut (Out.Answer ticket answer.now)) outs.now }
 {
@@ -40,7 +40,7 @@ fn has_answer(outs: &[Out], ticket: Ticket, answer: &Answer) -> bool
     false
 }
 
-/// Whether this is the ticket.
+/// Returns true if this is the ticket.
 fn is_ticket(own: Option<Ticket>, ticket: Ticket) -> bool
     ensures { IsTrue result ↔ (own ≡ Some ticket) }
 {
@@ -50,7 +50,7 @@ fn is_ticket(own: Option<Ticket>, ticket: Ticket) -> bool
     }
 }
 
-/// Whether the record is of the call's ask, with its ticket and its pass.
+/// Returns true if the record is of the call's request, with its ticket and its pass.
 fn is_call(taken: &Record<Event>, receipt: &CallReceipt) -> bool
     ensures { IsTrue result ↔ (taken.now.event ≡ Event.Ask receipt.now.call.ask) × (taken.now.pass ≡ receipt.now.call.pass) × (taken.now.step.ticket ≡ Some receipt.now.call.ticket) }
 {
@@ -59,7 +59,7 @@ fn is_call(taken: &Record<Event>, receipt: &CallReceipt) -> bool
         && is_ask(&taken.event, receipt.ask())
 }
 
-/// Whether the call's ask stands in the records, with its ticket and its pass.
+/// Returns true if the records have the call's request, with its ticket and its pass.
 fn is_asked(records: &[Record<Event>], receipt: &CallReceipt) -> bool
     requires { Rise records.now }
     ensures { IsTrue result ↔ IsAsked records.now receipt.now.call }
@@ -70,7 +70,7 @@ fn is_asked(records: &[Record<Event>], receipt: &CallReceipt) -> bool
     }
 }
 
-/// Whether the call's answer stands in the records.
+/// Returns true if the records have the call's reply.
 fn is_answered(records: &[Record<Event>], receipt: &CallReceipt) -> bool
     requires { Rise records.now }
     ensures { IsTrue result ↔ IsAnswered records.now receipt.now.answered.stamp receipt.now.call.ticket receipt.now.answer }
@@ -85,7 +85,7 @@ fn is_answered(records: &[Record<Event>], receipt: &CallReceipt) -> bool
     }
 }
 
-/// Whether the journal of the node that was asked has the ask and the answer.
+/// Returns true if the journal of the call's node has the request and the reply.
 fn has_call<C: Core>(cells: &[&Cell<C>], receipt: &CallReceipt) -> bool
     ensures { IsTrue result ↔ Found (HasCall receipt.now) cells.now }
 {
@@ -101,14 +101,14 @@ fn has_call<C: Core>(cells: &[&Cell<C>], receipt: &CallReceipt) -> bool
     false
 }
 
-/// Whether the call's ask and answer stand in the journal of the node that was asked.
+/// Returns true if the call's request and reply are in the journal of one node, that of the call.
 fn is_held<C: Core>(cells: &[&Cell<C>], receipt: &CallReceipt) -> bool
     ensures { IsTrue result ↔ HoldsCall cells.now receipt.now }
 {
     receipt.answered().node == receipt.asked().node && has_call(cells, receipt)
 }
 
-/// The first of the call receipts that is of no step, counted from 0.
+/// Returns the index, from 0, of the first call receipt that is of no step.
 pub(crate) fn first_unheld<C: Core>(cells: &[&Cell<C>], receipts: &[CallReceipt]) -> Option<u64>
     ensures { MatchOption result (AllByRecursion (HoldsCall cells.now) receipts.now) (IsFirstNot (HoldsCall cells.now) receipts.now) }
 {

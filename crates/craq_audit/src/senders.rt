@@ -1,4 +1,4 @@
-//! The sending of each message that arrived, looked up in the journals; called by `audit`.
+//! The sending of each message that arrived, looked up in the journals; used by `audit`.
 ghost use Rattle.std.specs.Prelude.{ℕ, List, [], ◌∷◌, ◌++◌, ◌≡◌, ◌↔◌, ⊤, ◌<◌, IsTrue, MatchOption};
 ghost use Rattle.std.specs.List.{AllByRecursion};
 ghost use Rattle.std.specs.Borrow.{Bor};
@@ -16,7 +16,7 @@ use craq_names::{NodeId, Same, Stamp};
 use craq_node::Core;
 use craq_seat::{BookCell, Cell, Record};
 
-/// Whether two messages are one but for the name of the sending.
+/// Returns true if two messages are equal up to the name of the sending.
 fn is_named(sent: &LinkMessage, message: &LinkMessage) -> bool
     ensures { IsTrue result ↔ IsNamed sent.now message.now }
 {
@@ -26,7 +26,7 @@ fn is_named(sent: &LinkMessage, message: &LinkMessage) -> bool
         && sent.body.is_same(&message.body)
 }
 
-/// Whether the step sends the message under its index.
+/// Returns true if the step sends the message under its index.
 fn is_send(step: &Step, message: &LinkMessage) -> bool
     ensures { IsTrue result ↔ IsSend step.now message.now }
 {
@@ -36,7 +36,7 @@ fn is_send(step: &Step, message: &LinkMessage) -> bool
     }
 }
 
-/// Whether the records have the sending of the message.
+/// Returns true if the records have the sending of the message.
 fn have_sent<E>(records: &[Record<E>], message: &LinkMessage) -> bool
     requires { Rise records.now }
     ensures { IsTrue result ↔ HaveSent records.now message.now }
@@ -47,7 +47,7 @@ fn have_sent<E>(records: &[Record<E>], message: &LinkMessage) -> bool
     }
 }
 
-/// Whether the journal of the message's sender, which is a node, has its sending.
+/// Returns true if the journal of the message's sender, a node, has its sending.
 fn node_has_sent<C: Core>(cells: &[&Cell<C>], message: &LinkMessage) -> bool
     ensures { IsTrue result ↔ Found (HasSent message.now) cells.now }
 {
@@ -59,14 +59,14 @@ fn node_has_sent<C: Core>(cells: &[&Cell<C>], message: &LinkMessage) -> bool
     false
 }
 
-/// Whether the message's sender is the master, and its journal has the sending.
+/// Returns true if the message's sender is the master, and its journal has the sending.
 fn book_has_sent(book: &BookCell, message: &LinkMessage) -> bool
     ensures { IsTrue result ↔ (message.now.sender ≡ 0) × HaveSent (records_in book.now.journal) message.now }
 {
     message.sender.get() == 0 && have_sent(book_records(book), message)
 }
 
-/// Whether the message was sent, by a node or the master, in a step of a lower stamp.
+/// Returns true if the message was sent, by a node or the master, in a step of a lower stamp.
 fn was_sent<C: Core>(
     book: &BookCell,
     cells: &[&Cell<C>],
@@ -84,7 +84,7 @@ fn was_sent<C: Core>(
     node_has_sent(cells, message)
 }
 
-/// Whether the event of this stamp is no delivery, or that of a message that was sent.
+/// Returns true unless the event of this stamp is the delivery of a message that was not sent.
 fn has_sender<C: Core>(book: &BookCell, cells: &[&Cell<C>], taken: &Record<Event>) -> bool
     ensures { IsTrue result ↔ HasSender (journals_of book.now (cells_of cells.now)) taken.now }
 {
@@ -96,7 +96,7 @@ fn has_sender<C: Core>(book: &BookCell, cells: &[&Cell<C>], taken: &Record<Event
     }
 }
 
-/// The first of the records whose message was not sent, counted from 0.
+/// Returns the index, from 0, of the first record whose message was not sent.
 fn first_among<C: Core>(
     book: &BookCell,
     cells: &[&Cell<C>],
@@ -112,7 +112,7 @@ fn first_among<C: Core>(
     None
 }
 
-/// Whether a node's id is below that of what was found, or nothing was.
+/// Returns true if a node's id is below that of the finding, or there is no finding.
 fn is_lower(id: NodeId, found: &Option<(NodeId, u64)>) -> bool
     ensures { IsTrue result ↔ MatchOption found.now ⊤ (λ f. id < f.0) }
 {
@@ -122,8 +122,8 @@ fn is_lower(id: NodeId, found: &Option<(NodeId, u64)>) -> bool
     }
 }
 
-/// What was found in other nodes, or the first delivery of this node's whose message was not sent, by the lower
-/// id.
+/// Returns the finding of the lower node id: that of the other nodes, or this node's first delivery
+/// whose message was not sent.
 fn lower_of<C: Core>(
     book: &BookCell,
     cells: &[&Cell<C>],
@@ -142,8 +142,8 @@ fn lower_of<C: Core>(
     }
 }
 
-/// The first delivery of a message that was not sent: the node's id and the index in its journal, from 0; nodes
-/// rising, then index.
+/// Returns the first delivery of a message that was not sent: the node's id and the index in its
+/// journal, from 0. Nodes are ordered by ascending id, then deliveries by index.
 pub(crate) fn first_unsent<C: Core>(book: &BookCell, cells: &[&Cell<C>]) -> Option<(NodeId, u64)>
     ensures { let j = journals_of book.now (cells_of cells.now) in MatchOption result (AreSent j) (λ f. IsFirstUnsent j f.0 f.1) }
 {

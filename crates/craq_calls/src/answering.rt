@@ -1,4 +1,5 @@
-//! The answer of a receipt that is the caller's own, and the pass after it; for clients and doors.
+//! `answer_of_call` and `pass_after`: the reply in a receipt that is the caller's own, and the pass
+//! after it; for clients and request handlers.
 ghost use Rattle.std.specs.Prelude.{◌≡◌, ◌⊎◌, ◌↔◌, max, Err, IfOk, IfErr, IsTrue};
 ghost use Rattle.craq_calls.specs.Calls.{IsCallOf};
 
@@ -7,7 +8,7 @@ use craq_names::{Copied, NodeName, Pass, Refusal, Same};
 use craq_seat::CallReceipt;
 use std::alloc::Global;
 
-/// Whether the receipt is of this ask at this node, shown with this pass.
+/// Returns whether a receipt is of this request at this node, shown with this pass.
 fn is_of(receipt: &CallReceipt, node: &NodeName, ask: &Ask, pass: Pass) -> bool
     ensures { IsTrue result ↔ IsCallOf node.now ask.now pass receipt.now.answer receipt.now }
 {
@@ -19,9 +20,11 @@ fn is_of(receipt: &CallReceipt, node: &NodeName, ask: &Ask, pass: Pass) -> bool
         && receipt.ask().is_same(ask)
 }
 
-/// A copy of the answer to this ask at this node, shown with this pass, as the receipt of the call has it.
+/// Copies the answer out of a receipt, if the receipt is of this request at this node, shown with
+/// this pass. The request's stamp is then above the pass, and the answer's stamp is not below it.
 ///
-/// Refused: `Closed` exactly where the receipt is another call's, as `IsCallOf` says; then `Memory` where a growth was refused.
+/// Refused with `Closed` exactly if the receipt is of another call (`IsCallOf`), and with `Memory`
+/// when out of memory.
 pub fn answer_of_call(
     alloc: Global,
     receipt: &CallReceipt,
@@ -39,8 +42,8 @@ pub fn answer_of_call(
     Ok(receipt.answer().copied(alloc)?)
 }
 
-/// The pass of one who had this pass and has seen the call's answer: the larger of the pass and the answer's stamp. It takes
-/// no memory.
+/// Returns the pass after an answer: the larger of the pass so far and the answer's stamp. Takes no
+/// memory.
 pub fn pass_after(pass: Pass, receipt: &CallReceipt) -> Pass
     ensures { result ≡ max pass receipt.now.answered.stamp }
 {

@@ -1,6 +1,5 @@
-//! What a caller learns of its call: the answer, once the receipt that it was told is known to be of that call, and its
-//! pass after the answer; or with what it is refused.
-//! And the receipts of the calls of all connections, sorted by the chain that each call asked.
+//! Checks what comes back to a caller: that a receipt is of the caller's own request, which pass
+//! follows, and which refusal the request can have. Sorts the receipts of all connections by chain.
 //! Code that runs in the programs.
 #![tactic(auto)]
 

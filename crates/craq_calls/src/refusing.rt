@@ -1,4 +1,5 @@
-//! `refusal_of_call`: with what a call is refused whose refusal came from where no contract speaks, as by a letter; for clients.
+//! `refusal_of_call`: keeps a refusal that the request can have. It checks refusals that come over
+//! channels, of which no contract speaks; for clients.
 ghost use Rattle.std.specs.Prelude.{◌≡◌, ◌↔◌, IsTrue};
 ghost use Rattle.craq_calls.specs.Refused.{CanRefuse, CanWait, IsUpdate};
 
@@ -6,7 +7,7 @@ use craq_commands::ReadMode;
 use craq_model::Ask;
 use craq_names::Refusal;
 
-/// Whether it is an update.
+/// Returns whether a request is an update.
 fn is_update(ask: &Ask) -> bool
     ensures { IsTrue result ↔ IsUpdate ask.now }
 {
@@ -16,7 +17,7 @@ fn is_update(ask: &Ask) -> bool
     }
 }
 
-/// Whether it may wait at its node for the other nodes.
+/// Returns whether a request may wait at its node for other nodes: updates and strong reads do.
 fn can_wait(ask: &Ask) -> bool
     ensures { IsTrue result ↔ CanWait ask.now }
 {
@@ -30,7 +31,7 @@ fn can_wait(ask: &Ask) -> bool
     }
 }
 
-/// Whether a call of this ask may be refused so.
+/// Returns whether a call of this request may have this refusal.
 fn can_refuse(ask: &Ask, refusal: &Refusal) -> bool
     ensures { IsTrue result ↔ CanRefuse ask.now refusal.now }
 {
@@ -48,8 +49,8 @@ fn can_refuse(ask: &Ask, refusal: &Refusal) -> bool
     }
 }
 
-/// With what a call of this ask is refused that came back refused so: with just that, where such an ask may be refused so; else
-/// what came back is another call's, and it is `Closed`. It takes no memory.
+/// Returns the refusal that came back, if a call of this request may have it, and else `Closed`:
+/// what came back is then another call's. Takes no memory.
 pub fn refusal_of_call(ask: &Ask, refusal: Refusal) -> Refusal
     ensures told { CanRefuse ask.now refusal → result ≡ refusal }
     ensures closed { ¬ (CanRefuse ask.now refusal) → result ≡ Refusal.Closed }

@@ -49,7 +49,7 @@ unfolding removal_progress
 shown_at true c id p at r chained own member = rw (member, at, r) refl
 shown_at false c id p at r chained own member = (member, rw at r, same_name p.name c.chain id chained own)
 
--- what the switch of the core in a place shows
+-- the switch of the core in a place shows a stop, or that the node runs
 pub shown : {C : Type 0} (R : C → Plain → Type 0) (cs : List C) (m : Mastered) (c : Chain) (id i : ℕ) (core : C) (w : Switched) (receipt : Option NodeName) → AreParts R cs m c → is_member m.members id ≡ true → place_from 0 c.nodes id ≡ Some i → i < length cs → core ≡ slice_index_or cs i core → ((p : Plain) → R core p → w ≡ record { name = p.name; running = p.running }) → receipt ≡ (if w.running then None else Some w.name) → HasStopped c id (shown_by receipt)
 unfolding removal_progress
 shown R cs m c id i core w receipt h e at within is a r =
@@ -71,7 +71,7 @@ two_tests true b x y t step w v f h = cc
 two_tests false true x y t step w v f h = cc
 two_tests false false x y t step w v f h = let e : t ≡ step = cc in ap Ok (f e)
 
--- the membership without a member, as the master tells it
+-- the chain after the removal, with the master's messages
 abbrev removal_told : Chain → ℕ → Progress
 removal_told c id = config_progress (next_epoch c (without c.members id))
 
@@ -84,21 +84,21 @@ pub removal_made : (m n : Mastered) (stopped : NodeName) → removed m stopped �
 unfolding removed
 removal_made m n stopped h = grind arith
 
--- the master took a stopped member out
+-- the master removed a stopped member
 pub removes : {C : Type 0} (R : C → Plain → Type 0) (cs : List C) (m n : Mastered) (c : Chain) (id : ℕ) (stopped : NodeName) (step : Step) → AreParts R cs m c → HasStopped c id (Ok stopped) → removal_step m id ≡ Ok step → removed m stopped ≡ Ok n → Moves (AreParts R cs n) c (IsOk (removal_progress c id)) (Ok step) (removal_progress c id)
 removes R cs m n c id stopped step h k s r =
     let t : removal_step (master_of c) id ≡ Ok step = subst (λ (x : Mastered). removal_step x id ≡ Ok step) h.master s in
     let u : n ≡ master_of (next_epoch c (without c.members id)) = removal_made m n stopped r ∙ rw (h.master, k.2) refl in
     (next_epoch c (without c.members id), removal_said c id step k.0 k.1 t, record { nodes = h.nodes; master = u; names = h.names })
 
--- the master would not
+-- the master refused the removal
 pub keeps_member : {C : Type 0} (R : C → Plain → Type 0) (cs : List C) (m : Mastered) (c : Chain) (id : ℕ) (stopped : NodeName) (e : Refusal) → AreParts R cs m c → HasStopped c id (Ok stopped) → removal_step m id ≡ Err e → removal_progress c id ≡ Err e
 unfolding removal_progress removal_step
 keeps_member R cs m c id stopped e h k s =
     let t : removal_step (master_of c) id ≡ Err e = subst (λ (x : Mastered). removal_step x id ≡ Err e) h.master s in
     rw (k.0, k.1) (two_refusals (length c.members == 1) (c.epoch == greatest) LastNode Exhausted (told_step c.chain (c.epoch + 1) (without c.members id)) (removal_told c id) e t)
 
--- or it was to tell the membership
+-- if the master can make its step, the chain can make its own
 two_can : (a b : Bool) (x y : Refusal) (t : Step) (w : Progress) → IsOk (if a then Err x else if b then Err y else Ok t) → IsOk (if a then Err x else if b then Err y else Ok w)
 two_can true b x y t w h = cc
 two_can false true x y t w h = cc
@@ -110,7 +110,7 @@ can_remove R cs m c id stopped h k s =
     let t : IsOk (removal_step (master_of c) id) = subst (λ (x : Mastered). IsOk (removal_step x id)) h.master s in
     rw (k.0, k.1) (two_can (length c.members == 1) (c.epoch == greatest) LastNode Exhausted (told_step c.chain (c.epoch + 1) (without c.members id)) (removal_told c id) t)
 
--- nor would it refuse what its step was made for
+-- the master does not refuse a removal for which its step was made
 removal_allowed : (c : Chain) (id : ℕ) (step : Step) (e : Refusal) → is_member c.members id ≡ true → removal_step (master_of c) id ≡ Ok step → removed (master_of c) (record { chain = c.chain; node = id }) ≡ Err e → ⊥
 unfolding removal_step removed
 removal_allowed c id step e member s r = grind arith
@@ -129,12 +129,12 @@ pub zero_used : (c : Chain) (id : ℕ) → id ≡ 0 → join_progress c id ≡ E
 unfolding join_progress
 zero_used c id e = rw e refl
 
--- refused whatever stands after it
+-- a join is refused whatever stands after it
 used_by : (a b : Bool) → b ≡ true → (w : Result Progress Refusal) → (if a || b then Err UsedId else w) ≡ Err UsedId
 used_by true b h w = refl
 used_by false b h w = rw h refl
 
--- what else is asked of a join
+-- the further tests of a join
 abbrev join_limits : Chain → ℕ → Result Progress Refusal
 join_limits c id =
     if nat_le member_limit (length c.members) then Err ChainFull
@@ -157,7 +157,7 @@ is_none (Some x) h = cc
 new_id : (c : Chain) (id : ℕ) → (id == 0) ≡ false → is_some (place_from 0 c.nodes id) ≡ false → ((id == 0) || is_some (node_at c.nodes id)) ≡ false
 new_id c id e h = let none = no_node 0 c.nodes id (is_none (place_from 0 c.nodes id) h) in rw (e, none) refl
 
--- the membership with a new member, as the master tells it
+-- the chain after the join, with the master's messages
 abbrev join_told : Chain → ℕ → Progress
 join_told c id = config_progress (next_epoch (with_node c id) (c.members ++ id ∷ []))
 
@@ -185,7 +185,7 @@ join_allowed : (c : Chain) (id : ℕ) (step : Step) (e : Refusal) → (id == 0) 
 unfolding join_step joined
 join_allowed c id step e zero new s r = grind arith
 
--- no node, so no used id
+-- no node has the id, so it was not used
 not_used : (c : Chain) (id : ℕ) → is_some (place_from 0 c.nodes id) ≡ false → is_member (map id_of c.nodes) id ≡ false
 not_used c id h = let none = no_node 0 c.nodes id (is_none (place_from 0 c.nodes id) h) in used_are_nodes c.nodes id ∙ rw none refl
 
@@ -199,7 +199,7 @@ pub join_made : (m n : Mastered) (id : ℕ) → joined m id ≡ Ok n → n ≡ r
 unfolding joined
 join_made m n id h = grind arith
 
--- the master took a new member in, and its core was added
+-- the master added a new member, and its core was added
 pub joins : {C : Type 0} (R : C → Plain → Type 0) (cs : List C) (m n : Mastered) (c : Chain) (id : ℕ) (core : C) (step : Step) → AreParts R cs m c → (id == 0) ≡ false → is_some (place_from 0 c.nodes id) ≡ false → R core (opening_joined (record { chain = m.chain; node = id })) → join_step m id ≡ Ok step → joined m id ≡ Ok n → Moves (AreParts R (cs ++ core ∷ []) n) c (IsOk (join_progress c id)) (Ok step) (join_progress c id)
 joins R cs m n c id core step h zero place r s made =
     let t : join_step (master_of c) id ≡ Ok step = subst (λ (x : Mastered). join_step x id ≡ Ok step) h.master s in

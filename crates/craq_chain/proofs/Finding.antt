@@ -1,4 +1,4 @@
--- What a look for the node and the message of a move finds.
+-- The search for the node and the message of a move.
 use Rattle.std.proofs.Common.{◌≡◌, ◌==◌, ℕ, false, Some, Result, Ok, Err, refl, inr}
 use Rattle.craq_names.specs.declared.refusal.Refusal.{Refusal}
 use Rattle.craq_model.specs.declared.ask.Ask as asks

@@ -21,7 +21,7 @@ pub openings_push : (chain : ℕ) (all ids : List ℕ) (id : ℕ) → openings c
 openings_push chain all [] id = refl
 openings_push chain all (i ∷ ids) id = ap (λ ps. opening_member (record { chain = chain; node = i }) all ∷ ps) (openings_push chain all ids id)
 
--- an id of a list is at least 1 where each is, and is a member
+-- each id of a membership is at least 1
 pub id_from_one : (ids : List ℕ) (i : ℕ) → AllByRecursion (λ id. (1 ≤ id) × (id ≤ greatest_count)) ids → i < length ids → 1 ≤ get_or ids i 0
 id_from_one [] i h w = absurd (omega (arith, w))
 id_from_one (id ∷ ids) zero h w = h.0.0

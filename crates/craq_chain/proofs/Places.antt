@@ -7,7 +7,7 @@ use Rattle.craq_model.specs.Plain.{Plain, id_of}
 use Rattle.craq_runs.specs.Chain.{node_at, set_node}
 use Rattle.craq_chain.specs.Parts.{place_from}
 
--- the node in a place, and what is left after it
+-- the node in a place, and the nodes after it
 pub record Here {C : Type 0} (R : C → Plain → Type 0) (ps : List Plain) (i : ℕ) (c : C) : Type 0 where
   pub node : Plain
   pub stands : R c node

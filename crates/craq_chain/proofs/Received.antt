@@ -1,4 +1,4 @@
--- To whom a message was sent.
+-- The receiver of a message that was sent.
 use Rattle.std.proofs.Common.{◌≡◌, ℕ, zero, suc, List, [], ◌∷◌, map, Some, None, refl, ap}
 use Rattle.craq_model.specs.declared.message.LinkMessage.{LinkMessage}
 use Rattle.craq_runs.specs.Chain.{message_at}

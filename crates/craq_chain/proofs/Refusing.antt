@@ -1,4 +1,4 @@
--- Refusals that are passed on, and want of memory.
+-- Refusals that are passed on, and running out of memory.
 use Rattle.std.proofs.Common.{◌≡◌, Ok, Err, Result, sym, ap, subst, ◌∙◌, inl, inr}
 use Rattle.std.specs.Result.{IsErr, IsErrAnd}
 use Rattle.craq_names.specs.Order.{RefusesWhere}
@@ -8,7 +8,7 @@ use Rattle.craq_model.specs.declared.step.Step.{Step}
 use Rattle.craq_runs.specs.Chain.{Chain, Progress}
 use Rattle.craq_chain.specs.Parts.{Moves}
 
--- a refusal that is passed on
+-- a refusal is passed on
 pub passed_on : (now : Chain → Type 0) (old : Chain) (can : Type 0) (r : Result Step Refusal) (e : Refusal) (wanted : Result Progress Refusal) → (x : Refusal) × (r ≡ Err x) × (x ≡ e) → RefusesWhere can e wanted → now old → Moves now old can r wanted
 passed_on now old can r e wanted p h n = subst (λ s. Moves now old can s wanted) (sym (p.1 ∙ ap Err p.2)) (h, n)
 

@@ -11,14 +11,14 @@ pub counts_long : (before : ℕ) (ts : List Taken) → length (counts_from befor
 counts_long before [] = refl
 counts_long before (t ∷ ts) = ap suc (counts_long (before + length (sent_in t.step.outs)) ts)
 
--- counts rise
+-- counts ascend
 rises : (before : ℕ) (ts : List Taken) (k : ℕ) → k ≤ length ts → before ≤ get_or (before ∷ counts_from before ts) k 0
 rises before ts zero h = omega arith
 rises before [] (suc k) h = absurd (omega (arith, h))
 rises before (t ∷ ts) (suc k) h =
     let later = rises (before + length (sent_in t.step.outs)) ts k (omega (arith, h)) in omega (arith, later)
 
--- the message after so many others, in a list of two parts
+-- the message of an index, in a list of two parts
 left_part : (xs ys : List LinkMessage) (i : ℕ) → i < length xs → slice_get (xs ++ ys) i ≡ slice_get xs i
 left_part [] ys i h = absurd (omega (arith, h))
 left_part (x ∷ xs) ys zero h = refl
@@ -41,7 +41,7 @@ total before (t ∷ ts) =
     let later = total (before + length (sent_in t.step.outs)) ts in
     later ∙ omega (arith, length-append (sent_in t.step.outs) (sent_by ts))
 
--- the message is in the first move up to which more were sent
+-- the message is in the first move whose count is above its index
 pub found : (before k index : ℕ) (ts : List Taken) (t : Taken) → k < length ts → t ≡ slice_index_or ts k t → get_or (before ∷ counts_from before ts) k 0 ≤ index → index < get_or (counts_from before ts) k 0 → slice_get (sent_by ts) (index - before) ≡ slice_get (sent_in t.step.outs) (index - get_or (before ∷ counts_from before ts) k 0)
 found before k index [] t h is low high = absurd (omega (arith, h))
 found before zero index (u ∷ ts) t h is low high =
@@ -73,7 +73,7 @@ none_of sent ts place number is past within low from =
     let all : get_or (0 ∷ counts_from 0 ts) (length ts) 0 ≤ number - 1 = subst (λ k. get_or (0 ∷ counts_from 0 ts) k 0 ≤ number - 1) end (subst (λ xs. get_or (0 ∷ xs) place 0 ≤ number - 1) is below) in
     sym (numbered (sent_by ts) number from ∙ past_end (sent_by ts) (number - 1) (omega (arith, all, total 0 ts)))
 
--- and else it is in the move of this place
+-- otherwise it is in the move of this place
 pub some_of : (sent : List ℕ) (ts : List Taken) (t : Taken) (place number before : ℕ) → sent ≡ counts_from 0 ts → place < length ts → t ≡ slice_index_or ts place t → (0 < place → get_or sent (place - 1) 0 ≤ number - 1) → (place < length sent → number - 1 < get_or sent place 0) → before ≡ get_or (0 ∷ sent) place 0 → 0 < number → slice_get (sent_in t.step.outs) (number - 1 - before) ≡ message_at (sent_by ts) number
 some_of sent ts t place number before is within at low high was from =
     let long : length sent ≡ length ts = ap length is ∙ counts_long 0 ts in
@@ -89,7 +89,7 @@ each_message_at P [] i m h e = cc
 each_message_at P (x ∷ ms) zero m h e = let same : x ≡ m = cc in subst P same h.0
 each_message_at P (x ∷ ms) (suc i) m h e = each_message_at P ms i m h.1 e
 
--- what is so of each is so of the one of a number
+-- what holds of each message holds of the one of a number
 pub each_message : (P : LinkMessage → Type 0) (ms : List LinkMessage) (number : ℕ) (m : LinkMessage) → AllByRecursion P ms → message_at ms number ≡ Some m → P m
 each_message P ms zero m h e = cc
 each_message P ms (suc i) m h e = each_message_at P ms i m h e

@@ -1,4 +1,4 @@
--- A core takes a step: the chain has its node's step.
+-- A core takes a step, and the chain takes its node's step.
 use Rattle.std.proofs.Common.{◌≡◌, ◌<◌, ◌+◌, ◌==◌, ℕ, Bool, true, false, if◌then◌else◌, List, [], ◌∷◌, ◌++◌, length, set, slice_index_or, Some, None, Result, Ok, Err, refl, ap, subst, arith, ◌∙◌, inl, inr}
 use Rattle.std.specs.Prelude.{IsSome}
 use Rattle.std.specs.List.{AllByRecursion, AllZip}
@@ -19,7 +19,7 @@ by_test : {A : Type 0} (b : Bool) (Q : A → Type 0) (x y : A) → Q x → Q y �
 by_test true Q x y h k = h
 by_test false Q x y h k = k
 
--- each is of this chain
+-- each node is of this chain
 abbrev pub AreOf : ℕ → List Plain → Type 0
 AreOf chain ps = AllByRecursion (λ (p : Plain). p.name.chain ≡ chain) ps
 
@@ -28,7 +28,7 @@ unfolding set_node
 set_names chain [] q h e = tt
 set_names chain (p ∷ ps) q h e = by_test (id_of p == id_of q) (AreOf chain) (q ∷ ps) (p ∷ set_node ps q) (e, h.1) (h.0, set_names chain ps q h.1 e)
 
--- so is the one of an id
+-- so the node of an id is
 pub own_name : (chain id : ℕ) (ps : List Plain) (q : Plain) → AreOf chain ps → node_at ps id ≡ Some q → q.name.chain ≡ chain
 unfolding node_at
 own_name chain id [] q h e = cc
@@ -60,7 +60,7 @@ stepped R cs m c id i event core d (Err e) h at w is a =
       record { nodes = s.stays d t.1; master = h.master; names = h.names },
     )
 
--- where no core has the id, no node has it
+-- if no core has the id, no node has it
 pub unknown : {C : Type 0} (R : C → Plain → Type 0) (cs : List C) (m : Mastered) (c : Chain) (id : ℕ) (event : Event) → AreParts R cs m c → place_from 0 c.nodes id ≡ None → Moves (AreParts R cs m) c (IsSome (node_at c.nodes id)) (Err WrongNode) (node_progress c (node_at c.nodes id) event)
 unknown R cs m c id event h e = (inr (rw (no_node 0 c.nodes id e) refl), h)
 

@@ -1,4 +1,4 @@
--- A chain that runs takes one more move.
+-- A running chain takes one more move.
 use Rattle.std.proofs.Common.{◌≡◌, ◌≤◌, ◌<◌, ◌+◌, ◌++◌, ℕ, true, List, [], ◌∷◌, length, get_or, Ok, refl, sym, ap, subst, arith, ◌∙◌, inl, inr, append_assoc, length-append}
 use Rattle.std.specs.List.{AllByRecursion}
 use Rattle.std.proofs.lemmas.List.{append-nil}
@@ -36,7 +36,7 @@ counts_push before (u ∷ ts) t =
     (counts_push (before + length (sent_in u.step.outs)) ts t
     ∙ ap (λ n. counts_from (before + length (sent_in u.step.outs)) ts ++ n ∷ []) (omega (arith, length-append (sent_in u.step.outs) (sent_by ts))))
 
--- what is sent can be spelled
+-- each message sent has an encoding
 sends_spelled : (os : List Out) → AreSpelled os → AllByRecursion IsSpelled (sent_in os)
 unfolding sent_in
 sends_spelled [] h = tt

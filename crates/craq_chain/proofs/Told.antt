@@ -1,4 +1,4 @@
--- What the master tells can be spelled.
+-- The master's messages have an encoding.
 use Rattle.std.proofs.Common.{◌≡◌, ◌≤◌, ℕ, List, [], ◌∷◌, map, length, refl, arith, ◌==◌, if◌then◌else◌, Ok, Err, Bool, true, false, ◌+◌, ◌++◌, subst}
 use Rattle.std.specs.Prelude.{nat_le}
 use Rattle.std.specs.List.{AllByRecursion}
@@ -22,7 +22,7 @@ told_all chain epoch members (id ∷ ids) one h k =
 pub telling_spelled : (m : Mastered) → IsMastered m → AreSpelled (told_step m.chain m.epoch m.members).outs
 telling_spelled m h = told_all m.chain m.epoch m.members m.members h.from_one h.membership h.membership.ids
 
--- a test that is passed
+-- a test that was passed
 second_of : (a b : Bool) (x y : Refusal) (t step : Step) → (if a then Err x else if b then Err y else Ok t) ≡ Ok step → (a ≡ false) × (t ≡ step)
 second_of true b x y t step h = cc
 second_of false true x y t step h = cc

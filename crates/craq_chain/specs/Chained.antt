@@ -1,4 +1,4 @@
--- A chain that runs, and what a move of it answers.
+-- A running chain, and the result of a move of it.
 use Rattle.std.specs.Prelude.{◌≡◌, ◌⊎◌, ⊤, ℕ, List, [], ◌∷◌, ◌++◌, map, length, Option, Some, None, IsSome, Result, Ok, Err}
 use Rattle.craq_names.specs.Order.{RefusesWhere}
 use Rattle.craq_names.specs.declared.refusal.Refusal.{Refusal}
@@ -12,19 +12,20 @@ use Rattle.craq_runs.specs.Chain.{Chain, Progress, opening_chain, chain_step, me
 use Rattle.craq_runs.specs.Runs.{after_moves}
 use Rattle.craq_runs.specs.Seen.{node_of}
 
+-- a running chain: its id and its run
 pub record Chained : Type 0 where
   pub chain : ℕ
-  pub run : Run  -- what has happened
+  pub run : Run  -- the moves so far
 
 -- a chain of these members before any move
 abbrev pub opened : ℕ → List ℕ → Chained
 opened chain members = record { chain = chain; run = record { members = members; moves = [] } }
 
--- the chain that its run leads to
+-- the chain to which its run leads
 abbrev pub chain_of : Chained → Chain
 chain_of w = after_moves (opening_chain w.chain w.run.members) w.run.moves
 
--- at which node a move happens
+-- the node at which a move happens
 abbrev pub mover : Chain → Move → ℕ
 mover c m = node_of (map (λ (message : LinkMessage). message.receiver) c.messages) m
 
@@ -32,6 +33,7 @@ mover c m = node_of (map (λ (message : LinkMessage). message.receiver) c.messag
 abbrev pub with_move : Chained → Taken → Chained
 with_move w t = record w { run = record w.run { moves = w.run.moves ++ t ∷ [] } }
 
+-- the chain with the move and its step, or the refusal of the move
 abbrev pub moved : Chained → Move → Result Progress Refusal → Result Chained Refusal
 moved w m (Ok x) = Ok (with_move w (record { chosen = m; step = x.1 }))
 moved w m (Err e) = Err e
@@ -45,7 +47,8 @@ abbrev pub FindsReceiver : Chain → Option LinkMessage → Type 0
 FindsReceiver c None = ⊥
 FindsReceiver c (Some message) = IsSome (node_at c.nodes message.receiver)
 
--- the chain has the node of a move, and its message was sent; the master, which is node 0, is always there
+-- the chain has the node of a move, and its message was sent; the master, which is node 0, always
+-- exists
 abbrev pub Finds : Chain → Move → Type 0
 Finds c (Ask node ask) = IsSome (node_at c.nodes node)
 Finds c (Deliver number) = FindsReceiver c (message_at c.messages number)
@@ -54,13 +57,14 @@ Finds c (Stop node) = IsSome (node_at c.nodes node)
 Finds c (Remove node) = ⊤
 Finds c (Join node) = ⊤
 
--- a look for them found them, or refuses the move as the chain does
+-- the search found the node and the message, or refuses the move as the chain does
 abbrev pub HasFound : Chain → Move → Result Unit Refusal → Type 0
 HasFound c m (Ok done) = Finds c m
 HasFound c m (Err e) = move_progress c m ≡ Err e
 
--- the move was taken and has this number; or nothing changed, and it was refused as wanted, or for want of memory,
--- which comes after the look for the node and the message, and before what the node or the master says
+-- the move was taken and has this number; or nothing changed, and it was refused as wanted, or out
+-- of memory. That comes after the search for the node and the message, and before the refusals of
+-- the node or the master
 abbrev pub GivesMove : Chained → Chained → Move → Result ℕ Refusal → Type 0
 GivesMove old new m (Ok number) = (after_taking old m ≡ Ok new) × (number ≡ length new.run.moves)
 GivesMove old new m (Err e) = RefusesWhere (Finds (chain_of old) m) e (after_taking old m) × (new ≡ old)

@@ -25,12 +25,13 @@ pub record AreParts {C : Type 0} (represents : C → Plain → Type 0) (cores : 
   pub master : m ≡ master_of c
   pub names : AllByRecursion (λ (p : Plain). p.name.chain ≡ c.chain) c.nodes
 
--- a move was made, with the chain's step; or it was refused as wanted, or for want of memory where that can come
+-- the move was taken, with the chain's step; or it was refused as wanted, or out of memory where
+-- that can come
 abbrev pub Moves : (Chain → Type 0) → Chain → Type 0 → Result Step Refusal → Result Progress Refusal → Type 0
 Moves now old can (Ok step) wanted = (new : Chain) × (wanted ≡ Ok (new, step)) × now new
 Moves now old can (Err e) wanted = RefusesWhere can e wanted × now old
 
--- the place of the first node of an id, where the first of the nodes has this place
+-- the place of the first node of an id; `place` is that of the first node of the list
 abbrev pub place_from : ℕ → List Plain → ℕ → Option ℕ
 place_from place [] id = None
 place_from place (p ∷ ps) id = if id_of p == id then Some place else place_from (place + 1) ps id
@@ -40,7 +41,7 @@ abbrev pub told : ℕ → ℕ → List ℕ → ℕ → Out
 told chain epoch members to =
     outs.Send to (record { chain = chain; sender = 0; receiver = to; stamp = 1; index = 0; epoch = epoch; body = Config members })
 
--- the master tells each member the membership
+-- the master sends the membership to each member
 abbrev pub told_step : ℕ → ℕ → List ℕ → Step
 told_step chain epoch members = record { ticket = None; outs = map (told chain epoch members) members; ignored = None }
 

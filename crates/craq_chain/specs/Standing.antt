@@ -1,4 +1,4 @@
--- What a chain that runs keeps true of its parts.
+-- The invariants of a running chain's parts.
 use Rattle.std.specs.Prelude.{◌≡◌, ℕ, List, length}
 use Rattle.std.specs.List.{AllByRecursion}
 use Rattle.craq_model.specs.Plain.{Plain}
@@ -9,7 +9,7 @@ use Rattle.craq_chain.specs.Chained.{Chained, chain_of}
 use Rattle.craq_chain.specs.Parts.{AreParts}
 use Rattle.craq_chain.specs.Sent.{counts_from, sent_by}
 
--- the parts stand for the chain that the run leads to, and the counts are those of its messages
+-- the parts stand for the chain to which the run leads, and the counts are those of its messages
 pub record IsStanding {C : Type 0} (represents : C → Plain → Type 0) (cores : List C) (m : Mastered) (sent : List ℕ) (w : Chained) : Type 0 where
   pub parts : AreParts represents cores m (chain_of w)
   pub run : IsTypedRunOf w.chain w.run

@@ -1,5 +1,5 @@
-//! `ChainCore`, the primary object of the crate: a chain that takes moves, with its run; for `craq_world`, `craq_play`,
-//! `craq_schedules`, `craq_explain` and `craq_lab`.
+//! `ChainCore`, the primary object of the crate: a chain that takes moves, with its run; used by
+//! `craq_world`, `craq_play`, `craq_schedules`, `craq_explain` and `craq_lab`.
 ghost use Rattle.std.specs.Prelude.{◌≡◌, ◌<◌, ◌≤◌, ◌+◌, ◌∷◌, ◌++◌, [], ◌⊎◌, ◌↔◌, ℕ, length, Ok, Err, Some, None, IfOk, IfErr, MatchOption, OnOk, slice_index, vec_capacity, vec_len, ◌^◌};
 ghost use Rattle.std.specs.List.{AllByRecursion, AllZip};
 ghost use Rattle.std.specs.Option.{option_copied};
@@ -27,11 +27,11 @@ use std::alloc::Global;
 use std::marker::Model;
 use std::mem;
 
-/// More messages than any memory holds.
+/// More messages than fit in any memory.
 const BEYOND_MEMORY: usize = 1 << 63;
 
-/// A chain that runs: its master, each node that ever was a member, and the run so far. A contract sees
-/// it as the chain's id and its run, whose moves lead to the chain that it stands for.
+/// A running chain: its master, each node that ever was a member, and the run so far. A contract
+/// sees the chain's id and its run, whose moves lead to the chain that this object stands for.
 #[derive(Drop)]
 pub struct ChainCore<C: Core> {
     chain: ChainId,
@@ -52,8 +52,9 @@ impl<C: Core> Model for ChainCore<C> {
     ghost invariant = { λ s. IsStanding C.represents s.cores.items s.master s.sent.items (record { chain = s.chain; run = s.run }) };
 }
 
-/// A move of the chain that these parts stand for. The node and the message are looked for, then room is made
-/// for the move and its count in the two vectors, and then the node or the master is asked.
+/// Takes a move of the chain that these parts stand for. Finds the node and the message, then makes
+/// room for the move and its count in the two vectors, and then takes the step of the node or the
+/// master.
 fn step_of<C: Core>(
     alloc: Global,
     cores: &mut Vec<C>,
@@ -90,7 +91,8 @@ fn step_of<C: Core>(
     )
 }
 
-/// The cores of the members of a first membership, before any step. It fails for want of memory alone.
+/// Makes the cores of the members of a first membership, before any step. Fails only when out of
+/// memory.
 fn opening_cores<C: Core>(alloc: Global, master: &Master) -> Result<Vec<C>, Refusal>
     requires { master.now.epoch ≡ 1 }
     ensures ok { IfOk result (λ cores. AllZip C.represents cores.items (openings master.now.chain master.now.members master.now.members)) }
@@ -108,10 +110,11 @@ fn opening_cores<C: Core>(alloc: Global, master: &Master) -> Result<Vec<C>, Refu
 }
 
 impl<C: Core> ChainCore<C> {
-    /// A chain of these members, head first, before any move: each is ready and has an empty history.
+    /// Opens a chain of these members, head first, before any move: each is ready and has an empty
+    /// history.
     ///
-    /// `BadConfig` exactly where they are no membership: 1 to 8 ids from 1, none twice. `Memory` where a
-    /// growth was refused, and they are one.
+    /// `BadConfig` exactly if they are no membership (1 to 8 ids from 1, none twice). `Memory` if
+    /// they are one and an allocation failed.
     pub fn open(alloc: Global, chain: ChainId, members: &[NodeId]) -> Result<Self, Refusal>
         ensures ok { IfOk result (λ w. w ≡ opened chain members.now) }
         ensures membership { OnOk result (IsMembership members.now) }
@@ -133,10 +136,10 @@ impl<C: Core> ChainCore<C> {
         })
     }
 
-    /// Looks for the node and the message of a move. It changes nothing, and takes no memory.
+    /// Finds the node and the message of a move. Changes nothing and never allocates.
     ///
-    /// `UnknownMessage` for a delivery of a number that was not sent; `WrongNode` for an ask, tick or stop of a
-    /// node that the chain never had (a tick of node 0 is the master's).
+    /// `UnknownMessage` for a delivery of a number that was not sent; `WrongNode` for a request,
+    /// tick or stop of a node that the chain never had (a tick of node 0 is the master's).
     pub fn find(&self, chosen: &Move) -> Result<(), Refusal>
         ensures { HasFound (chain_of self.now) chosen.now result }
     {
@@ -148,12 +151,14 @@ impl<C: Core> ChainCore<C> {
         )
     }
 
-    /// One move of the chain: its number, from 1. It is kept in the run with its step.
+    /// Takes one move of the chain and returns its number, from 1. The run keeps the move with its
+    /// step.
     ///
-    /// Refused, with nothing changed, in this order: as `find` refuses it; `Memory` where the chain's own room
-    /// for the move was refused, or more messages were sent than any memory holds; what happens at a node as
-    /// the node's own step is; a removal as `NotMember`, `NotStopped`, `LastNode`, a join as `UsedId`,
-    /// `ChainFull`, both then as `Exhausted` in the last epoch; and `Memory` where a growth was refused.
+    /// Refused, with nothing changed, in this order: as `find` refuses it; `Memory` if there is no
+    /// room to keep the move, or more messages were sent than fit in any memory; a move of a node
+    /// as the node's own step is refused; a removal as `NotMember`, `NotStopped` or `LastNode`, a
+    /// join as `UsedId` or `ChainFull`, both then as `Exhausted` in the last epoch; and `Memory` if
+    /// an allocation failed.
     pub fn take(&mut self, alloc: Global, chosen: Move) -> Result<u64, Refusal>
         ensures gives { GivesMove self.old self.new chosen result }
         ensures typed { IsTypedRunOf self.new.chain self.new.run }
@@ -184,8 +189,8 @@ impl<C: Core> ChainCore<C> {
         }
     }
 
-    /// The opening members and the moves that were taken, each with its step: a run by the definitions, whose
-    /// transactions are within the limits of their type. It takes no memory.
+    /// Returns the opening members and the moves that were taken, each with its step: a run by the
+    /// definitions, whose transactions are within the limits of their type. Never allocates.
     pub fn run(&self) -> &Run
         ensures value { result.now ≡ self.now.run }
         ensures run { IsTypedRunOf self.now.chain result.now }
@@ -193,28 +198,29 @@ impl<C: Core> ChainCore<C> {
         &self.run
     }
 
-    /// The chain's id. It takes no memory.
+    /// Returns the chain's id. Never allocates.
     pub fn chain(&self) -> ChainId
         ensures { result ≡ self.now.chain }
     {
         self.chain
     }
 
-    /// How many messages were sent so far. It takes no memory.
+    /// Returns the number of messages sent so far. Never allocates.
     pub fn sent(&self) -> u64
         ensures { result ≡ length (chain_of self.now).messages }
     {
         counted_before(self.sent.as_slice(), self.sent.len()) as u64
     }
 
-    /// The core of each node that ever was a member, in the order of joining. It takes no memory.
+    /// Returns the core of each node that ever was a member, in the order of joining. Never
+    /// allocates.
     pub fn cores(&self) -> &[C]
         ensures { AllZip C.represents result.now (chain_of self.now).nodes }
     {
         self.cores.as_slice()
     }
 
-    /// The core of the node of this id, where the chain ever had one. It takes no memory.
+    /// Returns the core of the node of this id, if the chain ever had one. Never allocates.
     pub fn core(&self, id: NodeId) -> Option<&C>
         ensures { MatchOption result (node_at (chain_of self.now).nodes id ≡ None) (λ core. (p : Plain) × (node_at (chain_of self.now).nodes id ≡ Some p) × C.represents core.now p) }
     {
@@ -224,15 +230,17 @@ impl<C: Core> ChainCore<C> {
         }
     }
 
-    /// The message of this number, counted from 1, where so many were sent. It takes no memory.
+    /// Returns the message of this number, counted from 1; `None` if it was not sent. Never
+    /// allocates.
     pub fn message(&self, number: u64) -> Option<&LinkMessage>
         ensures { option_copied result ≡ message_at (chain_of self.now).messages number }
     {
         message_of(self.run.moves.as_slice(), self.sent.as_slice(), number)
     }
 
-    /// The id of the node at which a move happens: for a delivery the message's receiver; 0 for what the master
-    /// does, and for the delivery of a message that was not sent. It takes no memory.
+    /// Returns the id of the node at which a move happens: for a delivery the message's receiver; 0
+    /// for a move of the master, and for the delivery of a message that was not sent. Never
+    /// allocates.
     pub fn mover(&self, chosen: &Move) -> NodeId
         ensures { result ≡ mover (chain_of self.now) chosen.now }
     {

@@ -1,6 +1,5 @@
-//! A chain that takes moves: its master, its nodes, its messages and its run so far; for worlds, scripts and explanations.
-//! A crate apart since it has no threads and no locks; `craq_seat` and `craq_audit` call parts of it.
-//! Code that runs in the program.
+//! A chain that takes moves: its master, its nodes, its messages and its run so far.
+//! Runs in the program, without threads or locks; `craq_seat` and `craq_audit` call parts of it.
 #![tactic(auto)]
 
 mod chain;

@@ -1,11 +1,12 @@
-//! What the type of a transaction keeps of its limits, told of moves; called where a chain keeps a move.
+//! The limits that the type of a transaction keeps, stated of moves; used where a chain keeps a
+//! move.
 ghost use Rattle.craq_runs.specs.Typed.{IsAskOfType, IsMoveOfType, IsOfType};
 
 use craq_commands::Command;
 use craq_model::Ask;
 use craq_runs::Move;
 
-/// A command's transaction is within the limits that its type keeps. It does nothing.
+/// States that a command's transaction is within the limits that its type keeps. Does nothing.
 fn keep_command_limits(command: &Command)
     ensures { IsOfType command.now }
 {
@@ -14,7 +15,7 @@ fn keep_command_limits(command: &Command)
     }
 }
 
-/// Likewise the transaction that is asked. It does nothing.
+/// States that a request's transaction is within the limits that its type keeps. Does nothing.
 fn keep_ask_limits(ask: &Ask)
     ensures { IsAskOfType ask.now }
 {
@@ -23,7 +24,8 @@ fn keep_ask_limits(ask: &Ask)
     }
 }
 
-/// A transaction that a move asks is within the limits that its type keeps. It does nothing.
+/// States that the transaction of a move's request is within the limits that its type keeps. Does
+/// nothing.
 pub fn keep_limits(chosen: &Move)
     ensures { IsMoveOfType chosen.now }
 {

@@ -1,4 +1,4 @@
-//! What the master does in a move: ticks, removals, joins; called by `moving`.
+//! The master's part of a move: ticks, removals, joins; used by `moving`.
 ghost use Rattle.std.specs.Prelude.{◌≡◌, ◌≢◌, ◌⊎◌, ◌<◌, ◌+◌, ◌++◌, ◌∷◌, [], ℕ, Ok, Err, IfOk, IfErr, IsOk, OnErr, OnOk};
 ghost use Rattle.craq_names.specs.Limits.{greatest};
 ghost use Rattle.craq_model.specs.Members.{without, IsMembership};
@@ -15,7 +15,7 @@ use craq_names::{ChainId, Copied, Epoch, Items, NodeId, NodeName, Refusal, Stamp
 use craq_node::Core;
 use std::alloc::{AllocError, Global};
 
-/// The master's message to a member.
+/// Makes the master's message to a member.
 fn told_to(
     alloc: Global,
     chain: ChainId,
@@ -39,7 +39,7 @@ fn told_to(
     Ok(Out::Send { to, message })
 }
 
-/// The step in which the master tells each member the membership.
+/// Makes the step in which the master sends the membership to each member.
 pub(crate) fn telling(
     alloc: Global,
     chain: ChainId,
@@ -59,7 +59,8 @@ pub(crate) fn telling(
     })
 }
 
-/// The master tells the present members the membership. It fails for want of memory alone (`Memory`).
+/// Makes the step in which the master sends the present membership to its members. Fails only when
+/// out of memory (`Memory`).
 #[tactic(auto, using(crate::proofs::Told::telling_spelled))]
 pub fn announce(alloc: Global, master: &Master) -> Result<Step, Refusal>
     ensures ok { IfOk result (λ step. step ≡ told_step master.now.chain master.now.epoch master.now.members) }
@@ -76,15 +77,15 @@ pub fn announce(alloc: Global, master: &Master) -> Result<Step, Refusal>
     Ok(step)
 }
 
-/// The master has a membership. It does nothing.
+/// States that the master has a membership. Does nothing.
 fn keep_membership(master: &Master)
     ensures { IsMastered master.now }
 {
     master.config();
 }
 
-/// The receipt of a member's stop. Refused as the removal: `NotMember` where the id is no member's, and
-/// else `NotStopped` where the member runs. It takes no memory.
+/// Returns the receipt of a member's stop. Refused as the removal: `NotMember` if the id is no
+/// member's, else `NotStopped` if the member runs. Never allocates.
 fn stopped_member<C: Core>(cores: &[C], master: &Master, id: NodeId) -> Result<StopReceipt, Refusal>
     ensures { (c : Chain) → AreParts C.represents cores.now master.now c → HasStopped c id result }
 {
@@ -100,9 +101,9 @@ fn stopped_member<C: Core>(cores: &[C], master: &Master, id: NodeId) -> Result<S
     }
 }
 
-/// The step in which the master tells the membership without this member. Refused for the first of these that
-/// applies: `LastNode` where there is one member, `Exhausted` where the epoch is 2^64 - 1, `Memory` where a growth
-/// was refused.
+/// Makes the step in which the master sends the membership without this member. Refused for the
+/// first of these that applies: `LastNode` if there is one member, `Exhausted` if the epoch is 2^64
+/// - 1, `Memory` if an allocation failed.
 #[tactic(auto, unfolding(crate::specs::Parts::removal_step))]
 pub fn plan_removal(alloc: Global, master: &Master, id: NodeId) -> Result<Step, Refusal>
     ensures step { Plans result (removal_step master.now id) }
@@ -127,9 +128,9 @@ pub fn plan_removal(alloc: Global, master: &Master, id: NodeId) -> Result<Step, 
     Ok(step)
 }
 
-/// The step in which the master tells the membership with this node after the last. Refused for the first of these
-/// that applies: `ChainFull` where there are 8 members, `Exhausted` where the epoch is 2^64 - 1, `Memory` where a
-/// growth was refused.
+/// Makes the step in which the master sends the membership with this node after the last. Refused
+/// for the first of these that applies: `ChainFull` if there are 8 members, `Exhausted` if the
+/// epoch is 2^64 - 1, `Memory` if an allocation failed.
 #[tactic(auto, unfolding(crate::specs::Parts::join_step))]
 pub fn plan_join(alloc: Global, master: &Master, id: NodeId) -> Result<Step, Refusal>
     ensures { Plans result (join_step master.now id) }
@@ -149,10 +150,10 @@ pub fn plan_join(alloc: Global, master: &Master, id: NodeId) -> Result<Step, Ref
     Ok(step)
 }
 
-/// A stopped member is taken out of the membership, and the master tells the others. Refused, with nothing
-/// changed, for the first of these that applies: `NotMember` where the id is no member's, `NotStopped` where
-/// the member runs, `LastNode` where it is the only one, `Exhausted` where the epoch is 2^64 - 1, `Memory`
-/// where a growth was refused.
+/// Removes a stopped member from the membership and sends it to the others. Refused, with nothing
+/// changed, for the first of these that applies: `NotMember` if the id is no member's, `NotStopped`
+/// if the member runs, `LastNode` if it is the only one, `Exhausted` if the epoch is 2^64 - 1,
+/// `Memory` if an allocation failed.
 pub(crate) fn remove<C: Core>(
     alloc: Global,
     cores: &[C],
@@ -168,9 +169,10 @@ pub(crate) fn remove<C: Core>(
     Ok(step)
 }
 
-/// A new node joins after the last member, and the master tells all of them. Refused, with nothing changed,
-/// for the first of these that applies: `UsedId` where the id is 0 or ever was a member's, `ChainFull` where
-/// there are 8 members, `Exhausted` where the epoch is 2^64 - 1, `Memory` where a growth was refused.
+/// Adds a new node after the last member and sends the membership to all of them. Refused, with
+/// nothing changed, for the first of these that applies: `UsedId` if the id is 0 or ever was a
+/// member's, `ChainFull` if there are 8 members, `Exhausted` if the epoch is 2^64 - 1, `Memory` if
+/// an allocation failed.
 pub(crate) fn join<C: Core>(
     alloc: Global,
     cores: &mut Vec<C>,

@@ -1,5 +1,5 @@
-//! The messages that were sent, counted over the steps of a run; called by `chain` and `moving`, and by
-//! whoever looks for a message among outs.
+//! The messages that were sent, counted over the steps of a run; used by `chain`, `moving` and
+//! other crates that look for a message among outputs.
 ghost use Rattle.std.specs.Prelude.{◌≡◌, ◌<◌, ◌≤◌, ◌-◌, ◌∷◌, length, slice_get, slice_index};
 ghost use Rattle.std.specs.Option.{option_copied};
 ghost use Rattle.craq_runs.specs.Chain.{message_at, sent_in};
@@ -8,7 +8,7 @@ ghost use Rattle.craq_chain.specs.Sent.{counts_from, sent_by};
 use craq_model::{LinkMessage, Out};
 use craq_runs::Taken;
 
-/// How many messages outs send.
+/// Returns the number of messages among the outputs.
 #[tactic(auto, unfolding(craq_runs::specs::Chain::sent_in))]
 pub fn sends_in(outs: &[Out]) -> usize
     ensures count { result ≡ length (sent_in outs.now) }
@@ -23,7 +23,7 @@ pub fn sends_in(outs: &[Out]) -> usize
     sends
 }
 
-/// The message after so many others among outs.
+/// Returns the message of this index, from 0, among the outputs.
 #[tactic(auto, unfolding(craq_runs::specs::Chain::sent_in))]
 pub fn message_after(outs: &[Out], others: usize) -> Option<&LinkMessage>
     ensures { option_copied result ≡ slice_get (sent_in outs.now) others }
@@ -40,7 +40,7 @@ pub fn message_after(outs: &[Out], others: usize) -> Option<&LinkMessage>
     None
 }
 
-/// The first place at which more than so many were counted.
+/// Returns the first place whose count is above `index`.
 fn first_above(counts: &[usize], index: usize) -> usize
     ensures within { result ≤ length counts.now }
     ensures before { 0 < result → slice_index counts.now (result - 1) ≤ index }
@@ -59,7 +59,7 @@ fn first_above(counts: &[usize], index: usize) -> usize
     low
 }
 
-/// How many were counted before this place.
+/// Returns the count before this place.
 #[tactic(auto, using(crate::proofs::Sendings::count_before))]
 pub(crate) fn counted_before(counts: &[usize], place: usize) -> usize
     requires { place ≤ length counts.now }
@@ -71,8 +71,8 @@ pub(crate) fn counted_before(counts: &[usize], place: usize) -> usize
     counts[place - 1]
 }
 
-/// The message of this number, counted from 1, among those that moves sent, where so many were sent up to
-/// each. It takes no memory, and looks at few of the moves.
+/// Returns the message of this number, counted from 1, among those that the moves sent; `sent` has
+/// the count up to each move. Never allocates, and looks at few of the moves.
 pub(crate) fn message_of<'a>(
     moves: &'a [Taken],
     sent: &[usize],

@@ -1,5 +1,5 @@
-//! A move before it is kept: the look for its node and message, and its step at a node or at the master;
-//! called by `chain`.
+//! A move before it is kept: finds its node and message, and takes its step at a node or at the
+//! master; used by `chain`.
 ghost use Rattle.std.specs.Prelude.{◌≡◌, ◌⊎◌, IfOk, IsSome};
 ghost use Rattle.std.specs.List.{AllByRecursion};
 ghost use Rattle.craq_model.specs.Spelled.{IsSpelled};
@@ -20,7 +20,7 @@ use craq_node::Core;
 use craq_runs::{Move, Taken};
 use std::alloc::Global;
 
-/// The message of this number arrives.
+/// Delivers the message of this number.
 fn arrival<C: Core>(
     alloc: Global,
     cores: &mut Vec<C>,
@@ -39,7 +39,7 @@ fn arrival<C: Core>(
     }
 }
 
-/// A node, or the master as node 0, repeats what it has to send.
+/// Ticks a node, or the master as node 0: it sends its messages again.
 fn repeat<C: Core>(
     alloc: Global,
     cores: &mut Vec<C>,
@@ -56,7 +56,7 @@ fn repeat<C: Core>(
     }
 }
 
-/// Whether the chain has the node of this id. `WrongNode` where it has not.
+/// Looks for the node of this id. `WrongNode` if the chain does not have it.
 fn find_node<C: Core>(cores: &[C], id: NodeId) -> Result<(), Refusal>
     ensures { (m : Mastered) (c : Chain) → AreParts C.represents cores.now m c → HasNode c id result }
 {
@@ -66,8 +66,8 @@ fn find_node<C: Core>(cores: &[C], id: NodeId) -> Result<(), Refusal>
     }
 }
 
-/// Looks for the node and the message of a move, and takes no memory. `UnknownMessage` for a delivery of a
-/// number that was not sent, `WrongNode` where the chain never had the node; node 0 is the master.
+/// Finds the node and the message of a move; never allocates. `UnknownMessage` for a delivery of a
+/// number that was not sent, `WrongNode` if the chain never had the node; node 0 is the master.
 pub(crate) fn find<C: Core>(
     cores: &[C],
     moves: &[Taken],
@@ -89,8 +89,8 @@ pub(crate) fn find<C: Core>(
     }
 }
 
-/// A move of the chain that these parts stand for, before it is kept in the run. Refused as `ChainCore::take`
-/// says, with nothing changed.
+/// Takes a move of the chain that these parts stand for, before it is kept in the run. Refused as
+/// `ChainCore::take` says, with nothing changed.
 pub(crate) fn act<C: Core>(
     alloc: Global,
     cores: &mut Vec<C>,

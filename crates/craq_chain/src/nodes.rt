@@ -1,4 +1,4 @@
-//! What happens at one node of a chain: asks, arrivals, ticks, stops; called by `moving`.
+//! Events at one node of a chain: requests, deliveries, ticks, stops; used by `moving`.
 ghost use Rattle.std.specs.Prelude.{◌≡◌, ◌<◌, ℕ, List, Some, IfOk, IfSome, IsSome, length, vec_len};
 ghost use Rattle.std.specs.List.{AllZip};
 ghost use Rattle.craq_model.specs.Plain.{Plain};
@@ -14,7 +14,7 @@ use craq_names::{Copied, NodeId, Refusal};
 use craq_node::Core;
 use std::alloc::Global;
 
-/// The place of the node of this id among the cores. It takes no memory.
+/// Returns the index of the node of this id among the cores. Never allocates.
 pub(crate) fn place_of<C: Core>(cores: &[C], id: NodeId) -> Option<usize>
     ensures place { (ps : List Plain) → AllZip C.represents cores.now ps → result ≡ place_from 0 ps id }
     ensures within { IfSome result (λ i. i < length cores.now) }
@@ -27,7 +27,7 @@ pub(crate) fn place_of<C: Core>(cores: &[C], id: NodeId) -> Option<usize>
     None
 }
 
-/// Something happens at the node in this place.
+/// Applies an event to the node in this place.
 fn step_at<C: Core>(
     alloc: Global,
     cores: &mut Vec<C>,
@@ -42,7 +42,8 @@ fn step_at<C: Core>(
     cores[place].step(alloc, event)
 }
 
-/// A client asks the node of this id. `WrongNode` where there is none; else as the node's own step.
+/// Applies a client's request to the node of this id. `WrongNode` if there is none; else refused as
+/// the node's own step.
 #[tactic(auto, using(crate::proofs::Steps::unknown))]
 pub(crate) fn ask<C: Core>(
     alloc: Global,
@@ -59,7 +60,8 @@ pub(crate) fn ask<C: Core>(
     }
 }
 
-/// A message arrives at its receiver. `WrongNode` where there is no such node; else as the node's own step.
+/// Delivers a message to its receiver. `WrongNode` if there is no such node; else refused as the
+/// node's own step.
 #[tactic(auto, using(crate::proofs::Steps::unknown))]
 pub(crate) fn deliver<C: Core>(
     alloc: Global,
@@ -76,7 +78,8 @@ pub(crate) fn deliver<C: Core>(
     }
 }
 
-/// The node of this id repeats what it has to send. `WrongNode` where there is none; else as its own step.
+/// Ticks the node of this id: it sends its messages again. `WrongNode` if there is none; else
+/// refused as its own step.
 #[tactic(auto, using(crate::proofs::Steps::unknown))]
 pub(crate) fn tick<C: Core>(alloc: Global, cores: &mut Vec<C>, id: NodeId) -> Result<Step, Refusal>
     ensures step { (m : Mastered) (c : Chain) → AreParts C.represents cores.old.items m c → Moves (AreParts C.represents cores.new.items m) c (IsSome (node_at c.nodes id)) result (node_progress c (node_at c.nodes id) Event.Tick) }
@@ -88,7 +91,7 @@ pub(crate) fn tick<C: Core>(alloc: Global, cores: &mut Vec<C>, id: NodeId) -> Re
     }
 }
 
-/// The node of this id halts. `WrongNode` where there is none; else as the node's own step.
+/// Stops the node of this id. `WrongNode` if there is none; else refused as the node's own step.
 #[tactic(auto, using(crate::proofs::Steps::unknown))]
 pub(crate) fn stop<C: Core>(alloc: Global, cores: &mut Vec<C>, id: NodeId) -> Result<Step, Refusal>
     ensures step { (m : Mastered) (c : Chain) → AreParts C.represents cores.old.items m c → Moves (AreParts C.represents cores.new.items m) c (IsSome (node_at c.nodes id)) result (node_progress c (node_at c.nodes id) Event.Stop) }

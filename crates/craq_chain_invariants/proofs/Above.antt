@@ -1,4 +1,5 @@
--- A waiting update waits for more than its node knows to be committed: line by line of a node's step.
+-- A waiting update waits for more than its node knows to be committed: line by line of a node's
+-- step.
 use Rattle.std.proofs.Common.{◌≡◌, ℕ, ◌+◌, ◌<◌, ◌≤◌, ◌==◌, nat_le, nat_lt, Bool, true, false, not, cond, ◌&&◌, ◌||◌, List, [], ◌∷◌, ◌++◌, is_some, Option, Some, None, Result, Ok, Err, refl, ap, sym, subst, ◌∙◌, arith, length-append}
 use Rattle.std.specs.List.{AllByRecursion}
 use Rattle.std.proofs.lemmas.Bool.{cond_both, and_from, and_parts, both_ways, leb-false, ltb-true, not-false, or_parts}
@@ -45,11 +46,12 @@ use Rattle.craq_updates.proofs.EachMove.{entry_for}
 use Rattle.craq_strong_answers.proofs.Gives.{all_passing}
 use Rattle.craq_strong_answers.proofs.Kept.{IsNewest, newest_position}
 
--- each of these updates waits for more than so many
+-- each of these updates waits for more than this number
 abbrev pub AllAbove : ℕ → List WaitingUpdate → Type 0
 AllAbove count us = AllByRecursion (λ (u : WaitingUpdate). count < u.position) us
 
--- a node's updates wait for more than it knows to be committed; at a tail, or where the node is not ready, none waits
+-- a node's updates wait for more than it knows to be committed; at a tail, or if the node is not
+-- ready, none waits
 pub record WaitAbove (p : Plain) : Type 0 where
   pub above : AllAbove p.past.acknowledged p.waiting_updates
   pub tail : is_tail p ≡ true → p.waiting_updates ≡ []
@@ -58,7 +60,7 @@ pub record WaitAbove (p : Plain) : Type 0 where
 pub none_waits : (p : Plain) → p.waiting_updates ≡ [] → WaitAbove p
 none_waits p none = let P : List WaitingUpdate → Type 0 = λ l. AllAbove p.past.acknowledged l in record { above = subst P (sym none) tt; tail = λ e. none; unready = λ e. none }
 
--- the same waits at a node that knows as much
+-- the same updates wait at a node that knows the same number to be committed
 like : (p q : Plain) → WaitAbove p → q.past.acknowledged ≡ p.past.acknowledged → q.waiting_updates ≡ p.waiting_updates → is_tail q ≡ is_tail p → q.ready ≡ p.ready → WaitAbove q
 like p q w a u t r =
     let P : ℕ → Type 0 = λ n. AllAbove n p.waiting_updates in
@@ -220,9 +222,10 @@ body_above p w m (bodies.Blank count) = in_epoch p w m (blank_turn p m.sender co
 body_above p w m (bodies.Copy position state) = in_epoch p w m (copy_turn p m.sender position state) (copy_above p w m.sender position state)
 body_above p w m (bodies.Floor count) = in_epoch p w m (floor_turn p m.sender count) (floor_above p w m.sender count)
 
--- ---- asks
+-- ---- requests
 
--- a reply that is due after so many: a node that is not last waits, if it does not know that they are committed
+-- a reply pending until a position: a node that is not last waits, unless it knows that the
+-- position is committed
 replies_not_last : (p : Plain) → WaitAbove p → p.ready ≡ true → is_last p ≡ false → (position : ℕ) (reply : Reply) (sends : List Out) (t : Turn) → reply_turn p position reply sends ≡ Ok t → WaitAbove t.0
 unfolding reply_turn
 replies_not_last p w ready inner position reply sends t h =
@@ -310,7 +313,7 @@ read_above p w mode object t k =
     let d : _ = refused (p.last_ticket == greatest) refusals.Exhausted (read_turn p mode object.key) b.1 in
     reads_above p w mode object.key t d.1
 
--- ---- whatever happens at the node
+-- ---- every event at the node
 
 pub event_above : (p : Plain) → WaitAbove p → IsPlaced p.past.base p.past.entries → (e : Event) (t : Turn) → event_turn p e ≡ Ok t → WaitAbove t.0
 event_above p w placed (events.Ask (asks.Update u)) t h = update_above p w placed u t h

@@ -1,4 +1,4 @@
--- A node that said how many entries it holds, holds so many: move by move.
+-- A node that reported its length holds that number of entries: move by move.
 use Rattle.std.proofs.Common.{◌≡◌, ⊎_elim, ℕ, zero, suc, ◌≤◌, ◌==◌, true, ◌||◌, Option, List, [], ◌∷◌, ◌++◌, map, length, Some, Result, Ok, Err, refl, ap, sym, subst, ◌∙◌, arith}
 use Rattle.std.specs.Prelude.{⊤}
 use Rattle.std.specs.List.{AllByRecursion}
@@ -35,7 +35,7 @@ use Rattle.craq_updates.proofs.AtNodes.{now_at, now_id}
 use Rattle.craq_chain_invariants.specs.Kept.{chain_after}
 use Rattle.craq_chain_invariants.proofs.Sent.{IsWithin, AreWithin, SaysHeld, event_held}
 
--- who says how many entries it holds was a member once, and holds so many
+-- a sender that reports its length was once a member, and holds that number of entries
 abbrev pub IsOf : World Entry → ℕ → Body → Type 0
 IsOf w sender (bodies.Config members) = ⊤
 IsOf w sender (bodies.Entry e) = ⊤
@@ -69,7 +69,7 @@ later_of w v sender (bodies.Floor count) l h = tt
 stays : (w v : World Entry) (ms : List LinkMessage) → Later w v → AllByRecursion (IsHeld w) ms → AllByRecursion (IsHeld v) ms
 stays w v ms l a = all_like (IsHeld w) (IsHeld v) ms (λ m h. later_of w v m.sender m.body l h) a
 
--- what a node sends
+-- a node's messages
 body_of : (v : World Entry) (id : ℕ) (b : Body) → is_member v.joined id ≡ true → IsWithin (length (v.history id)) b → IsOf v id b
 body_of v id (bodies.Config members) j h = tt
 body_of v id (bodies.Entry e) j h = tt
@@ -91,13 +91,13 @@ sent_held v id held (outs.Send to m ∷ os) e j a =
     (subst P (sym a.0.0) (body_of v id m.body j (subst Q e a.0.1)), sent_held v id held os e j a.1)
 sent_held v id held (outs.Answer ticket answer ∷ os) e j a = sent_held v id held os e j a
 
--- what the master sends
+-- the master's messages
 configs_held : (v : World Entry) (c : Chain) (tos : List ℕ) → AllByRecursion (IsHeld v) (sent_in (map (config_to c) tos))
 unfolding sent_in
 configs_held v c [] = tt
 configs_held v c (to ∷ tos) = (tt, configs_held v c tos)
 
--- a node of the chain was a member once
+-- a node of the chain was once a member
 listed : (nodes : List Plain) (id : ℕ) (p : Plain) → node_at nodes id ≡ Some p → is_member (map id_of nodes) id ≡ true
 unfolding node_at is_member
 listed [] id p h = absurd (cc)

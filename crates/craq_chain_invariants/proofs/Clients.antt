@@ -1,4 +1,5 @@
--- The laws of what clients wait for: versions that were told, and replies of waiting updates.
+-- The laws of clients' pending requests: versions that were reported, and replies of waiting
+-- updates.
 use Rattle.std.proofs.Common.{◌≡◌, ℕ, List, [], length, take, Some, ap, sym, subst, ◌∙◌, arith}
 use Rattle.std.specs.List.{AllByRecursion}
 use Rattle.craq_names.proofs.Lists.{all_like}

@@ -1,4 +1,4 @@
--- The laws of messages: what was sent stays true.
+-- The laws of messages: what a message says stays true.
 use Rattle.std.proofs.Common.{◌≡◌, ℕ, ◌≤◌, true, List, length, take, Some, refl, ap, sym, subst, ◌∙◌, arith}
 use Rattle.std.specs.List.{AllByRecursion}
 use Rattle.craq_names.proofs.Lists.{all_like}
@@ -35,7 +35,7 @@ use Rattle.craq_chain_invariants.proofs.Senders.{SenderHas, all_have}
 
 -- ---- copies
 
--- the entries that a copy is after
+-- the entries before a copy's state
 record CopyOf (chain : ℕ) (run : Run) (position : ℕ) (state : State) : Type 0 where
   pub entries : List Entry
   pub count : length entries ≡ position
@@ -99,7 +99,7 @@ part_share chain run number m part i at is =
 
 -- ---- senders
 
--- who was a member once is a node, of which this holds
+-- a sender that was once a member is a node, of which this holds
 sender_at : (chain : ℕ) (run : Run) (s : Stands chain run) (m : LinkMessage) (Holds : Plain → Type 0) → is_member s.world.joined m.sender ≡ true
     → ((p : Plain) → id_of p ≡ m.sender → Node chain run p s → Holds p) → HasSender (chain_after chain run) m Holds
 sender_at chain run s m Holds listed holds =
@@ -168,7 +168,7 @@ floor_agrees chain run number m count i at is =
     sender_of chain run s m (machine.Floor count) (λ p. (p.ready ≡ true) × (count ≤ length_of p)) (said_as s.follows number m (bodies.Floor count) at is)
     (λ p n h. let f : _ = n.follows in (sym f.ready ∙ h.0, omega (arith, h.1, history_length f.history)))
 
--- ---- how much is held
+-- ---- reported lengths
 
 pub blank_agrees : (chain : ℕ) (run : Run) (number : ℕ) (m : LinkMessage) (count : ℕ) → IsTypedRunOf chain run → WasSent (chain_after chain run) number m → m.body ≡ bodies.Blank count
     → HasSender (chain_after chain run) m (λ p. count ≤ length_of p)

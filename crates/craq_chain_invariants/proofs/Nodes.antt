@@ -52,7 +52,7 @@ hold_more chain run p q i at there before =
     let Q : List Entry → Type 0 = λ l. IsPrefix (history_of (committed_in chain run) q) l in
     subst Q n.history (subst P m.history (safe.predecessors_hold_now (id_of q) (id_of p) now))
 
--- likewise in the membership that the later one knows
+-- the same in the membership that the later one knows
 pub hold_more_known : (chain : ℕ) (run : Run) (p q : Plain) → IsTypedRunOf chain run → IsNode (chain_after chain run) p → IsNode (chain_after chain run) q
     → Before q.members (id_of p) (id_of q) → IsPrefix (history_of (committed_in chain run) q) (history_of (committed_in chain run) p)
 hold_more_known chain run p q i at there before =
@@ -144,7 +144,7 @@ known chain run p i at running tail =
     let t : machine.is_tail s.world (id_of p) ≡ true = tail_of chain run p s at running tail in
     sym mine.acknowledged ∙ (safe.tail_knows (id_of p) t ∙ ap length (safe.tail (id_of p) t ∙ s.log))
 
--- ---- what is acknowledged
+-- ---- acknowledged entries
 
 pub held : (chain : ℕ) (run : Run) (p : Plain) → IsTypedRunOf chain run → IsNode (chain_after chain run) p → p.past.acknowledged ≤ length_of p
 held chain run p i at =

@@ -1,4 +1,4 @@
--- The entries of a node's whole history as the updates that they were made of.
+-- The entries of a node's whole history as the updates from which they were made.
 use Rattle.std.proofs.Common.{◌≡◌, ℕ, List, ◌++◌, map, filter_map, length, take, ap, sym, subst, ◌∙◌}
 use Rattle.std.proofs.lemmas.List.{map-append}
 use Rattle.std.proofs.lemmas.List.Elements.{filter_map-append}
@@ -24,7 +24,7 @@ use Rattle.craq_updates.proofs.Updates.{updates_length}
 use Rattle.craq_chain_invariants.specs.Kept.{IsNode, chain_after, committed_in, history_of, updates_committed, updates_held}
 use Rattle.craq_chain_invariants.proofs.Worlds.{Stands, stands_by, Node, node}
 
--- the entries of a node's whole history were asked, and the asks are numbered
+-- the entries of a node's whole history were requested, and the requests are numbered
 record IsMade (chain : ℕ) (run : Run) (p : Plain) : Type 0 where
   pub numbered : IsNumbered (asks_from 1 run.moves)
   pub genuine : AllGenuine (asks_from 1 run.moves) opening_state (history_of (committed_in chain run) p)
@@ -67,7 +67,8 @@ replayed chain run p count i at =
 pub list_updates : (chain : ℕ) (run : Run) (p : Plain) → IsTypedRunOf chain run → history_of (committed_in chain run) p ≡ committed_in chain run → updates_held chain run p ≡ updates_committed chain run
 list_updates chain run p i e = ap (λ (l : List Entry). updates_in (seen run) l) e ∙ made_of chain run i
 
--- a history that begins with the committed entries is made of updates that begin with the committed ones
+-- a history that begins with the committed entries is made of updates that begin with the committed
+-- ones
 pub prefix_updates : (chain : ℕ) (run : Run) (p : Plain) → IsTypedRunOf chain run → IsPrefix (committed_in chain run) (history_of (committed_in chain run) p) → IsPrefix (updates_committed chain run) (updates_held chain run p)
 prefix_updates chain run p i h =
     let asked : List Asked = asks_from 1 run.moves in

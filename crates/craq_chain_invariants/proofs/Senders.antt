@@ -1,4 +1,5 @@
--- What a node sent it held, and holds for good: of each message of the protocol that was ever sent.
+-- The sender of each protocol message that was ever sent has its content, then and at all later
+-- times.
 use Rattle.std.proofs.Common.{◌≡◌, ◌⊎◌, inl, inr, ⊎_elim, ℕ, ◌+◌, ◌≤◌, ◌==◌, nat_lt, nat_le, true, false, not, ◌&&◌, List, [], ◌∷◌, ◌++◌, length, take, slice_get, Option, Some, None, refl, subst, arith}
 use Rattle.std.proofs.lemmas.Bool.{cond_both, and_parts}
 use Rattle.std.proofs.lemmas.List.{length-take-le}
@@ -12,7 +13,7 @@ use Rattle.craq_protocol.proofs.LeadsTo.{LeadsTo}
 use Rattle.craq_protocol.proofs.Opening.{opening_holds}
 use Rattle.craq_protocol.proofs.Prefix.{prefix_length, entry_at_grows}
 
--- what the sender of a message has
+-- the sender of a message has its content
 abbrev pub SenderHas : World Item → ℕ → Body Item → Type 0
 SenderHas w from (Entry place entry) = entry_at (w.history from) place ≡ Some entry
 SenderHas w from (Ack count) = count ≤ w.acknowledged from
@@ -28,7 +29,7 @@ stays w v from (Ack count) l h = omega (arith, h, l.acknowledged from)
 stays w v from (Copy entries) l h = omega (arith, h, l.acknowledged from)
 stays w v from (Floor count) l h = (l.ready from h.0, omega (arith, h.1, prefix_length (l.history from)))
 
--- a message was sent before, or its sender has what it says
+-- a message was sent before, or its sender has its content
 abbrev pub IsOldOrHeld : World Item → World Item → Type 0
 IsOldOrHeld w v = (m : Message Item) → Sent v.messages m → Sent w.messages m ⊎ SenderHas w m.from m.body
 

@@ -1,4 +1,4 @@
--- A node that says how many entries it holds, holds so many: line by line of its step.
+-- A node that reports its length holds that number of entries: line by line of its step.
 use Rattle.std.proofs.Common.{◌≡◌, ℕ, ◌+◌, ◌≤◌, ◌==◌, nat_le, nat_lt, max, Bool, true, not, cond, ◌&&◌, ◌||◌, List, [], ◌∷◌, ◌++◌, map, is_some, Option, Some, None, Result, Ok, Err, refl, subst, arith}
 use Rattle.std.specs.Prelude.{⊤}
 use Rattle.std.specs.List.{AllByRecursion}
@@ -43,7 +43,7 @@ use Rattle.craq_refinement.proofs.Updates.{refused, turn_same}
 use Rattle.craq_updates.proofs.AtNodes.{for_node, tick_same, stop_same}
 use Rattle.craq_updates.proofs.EachMove.{entry_for}
 
--- what is said of how much is held
+-- the length that a body reports is held
 abbrev pub IsWithin : ℕ → Body → Type 0
 IsWithin held (bodies.Config members) = ⊤
 IsWithin held (bodies.Entry e) = ⊤
@@ -56,7 +56,7 @@ IsWithin held (bodies.Copy position state) = ⊤
 IsWithin held (bodies.Part part) = ⊤
 IsWithin held (bodies.Floor count) = ⊤
 
--- what the node of this id sends, while it holds so much
+-- the messages of the node of this id, while it holds this number of entries
 abbrev pub AreWithin : ℕ → ℕ → List Out → Type 0
 AreWithin id held [] = ⊤
 AreWithin id held (outs.Send to m ∷ os) = ((m.sender ≡ id) × IsWithin held m.body) × AreWithin id held os
@@ -136,7 +136,7 @@ tick_within p =
 
 -- ---- messages
 
--- a turn says no more than what the node holds after it
+-- a step reports no more than what the node holds after it
 abbrev pub SaysHeld : Turn → Type 0
 SaysHeld t = AreWithin (id_of t.0) (length_of t.0) t.1.outs
 
@@ -288,9 +288,9 @@ body_held p m (bodies.Blank count) = in_epoch p m (blank_turn p m.sender count) 
 body_held p m (bodies.Copy position state) = in_epoch p m (copy_turn p m.sender position state) (copy_held p m.sender position state)
 body_held p m (bodies.Floor count) = in_epoch p m (floor_turn p m.sender count) (floor_held p m.sender count)
 
--- ---- asks
+-- ---- requests
 
--- what is sent beside a reply says nothing of what is held
+-- the messages sent with a reply report no length
 reply_held : (p : Plain) (position : ℕ) (reply : Reply) (sends : List Out) (t : Turn) → ((held : ℕ) → AreWithin (id_of p) held sends) → reply_turn p position reply sends ≡ Ok t → SaysHeld t
 unfolding reply_turn
 reply_held p position reply sends t a h =
@@ -349,7 +349,7 @@ read_held p mode object t k =
     let d : _ = refused (p.last_ticket == greatest) refusals.Exhausted (read_turn p mode object.key) b.1 in
     reads_held p mode object.key t d.1
 
--- ---- whatever happens at the node
+-- ---- every event at the node
 
 pub event_held : (p : Plain) (e : Event) (t : Turn) → event_turn p e ≡ Ok t → SaysHeld t
 event_held p (events.Ask (asks.Update u)) t h = update_held p u t h

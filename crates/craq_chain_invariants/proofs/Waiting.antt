@@ -30,7 +30,7 @@ use Rattle.craq_chain_invariants.proofs.Above.{AllAbove, WaitAbove, none_waits, 
 abbrev pub AllWaitAbove : Chain → Type 0
 AllWaitAbove c = (id : ℕ) (p : Plain) → node_at c.nodes id ≡ Some p → WaitAbove p
 
--- a node's entries stand at their positions
+-- a node's entries are at their positions
 entries_placed : {c : Chain} {w : World Entry} → Follows c w → (id : ℕ) (p : Plain) → node_at c.nodes id ≡ Some p → IsPlaced p.past.base p.past.entries
 entries_placed {c} {w} f id p at =
     let n : NodeFollows w (seen_of p) = f.nodes id p at in

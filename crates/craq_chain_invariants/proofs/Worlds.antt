@@ -37,7 +37,7 @@ stands chain run i =
     let r : KnownRun (opening_account chain run.members) (opening run.members) run.moves (run_account chain run) = known_run chain run i in
     stands_by chain run r.world r.known
 
--- what the log has of a node's base is what the node's history has
+-- the log and the node's history agree up to the node's base
 pub history_in : (w : World Entry) (p : Plain) → IsReached w → NodeFollows w (seen_of p) → history_of w.log p ≡ w.history (id_of p)
 history_in w p r n =
     let s : IsSafe w = reached_safe r in

@@ -1,4 +1,5 @@
--- The invariants of a chain: what each run keeps true of the chain's nodes, of its messages and of what waits.
+-- The invariants of a chain: the properties of its nodes, of its messages and of its waiting
+-- updates that each run preserves.
 use Rattle.std.specs.Prelude.{◌≡◌, ◌<◌, ◌≤◌, ℕ, IsSome, true, List, Some, length, take}
 use Rattle.std.specs.List.{AllByRecursion}
 use Rattle.craq_commands.specs.SingleCopy.{after, after_entries, opening_state}
@@ -20,8 +21,9 @@ use Rattle.craq_chain_invariants.specs.Kept.{HasReply, HasSender, IsNode, TellsV
 
 -- ---- nodes
 
--- a node's state before the entries that it holds is that after so many committed entries; the entries of its whole history stand
--- at their positions, from 1 on; and replaying them is applying the updates that they were made of on the single copy
+-- a node's base state is that after the first committed entries, as many as its base; the entries
+-- of its whole history are at their positions, from 1 on; and replaying them is applying the
+-- updates from which they were made on the single copy
 pub record HistoriesAreWhole (chain : ℕ) (run : Run) : Type 0 where
   pub whole : (p : Plain) → IsNode (chain_after chain run) p → IsHistory p.past.base p.past.base_state p.past.entries (history_of (committed_in chain run) p)
   pub placed : (p : Plain) → IsNode (chain_after chain run) p → IsPlaced 0 (history_of (committed_in chain run) p)
@@ -33,8 +35,8 @@ pub record HistoriesAreWhole (chain : ℕ) (run : Run) : Type 0 where
 abbrev pub MembersAreNodes : ℕ → Run → Type 0
 MembersAreNodes chain run = (id : ℕ) → is_member (chain_after chain run).members id ≡ true → IsSome (node_at (chain_after chain run).nodes id)
 
--- the history of a later member is a prefix of that of each earlier one, in the master's membership and in the one that the later
--- member knows
+-- the history of a later member is a prefix of that of each earlier one, in the master's membership
+-- and in the one that the later member knows
 pub record PredecessorsHoldMore (chain : ℕ) (run : Run) : Type 0 where
   pub current : (p q : Plain) → IsNode (chain_after chain run) p → IsNode (chain_after chain run) q
       → Before (chain_after chain run).members (id_of p) (id_of q)
@@ -49,8 +51,9 @@ PredecessorsAreReady chain run =
     (p q : Plain) → IsNode (chain_after chain run) p → IsNode (chain_after chain run) q
     → Before (chain_after chain run).members (id_of p) (id_of q) → q.ready ≡ true → p.ready ≡ true
 
--- at most one running node is ready and last in the membership that it knows; its history is the committed entries, so their
--- updates are the committed updates, and it knows that all of them are committed
+-- at most one running node is ready and last in the membership that it knows; its history is the
+-- committed entries, so their updates are the committed updates, and it knows that all of them are
+-- committed
 pub record OneTailHoldsTheList (chain : ℕ) (run : Run) : Type 0 where
   pub one : (p q : Plain) → IsNode (chain_after chain run) p → IsNode (chain_after chain run) q
       → p.running ≡ true → is_tail p ≡ true → q.running ≡ true → is_tail q ≡ true → p ≡ q
@@ -61,15 +64,16 @@ pub record OneTailHoldsTheList (chain : ℕ) (run : Run) : Type 0 where
   pub known : (p : Plain) → IsNode (chain_after chain run) p
       → p.running ≡ true → is_tail p ≡ true → p.past.acknowledged ≡ length (updates_committed chain run)
 
--- the committed entries are a prefix of the history of each ready member of the master's membership, so the committed updates are
--- a prefix of the updates that its entries were made of
+-- the committed entries are a prefix of the history of each ready member of the master's
+-- membership, so the committed updates are a prefix of the updates from which its entries were made
 pub record ReadyMembersHoldTheList (chain : ℕ) (run : Run) : Type 0 where
   pub entries : (p : Plain) → IsNode (chain_after chain run) p → is_member (chain_after chain run).members (id_of p) ≡ true → p.ready ≡ true
       → IsPrefix (committed_in chain run) (history_of (committed_in chain run) p)
   pub updates : (p : Plain) → IsNode (chain_after chain run) p → is_member (chain_after chain run).members (id_of p) ≡ true → p.ready ≡ true
       → IsPrefix (updates_committed chain run) (updates_held chain run p)
 
--- what a node knows to be committed it holds, it is committed, and it is the same
+-- the entries that a node knows to be committed are in its history, and are the first committed
+-- ones
 pub record AcknowledgedIsCommitted (chain : ℕ) (run : Run) : Type 0 where
   pub held : (p : Plain) → IsNode (chain_after chain run) p
       → p.past.acknowledged ≤ length_of p
@@ -80,7 +84,8 @@ pub record AcknowledgedIsCommitted (chain : ℕ) (run : Run) : Type 0 where
 
 -- ---- messages
 
--- each state that was ever sent is that of the single copy after so many committed updates as it says
+-- each state that was ever sent is that of the single copy after as many committed updates as it
+-- says
 pub record CopiesAreCommitted (chain : ℕ) (run : Run) : Type 0 where
   pub committed : (number : ℕ) (m : LinkMessage) (position : ℕ) (state : State)
       → WasSent (chain_after chain run) number m → m.body ≡ bodies.Copy position state
@@ -89,7 +94,8 @@ pub record CopiesAreCommitted (chain : ℕ) (run : Run) : Type 0 where
       → WasSent (chain_after chain run) number m → m.body ≡ bodies.Copy position state
       → after (take position (updates_committed chain run)) ≡ state
 
--- each part of a state that was ever sent is its share of the single copy's state after so many committed updates as it says
+-- each part of a state that was ever sent is its share of the single copy's state after as many
+-- committed updates as it says
 pub record PartsAreShares (chain : ℕ) (run : Run) : Type 0 where
   pub committed : (number : ℕ) (m : LinkMessage) (part : StatePart)
       → WasSent (chain_after chain run) number m → m.body ≡ bodies.Part part
@@ -101,10 +107,10 @@ pub record PartsAreShares (chain : ℕ) (run : Run) : Type 0 where
       → WasSent (chain_after chain run) number m → m.body ≡ bodies.Part part
       → part_of part.position (after (take part.position (updates_committed chain run))) part.number ≡ part
 
--- each message that was ever sent agrees with its sender, a node of the chain: an entry, alone or in a batch, stands at its
--- position in the sender's history; of an acknowledgement, of a state and of a part of one the sender knows that so much is
--- committed; of a floor the sender is ready and holds so many entries; and a sender that says how many entries it holds, holds
--- as many
+-- each message that was ever sent agrees with its sender, a node of the chain: an entry, alone or
+-- in a batch, is at its position in the sender's history; for an acknowledgement, a state or a part
+-- of one, the sender knows that this number is committed; for a floor, the sender is ready and
+-- holds this number of entries; and a sender that reports its length holds that number of entries
 pub record MessagesAgreeWithSenders (chain : ℕ) (run : Run) : Type 0 where
   pub entry : (number : ℕ) (m : LinkMessage) (e : Entry)
       → WasSent (chain_after chain run) number m → m.body ≡ bodies.Entry e
@@ -128,18 +134,19 @@ pub record MessagesAgreeWithSenders (chain : ℕ) (run : Run) : Type 0 where
       → WasSent (chain_after chain run) number m → m.body ≡ bodies.Blank count
       → HasSender (chain_after chain run) m (λ p. count ≤ length_of p)
 
--- each version that was ever told names a strong read of its receiver, and is that of the read's object on the single copy after
--- the updates that were committed when it was sent
+-- each version that was ever reported names a strong read of its receiver, and is that of the
+-- read's object on the single copy after the updates that were committed when it was sent
 abbrev pub ToldVersionsWereCommitted : ℕ → Run → Type 0
 ToldVersionsWereCommitted chain run =
     (number : ℕ) (m : LinkMessage) (ticket version : ℕ)
     → WasSent (chain_after chain run) number m → m.body ≡ bodies.VersionIs ticket version
     → TellsVersion chain run m.receiver ticket version (committed_at chain run number)
 
--- ---- what waits
+-- ---- waiting updates
 
--- each update that waits at a node waits for more entries than the node knows to be committed; it was asked there, and its reply
--- is what the single copy says to its client and number after so many updates of the node's history as it waits for
+-- each update that waits at a node waits for more entries than the node knows to be committed; it
+-- was requested there, and its reply is the single copy's for its client and number after the
+-- updates of the node's history that it waits for
 pub record WaitingUpdatesAreOwed (chain : ℕ) (run : Run) : Type 0 where
   pub above : (p : Plain) → IsNode (chain_after chain run) p
       → AllByRecursion (λ (u : WaitingUpdate). p.past.acknowledged < u.position) p.waiting_updates
@@ -148,6 +155,7 @@ pub record WaitingUpdatesAreOwed (chain : ℕ) (run : Run) : Type 0 where
 
 -- ---- all of them
 
+-- the run keeps all of these invariants
 pub record HasInvariants (chain : ℕ) (run : Run) : Type 0 where
   pub histories : HistoriesAreWhole chain run
   pub members : MembersAreNodes chain run

@@ -1,4 +1,5 @@
--- The words of a chain's invariants: a run's chain, its committed entries and updates, and a node's whole history.
+-- The terms of a chain's invariants: a run's chain, its committed entries and updates, and a node's
+-- whole history.
 use Rattle.std.specs.Prelude.{◌≡◌, ℕ, ◌-◌, ◌≤◌, List, ◌++◌, length, take, slice_index, Some}
 use Rattle.craq_names.specs.declared.name.ObjectId.{ObjectId}
 use Rattle.craq_commands.specs.Objects.{version_of}
@@ -22,7 +23,8 @@ use Rattle.craq_updates.specs.Updates.{updates_in}
 abbrev pub chain_after : ℕ → Run → Chain
 chain_after chain run = after_moves (opening_chain chain run.members) run.moves
 
--- what the run's explanation is made of: the asks, the committed entries, and how many were committed at which time
+-- the parts of the run's explanation: the requests, the committed entries, and the number committed
+-- at each time
 abbrev pub account_in : ℕ → Run → Account
 account_in chain run = account_of (opening_account chain run.members) run.moves
 
@@ -34,7 +36,7 @@ committed_in chain run = (account_in chain run).committed
 abbrev pub updates_committed : ℕ → Run → List Update
 updates_committed chain run = committed (seen run) (explain chain run)
 
--- how many entries were committed after the step that sent the message of this number
+-- the number of entries committed after the step that sent the message of this number
 abbrev pub committed_at : ℕ → Run → ℕ → ℕ
 committed_at chain run number = slice_index (account_in chain run).sent_at (number - 1)
 
@@ -42,11 +44,12 @@ committed_at chain run number = slice_index (account_in chain run).sent_at (numb
 abbrev pub IsNode : Chain → Plain → Type 0
 IsNode c p = node_at c.nodes (id_of p) ≡ Some p
 
--- a node's whole history: the committed entries that it knows by their state alone, then those that it holds
+-- a node's whole history: the committed entries that it knows only by their state, then those that
+-- it holds
 abbrev pub history_of : List Entry → Plain → List Entry
 history_of entries p = take p.past.base entries ++ p.past.entries
 
--- the updates that the entries of a node's whole history were made of
+-- the updates from which the entries of a node's whole history were made
 abbrev pub updates_held : ℕ → Run → Plain → List Update
 updates_held chain run p = updates_in (seen run) (history_of (committed_in chain run) p)
 
@@ -62,8 +65,8 @@ pub record HasSender (c : Chain) (m : LinkMessage) (Holds : Plain → Type 0) : 
   pub at : node_at c.nodes m.sender ≡ Some sender
   pub holds : Holds sender
 
--- a version that a strong read was told: that of its object on the single copy after so many committed updates, no fewer than
--- before the ask
+-- a version reported to a strong read: that of its object on the single copy after this number of
+-- committed updates, no fewer than before the request
 pub record TellsVersion (chain : ℕ) (run : Run) (receiver ticket version count : ℕ) : Type 0 where
   pub ask : Asked
   pub object : ObjectId
@@ -73,10 +76,10 @@ pub record TellsVersion (chain : ℕ) (run : Run) (receiver ticket version count
   pub not_beyond : count ≤ length (updates_committed chain run)
   pub version_is : version_of (after (take count (updates_committed chain run))).objects object.key ≡ version
 
--- ---- what waits
+-- ---- waiting updates
 
--- a waiting update's ask, and its reply: what the single copy says to its client and number after so many updates of the node's
--- history as it waits for
+-- a waiting update's request, and its reply: the single copy's for its client and number after the
+-- updates of the node's history that it waits for
 pub record HasReply (chain : ℕ) (run : Run) (p : Plain) (u : WaitingUpdate) : Type 0 where
   pub ask : Asked
   pub update : Update

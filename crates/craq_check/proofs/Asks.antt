@@ -1,4 +1,4 @@
--- The first ask of a node and ticket, ask by ask.
+-- The first request of a node and ticket, request by request.
 use Rattle.std.proofs.Common.{◌≡◌, ℕ, ◌+◌, ◌<◌, add-one, Bool, true, false, cond, length, get_or, take, List, [], ◌∷◌, ◌++◌, Option, Some, None, refl, sym, ap, ◌∙◌}
 use Rattle.std.specs.Prelude.{◌==◌, ◌&&◌, is_some}
 use Rattle.std.specs.Option.{option_map, option_or}
@@ -12,7 +12,7 @@ use Rattle.craq_check.specs.Tests.{same_pair, found_in}
 use Rattle.craq_check.proofs.Bools.{and_both}
 use Rattle.craq_check.proofs.Lists.{same_number}
 
--- one ask more
+-- one more request
 pub one_more : (xs : List Asked) (i : ℕ) (x : Asked) (node ticket : ℕ) → i < length xs → x ≡ get_or xs i x → option_or (ask_with (take i xs) node ticket) (ask_with (x ∷ []) node ticket) ≡ ask_with (take (i + 1) xs) node ticket
 unfolding ask_with
 one_more xs i x node ticket low is =
@@ -29,7 +29,7 @@ or_none : {A : Type 0} (o : Option A) → o ≡ option_or o None
 or_none None = refl
 or_none (Some x) = refl
 
--- whether the ask of this node and this ticket is the one that is looked for
+-- the request of this node and this ticket is the one looked for, or not
 its_own : (x : Asked) (n t node ticket : ℕ) (b : Bool) → n ≡ x.node → x.ticket ≡ Some t → same_pair (n, t) (node, ticket) ≡ b → ask_with (x ∷ []) node ticket ≡ cond b (Some x) None
 unfolding ask_with
 its_own x n t node ticket b by got at =
@@ -47,13 +47,13 @@ shown_as old x n t node ticket true by got none at =
 shown_as old x n t node ticket false by got none at =
     or_none (found_in old node ticket) ∙ ap (option_or (found_in old node ticket)) (sym (its_own x.now n t node ticket false by got at))
 
--- an ask whose name had none is put at its name
+-- a request whose name had none is put at its name
 pub kept_first : {S : Type 0} (old new : HashMap (ℕ × ℕ) (Bor Asked) S) (x : Bor Asked) (n t : ℕ) → n ≡ x.now.node → x.now.ticket ≡ Some t → false ≡ is_some (get same_pair old (n, t)) → ((q : ℕ × ℕ) → get same_pair new q ≡ cond (same_pair (n, t) q) (Some x) (get same_pair old q)) → (node ticket : ℕ) → found_in new node ticket ≡ option_or (found_in old node ticket) (ask_with (x.now ∷ []) node ticket)
 kept_first old new x n t by got none put node ticket =
     ap (option_map (λ (a : Bor Asked). a.now)) (put (node, ticket))
     ∙ shown_as old x n t node ticket (same_pair (n, t) (node, ticket)) by got (none_there (get same_pair old (n, t)) none) refl
 
--- an index with no entry has no ask
+-- an index with no entry has no request
 pub none_in : {S : Type 0} (index : HashMap (ℕ × ℕ) (Bor Asked) S) (node ticket : ℕ) → index.entries ≡ [] → found_in index node ticket ≡ ask_with [] node ticket
 unfolding ask_with
 none_in index node ticket h = ap (λ (es : List ((ℕ × ℕ) × Bor Asked)). option_map (λ (a : Bor Asked). a.now) (lookup (same_pair (node, ticket)) es)) h

@@ -26,7 +26,7 @@ pub not_true : (b : Bool) → b ≡ false → not b ≡ true
 not_true true h = sym h
 not_true false h = refl
 
--- what is asked only where another test is met
+-- a test that is needed only if another passes
 pub only_if : (b x : Bool) → (b ≡ true → x ≡ true) → (if b then x else true) ≡ true
 only_if true x f = f refl
 only_if false x f = refl
@@ -35,7 +35,7 @@ pub if_so : (b x : Bool) → (if b then x else true) ≡ true → b ≡ true →
 if_so true x h e = h
 if_so false x h e = cc
 
--- a test that is met adds nothing
+-- a test that passes adds nothing
 pub first_met : (a b : Bool) → a ≡ true → b ≡ (a && b)
 first_met true b h = refl
 first_met false b h = cc

@@ -105,7 +105,7 @@ none_above s e len t move =
     let Q : ℕ → Type 0 = λ n. slice_index (0 ∷ e.lens) move ≤ n in
     subst Q t.ends (subst P len most)
 
--- ---- strong answers
+-- ---- strong replies
 
 explain_one : (s : Seen) (e : Explanation) (a : Answered) (p : Place) (o : Option Asked) → ask_of s.asks a ≡ o → is_in_time e.lens a p o ≡ true → ((n : ℕ) → n ≤ length (committed s e) → is_said_here (ask_with s.asks) (state_at s e n) n (a, p.position) ≡ true) → ((move : ℕ) → committed_after e move ≤ length (committed s e)) → IsExplained s e a p
 unfolding is_said_here
@@ -131,7 +131,7 @@ explain_one s e a p (Some ask) q t f bound =
       is_said = said_so state ask.ask a.answer (subst P q so);
     }
 
--- how a place is tested in time
+-- the test that a place was reached in time
 timed : Seen → Explanation → Answered → Place → Bool
 timed s e a p = is_in_time e.lens a p (ask_of s.asks a)
 

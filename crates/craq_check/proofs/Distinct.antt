@@ -1,4 +1,4 @@
--- No item stands twice exactly where a set of them has as many as there are.
+-- No item occurs twice exactly if the set of the items is as large as the list.
 use Rattle.std.proofs.Common.{◌≡◌, ℕ, suc, Bool, true, false, length, map, List, [], ◌∷◌, refl, sym, ap, ◌∙◌}
 use Rattle.std.specs.Prelude.{◌==◌, ◌&&◌, ◌||◌, not, nat_eq}
 use Rattle.std.specs.List.{list_any}

@@ -1,4 +1,4 @@
--- What the tests of lists decide.
+-- The tests of lists decide their rules.
 use Rattle.std.proofs.Common.{◌≡◌, ℕ, zero, suc, ◌+◌, ◌<◌, ◌≤◌, Bool, true, false, length, take, map, List, [], ◌∷◌, Option, Some, None, refl, sym, ap, ◌∙◌, arith}
 use Rattle.std.specs.Prelude.{◌==◌, nat_le, not, filter_map, IsSome, slice_index}
 use Rattle.std.specs.List.{list_all, list_any, AllByRecursion, IsDistinct, cons_option}
@@ -129,7 +129,7 @@ last_highest n (m ∷ ms) h zero =
     omega (arith, first, rest)
 last_highest n (m ∷ ms) h (suc k) = last_highest m ms (and_both (nat_le n m) (never_fall m ms) h).1 k
 
--- ---- asked in time
+-- ---- requested in time
 
 within : (asks : List ℕ) (n number : ℕ) → list_all (λ a. nat_le a number) (take n asks) ≡ true → (place : ℕ) → place < n → slice_index asks place ≤ number
 within [] n number h place low = omega arith

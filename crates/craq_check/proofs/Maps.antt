@@ -1,4 +1,4 @@
--- A tree's entries are a map by rising key.
+-- A tree's entries are a map by ascending key.
 use Rattle.std.proofs.Common.{◌≡◌, ℕ, cond, List, [], ◌∷◌, Some, refl, ap, ◌∙◌}
 use Rattle.std.specs.Cmp.{nat_cmp_total, tied_itself}
 use Rattle.std.specs.Ordering.{nat_cmp}
@@ -24,7 +24,7 @@ put_is R k x (e ∷ es) = later_same (R k e.0) ((k, x) ∷ e ∷ es) ((e.0, x) �
 put_over : {X : Type 0} (k : ℕ) (x y : X) (es : List (ℕ × X)) → put nat_cmp k x ((k, y) ∷ es) ≡ (k, x) ∷ es
 put_over k x y es = ap (λ (o : Ordering). by_order o ((k, x) ∷ (k, y) ∷ es) ((k, x) ∷ es) ((k, y) ∷ put nat_cmp k x es)) (tied_itself nat_cmp_total k)
 
--- what is put twice at one number is put once
+-- the second of two values put at one number replaces the first
 pub put_again : {X : Type 0} (k : ℕ) (x y : X) (es : List (ℕ × X)) → put nat_cmp k x (put nat_cmp k y es) ≡ put nat_cmp k x es
 put_again k x y [] = put_over k x y []
 put_again k x y (e ∷ es) =

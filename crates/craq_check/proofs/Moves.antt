@@ -1,4 +1,4 @@
--- The ask of a number stands in the move of that number.
+-- The request of a number is in the move of that number.
 use Rattle.std.proofs.Common.{◌≡◌, ℕ, zero, suc, ◌+◌, ◌-◌, ◌<◌, ◌≤◌, length, get_or, true, false, List, [], ◌∷◌, ◌++◌, Option, Some, None, refl, sym, ap, ◌∙◌, subst, arith}
 use Rattle.std.specs.Prelude.{◌==◌, find, option_and_then, slice_get}
 use Rattle.craq_runs.specs.declared.run.Move.{Move}
@@ -7,7 +7,7 @@ use Rattle.craq_runs.specs.declared.run.Taken.{Taken}
 use Rattle.craq_runs.specs.Seen.{Asked, ask_in, asks_from, update_of, update_at}
 use Rattle.craq_check.specs.Tests.{update_in}
 
--- the ask of another number is passed
+-- the request of another number is skipped
 passed : (n k : ℕ) (ticket : Option ℕ) (move : Move) (rest : List Asked) → (n == k) ≡ false → find (λ (a : Asked). a.move == k) (ask_in n ticket move ++ rest) ≡ find (λ (a : Asked). a.move == k) rest
 passed n k ticket (moves.Ask node ask) rest h = rw h refl
 passed n k ticket (moves.Deliver message) rest h = refl
@@ -16,7 +16,7 @@ passed n k ticket (moves.Stop node) rest h = refl
 passed n k ticket (moves.Remove node) rest h = refl
 passed n k ticket (moves.Join node) rest h = refl
 
--- a lower number has no ask
+-- a lower number has no request
 none_below : (ts : List Taken) (n k : ℕ) → k < n → find (λ (a : Asked). a.move == k) (asks_from n ts) ≡ None
 unfolding asks_from
 none_below [] n k low = refl
@@ -24,7 +24,7 @@ none_below (t ∷ ts) n k low =
     let apart : (n == k) ≡ false = grind (arith, low) in
     passed n k t.step.ticket t.chosen (asks_from (n + 1) ts) apart ∙ none_below ts (n + 1) k (omega (arith, low))
 
--- the number's own ask is found in its move
+-- the number's own request is found in its move
 here : (n : ℕ) (ticket : Option ℕ) (move : Move) (rest : List Asked) → find (λ (a : Asked). a.move == n) rest ≡ None → option_and_then (λ (a : Asked). update_of a.ask) (find (λ (a : Asked). a.move == n) (ask_in n ticket move ++ rest)) ≡ update_in move
 here n ticket (moves.Ask node ask) rest h = let same : (n == n) ≡ true = grind arith in rw same refl
 here n ticket (moves.Deliver message) rest h = rw h refl
@@ -68,7 +68,7 @@ there ts k some =
     let P : ℕ → Type 0 = λ n. update_at (asks_from 1 ts) n ≡ option_and_then (λ (t : Taken). update_in t.chosen) (slice_get ts (k - 1)) in
     subst P at (update_there ts 1 (k - 1))
 
--- what the move of a number asks, and that there is nothing beyond the last
+-- the request of the move of a number; there is none beyond the last
 pub update_here : (ts : List Taken) (k : ℕ) (t : Taken) → (k ≡ 0 → ⊥) → k - 1 < length ts → t ≡ get_or ts (k - 1) t → update_in t.chosen ≡ update_at (asks_from 1 ts) k
 update_here ts k t some low is = sym (there ts k some ∙ ap (option_and_then (λ (t : Taken). update_in t.chosen)) (got ts (k - 1) t low is))
 

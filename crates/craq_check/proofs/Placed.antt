@@ -1,4 +1,4 @@
--- Whether every answer is right at its place does not depend on the order of the answers: sorted by place, one pass
+-- The test of all replies at their places does not depend on their order: sorted by place, one pass
 -- along the updates tests them all.
 use Rattle.std.proofs.Common.{◌≡◌, ℕ, suc, ◌+◌, ◌<◌, ◌≤◌, Bool, true, false, cond, length, get_or, drop, drop-cons, add-one, List, [], ◌∷◌, Option, Some, None, unwrap_or, refl, sym, ap, subst, ◌∙◌, arith}
 use Rattle.std.specs.Prelude.{◌==◌, ◌&&◌, not, if◌then◌else◌, is_some}
@@ -30,7 +30,7 @@ rises_from low (x ∷ xs) first h = (first x (omega arith), rises_from x.1 xs (�
 pub rises : (xs : List Placed) → IsNonDecreasingBy (λ (x : Placed). x.1) xs → Rise 0 xs
 rises xs h = rises_from 0 xs (λ d some. omega arith) h
 
--- ---- those of other places
+-- ---- replies of other places
 
 elsewhere : (ask_at : AskOf) (state : State) (count : ℕ) (x : Placed) → (x.1 == count) ≡ false → is_said_here ask_at state count x ≡ true
 unfolding is_said_here
@@ -48,7 +48,7 @@ none_here ask_at state count low (x ∷ xs) less h =
     both_and (is_said_here ask_at state count x) (list_all (is_said_here ask_at state count) xs) (elsewhere ask_at state count x apart)
     (none_here ask_at state count x.1 xs (omega (arith, less, first)) h.1)
 
--- an answer whose place is passed is not tested again
+-- a reply whose place is passed is not tested again
 past : (ask_at : AskOf) (x : Placed) (xs : List Placed) (state : State) (k : ℕ) (us : List Update) → x.1 < k → are_said ask_at (x ∷ xs) state k us ≡ are_said ask_at xs state k us
 unfolding are_said
 past ask_at x xs state k [] low =
@@ -60,9 +60,9 @@ past ask_at x xs state k (u ∷ us) low =
     let later : are_said ask_at (x ∷ xs) (apply state u) (k + 1) us ≡ are_said ask_at xs (apply state u) (k + 1) us = past ask_at x xs (apply state u) (k + 1) us (omega (arith, low)) in
     λ i. here i && later i
 
--- ---- those of one place
+-- ---- replies of one place
 
--- what is known once those of a place are passed
+-- the state of the test once the replies of a place are passed
 pub record Passed (ask_at : AskOf) (state : State) (count : ℕ) (xs later : List Placed) : Type 0 where
   pub here : list_all (is_said_here ask_at state count) xs ≡ true
   pub rise : Rise (count + 1) later
@@ -117,7 +117,7 @@ refused ask_at state count x xs true false at said f e =
     let no : is_said_here ask_at state count x ≡ false = at_place ask_at state count x at ∙ said in
     ap (λ b. b && list_all (is_said_here ask_at state count) xs) no
 
--- where one is refused not all are the copy's
+-- if one is refused, not all are the copy's
 pub fails : (ask_at : AskOf) (state : State) (count : ℕ) (xs : List Placed) → said_first ask_at state count xs ≡ None → list_all (is_said_here ask_at state count) xs ≡ false
 unfolding said_first
 fails ask_at state count [] e = let bad : ⊥ = cc in absurd bad

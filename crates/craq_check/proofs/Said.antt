@@ -1,4 +1,4 @@
--- What the tests of replies and of the single copy's answers decide.
+-- The tests of replies and of the single copy's answers decide their rules.
 use Rattle.std.proofs.Common.{◌≡◌, ℕ, zero, suc, ◌+◌, ◌≤◌, Bool, true, false, length, take, List, [], ◌∷◌, Option, Some, None, refl, sym, ap, subst, ◌∙◌, arith}
 use Rattle.std.specs.Prelude.{◌==◌, ◌&&◌, not, is_some, if◌then◌else◌}
 use Rattle.std.specs.List.{list_all}
@@ -45,7 +45,7 @@ unfolding all_pairs
 found_again [] = refl
 found_again (x ∷ xs) = both_and (same_found x x) (all_pairs same_found xs xs) (found_one x x refl) (found_again xs)
 
--- the reply of these parts
+-- the reply with these parts
 made_of : ℕ → ℕ → List (ℕ × List ℕ) → Reply
 made_of k n found =
     if k == 0 then Written n
@@ -141,7 +141,7 @@ unsaid None false stale = refl
 unsaid (Some x) true stale = refl
 unsaid (Some x) false stale = refl
 
--- nothing is said of a new number alone
+-- exactly a new number has no kept reply
 pub new_is_unsaid : (w : Window) (number : ℕ) → is_new w number ≡ not (is_some (said_of w number))
 unfolding is_new said_of
 new_is_unsaid w number = unsaid (at_number w number) (is_stale w number) (Stale (largest w))

@@ -1,4 +1,5 @@
-//! Tests of an explanation's form and of its list of committed updates; called by `verdict` and `strong`.
+//! Tests of an explanation's form and of its list of committed updates; used by `verdict` and
+//! `strong`.
 ghost use Rattle.std.specs.Prelude.{◌≡◌, ◌∷◌, true, nat_le, slice_index, take, drop};
 ghost use Rattle.std.specs.List.{list_all};
 ghost use Rattle.craq_check.specs.Tests.{all_pairs, is_named, never_fall, asked_in_time};
@@ -6,7 +7,7 @@ ghost use Rattle.craq_check.specs.Tests.{all_pairs, is_named, never_fall, asked_
 use crate::seen::AnswerSeen;
 use craq_runs::Place;
 
-/// Whether there are as many places as answers, each named as its answer.
+/// Returns true if the places match the replies one to one, each with its reply's node and ticket.
 #[tactic(auto, unfolding(crate::specs::Tests::all_pairs))]
 pub fn are_named(answers: &[AnswerSeen], places: &[Place]) -> bool
     ensures { result ≡ all_pairs is_named answers.now places.now }
@@ -24,7 +25,7 @@ pub fn are_named(answers: &[AnswerSeen], places: &[Place]) -> bool
     rest.is_empty()
 }
 
-/// Whether no length is below the one before it.
+/// Returns true if no length is below the one before it.
 #[tactic(auto, unfolding(crate::specs::Tests::never_fall))]
 pub fn never_fall(lens: &[u64]) -> bool
     ensures { result ≡ never_fall 0 lens.now }
@@ -39,7 +40,7 @@ pub fn never_fall(lens: &[u64]) -> bool
     true
 }
 
-/// Whether each of these asks has at most this number.
+/// Returns true if each of these request numbers is at most `number`.
 fn are_at_most(asks: &[u64], number: u64) -> bool
     ensures { result ≡ list_all (λ a. nat_le a number) asks.now }
 {
@@ -51,7 +52,7 @@ fn are_at_most(asks: &[u64], number: u64) -> bool
     true
 }
 
-/// The first so many, or all where there are fewer.
+/// Returns the first `count` items, or all if there are fewer.
 fn first_of(asks: &[u64], count: u64) -> &[u64]
     ensures { result.now ≡ take count asks.now }
 {
@@ -61,7 +62,7 @@ fn first_of(asks: &[u64], count: u64) -> &[u64]
     &asks[..count as usize]
 }
 
-/// All but the first so many; none where there are no more.
+/// Returns all but the first `count` items, none if there are no more.
 fn all_but(asks: &[u64], count: u64) -> &[u64]
     ensures { result.now ≡ drop count asks.now }
 {
@@ -71,8 +72,8 @@ fn all_but(asks: &[u64], count: u64) -> &[u64]
     &asks[count as usize..]
 }
 
-/// Whether the first so many asks have at most this number. The caller knows it of the first `looked`, which
-/// it doesn't look at again.
+/// Returns true if the first `count` requests have at most this number. The caller knows it of the
+/// first `looked`, which are not tested again.
 fn are_first_at_most(asks: &[u64], looked: u64, count: u64, number: u64) -> bool
     requires { list_all (λ a. nat_le a number) (take looked asks.now) ≡ true }
     ensures { result ≡ list_all (λ a. nat_le a number) (take count asks.now) }
@@ -83,7 +84,8 @@ fn are_first_at_most(asks: &[u64], looked: u64, count: u64, number: u64) -> bool
     are_at_most(all_but(first_of(asks, count), looked), number)
 }
 
-/// Whether what is committed after each move was asked by then. It looks at each ask once.
+/// Returns true if the updates committed after each move were requested by then. Looks at each
+/// request once.
 #[tactic(auto, unfolding(crate::specs::Tests::asked_in_time))]
 pub fn are_asked_in_time(asks: &[u64], lens: &[u64]) -> bool
     ensures { result ≡ asked_in_time asks.now 1 lens.now }
@@ -100,7 +102,8 @@ pub fn are_asked_in_time(asks: &[u64], lens: &[u64]) -> bool
     true
 }
 
-/// How many were committed after the move of a number; 0 before the first move, and beyond the last.
+/// Returns the number committed after the move of this number; 0 before the first move and beyond
+/// the last.
 pub fn committed_after(lens: &[u64], number: u64) -> u64
     ensures { result ≡ slice_index (0 ∷ lens.now) number }
 {

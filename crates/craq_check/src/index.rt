@@ -1,4 +1,4 @@
-//! Finds asks by node and ticket; made by `verdict`, and asked by `lookups` and `strong`.
+//! Finds requests by node and ticket; made by `verdict`, and used by `lookups` and `strong`.
 ghost use Rattle.std.specs.Prelude.{◌≡◌, ℕ, [], ◌∷◌, IfOk, OnOk};
 ghost use Rattle.std.specs.Option.{option_map, option_or};
 ghost use Rattle.std.specs.Borrow.{Bor};
@@ -10,10 +10,10 @@ use craq_names::{NodeId, Ticket};
 use std::alloc::{AllocError, Global};
 use std::collections::HashMap;
 
-/// Asks by node and ticket, lent from what was seen: of each node and ticket the first.
+/// Requests by node and ticket, borrowed from those seen: the first of each node and ticket.
 pub type AskIndex<'s, 'a> = HashMap<(u32, u64), &'s AskSeen<'a>>;
 
-/// Keeps the ask under its node and ticket, if it has one and none is kept there yet.
+/// Keeps the request under its node and ticket, if it has one and none is kept there yet.
 #[tactic(auto, unfolding(craq_runs::specs::Seen::ask_with))]
 fn keep_first<'s, 'a>(asks: &mut AskIndex<'s, 'a>, ask: &'s AskSeen<'a>) -> Result<(), AllocError>
     ensures { OnOk result ((node ticket : ℕ) → found_in asks.new node ticket ≡ option_or (found_in asks.old node ticket) (ask_with (ask.now ∷ []) node ticket)) }
@@ -29,7 +29,7 @@ fn keep_first<'s, 'a>(asks: &mut AskIndex<'s, 'a>, ask: &'s AskSeen<'a>) -> Resu
     Ok(())
 }
 
-/// An index of these asks.
+/// Makes an index of these requests.
 pub fn index_of<'s, 'a>(
     alloc: Global,
     asks: &'s [AskSeen<'a>],
@@ -43,7 +43,7 @@ pub fn index_of<'s, 'a>(
     Ok(index)
 }
 
-/// The first ask at a node that got this ticket.
+/// Returns the first request at a node that got this ticket.
 pub fn ask_at<'s, 'a>(
     asks: &AskIndex<'s, 'a>,
     node: NodeId,

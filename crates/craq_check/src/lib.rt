@@ -1,6 +1,5 @@
-//! Whether an explanation of a run holds, from the run and the explanation alone; for `craq_lab` and `craq_schedules`.
-//! A crate apart since it stands on no node, no chain and nothing of how explanations are found.
-//! Code that runs in the program.
+//! Tests an explanation of a run from the two alone, without nodes, chains or a search.
+//! Runs in the program: in `craq_lab` and `craq_schedules`.
 #![tactic(auto)]
 
 mod form;

@@ -1,4 +1,4 @@
-//! Finds asks, and the updates that numbers name, among what was seen; called by `verdict`.
+//! Finds requests, and the updates of request numbers, in a run; used by `verdict`.
 ghost use Rattle.std.specs.Prelude.{◌≡◌, filter_map, IfOk};
 ghost use Rattle.std.specs.Option.{option_map};
 ghost use Rattle.std.specs.Borrow.{Bor};
@@ -14,7 +14,7 @@ use craq_runs::{Move, Taken};
 use std::alloc::{AllocError, Global};
 use std::marker::Model;
 
-/// An update that was asked, lent from the run.
+/// An update that was requested, borrowed from the run.
 #[derive(Drop)]
 pub struct UpdateSeen<'a> {
     update: &'a Update,
@@ -27,7 +27,7 @@ impl<'a> Model for UpdateSeen<'a> {
 }
 
 impl<'a> UpdateSeen<'a> {
-    /// The update.
+    /// Returns the update.
     pub fn update(&self) -> &'a Update
         ensures { result.now ≡ self.now }
     {
@@ -35,7 +35,7 @@ impl<'a> UpdateSeen<'a> {
     }
 }
 
-/// The update that a move asks.
+/// Returns the update that a move requests.
 fn update_in(chosen: &Move) -> Option<&Update>
     ensures { option_map (λ (u : Bor Update). u.now) result ≡ update_in chosen.now }
 {
@@ -48,7 +48,7 @@ fn update_in(chosen: &Move) -> Option<&Update>
     }
 }
 
-/// The update that the move of a number asks.
+/// Returns the update that the move of this number requests.
 fn update_at(moves: &[Taken], number: u64) -> Option<&Update>
     ensures { option_map (λ (u : Bor Update). u.now) result ≡ update_at (asks_from 1 moves.now) number }
 {
@@ -61,7 +61,7 @@ fn update_at(moves: &[Taken], number: u64) -> Option<&Update>
     }
 }
 
-/// The updates that these numbers name; a number that names none is left out.
+/// Returns the updates of these numbers; skips a number that has none.
 pub fn committed<'a>(
     alloc: Global,
     moves: &'a [Taken],
@@ -78,7 +78,7 @@ pub fn committed<'a>(
     Ok(updates)
 }
 
-/// Whether it is an update or a strong read.
+/// Returns true for an update or a strong read.
 fn is_strong_ask(ask: &Ask) -> bool
     ensures { result ≡ is_strong_ask ask.now }
 {
@@ -91,7 +91,7 @@ fn is_strong_ask(ask: &Ask) -> bool
     }
 }
 
-/// Whether it is an answer to a strong ask, or to none.
+/// Returns true if the reply is to a strong request, or to none.
 fn is_strong_answer(asks: &AskIndex, answer: &AnswerSeen) -> bool
     ensures { result ≡ is_strong_answer (found_in asks.now answer.now.node answer.now.ticket) answer.now.answer }
 {
@@ -104,7 +104,7 @@ fn is_strong_answer(asks: &AskIndex, answer: &AnswerSeen) -> bool
     }
 }
 
-/// The strong answers among these, in order.
+/// Returns the strong replies among these, in order.
 #[tactic(auto, unfolding(crate::specs::Tests::strong_by))]
 pub fn strong_answers<'a>(
     alloc: Global,

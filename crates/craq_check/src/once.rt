@@ -1,4 +1,4 @@
-//! Tests that nothing stands twice; called by `verdict`.
+//! Tests that nothing occurs twice; used by `verdict`.
 ghost use Rattle.std.specs.Prelude.{◌≡◌, IfOk};
 ghost use Rattle.craq_runs.specs.Valid.{same_request, same_name};
 ghost use Rattle.craq_check.specs.Tests.{stand_once};
@@ -8,7 +8,7 @@ use crate::seen::AnswerSeen;
 use std::alloc::{AllocError, Global};
 use std::collections::HashSet;
 
-/// Whether no two answers have one node and ticket.
+/// Returns true if no two replies have the same node and ticket.
 pub fn are_names_once(alloc: Global, answers: &[AnswerSeen]) -> Result<bool, AllocError>
     ensures { IfOk result (λ b. b ≡ stand_once same_name answers.now) }
 {
@@ -19,7 +19,7 @@ pub fn are_names_once(alloc: Global, answers: &[AnswerSeen]) -> Result<bool, All
     Ok(names.len() == answers.len())
 }
 
-/// Whether no two updates have one client and number.
+/// Returns true if no two updates have the same client and number.
 pub fn are_requests_once(alloc: Global, updates: &[UpdateSeen]) -> Result<bool, AllocError>
     ensures { IfOk result (λ b. b ≡ stand_once same_request updates.now) }
 {

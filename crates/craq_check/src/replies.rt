@@ -1,11 +1,11 @@
-//! Compares replies; called by `single`.
+//! Compares replies; used by `single`.
 ghost use Rattle.std.specs.Prelude.{◌≡◌};
 ghost use Rattle.craq_check.specs.Tests.{kind_of, number_of, found_of, same_found, same_reply, all_pairs};
 
 use craq_commands::Reply;
 use craq_names::{Value, Version};
 
-/// Which of the replies it is.
+/// Returns the kind of the reply.
 fn kind_of(reply: &Reply) -> u8
     ensures { result ≡ kind_of reply.now }
 {
@@ -22,7 +22,7 @@ fn kind_of(reply: &Reply) -> u8
     }
 }
 
-/// The number that a reply tells; 0 where it tells none.
+/// Returns the number in a reply, 0 if it has none.
 fn number_of(reply: &Reply) -> u64
     ensures { result ≡ number_of reply.now }
 {
@@ -35,7 +35,7 @@ fn number_of(reply: &Reply) -> u64
     }
 }
 
-/// The objects that a reply tells; none where it tells none.
+/// Returns the objects in a reply, none if it has none.
 fn found_of(reply: &Reply) -> &[(Version, Value)]
     ensures { result.now ≡ found_of reply.now }
 {
@@ -45,7 +45,7 @@ fn found_of(reply: &Reply) -> &[(Version, Value)]
     }
 }
 
-/// Whether the lists have the same versions and values.
+/// Returns true if the lists have the same versions and values.
 #[tactic(auto, unfolding(crate::specs::Tests::all_pairs))]
 fn are_same_found(found: &[(Version, Value)], others: &[(Version, Value)]) -> bool
     ensures { result ≡ all_pairs same_found found.now others.now }
@@ -63,7 +63,7 @@ fn are_same_found(found: &[(Version, Value)], others: &[(Version, Value)]) -> bo
     rest.is_empty()
 }
 
-/// Whether the replies are the same.
+/// Returns true if the replies are equal.
 #[tactic(auto, unfolding(crate::specs::Tests::same_reply))]
 pub fn are_same_replies(reply: &Reply, other: &Reply) -> bool
     ensures { result ≡ same_reply reply.now other.now }

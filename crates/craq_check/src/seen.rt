@@ -1,4 +1,4 @@
-//! What clients see of a run, lent from it; made by `verdict`, and read by its tests.
+//! The part of a run that clients see, borrowed from it; made by `verdict`, and read by its tests.
 ghost use Rattle.std.specs.Prelude.{◌≡◌, ◌++◌, [], IfOk, OnOk};
 ghost use Rattle.craq_runs.specs.Seen.{Asked, Answered, asks_from, answers_from, answers_in, receivers_in};
 
@@ -8,7 +8,7 @@ use craq_runs::{Move, Taken};
 use std::alloc::{AllocError, Global};
 use std::marker::Model;
 
-/// An ask, with the number of its move, its node, and its ticket if it got one.
+/// A request, with the number of its move, its node, and its ticket if it got one.
 #[derive(Drop)]
 pub struct AskSeen<'a> {
     number: u64,
@@ -24,28 +24,28 @@ impl<'a> Model for AskSeen<'a> {
 }
 
 impl<'a> AskSeen<'a> {
-    /// The number of the move, from 1.
+    /// Returns the number of the move, from 1.
     pub fn number(&self) -> u64
         ensures { result ≡ self.now.move }
     {
         self.number
     }
 
-    /// The node that was asked.
+    /// Returns the node of the request.
     pub fn node(&self) -> NodeId
         ensures { result ≡ self.now.node }
     {
         self.node
     }
 
-    /// The ticket that the ask got.
+    /// Returns the ticket that the request got.
     pub fn ticket(&self) -> Option<Ticket>
         ensures { result ≡ self.now.ticket }
     {
         self.ticket
     }
 
-    /// What was asked.
+    /// Returns the request.
     pub fn ask(&self) -> &'a Ask
         ensures { result.now ≡ self.now.ask }
     {
@@ -53,7 +53,7 @@ impl<'a> AskSeen<'a> {
     }
 }
 
-/// An answer, with the number of its move, its node and its ticket.
+/// A reply, with the number of its move, its node and its ticket.
 #[derive(Drop)]
 pub struct AnswerSeen<'a> {
     number: u64,
@@ -69,28 +69,28 @@ impl<'a> Model for AnswerSeen<'a> {
 }
 
 impl<'a> AnswerSeen<'a> {
-    /// The number of the move, from 1.
+    /// Returns the number of the move, from 1.
     pub fn number(&self) -> u64
         ensures { result ≡ self.now.move }
     {
         self.number
     }
 
-    /// The node that answered.
+    /// Returns the node that replied.
     pub fn node(&self) -> NodeId
         ensures { result ≡ self.now.node }
     {
         self.node
     }
 
-    /// The ticket of the ask.
+    /// Returns the ticket of the request.
     pub fn ticket(&self) -> Ticket
         ensures { result ≡ self.now.ticket }
     {
         self.ticket
     }
 
-    /// What was answered.
+    /// Returns the reply.
     pub fn answer(&self) -> &'a Answer
         ensures { result.now ≡ self.now.answer }
     {
@@ -98,7 +98,7 @@ impl<'a> AnswerSeen<'a> {
     }
 }
 
-/// The asks of these moves, numbered from 1.
+/// Returns the requests of these moves, numbered from 1.
 #[tactic(auto, unfolding(craq_runs::specs::Seen::asks_from))]
 pub fn asks_of<'a>(alloc: Global, moves: &'a [Taken]) -> Result<Vec<AskSeen<'a>>, AllocError>
     ensures { IfOk result (λ asks. asks.items ≡ asks_from 1 moves.now) }
@@ -119,7 +119,7 @@ pub fn asks_of<'a>(alloc: Global, moves: &'a [Taken]) -> Result<Vec<AskSeen<'a>>
     Ok(asks)
 }
 
-/// Puts those to whom something is sent behind the others.
+/// Appends the receivers of the messages among the outputs.
 #[tactic(auto, unfolding(craq_runs::specs::Seen::receivers_in))]
 fn push_receivers(receivers: &mut Vec<NodeId>, outs: &[Out]) -> Result<(), AllocError>
     ensures { OnOk result (receivers.new.items ≡ receivers.old.items ++ receivers_in outs.now) }
@@ -132,7 +132,7 @@ fn push_receivers(receivers: &mut Vec<NodeId>, outs: &[Out]) -> Result<(), Alloc
     Ok(())
 }
 
-/// Puts the answers among outs behind the others.
+/// Appends the replies among the outputs.
 #[tactic(auto, unfolding(craq_runs::specs::Seen::answers_in))]
 fn push_answers<'a>(
     answers: &mut Vec<AnswerSeen<'a>>,
@@ -155,7 +155,7 @@ fn push_answers<'a>(
     Ok(())
 }
 
-/// The answers of these moves, in order.
+/// Returns the replies of these moves, in order.
 #[tactic(auto, unfolding(craq_runs::specs::Seen::answers_from))]
 pub fn answers_of<'a>(alloc: Global, moves: &'a [Taken]) -> Result<Vec<AnswerSeen<'a>>, AllocError>
     ensures { IfOk result (λ answers. answers.items ≡ answers_from 1 [] moves.now) }

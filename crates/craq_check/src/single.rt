@@ -1,4 +1,4 @@
-//! The single copy: it takes the committed updates one after another; called by `strong`.
+//! The single copy, which applies the committed updates one after another; used by `strong`.
 ghost use Rattle.std.specs.Prelude.{◌≡◌, ◌+◌, ◌<◌, ◌≤◌, [], length, unwrap_or, OnOk, IfOk};
 ghost use Rattle.craq_names.specs.Limits.{greatest};
 ghost use Rattle.craq_names.specs.Maps.{at_number, put_key, put_number};
@@ -21,10 +21,10 @@ use std::marker::Model;
 /// Objects by key, each with its version and value.
 type ObjectMap = BTreeMap<Key, (Version, Value)>;
 
-/// What is kept for each client, by its id.
+/// The kept replies of each client, by its id.
 type KeptMap = BTreeMap<u64, Window>;
 
-/// The version and value of an object.
+/// Returns the version and value of an object.
 #[tactic(auto, unfolding(craq_commands::specs::Objects::object_of))]
 fn object_in<'a>(objects: &'a ObjectMap, key: &Key) -> (Version, &'a [u8])
     ensures object { (result.0, result.1.now) ≡ object_of objects.now.entries key.now }
@@ -36,7 +36,7 @@ fn object_in<'a>(objects: &'a ObjectMap, key: &Key) -> (Version, &'a [u8])
     }
 }
 
-/// What is known of a client's number.
+/// Returns what is known of a client's request number.
 fn said_in(kept: &KeptMap, client: ClientId, number: RequestNo) -> Said<'_>
     ensures { told result ≡ said_of (unwrap_or (at_number kept.now.entries client) []) number }
 {
@@ -59,7 +59,7 @@ fn put_object(
     Ok(())
 }
 
-/// Writes a value as the next version of its object, which has one left.
+/// Writes a value as the next version of its object, which must have one left.
 #[tactic(auto, unfolding(craq_commands::specs::Objects::set_object))]
 fn put_next(
     alloc: Global,
@@ -76,7 +76,8 @@ fn put_next(
     put_object(objects, key.copied(alloc)?, next, copy)
 }
 
-/// Writes a value as the next version of its object. The caller knows that no version is above `highest`.
+/// Writes a value as the next version of its object. The caller knows that no version is above
+/// `highest`.
 #[tactic(auto, using(crate::proofs::Bounds::version_low, crate::proofs::Bounds::written_at))]
 fn put_write(
     alloc: Global,
@@ -94,8 +95,8 @@ fn put_write(
     Ok(())
 }
 
-/// Writes these values in order, each as the next version of its object. The caller knows that no version
-/// is above `highest`, and that there are so many versions left.
+/// Writes these values in order, each as the next version of its object. The caller knows that no
+/// version is above `highest`, and that there are enough versions left.
 #[tactic(auto, using(crate::proofs::Bounds::more_room))]
 fn put_writes(
     alloc: Global,
@@ -116,7 +117,7 @@ fn put_writes(
     Ok(())
 }
 
-/// Puts what is kept for a client at its place, and gives back what was there.
+/// Puts the kept replies of a client, and returns those that were there.
 fn swap_kept(
     kept: &mut KeptMap,
     client: ClientId,
@@ -146,7 +147,7 @@ fn put_kept(
     Ok(())
 }
 
-/// A transaction has few writes. It does nothing.
+/// States that a transaction has at most 16 writes. Does nothing.
 fn has_few_writes(command: &Command)
     ensures { HasFewWrites command.now }
 {
@@ -155,7 +156,7 @@ fn has_few_writes(command: &Command)
     }
 }
 
-/// The objects, and what is kept of the clients' replies.
+/// The objects, and the kept replies of the clients.
 #[derive(Drop)]
 pub struct Single {
     objects: ObjectMap,
@@ -177,7 +178,7 @@ impl Look for Single {
 }
 
 impl Single {
-    /// Before any update.
+    /// Makes the copy before any update.
     pub fn new(alloc: Global) -> Self
         ensures { result ≡ opening_state }
     {
@@ -187,7 +188,7 @@ impl Single {
         }
     }
 
-    /// Whether the client's number is new.
+    /// Returns true if the client's number is new.
     #[tactic(auto, using(crate::proofs::Said::new_is_unsaid), unfolding(craq_commands::specs::SingleCopy::window_of))]
     fn is_new(&self, client: ClientId, number: RequestNo) -> bool
         ensures { result ≡ is_new_to self.now client number }
@@ -198,8 +199,8 @@ impl Single {
         }
     }
 
-    /// What a command writes and its reply: 16 writes at most. The caller knows that no version is above
-    /// `highest`, which is not the greatest.
+    /// Returns the writes of a command, at most 16, and its reply. The caller knows that no version
+    /// is above `highest`, which is not the greatest.
     #[tactic(auto, using(crate::proofs::Bounds::none_used_up, crate::proofs::Bounds::few_written))]
     fn outcome(
         &self,
@@ -217,8 +218,8 @@ impl Single {
         Ok((writes, reply))
     }
 
-    /// Takes an update; one whose number is not new changes nothing. The caller knows that no version is
-    /// above `highest`, and that there are 16 versions left.
+    /// Applies an update; one whose number is not new changes nothing. The caller knows that no
+    /// version is above `highest`, and that there are 16 versions left.
     #[tactic(auto, using(crate::proofs::Bounds::more_room), unfolding(craq_commands::specs::SingleCopy::apply, craq_commands::specs::SingleCopy::kept_with, craq_commands::specs::SingleCopy::window_of))]
     pub fn apply(&mut self, alloc: Global, update: &Update, highest: u64) -> Result<(), AllocError>
         requires bound { HasVersionsUpTo highest self.old.objects }
@@ -235,7 +236,7 @@ impl Single {
         Ok(())
     }
 
-    /// Whether this is the reply to a client's number.
+    /// Returns true if this is the reply to a client's number.
     #[tactic(auto, unfolding(craq_commands::specs::SingleCopy::window_of, crate::specs::Tests::is_reply))]
     fn says(&self, client: ClientId, number: RequestNo, reply: &Reply) -> bool
         ensures { result ≡ is_reply (said self.now client number) reply.now }
@@ -247,7 +248,7 @@ impl Single {
         }
     }
 
-    /// Whether the answer is what this copy answers to the ask.
+    /// Returns true if the answer is this copy's reply to the request.
     #[tactic(auto, unfolding(crate::specs::Tests::is_said))]
     pub fn answers(&self, ask: &Ask, answer: &Answer) -> bool
         ensures { result ≡ is_said self.now ask.now answer.now }

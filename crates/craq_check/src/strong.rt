@@ -1,5 +1,5 @@
-//! Tests of the strong answers: each was reached in time, and is what the single copy says at its place;
-//! called by `verdict`.
+//! Tests of the strong replies: each place was reached in time, and each reply is the single copy's
+//! at its place; used by `verdict`.
 ghost use Rattle.std.specs.Prelude.{◌≡◌, ◌≤◌, length, drop, IfOk, IfSome};
 ghost use Rattle.std.specs.Option.{option_map};
 ghost use Rattle.std.specs.List.Sorted.{IsNonDecreasingBy, IsPermutation};
@@ -16,7 +16,7 @@ use craq_runs::Place;
 use std::alloc::{AllocError, Global};
 use std::marker::Model;
 
-/// Whether the answer's place was reached between its ask and itself.
+/// Returns true if the reply's place was reached between its request and the reply.
 fn is_in_time(asks: &AskIndex, lens: &[u64], answer: &AnswerSeen, place: &Place) -> bool
     ensures { result ≡ is_in_time lens.now answer.now place.now (found_in asks.now answer.now.node answer.now.ticket) }
 {
@@ -30,7 +30,8 @@ fn is_in_time(asks: &AskIndex, lens: &[u64], answer: &AnswerSeen, place: &Place)
     }
 }
 
-/// Whether there are as many places as answers, each reached between the ask and the answer.
+/// Returns true if the places match the replies one to one, each reached between the request and
+/// the reply.
 #[tactic(auto, unfolding(crate::specs::Tests::all_pairs, crate::specs::Tests::are_in_time))]
 pub fn are_in_time(asks: &AskIndex, lens: &[u64], answers: &[AnswerSeen], places: &[Place]) -> bool
     ensures { result ≡ are_in_time (found_in asks.now) lens.now answers.now places.now }
@@ -48,7 +49,8 @@ pub fn are_in_time(asks: &AskIndex, lens: &[u64], answers: &[AnswerSeen], places
     rest.is_empty()
 }
 
-/// An answer beside the place that is claimed for it: after how many updates the single copy gave it.
+/// A reply with the place claimed for it: the number of updates after which the single copy gave
+/// it.
 #[derive(Drop)]
 pub struct Claim<'s, 'a> {
     answer: &'s AnswerSeen<'a>,
@@ -61,7 +63,7 @@ impl<'s, 'a> Model for Claim<'s, 'a> {
     ghost view = { λ p. (p.answer.now, p.position) };
 }
 
-/// The answers beside their places, in order.
+/// Pairs the replies with their places, in order.
 #[tactic(auto, unfolding(crate::specs::Tests::placed))]
 fn claims_of<'s, 'a>(
     alloc: Global,
@@ -85,7 +87,7 @@ fn claims_of<'s, 'a>(
     Ok(claims)
 }
 
-/// The same, in the order of their places.
+/// Sorts the claims by place.
 fn in_order<'s, 'a>(mut claims: Vec<Claim<'s, 'a>>) -> Vec<Claim<'s, 'a>>
     ensures same { IsPermutation claims.entry.items result.items }
     ensures rising { IsNonDecreasingBy (λ (x : Placed). x.1) result.items }
@@ -94,7 +96,7 @@ fn in_order<'s, 'a>(mut claims: Vec<Claim<'s, 'a>>) -> Vec<Claim<'s, 'a>>
     claims
 }
 
-/// Whether the answer is the single copy's.
+/// Returns true if the reply is the single copy's.
 fn is_said_to(asks: &AskIndex, single: &Single, answer: &AnswerSeen) -> bool
     ensures { result ≡ is_said_to single.now answer.now (found_in asks.now answer.now.node answer.now.ticket) }
 {
@@ -104,8 +106,8 @@ fn is_said_to(asks: &AskIndex, single: &Single, answer: &AnswerSeen) -> bool
     }
 }
 
-/// The first, from one on, that is not placed after so many updates; none where one before it is not the
-/// single copy's.
+/// Returns the index, at least `from`, of the first claim that is not placed after `count` updates;
+/// `None` if a claim before it is not the single copy's.
 #[tactic(auto, unfolding(crate::specs::Tests::said_first))]
 fn said_from(
     asks: &AskIndex,
@@ -130,8 +132,8 @@ fn said_from(
     Some(claims.len())
 }
 
-/// Whether each answer is the single copy's at its place. The copy takes each update once, and each answer is
-/// tested once, in the order of places.
+/// Returns true if each reply is the single copy's at its place. The copy applies each update once,
+/// and each reply is tested once, in the order of places.
 fn are_said_in_order(
     alloc: Global,
     asks: &AskIndex,
@@ -158,7 +160,7 @@ fn are_said_in_order(
     Ok(last.is_some())
 }
 
-/// Whether each answer is the single copy's at its place.
+/// Returns true if each reply is the single copy's at its place.
 pub fn are_said(
     alloc: Global,
     asks: &AskIndex,

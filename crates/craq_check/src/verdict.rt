@@ -1,4 +1,4 @@
-//! The whole test of an explanation: `check`, the call of the crate.
+//! The whole test of an explanation: `check`, the function of the crate.
 ghost use Rattle.std.specs.Prelude.{◌≡◌, ◌↔◌, true, IfOk, length};
 ghost use Rattle.craq_commands.specs.SingleCopy.{opening_state};
 ghost use Rattle.craq_runs.specs.Seen.{seen};
@@ -14,7 +14,8 @@ use crate::strong::{are_in_time, are_said};
 use craq_runs::{Explanation, Run};
 use std::alloc::{AllocError, Global};
 
-/// Whether each number names an update, each move has a length and each strong answer a place.
+/// Returns true if each number names an update, each move has a length and each strong reply a
+/// place.
 #[tactic(auto, unfolding(crate::specs::Tests::has_form))]
 fn has_form(
     moves: u64,
@@ -29,7 +30,8 @@ fn has_form(
         && are_named(answers, explanation.places.as_slice())
 }
 
-/// Whether the list of committed updates only grows, by updates that were asked, no request twice.
+/// Returns true if the list of committed updates only grows, by updates that were requested, no
+/// request twice.
 #[tactic(auto, unfolding(crate::specs::Tests::only_grows))]
 fn only_grows(
     alloc: Global,
@@ -52,8 +54,8 @@ fn only_grows(
     are_requests_once(alloc, updates)
 }
 
-/// Whether no ask has two strong answers, each strong answer was reached in time, and is the single copy's
-/// at its place.
+/// Returns true if no request has two strong replies, each strong reply was reached in time, and is
+/// the single copy's at its place.
 #[tactic(auto, unfolding(crate::specs::Tests::strong_hold))]
 fn strong_hold(
     alloc: Global,
@@ -74,7 +76,7 @@ fn strong_hold(
     are_said(alloc, asks, answers, places, updates)
 }
 
-/// Whether all tests are met, where asks are found by this index.
+/// Returns true if all tests pass, with this index of the requests.
 #[tactic(auto, unfolding(crate::specs::Tests::is_checked_by))]
 fn is_checked_by(
     alloc: Global,
@@ -104,7 +106,7 @@ fn is_checked_by(
     )
 }
 
-/// Whether all tests are met.
+/// Returns true if all tests pass.
 fn is_checked(alloc: Global, run: &Run, explanation: &Explanation) -> Result<bool, AllocError>
     ensures { IfOk result (λ b. b ≡ is_checked (seen run.now) explanation.now) }
 {
@@ -116,15 +118,17 @@ fn is_checked(alloc: Global, run: &Run, explanation: &Explanation) -> Result<boo
     Ok(met)
 }
 
-/// Whether the explanation holds of the run, as far as asks, committed updates and strong answers tell: it
-/// has its form (each number names an update that was asked, each move has a length, each strong answer a
-/// place in order), the list of committed updates only grows (by updates that were asked by then, no
-/// client's number twice), and each strong answer is the single copy's at its place, which was reached
-/// between the ask and the answer, no ask with two answers. That the strong answers of a chain are those of
-/// one copy, each at a moment between ask and answer, is what CRAQ promises (USENIX ATC 2009 paper).
+/// Returns true if the explanation holds of the run, as far as requests, committed updates and
+/// strong replies show. It has its form: each number names an update that was requested, each move
+/// has a length, each strong reply a place in order. The list of committed updates only grows, by
+/// updates that were requested by then, no client's number twice. Each strong reply is the single
+/// copy's at its place, which was reached between the request and the reply; no request has two
+/// replies. That the strong replies of a chain are those of one copy, each at a moment between
+/// request and reply, is CRAQ's promise (USENIX ATC 2009 paper).
 ///
-/// It reads the run and the explanation alone. Each move, ask, committed update and answer is looked at a
-/// few times, found by hash or by key, and the strong answers are sorted. It fails for want of memory alone.
+/// Reads only the run and the explanation. Each move, request, committed update and reply is looked
+/// at a few times, found by hash or by key, and the strong replies are sorted. Fails only when out
+/// of memory.
 pub fn check(alloc: Global, run: &Run, explanation: &Explanation) -> Result<bool, AllocError>
     ensures { IfOk result (λ b. (b ≡ true) ↔ IsChecked (seen run.now) explanation.now) }
 {

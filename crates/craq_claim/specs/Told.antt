@@ -1,11 +1,11 @@
--- What a JSON value tells as an explanation.
+-- Defines the linearization witness that a JSON value encodes.
 use Rattle.std.specs.Prelude.{◌≡◌, codes, Some}
 use Rattle.serde_json.specs.Data.{Data}
 use Rattle.serde_json.specs.Find.{get}
 use Rattle.craq_runs.specs.declared.explanation.Explanation.{Explanation}
 use Rattle.craq_play.specs.Explained.{counts_data, places_data}
 
--- its three members are those of the explanation, as `explain` prints them
+-- the value's three members are those of the witness, as `explain` prints them
 pub record IsTold (d : Data) (e : Explanation) : Type 0 where
   pub asks : get (codes "asks") d ≡ Some (counts_data e.asks)
   pub lens : get (codes "lens") d ≡ Some (counts_data e.lens)

@@ -1,6 +1,5 @@
-//! An explanation that somebody else says holds, read from JSON; for `craq_lab`, which checks it. A crate apart since
-//! what plays and prints a run never reads one.
-//! Code that runs in the program.
+//! Reads a linearization witness from JSON, for `craq_lab`, which checks it against a run.
+//! Runs in the program.
 #![tactic(auto)]
 
 mod misread;

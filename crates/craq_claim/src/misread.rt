@@ -1,11 +1,12 @@
-//! Why a text is no explanation, and where; answered by `reading`, and told by `craq_lab`.
+//! Defines the errors of reading a linearization witness; returned by `reading`, and reported by
+//! `craq_lab`.
 ghost use Rattle.std.specs.Prelude.{◌≡◌};
 ghost use Rattle.craq_claim.specs.declared.misread.Misread.TheVariants.{Memory};
 
 use std::alloc::AllocError;
 use std::fmt;
 
-/// A member of an explanation.
+/// A member of the JSON object.
 #[derive(Clone, Copy, Debug, PartialEq, Eq)]
 pub enum Member {
     Asks,
@@ -23,18 +24,19 @@ impl fmt::Display for Member {
     }
 }
 
-/// Why bytes were not read as an explanation.
+/// The reason that bytes were not read as a linearization witness.
 #[derive(Clone, Copy, Debug, PartialEq, Eq)]
 pub enum Misread {
-    /// A growth was refused.
+    /// Out of memory.
     Memory,
-    /// The bytes from this place on, counted from 0, are not UTF-8.
+    /// The bytes from this index on, counted from 0, are not UTF-8.
     NotText(usize),
     /// The text is not JSON at this line and column, each counted from 1.
     NotJson { line: usize, column: usize },
-    /// The member is missing, or no array.
+    /// The member is missing or is not an array.
     NoArray(Member),
-    /// The item of this place in the member, counted from 0, is not what stands there in an explanation.
+    /// The item at this index of the member, counted from 0, is not of the form that the member
+    /// needs.
     BadItem(Member, usize),
 }
 

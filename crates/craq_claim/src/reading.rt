@@ -1,4 +1,4 @@
-//! Reading an explanation: `explanation_of`, the call of the crate, for `craq_lab`.
+//! Reads a linearization witness: `explanation_of`, the only call of the crate, for `craq_lab`.
 ghost use Rattle.std.specs.Prelude.{◌≡◌, map, Some, IfOk, IfSome};
 ghost use Rattle.serde_json.specs.View.{items_view, view};
 ghost use Rattle.serde_json.specs.Data.{Data, array};
@@ -14,7 +14,7 @@ use serde_json::{Error, Value};
 use std::alloc::Global;
 use std::str;
 
-/// The array that a member of an explanation is. `NoArray` where it is missing, or is none.
+/// Returns the array in a member. `NoArray` if the member is missing or is not an array.
 fn array_of<'a>(value: &'a Value, name: &str, member: Member) -> Result<&'a [Value], Misread>
     ensures { IfOk result (λ items. get name.now (view value.now) ≡ Some (array (items_view items.now))) }
 {
@@ -24,7 +24,8 @@ fn array_of<'a>(value: &'a Value, name: &str, member: Member) -> Result<&'a [Val
     }
 }
 
-/// The counts that the items of a member are. `BadItem` with the first that is no whole number of 64 bits.
+/// Returns the items of a member as counts. `BadItem` with the first that is not a whole number of
+/// 64 bits.
 #[tactic(auto, using(crate::proofs::Numbers::is_count))]
 fn counts_of(alloc: Global, items: &[Value], member: Member) -> Result<Items<u64>, Misread>
     ensures { IfOk result (λ counts. map view items.now ≡ map count_data counts) }
@@ -39,7 +40,8 @@ fn counts_of(alloc: Global, items: &[Value], member: Member) -> Result<Items<u64
     Ok(counts)
 }
 
-/// The place that a node, a ticket and a position are; none where one of them is not in its range.
+/// Returns the linearization point of a node, a ticket and a position; `None` if one of them is out
+/// of range.
 #[tactic(auto, using(crate::proofs::Numbers::is_count))]
 fn place_of(node: &Value, ticket: &Value, position: &Value) -> Option<Place>
     ensures node { IfSome result (λ p. view node.now ≡ count_data p.node) }
@@ -59,7 +61,7 @@ fn place_of(node: &Value, ticket: &Value, position: &Value) -> Option<Place>
     })
 }
 
-/// The place that an item is: an array of its node, ticket and position.
+/// Returns the linearization point that an item encodes: an array of its node, ticket and position.
 fn place_in(item: &Value) -> Option<Place>
     ensures { IfSome result (λ p. view item.now ≡ place_data p) }
 {
@@ -72,7 +74,7 @@ fn place_in(item: &Value) -> Option<Place>
     }
 }
 
-/// The places that the items of the last member are. `BadItem` with the first that is none.
+/// Returns the items of `places` as linearization points. `BadItem` with the first that is not one.
 fn places_of(alloc: Global, items: &[Value]) -> Result<Items<Place>, Misread>
     ensures { IfOk result (λ places. map view items.now ≡ map place_data places) }
 {
@@ -86,7 +88,7 @@ fn places_of(alloc: Global, items: &[Value]) -> Result<Items<Place>, Misread>
     Ok(places)
 }
 
-/// The explanation that a JSON value is.
+/// Returns the linearization witness that a JSON value encodes.
 fn explanation_in(alloc: Global, value: &Value) -> Result<Explanation, Misread>
     ensures { IfOk result (λ e. IsTold (view value.now) e) }
 {
@@ -100,7 +102,7 @@ fn explanation_in(alloc: Global, value: &Value) -> Result<Explanation, Misread>
     })
 }
 
-/// Why a text was not read as JSON, and where.
+/// Returns the reason that a text was not read as JSON, and its line and column.
 fn misread_by(error: &Error) -> Misread {
     if error.is_memory() {
         return Misread::Memory;
@@ -111,14 +113,22 @@ fn misread_by(error: &Error) -> Misread {
     }
 }
 
-/// The explanation that bytes spell as JSON, in the form that `explain` prints: an object with the arrays of numbers `asks` and
-/// `lens`, and the array `places` of arrays of a node, a ticket and a position. White space is as JSON has it, other members are not
-/// looked at, and of a name that comes twice the last counts. Whether the explanation holds of a run is not asked here.
+/// Decodes a linearization witness from JSON, in the form that `explain` prints: an object with the
+/// arrays of numbers `asks` and `lens`, and the array `places` of arrays of a node, a ticket and a
+/// position.
 ///
-/// Refused, the first that fits: `NotText` where the bytes are not UTF-8; `NotJson` with the line and the column where the text is no
-/// JSON; `NoArray` with the first of `asks`, `lens` and `places` that is missing or no array; `BadItem` with the first item, of the
-/// members in this order, that is no whole number from 0 to 2^64 - 1, or no array of three of them of which the first, a node's id, is below 2^32.
-/// `Memory` where a growth was refused. (This project's profile.)
+/// White space follows JSON. Other members are ignored. If a name occurs twice, the last one
+/// counts. The witness is not checked against any run.
+///
+/// Refused with the first of these that applies:
+/// - `NotText`: the bytes are not UTF-8.
+/// - `NotJson`, with line and column: the text is not JSON.
+/// - `NoArray`, with the first of `asks`, `lens` and `places` that is missing or not an array.
+/// - `BadItem`, with the first bad item in that order of members. A count must be a whole number
+///   from 0 to 2^64 - 1. A linearization point must be an array of three such numbers, the first of
+///   which, a node's id, is below 2^32.
+///
+/// `Memory` when out of memory. (This project's profile.)
 pub fn explanation_of(alloc: Global, bytes: &[u8]) -> Result<Explanation, Misread>
     ensures { IfOk result (λ e. (d : Data) × (read bytes.now ≡ Some d) × IsTold d e) }
 {

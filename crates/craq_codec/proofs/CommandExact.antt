@@ -1,4 +1,4 @@
--- Commands are read as they are spelled, and spelled as they are read.
+-- Reading commands is the inverse of writing them.
 use Rattle.std.proofs.Common.{◌≡◌, ℕ, ◌^◌, ◌<◌, ◌≤◌, ◌||◌, Bool, true, false, cond, eqb, List, [], ◌∷◌, ◌++◌, Option, Some, Result, Ok, Err, refl, sym, subst, arith}
 use Rattle.std.specs.Prelude.{nat_lt}
 use Rattle.std.specs.Int.{w8, w64}
@@ -39,7 +39,7 @@ accepted t h =
     let once : has_doubles t ≡ false = or_from (stands_twice (compared t) || stands_twice t.reads) (stands_twice (written t)) (or_from (stands_twice (compared t)) (stands_twice t.reads) (never_twice (compared t) h.compared_once) (never_twice t.reads h.read_once)) (never_twice (written t) h.written_once) in
     rw (short, some, once) refl
 
--- a test that refuses
+-- a test whose error is returned
 refuses : {A : Type 0} {E : Type 0} (b : Bool) (e : E) (r : Result A E) (y : A) → result_ok (cond b (Err e) r) ≡ Some y → (b ≡ false) × (result_ok r ≡ Some y)
 refuses true e r y h = absurd cc
 refuses false e r y h = (refl, h)

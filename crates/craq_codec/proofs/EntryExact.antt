@@ -1,4 +1,4 @@
--- Replies and entries are read as they are spelled, and spelled as they are read.
+-- Reading replies and entries is the inverse of writing them.
 use Rattle.std.proofs.Common.{◌≡◌, ℕ, ◌^◌, ◌<◌, ◌≤◌, false, cond, ltb, List, ◌++◌, length, Option, Some, None, refl, subst, arith}
 use Rattle.std.specs.Int.{w8, w64}
 use Rattle.std.proofs.lemmas.Bool.{ltb-false, le-ltb}
@@ -101,7 +101,7 @@ entry_exact =
     (λ a q. record { position = q.0; origin_node = q.1.0; origin_ticket = q.1.1.0; client = q.1.1.1.0; number = q.1.1.1.1.0; reply = q.1.1.1.1.1.0; writes = q.1.1.1.1.1.1 })
     (λ e q. (q.position, (q.origin_node, (q.origin_ticket, (q.client, (q.number, (q.reply, q.writes))))))) (λ e. refl) (λ a. refl)
 
--- ---- what is kept for a client
+-- ---- the kept replies of a client
 
 abbrev reply_fits : ℕ × Reply → Type 0
 reply_fits = IsPair (λ number. (1 ≤ number) × (number < 2 ^ 64)) ReplyFits

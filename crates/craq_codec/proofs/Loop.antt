@@ -1,4 +1,4 @@
--- Reading values one after the other, as a loop does.
+-- Reads values one after the other, as a loop does.
 use Rattle.std.proofs.Common.{◌≡◌, ℕ, suc, ◌-◌, ◌+◌, ◌≤◌, ◌<◌, List, [], ◌∷◌, ◌++◌, Option, Some, None, refl, sym, ap, ◌∙◌, append_assoc, arith}
 use Rattle.std.proofs.lemmas.List.{append-nil}
 use Rattle.craq_codec.specs.declared.unread.Unread.{Unread}
@@ -6,7 +6,7 @@ use Rattle.craq_codec.specs.declared.unread.Unread.TheVariants as unread
 use Rattle.craq_codec.specs.NumberReading.{◌>>=◌, Fails}
 use Rattle.craq_codec.specs.PartReading.{many_at}
 
--- what was read before, and what is still read
+-- prepends the values read before to those that are read next
 abbrev pub with_front : {A : Type 0} → List A → Option (List A × List ℕ) → Option (List A × List ℕ)
 with_front front read = read >>= λ x. Some (front ++ x.0, x.1)
 

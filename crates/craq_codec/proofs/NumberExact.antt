@@ -1,4 +1,5 @@
--- What is read from the front was spelled so, and what was spelled is read again, whatever follows it.
+-- A reader takes exactly the encoding of its value from the front, and reads an encoding back
+-- whatever follows it.
 use Rattle.std.proofs.Common.{◌≡◌, ℕ, ◌+◌, ◌^◌, ◌%◌, ◌<◌, ◌≤◌, Bool, true, false, cond, eqb, ltb, List, [], ◌∷◌, ◌++◌, length, get_or, take, drop, Option, Some, None, refl, sym, ap, subst, ◌∙◌, append_assoc, arith, inl, inr}
 use Rattle.std.specs.Int.{Width, w8, w16, w32, w64, byte_len, from_be_bytes, to_be_bytes}
 use Rattle.std.proofs.lemmas.Bool.{cases_lt, eqb-true, ltb-false, le-ltb}
@@ -20,7 +21,7 @@ IsBytes-take n bytes h i =
       | inr le ↦ rw (get_or_past (take n bytes) i 0 (omega (arith, length-take n bytes))) (omega arith)
     ]
 
--- what a reader took from the front
+-- the bytes are a text that a reader took, and the rest
 pub record Takes (bytes text rest : List ℕ) : Type 0 where
   pub parts : bytes ≡ text ++ rest
   pub rest_fits : IsBytes rest
@@ -28,17 +29,17 @@ pub record Takes (bytes text rest : List ℕ) : Type 0 where
 pub Takes-then : {a x b y c : List ℕ} → Takes a x b → Takes b y c → Takes a (x ++ y) c
 Takes-then {a} {x} {b} {y} {c} p q = record { parts = p.parts ∙ ap (λ (t : List ℕ). x ++ t) q.parts ∙ sym (append_assoc x y c); rest_fits = q.rest_fits }
 
--- a reader finds exactly what is spelled so
+-- a reader takes exactly the encoding of its value, and reads every encoding back
 pub record IsExact {A : Type 0} (spelling : A → List ℕ) (fits : A → Type 0) (part : List ℕ → Option (A × List ℕ)) : Type 0 where
   pub takes : (bytes : List ℕ) (x : A × List ℕ) → IsBytes bytes → part bytes ≡ Some x → Takes bytes (spelling x.0) x.1 × fits x.0
   pub again : (a : A) (rest : List ℕ) → fits a → part (spelling a ++ rest) ≡ Some (a, rest)
 
--- the value of a step that did not fail
+-- a step that succeeded has a value
 pub bind_some : {A B : Type 0} (r : Option A) (f : A → Option B) (y : B) → (r >>= f) ≡ Some y → (x : A) × (r ≡ Some x) × (f x ≡ Some y)
 bind_some (Some x) f y e = (x, refl, e)
 bind_some None f y e = absurd cc
 
--- a test that did not refuse
+-- a test that was passed
 pub guard_some : {A : Type 0} (b : Bool) (r : Option A) (y : A) → cond b None r ≡ Some y → (b ≡ false) × (r ≡ Some y)
 guard_some true r y e = absurd cc
 guard_some false r y e = (refl, e)
@@ -46,7 +47,7 @@ guard_some false r y e = (refl, e)
 pub some_is : {A : Type 0} (x y : A) → Some x ≡ Some y → x ≡ y
 some_is x y e = cc
 
--- the first step of a reading, and what goes on from there
+-- the first step of a reading, and the reading that goes on from there
 pub step : {A B : Type 0} (spelling : A → List ℕ) (fits : A → Type 0) (part : List ℕ → Option (A × List ℕ)) → IsExact spelling fits part
     → (bytes : List ℕ) (f : A × List ℕ → Option B) (y : B) → IsBytes bytes → (part bytes >>= f) ≡ Some y
     → (x : A × List ℕ) × Takes bytes (spelling x.0) x.1 × fits x.0 × (f x ≡ Some y)
@@ -149,7 +150,7 @@ bytes_again text rest =
     let long : ltb (length (text ++ rest)) (length text) ≡ false = le-ltb _ _ (omega (arith, length-append text rest)) in
     rw (long, take_at text rest (length text) refl, drop_at text rest (length text) refl) refl
 
--- a reading that a test chooses
+-- a reading chosen by a test
 pub chosen : {A : Type 0} (n k : ℕ) (here there : Option A) (y : A) → cond (eqb n k) here there ≡ Some y → (P : ℕ → Type 0) → (here ≡ Some y → P k) → (there ≡ Some y → P n) → P n
 chosen n k here there y e P one other =
     elim (eqb n k) as (λ b. eqb n k ≡ b → cond b here there ≡ Some y → P n) [

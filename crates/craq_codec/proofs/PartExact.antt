@@ -1,4 +1,4 @@
--- The parts of messages are read as they are spelled, and spelled as they are read.
+-- Reading the parts of messages is the inverse of writing them.
 use Rattle.std.proofs.Common.{◌≡◌, ℕ, zero, suc, ◌^◌, ◌<◌, ◌≤◌, false, cond, eqb, ltb, List, [], ◌∷◌, ◌++◌, length, Option, Some, None, refl, sym, ap, subst, ◌∙◌, append_assoc, arith}
 use Rattle.std.specs.Int.{Width, w8, w16, w64, byte_len}
 use Rattle.std.specs.List.{flat_map, AllByRecursion}
@@ -143,7 +143,7 @@ module _ {A : Type 0} (spelling : A → List ℕ) (fits : A → Type 0) (part : 
         ap (counted_at w part) (append_assoc (number w (length xs)) (flat_map spelling xs) rest) ∙ rw (number_again w (256 ^ byte_len w) wide (length xs) (flat_map spelling xs ++ rest) h.few) (many_again xs rest h.each);
   }
 
-  -- the same, seen as another value
+  -- a part seen as another value
   module _ {B : Type 0} (f : A → B) (g : B → A) (others : B → List ℕ) (kind : B → Type 0) (into : (a : A) → fits a → kind (f a)) (back : (b : B) → kind b → fits (g b))
       (whole : (b : B) → f (g b) ≡ b) (alike : (a : A) → others (f a) ≡ spelling a) where
     pub mapped_takes : (bytes : List ℕ) (x : B × List ℕ) → IsBytes bytes → mapped f (part bytes) ≡ Some x → Takes bytes (others x.0) x.1 × kind x.0

@@ -1,4 +1,4 @@
--- A tag and what goes with it are read as they are spelled.
+-- Reading a tag and what follows it is the inverse of writing them.
 use Rattle.std.proofs.Common.{◌≡◌, ℕ, ◌^◌, ◌<◌, List, [], ◌++◌, Option, Some, refl, sym, ap, subst, ◌∙◌, append_assoc}
 use Rattle.std.specs.Int.{w8}
 use Rattle.craq_codec.specs.NumberSpelling.{number}
@@ -6,14 +6,14 @@ use Rattle.craq_codec.specs.NumberReading.{◌>>=◌, number_at}
 use Rattle.craq_codec.proofs.NumberExact.{IsBytes, Takes, Takes-then, IsExact, some_is, step, u8_exact}
 use Rattle.craq_codec.specs.PartReading.{mapped}
 
--- a tag, and what goes with it
+-- a tag and what follows it are read as they are written
 pub record IsTagged {X : Type 0} (tag_of : X → ℕ) (body : X → List ℕ) (fits : X → Type 0) (body_at : ℕ → List ℕ → Option (X × List ℕ)) : Type 0 where
   pub small : (x : X) → tag_of x < 2 ^ 8
   pub takes : (tag : ℕ) (bytes : List ℕ) (x : X × List ℕ) → IsBytes bytes → body_at tag bytes ≡ Some x → (Takes bytes (body x.0) x.1 × fits x.0) × (tag_of x.0 ≡ tag)
   pub again : (x : X) (rest : List ℕ) → fits x → body_at (tag_of x) (body x ++ rest) ≡ Some (x, rest)
 
 module _ {X : Type 0} (tag_of : X → ℕ) (body : X → List ℕ) (fits : X → Type 0) where
-  -- what one tag stands for, made of a part that is read
+  -- the case of one tag, made of a part that is read
   pub one_case : {A : Type 0} (spelling : A → List ℕ) (P : A → Type 0) (part : List ℕ → Option (A × List ℕ)) → IsExact spelling P part
       → (f : A → X) → ((a : A) → body (f a) ≡ spelling a) → ((a : A) → P a → fits (f a)) → (tag : ℕ) → ((a : A) → tag_of (f a) ≡ tag)
       → (bytes : List ℕ) (x : X × List ℕ) → IsBytes bytes → mapped f (part bytes) ≡ Some x → (Takes bytes (body x.0) x.1 × fits x.0) × (tag_of x.0 ≡ tag)

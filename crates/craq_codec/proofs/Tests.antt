@@ -1,4 +1,4 @@
--- The tests of replies tell whether their rules hold.
+-- The tests of replies decide their rules.
 use Rattle.std.proofs.Common.{ℕ, ◌≤◌, Bool, true, not, eqb, leb, List, [], ◌∷◌, length, refl, ap, inl, inr, le-leb}
 use Rattle.std.specs.Bool.{Decides}
 use Rattle.std.specs.List.{AllByRecursion, list_all}
@@ -14,7 +14,7 @@ use Rattle.craq_codec.specs.Tests.{is_object_read, is_reply, is_not_stale}
 pub decides_le : (a b : ℕ) → Decides (leb a b) (a ≤ b)
 decides_le a b = (leb-true a b, le-leb a b)
 
--- what always holds
+-- the trivial rule
 pub decides_sure : Decides true (Unit {0})
 decides_sure = (λ _. tt, λ _. refl)
 

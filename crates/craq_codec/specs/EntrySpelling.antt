@@ -1,4 +1,4 @@
--- How replies and entries are spelled.
+-- The encoding of replies and entries.
 use Rattle.std.specs.Prelude.{◌<◌, ◌≤◌, ◌^◌, ⊤, ℕ, List, [], ◌++◌, length}
 use Rattle.std.specs.List.{AllByRecursion}
 use Rattle.std.specs.Int.{w8, w32, w64}
@@ -11,8 +11,9 @@ use Rattle.craq_commands.specs.declared.entry.Write.{Write}
 use Rattle.craq_codec.specs.NumberSpelling.{number}
 use Rattle.craq_codec.specs.PartSpelling.{key, value, pair, counted, IsKey, IsValue, IsPair, AreCounted}
 
--- ---- replies: a tag, and what goes with it
+-- ---- replies: a tag, and what follows it
 
+-- the tag of a reply
 abbrev pub reply_tag : Reply → ℕ
 reply_tag (Written version) = 1
 reply_tag (Mismatch version) = 2
@@ -24,6 +25,7 @@ reply_tag (Done objects) = 7
 reply_tag (CompareFailed place) = 8
 reply_tag (Stale last) = 9
 
+-- what follows a reply's tag
 abbrev pub reply_body : Reply → List ℕ
 reply_body (Written version) = number w64 version
 reply_body (Mismatch version) = number w64 version
@@ -35,10 +37,11 @@ reply_body (Done objects) = counted w8 (pair (number w64) value) objects
 reply_body (CompareFailed place) = number w8 place
 reply_body (Stale last) = number w64 last
 
+-- a reply: its tag, and what follows it
 unfoldable pub reply : Reply → List ℕ
 reply r = number w8 (reply_tag r) ++ reply_body r
 
--- its numbers and counts are of their widths
+-- each number and count fits its width
 abbrev pub ReplyFits : Reply → Type 0
 ReplyFits (Written version) = version < 2 ^ 64
 ReplyFits (Mismatch version) = version < 2 ^ 64
@@ -52,19 +55,23 @@ ReplyFits (Stale last) = (1 ≤ last) × (last < 2 ^ 64)
 
 -- ---- entries
 
+-- a write: its key, its version and its value
 unfoldable pub write : Write → List ℕ
 write w = key w.key ++ (number w64 w.version ++ value w.value)
 
+-- the key and the value are of their kinds, and the version fits its width
 pub record WriteFits (w : Write) : Type 0 where
   pub key : IsKey w.key
   pub version : w.version < 2 ^ 64
   pub value : IsValue w.value
 
+-- the fields of an entry, in order
 unfoldable pub entry : Entry → List ℕ
 entry e =
     number w64 e.position ++ (number w32 e.origin_node ++ (number w64 e.origin_ticket
     ++ (number w64 e.client ++ (number w64 e.number ++ (reply e.reply ++ counted w8 write e.writes)))))
 
+-- each field of the entry fits its width
 pub record EntryFits (e : Entry) : Type 0 where
   pub position : e.position < 2 ^ 64
   pub origin_node : e.origin_node < 2 ^ 32
@@ -74,12 +81,13 @@ pub record EntryFits (e : Entry) : Type 0 where
   pub reply : ReplyFits e.reply
   pub writes : AreCounted w8 WriteFits e.writes
 
--- ---- what is kept for a client: a count, and each number with its reply
+-- ---- the kept replies of a client: a count, and each number with its reply
 
+-- a count of one byte, and each number with its reply
 abbrev pub window : Window → List ℕ
 window = counted w8 (pair (number w64) reply)
 
--- at most 8 replies, whose numbers and counts are of their widths
+-- at most 8 replies, whose numbers and counts fit their widths
 pub record WindowFits (w : Window) : Type 0 where
   pub few : length w ≤ window_limit
   pub each : AllByRecursion (IsPair (λ number. (1 ≤ number) × (number < 2 ^ 64)) ReplyFits) w

@@ -1,4 +1,4 @@
--- How numbers are spelled: with their highest byte first.
+-- The encoding of numbers: highest byte first.
 use Rattle.std.specs.Prelude.{ℕ, List}
 use Rattle.std.specs.Int.{Width, to_be_bytes}
 

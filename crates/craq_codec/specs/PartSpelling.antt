@@ -1,4 +1,4 @@
--- How the parts of messages are spelled.
+-- The encoding of the parts of messages.
 use Rattle.std.specs.Prelude.{ℕ, ◌≤◌, ◌<◌, ◌^◌, List, ◌++◌, length}
 use Rattle.std.specs.List.{flat_map, AllByRecursion}
 use Rattle.std.specs.Int.{Width, w8, w16, byte_len}
@@ -6,7 +6,7 @@ use Rattle.craq_names.specs.Limits.{value_limit}
 use Rattle.craq_names.specs.declared.name.ObjectId.{ObjectId}
 use Rattle.craq_codec.specs.NumberSpelling.{number}
 
--- a byte of length, and the bytes
+-- one byte of length, and the bytes
 abbrev pub key : List ℕ → List ℕ
 key bytes = number w8 (length bytes) ++ bytes
 
@@ -44,7 +44,7 @@ IsPair P Q p = P p.0 × Q p.1
 abbrev pub counted : {A : Type 0} → Width → (A → List ℕ) → List A → List ℕ
 counted w spelling xs = number w (length xs) ++ flat_map spelling xs
 
--- fewer values than a count of this width can tell, each of its kind
+-- the number of values fits a count of this width, and each value is of its kind
 pub record AreCounted {A : Type 0} (w : Width) (P : A → Type 0) (xs : List A) : Type 0 where
   pub few : length xs < 256 ^ byte_len w
   pub each : AllByRecursion P xs

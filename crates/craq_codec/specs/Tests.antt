@@ -9,6 +9,7 @@ use Rattle.craq_commands.specs.declared.reply.Reply.TheVariants.{Written, Mismat
 abbrev pub is_object_read : ℕ × List ℕ → Bool
 is_object_read o = not (o.0 == 0) || (length o.1 == 0)
 
+-- a reply keeps its rules
 abbrev pub is_reply : Reply → Bool
 is_reply (Written version) = nat_le 1 version
 is_reply (Mismatch version) = true
@@ -20,6 +21,7 @@ is_reply (Done objects) = nat_le (length objects) item_limit && list_all is_obje
 is_reply (CompareFailed place) = nat_lt place item_limit
 is_reply (Stale last) = true
 
+-- a reply does not say that its number is stale
 abbrev pub is_not_stale : Reply → Bool
 is_not_stale (Written version) = true
 is_not_stale (Mismatch version) = true

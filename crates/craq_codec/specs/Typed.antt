@@ -1,5 +1,5 @@
--- Replies and entries as their types hold them: each number of its width, each key and value of a length that its type allows,
--- and lists of any length.
+-- Replies and entries as their types hold them: each number fits its width, each key and value has
+-- a length that its type allows, and lists have any length.
 use Rattle.std.specs.Prelude.{◌<◌, ◌≤◌, ◌^◌, ⊤}
 use Rattle.craq_commands.specs.Kept.{Window}
 use Rattle.std.specs.List.{AllByRecursion}
@@ -31,6 +31,6 @@ pub record IsTypedEntry (e : Entry) : Type 0 where
   pub reply : IsTypedReply e.reply
   pub writes : AllByRecursion WriteFits e.writes
 
--- what is kept for a client is a value of its type
+-- the kept replies of a client are a value of their type
 abbrev pub IsTypedWindow : Window → Type 0
 IsTypedWindow w = AllByRecursion (IsPair (λ number. (1 ≤ number) × (number < 2 ^ 64)) IsTypedReply) w

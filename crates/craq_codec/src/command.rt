@@ -1,4 +1,4 @@
-//! Commands as bytes, by the grammar of `specs/CommandSpelling`; for `craq_frames`.
+//! Reads and writes commands by the grammar of `specs/CommandSpelling`; used by `craq_frames`.
 ghost use Rattle.std.specs.Prelude.{◌≡◌, ◌++◌, OnOk, OnErr};
 ghost use Rattle.std.specs.Io.{StartsWith};
 ghost use Rattle.craq_codec.specs.NumberReading.{Gives};
@@ -15,7 +15,7 @@ use craq_commands::{Command, Mini};
 use craq_names::{ObjectId, Value, Version};
 use std::alloc::{AllocError, Global};
 
-/// The transaction at the front, and the bytes after it.
+/// Reads the transaction at the front; returns it with the bytes after it.
 #[tactic(auto, unfolding(crate::specs::CommandReading::transaction_at, crate::specs::PartReading::pair_at))]
 fn read_transaction(alloc: Global, bytes: &[u8]) -> Result<(Mini, &[u8]), Unread>
     ensures { Gives (λ x. (x.0, x.1.now)) result (transaction_at bytes.now) }
@@ -29,7 +29,7 @@ fn read_transaction(alloc: Global, bytes: &[u8]) -> Result<(Mini, &[u8]), Unread
     }
 }
 
-/// What goes with the tag of a command, and the bytes after it.
+/// Reads what follows the tag of a command; returns the command with the bytes after it.
 #[tactic(auto, unfolding(crate::specs::CommandReading::command_body_at, crate::specs::PartReading::pair_at))]
 fn read_command_body(alloc: Global, tag: u8, bytes: &[u8]) -> Result<(Command, &[u8]), Unread>
     ensures { Gives (λ x. (x.0, x.1.now)) result (command_body_at tag bytes.now) }
@@ -79,8 +79,8 @@ fn read_command_body(alloc: Global, tag: u8, bytes: &[u8]) -> Result<(Command, &
     }
 }
 
-/// The command that the bytes begin with, and the bytes after it. `BadFrame` exactly where they
-/// begin with none; `Memory` where a growth was refused.
+/// Reads the command at the front; returns it with the bytes after it. `BadFrame` exactly if no
+/// command is at the front; `Memory` if an allocation failed.
 #[tactic(auto, unfolding(crate::specs::CommandReading::command_at))]
 pub fn read_command(alloc: Global, bytes: &[u8]) -> Result<(Command, &[u8]), Unread>
     ensures { Gives (λ x. (x.0, x.1.now)) result (command_at bytes.now) }
@@ -89,7 +89,7 @@ pub fn read_command(alloc: Global, bytes: &[u8]) -> Result<(Command, &[u8]), Unr
     read_command_body(alloc, tag, rest)
 }
 
-/// Appends an object and a value. Where it fails, what was there before is still in front.
+/// Appends an object and a value. On an error the old bytes are still in front.
 fn append_put(out: &mut BytesMut, object: &ObjectId, value: &Value) -> Result<(), AllocError>
     ensures fits { OnOk result (IsObject object.now × IsValue value.now) }
     ensures spelled { OnOk result (out.new.items
@@ -100,7 +100,7 @@ fn append_put(out: &mut BytesMut, object: &ObjectId, value: &Value) -> Result<()
     value.write(out)
 }
 
-/// Appends a transaction. Where it fails, what was there before is still in front.
+/// Appends a transaction. On an error the old bytes are still in front.
 #[tactic(auto, using(crate::proofs::Free::all_of_any))]
 fn append_transaction(out: &mut BytesMut, mini: &Mini) -> Result<(), AllocError>
     ensures fits { OnOk result (TransactionFits mini.now) }
@@ -113,7 +113,7 @@ fn append_transaction(out: &mut BytesMut, mini: &Mini) -> Result<(), AllocError>
     write_short_list(out, mini.writes())
 }
 
-/// Appends a command. Where it fails, what was there before is still in front.
+/// Appends a command. On an error the old bytes are still in front.
 #[tactic(auto, unfolding(crate::specs::CommandSpelling::command))]
 fn append_command(out: &mut BytesMut, command: &Command) -> Result<(), AllocError>
     ensures fits { OnOk result (CommandFits command.now) }
@@ -160,7 +160,7 @@ fn append_command(out: &mut BytesMut, command: &Command) -> Result<(), AllocErro
     }
 }
 
-/// Writes a command at the end. It fails for want of memory alone, and the bytes are then as before.
+/// Writes a command at the end. Fails only when out of memory; the bytes are then unchanged.
 pub fn write_command(out: &mut BytesMut, command: &Command) -> Result<(), AllocError>
     ensures fits { OnOk result (CommandFits command.now) }
     ensures spelled { OnOk result (out.new.items ≡ out.old.items ++ spelled_command command.now) }

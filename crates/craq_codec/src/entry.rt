@@ -1,4 +1,4 @@
-//! Entries and their writes as parts of messages; for `craq_wire`, whose messages carry entries.
+//! Entries and their writes as parts of messages; used by `craq_wire`, whose messages hold entries.
 ghost use Rattle.std.specs.Prelude.{⊤};
 ghost use Rattle.craq_model.specs.Spelled.{IsSpelledEntry};
 ghost use Rattle.craq_codec.specs.EntryReading.{entry_at, write_at};

@@ -1,6 +1,5 @@
-//! The parts of messages as bytes: numbers, keys, values, replies, entries, lists of them, and commands.
-//! A crate apart since `craq_wire`, for nodes, and `craq_frames`, for clients, both build their messages of them.
-//! Code that runs in the programs.
+//! Encodes and decodes the parts of messages: numbers, keys, values, replies, entries, commands.
+//! Runs in the programs: `craq_wire` (nodes' messages) and `craq_frames` (clients') build on it.
 #![tactic(auto)]
 
 mod command;

@@ -1,4 +1,5 @@
-//! Lists of parts, with a count in front or without; for whoever reads and writes messages.
+//! Lists of parts, with a count in front or without one; used by the readers and writers of
+//! messages.
 ghost use Rattle.std.specs.Prelude.{◌≡◌, ◌<◌, ◌^◌, ◌++◌, length, OnOk, OnErr};
 ghost use Rattle.std.specs.List.{flat_map, AllByRecursion};
 ghost use Rattle.std.specs.Int.{w8, w32};
@@ -12,8 +13,9 @@ use bytes::BytesMut;
 use craq_names::Items;
 use std::alloc::{AllocError, Global};
 
-/// This many values from the front, and the bytes after them. `BadFrame` exactly where the bytes
-/// do not begin with so many. Room is asked for only for values that were read.
+/// Reads `count` values from the front; returns them with the bytes after them. `BadFrame` exactly
+/// if fewer values are at the front; `Memory` if an allocation failed. Allocates only for values
+/// that were read.
 pub fn read_parts<T: Part>(
     alloc: Global,
     count: usize,
@@ -31,8 +33,8 @@ pub fn read_parts<T: Part>(
     Ok((parts, rest))
 }
 
-/// Writes the values at the end, one after the other. It fails for want of memory alone, and the bytes
-/// are then as before.
+/// Writes the values at the end, one after the other. Fails only when out of memory; the bytes are
+/// then unchanged.
 pub fn write_parts<T: Part>(out: &mut BytesMut, parts: &[T]) -> Result<(), AllocError>
     requires { AllByRecursion T.is_writable parts.now }
     ensures fits { OnOk result (AllByRecursion T.fits parts.now) }
@@ -47,8 +49,8 @@ pub fn write_parts<T: Part>(out: &mut BytesMut, parts: &[T]) -> Result<(), Alloc
     Ok(())
 }
 
-/// A byte of count at the front and so many values, and the bytes after them. `BadFrame` exactly
-/// where the bytes do not begin so.
+/// Reads a count of one byte and that number of values; returns them with the bytes after them.
+/// `BadFrame` exactly if no such list is at the front; `Memory` if an allocation failed.
 #[tactic(auto, unfolding(crate::specs::PartReading::counted_at))]
 pub fn read_short_list<T: Part>(alloc: Global, bytes: &[u8]) -> Result<(Items<T>, &[u8]), Unread>
     ensures { Gives (λ x. (x.0, x.1.now)) result (counted_at w8 T.part_at bytes.now) }
@@ -57,8 +59,8 @@ pub fn read_short_list<T: Part>(alloc: Global, bytes: &[u8]) -> Result<(Items<T>
     read_parts(alloc, count as usize, rest)
 }
 
-/// A count of 4 bytes at the front and so many values, and the bytes after them. `BadFrame`
-/// exactly where the bytes do not begin so.
+/// Reads a count of 4 bytes and that number of values; returns them with the bytes after them.
+/// `BadFrame` exactly if no such list is at the front; `Memory` if an allocation failed.
 #[tactic(auto, unfolding(crate::specs::PartReading::counted_at))]
 pub fn read_long_list<T: Part>(alloc: Global, bytes: &[u8]) -> Result<(Items<T>, &[u8]), Unread>
     ensures { Gives (λ x. (x.0, x.1.now)) result (counted_at w32 T.part_at bytes.now) }
@@ -67,8 +69,8 @@ pub fn read_long_list<T: Part>(alloc: Global, bytes: &[u8]) -> Result<(Items<T>,
     read_parts(alloc, count as usize, rest)
 }
 
-/// Writes at most 255 values at the end, after a byte of count. It fails for want of memory alone, and
-/// the bytes are then as before.
+/// Writes at most 255 values at the end, after a count of one byte. Fails only when out of memory;
+/// the bytes are then unchanged.
 pub fn write_short_list<T: Part>(out: &mut BytesMut, parts: &[T]) -> Result<(), AllocError>
     requires few { length parts.now < 2 ^ 8 }
     requires writable { AllByRecursion T.is_writable parts.now }
@@ -82,8 +84,8 @@ pub fn write_short_list<T: Part>(out: &mut BytesMut, parts: &[T]) -> Result<(), 
     undo_if_err(out, len, written)
 }
 
-/// Writes fewer than 2^32 values at the end, after a count of 4 bytes. It fails for want of memory
-/// alone, and the bytes are then as before.
+/// Writes fewer than 2^32 values at the end, after a count of 4 bytes. Fails only when out of
+/// memory; the bytes are then unchanged.
 pub fn write_long_list<T: Part>(out: &mut BytesMut, parts: &[T]) -> Result<(), AllocError>
     requires few { length parts.now < 2 ^ 32 }
     requires writable { AllByRecursion T.is_writable parts.now }

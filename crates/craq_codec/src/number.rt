@@ -1,5 +1,5 @@
-//! Numbers of 1, 2, 4 and 8 bytes and runs of bytes, from the front of bytes and at the end of a buffer;
-//! called by the other modules, and by `craq_wire` and `craq_frames`.
+//! Numbers of 1, 2, 4 and 8 bytes and runs of bytes, read from the front of bytes and written at
+//! the end of a buffer; used by the other modules, `craq_wire` and `craq_frames`.
 ghost use Rattle.std.specs.Prelude.{◌≡◌, ◌≢◌, ◌++◌, Err, OnOk, OnErr};
 ghost use Rattle.std.specs.Int.{w8, w16, w32, w64};
 ghost use Rattle.craq_codec.specs.NumberReading.{Gives, bytes_at, number_at};
@@ -9,8 +9,8 @@ use crate::Unread;
 use bytes::{BufMut, BytesMut};
 use std::alloc::AllocError;
 
-/// The byte at the front, and the bytes after it. `BadFrame` exactly where there is none. It takes
-/// no memory, and is never refused any.
+/// Reads the byte at the front; returns it with the bytes after it. `BadFrame` exactly if there is
+/// none. Never allocates.
 #[tactic(auto, unfolding(crate::specs::NumberReading::number_at))]
 pub fn read_u8(bytes: &[u8]) -> Result<(u8, &[u8]), Unread>
     ensures value { Gives (λ x. (x.0, x.1.now)) result (number_at w8 bytes.now) }
@@ -23,8 +23,8 @@ pub fn read_u8(bytes: &[u8]) -> Result<(u8, &[u8]), Unread>
     Ok((front[0], rest))
 }
 
-/// The number of 2 bytes at the front, and the bytes after it. `BadFrame` exactly where there are
-/// fewer bytes. It takes no memory, and is never refused any.
+/// Reads the number of 2 bytes at the front; returns it with the bytes after it. `BadFrame` exactly
+/// if there are fewer bytes. Never allocates.
 #[tactic(auto, unfolding(crate::specs::NumberReading::number_at))]
 pub fn read_u16(bytes: &[u8]) -> Result<(u16, &[u8]), Unread>
     ensures value { Gives (λ x. (x.0, x.1.now)) result (number_at w16 bytes.now) }
@@ -38,8 +38,8 @@ pub fn read_u16(bytes: &[u8]) -> Result<(u16, &[u8]), Unread>
     Ok((number, rest))
 }
 
-/// The number of 4 bytes at the front, and the bytes after it. `BadFrame` exactly where there are
-/// fewer bytes. It takes no memory, and is never refused any.
+/// Reads the number of 4 bytes at the front; returns it with the bytes after it. `BadFrame` exactly
+/// if there are fewer bytes. Never allocates.
 #[tactic(auto, unfolding(crate::specs::NumberReading::number_at))]
 pub fn read_u32(bytes: &[u8]) -> Result<(u32, &[u8]), Unread>
     ensures value { Gives (λ x. (x.0, x.1.now)) result (number_at w32 bytes.now) }
@@ -53,8 +53,8 @@ pub fn read_u32(bytes: &[u8]) -> Result<(u32, &[u8]), Unread>
     Ok((number, rest))
 }
 
-/// The number of 8 bytes at the front, and the bytes after it. `BadFrame` exactly where there are
-/// fewer bytes. It takes no memory, and is never refused any.
+/// Reads the number of 8 bytes at the front; returns it with the bytes after it. `BadFrame` exactly
+/// if there are fewer bytes. Never allocates.
 #[tactic(auto, unfolding(crate::specs::NumberReading::number_at))]
 pub fn read_u64(bytes: &[u8]) -> Result<(u64, &[u8]), Unread>
     ensures value { Gives (λ x. (x.0, x.1.now)) result (number_at w64 bytes.now) }
@@ -70,8 +70,8 @@ pub fn read_u64(bytes: &[u8]) -> Result<(u64, &[u8]), Unread>
     Ok((number, rest))
 }
 
-/// This many bytes of the front, and the bytes after them. `BadFrame` exactly where there are
-/// fewer bytes. It takes no memory, and is never refused any.
+/// Takes `count` bytes from the front; returns them with the bytes after them. `BadFrame` exactly
+/// if there are fewer bytes. Never allocates.
 #[tactic(auto, unfolding(crate::specs::NumberReading::bytes_at))]
 pub fn read_bytes(count: usize, bytes: &[u8]) -> Result<(&[u8], &[u8]), Unread>
     ensures value { Gives (λ x. (x.0.now, x.1.now)) result (bytes_at count bytes.now) }
@@ -83,7 +83,7 @@ pub fn read_bytes(count: usize, bytes: &[u8]) -> Result<(&[u8], &[u8]), Unread>
     Ok(bytes.split_at(count))
 }
 
-/// Writes a byte at the end. It fails for want of memory alone, and the bytes are then as before.
+/// Writes a byte at the end. Fails only when out of memory; the bytes are then unchanged.
 #[tactic(auto, unfolding(crate::specs::NumberSpelling::number))]
 pub fn write_u8(out: &mut BytesMut, n: u8) -> Result<(), AllocError>
     ensures spelled { OnOk result (out.new.items ≡ out.old.items ++ number w8 n) }
@@ -92,7 +92,8 @@ pub fn write_u8(out: &mut BytesMut, n: u8) -> Result<(), AllocError>
     out.put_u8(n)
 }
 
-/// Writes a number as 2 bytes at the end. It fails for want of memory alone, and the bytes are then as before.
+/// Writes a number as 2 bytes at the end. Fails only when out of memory; the bytes are then
+/// unchanged.
 #[tactic(auto, unfolding(crate::specs::NumberSpelling::number))]
 pub fn write_u16(out: &mut BytesMut, n: u16) -> Result<(), AllocError>
     ensures spelled { OnOk result (out.new.items ≡ out.old.items ++ number w16 n) }
@@ -101,7 +102,8 @@ pub fn write_u16(out: &mut BytesMut, n: u16) -> Result<(), AllocError>
     out.put_u16(n)
 }
 
-/// Writes a number as 4 bytes at the end. It fails for want of memory alone, and the bytes are then as before.
+/// Writes a number as 4 bytes at the end. Fails only when out of memory; the bytes are then
+/// unchanged.
 #[tactic(auto, unfolding(crate::specs::NumberSpelling::number))]
 pub fn write_u32(out: &mut BytesMut, n: u32) -> Result<(), AllocError>
     ensures spelled { OnOk result (out.new.items ≡ out.old.items ++ number w32 n) }
@@ -110,7 +112,8 @@ pub fn write_u32(out: &mut BytesMut, n: u32) -> Result<(), AllocError>
     out.put_u32(n)
 }
 
-/// Writes a number as 8 bytes at the end. It fails for want of memory alone, and the bytes are then as before.
+/// Writes a number as 8 bytes at the end. Fails only when out of memory; the bytes are then
+/// unchanged.
 #[tactic(auto, unfolding(crate::specs::NumberSpelling::number))]
 pub fn write_u64(out: &mut BytesMut, n: u64) -> Result<(), AllocError>
     ensures spelled { OnOk result (out.new.items ≡ out.old.items ++ number w64 n) }

@@ -1,5 +1,5 @@
-//! `Part`, the trait of a value inside a message, and keys, values, objects and pairs of them as such;
-//! called by the other modules, and by `craq_wire` and `craq_frames`.
+//! `Part`, the trait of a value inside a message, and its implementations for keys, values, objects
+//! and pairs; used by the other modules, `craq_wire` and `craq_frames`.
 ghost use Rattle.std.specs.Prelude.{◌≡◌, ◌<◌, ◌≤◌, ◌^◌, ⊤, ℕ, List, Option, ◌++◌, OnOk, OnErr};
 ghost use Rattle.std.specs.Int.{w16, w32, w64};
 ghost use Rattle.std.specs.Io.{StartsWith};
@@ -17,34 +17,35 @@ use bytes::{BufMut, BytesMut};
 use craq_names::{ChainId, ClientId, Key, NodeId, ObjectId, RequestNo, Value, Version};
 use std::alloc::{AllocError, Global};
 
-/// A part of a message that stands in lists, or in other parts.
+/// A part of a message that occurs in lists or in other parts.
 pub trait Part: Drop {
-    /// How a value is spelled.
+    /// Gives the encoding of a value.
     ghost spelling: { Self → List ℕ };
 
-    /// What numbers and lengths a value may have: each of a width.
+    /// Holds if each number and length of the value fits its width.
     ghost fits: { Self → Type 0 };
 
-    /// What has to be known of a value before it is written.
+    /// Holds if the value may be written.
     ghost is_writable: { Self → Type 0 };
 
-    /// The value that bytes begin with, and the bytes after it.
+    /// Gives the value at the front of bytes and the bytes after it.
     ghost part_at: { List ℕ → Option (Self × List ℕ) };
 
-    /// The value that the bytes begin with, and the bytes after it. `BadFrame` exactly where they
-    /// begin with none. Room is asked for only after the bytes of what goes there were seen.
+    /// Reads the value at the front; returns it with the bytes after it. `BadFrame` exactly if no
+    /// value is at the front; `Memory` if an allocation failed. Allocates only after it has seen
+    /// the bytes to be stored.
     fn read(alloc: Global, bytes: &[u8]) -> Result<(Self, &[u8]), Unread>
         ensures { Gives (λ x. (x.0, x.1.now)) result (part_at bytes.now) };
 
-    /// Appends the value's bytes. It fails for want of memory alone. What was there before is then still
-    /// in front, and nothing is known of what is behind it; `write` leaves nothing there.
+    /// Appends the value's bytes. Fails only when out of memory: the old bytes are then still in
+    /// front, and unspecified bytes may follow them. `write` leaves none.
     fn append(&self, out: &mut BytesMut) -> Result<(), AllocError>
         requires { is_writable self.now }
         ensures fits { OnOk result (fits self.now) }
         ensures spelled { OnOk result (out.new.items ≡ out.old.items ++ spelling self.now) }
         ensures appends { OnErr result (StartsWith out.new.items out.old.items) };
 
-    /// Writes the value at the end. It fails for want of memory alone, and the bytes are then as before.
+    /// Writes the value at the end. Fails only when out of memory; the bytes are then unchanged.
     final fn write(&self, out: &mut BytesMut) -> Result<(), AllocError>
         requires { is_writable self.now }
         ensures fits { OnOk result (fits self.now) }

@@ -1,4 +1,5 @@
-//! Replies to updates as parts of messages; called by `entry`, and by `craq_frames` for what a client gets.
+//! Replies to updates as parts of messages; used by `entry` and, for replies to clients, by
+//! `craq_frames`.
 ghost use Rattle.std.specs.Prelude.{◌≡◌};
 ghost use Rattle.craq_codec.specs.NumberReading.{Gives};
 ghost use Rattle.craq_model.specs.Spelled.{IsReply};
@@ -11,7 +12,7 @@ use craq_commands::Reply;
 use craq_names::{RequestNo, Version};
 use std::alloc::{AllocError, Global};
 
-/// What goes with the tag of a reply, and the bytes after it.
+/// Reads what follows the tag of a reply; returns the reply with the bytes after it.
 #[tactic(auto, unfolding(crate::specs::EntryReading::reply_body_at, crate::specs::PartReading::request_at))]
 fn read_reply_body(alloc: Global, tag: u8, bytes: &[u8]) -> Result<(Reply, &[u8]), Unread>
     ensures { Gives (λ x. (x.0, x.1.now)) result (reply_body_at tag bytes.now) }

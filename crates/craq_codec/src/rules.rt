@@ -1,4 +1,5 @@
-//! Which replies have an encoding, and which may stand in an entry; called by the tests of `craq_wire` and `craq_frames`.
+//! Tests which replies have an encoding and which may occur in an entry; used by the tests of
+//! `craq_wire` and `craq_frames`.
 ghost use Rattle.std.specs.Prelude.{◌≡◌, ◌↔◌, IsTrue};
 ghost use Rattle.craq_codec.specs.Tests.{is_object_read, is_reply, is_not_stale};
 ghost use Rattle.std.specs.List.{list_all};
@@ -7,21 +8,21 @@ ghost use Rattle.craq_model.specs.Spelled.{IsReply, IsNotStale};
 use craq_commands::{Mini, Reply};
 use craq_names::{Value, Version};
 
-/// Whether the object has no bytes if it is absent.
+/// Returns true unless the object is absent (version 0) and has bytes.
 fn may_be_read(object: &(Version, Value)) -> bool
     ensures { result ≡ is_object_read object.now }
 {
     object.0.get() != 0 || object.1.as_slice().is_empty()
 }
 
-/// Whether the objects may be told by a reply.
+/// Returns true if each object may be part of a reply.
 fn may_all_be_read(objects: &[(Version, Value)]) -> bool
     ensures { result ≡ list_all is_object_read objects.now }
 {
     objects.iter().all(|object| may_be_read(object))
 }
 
-/// The rules of replies as a test.
+/// Tests the rules of replies.
 fn test_reply(reply: &Reply) -> bool
     ensures { result ≡ is_reply reply.now }
 {
@@ -35,8 +36,8 @@ fn test_reply(reply: &Reply) -> bool
     }
 }
 
-/// Whether the reply keeps the rules of replies: a written version is at least 1, at most 16
-/// objects are told, an absent one has no bytes, and the compare that failed is one of 16.
+/// Returns true if the reply keeps the rules of replies: a written version is at least 1, at most
+/// 16 objects are returned, an absent object has no bytes, and the failed compare is one of 16.
 #[tactic(auto, using(crate::proofs::Tests::decides_reply))]
 pub fn is_spelled_reply(reply: &Reply) -> bool
     ensures value { result ≡ is_reply reply.now }
@@ -45,7 +46,8 @@ pub fn is_spelled_reply(reply: &Reply) -> bool
     test_reply(reply)
 }
 
-/// Whether the reply is that of a new update, and not that the update's number is stale.
+/// Returns true if the reply is that of a new update, and does not say that the update's number is
+/// stale.
 #[tactic(auto, using(crate::proofs::Tests::decides_not_stale))]
 pub fn is_fresh_reply(reply: &Reply) -> bool
     ensures value { result ≡ is_not_stale reply.now }

@@ -1,11 +1,11 @@
-//! What a failed write takes off a buffer again, so that each write adds all or nothing; called by `part`, `list` and
-//! `command`.
+//! Undoes a failed write on a buffer, so that each write adds all or nothing; used by `part`,
+//! `list` and `command`.
 ghost use Rattle.std.specs.Prelude.{◌≡◌, take, OnOk, OnErr};
 
 use bytes::BytesMut;
 use std::alloc::AllocError;
 
-/// Returns `written`; if that is an error, it first cuts `out` back to its first `len` bytes.
+/// Returns `written`; if that is an error, first cuts `out` back to its first `len` bytes.
 pub(crate) fn undo_if_err(
     out: &mut BytesMut,
     len: usize,

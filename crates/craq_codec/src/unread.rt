@@ -1,4 +1,5 @@
-//! Why bytes were not read: they encode nothing, or there was no memory; what each reading of a part answers.
+//! Why bytes could not be read: no valid encoding, or out of memory; the error of each function
+//! that reads a part.
 ghost use Rattle.std.specs.Prelude.{◌≡◌};
 ghost use Rattle.craq_codec.specs.NumberReading.{refusal_of};
 ghost use Rattle.craq_codec.specs.declared.unread.Unread.TheVariants.{Memory};
@@ -9,9 +10,9 @@ use std::alloc::{AllocError, AllocFailed};
 /// Why nothing was read from bytes.
 #[derive(Clone, Copy, Debug, PartialEq, Eq)]
 pub enum Unread {
-    /// A growth was refused.
+    /// An allocation failed.
     Memory,
-    /// The bytes spell nothing of this kind.
+    /// The bytes encode nothing of this kind.
     BadFrame,
 }
 

@@ -1,4 +1,5 @@
-//! The kept replies of a client as parts of messages; for `craq_wire`, which carries the state of a node.
+//! The kept replies of a client as parts of messages; used by `craq_wire`, whose messages hold the
+//! state of a node.
 ghost use Rattle.craq_model.specs.Spelled.{IsSpelledWindow};
 ghost use Rattle.craq_codec.specs.EntryReading.{window_at};
 ghost use Rattle.craq_codec.specs.EntrySpelling.{window, WindowFits};

@@ -1,4 +1,4 @@
--- Objects of which none stands twice.
+-- Lists of objects without duplicates.
 use Rattle.std.proofs.Common.{◌≡◌, false, List, [], ◌∷◌, arith}
 use Rattle.std.specs.Prelude.{Bool}
 use Rattle.std.specs.List.{IsDistinct, AllByRecursion, list_any}

@@ -1,4 +1,4 @@
--- Windows of kept replies: a number that is not new never becomes new again.
+-- Windows of kept replies: a number that is not new never becomes new.
 use Rattle.std.proofs.Common.{◌≡◌, ◌≢◌, ◌⊎◌, ℕ, suc, ◌<◌, ◌≤◌, Bool, true, false, cond, not, ◌&&◌, [], ◌∷◌, length, drop, Some, is_some, refl, sym, ap, subst, ◌∙◌, inl, inr, arith}
 use Rattle.std.specs.Prelude.{T, nat_lt}
 use Rattle.std.proofs.lemmas.Bool.Decides.{nat_tests}
@@ -12,7 +12,7 @@ use Rattle.craq_names.proofs.Numbers.{ByOrder, by_order_of, less_of, same_of}
 use Rattle.craq_commands.specs.declared.reply.Reply.{Reply}
 use Rattle.craq_commands.specs.Kept.{Kept, Window, smallest, is_stale, is_new, within_limit, keep}
 
--- ---- a reply that is put into a window
+-- ---- a reply put into a window
 
 put_lower : (m : ℕ) (r : Reply) (k : Kept) (ks : Window) → m < k.0 → put_number (k ∷ ks) m r ≡ (m, r) ∷ k ∷ ks
 put_lower m r k ks h = ap (λ o. by_order o ((m, r) ∷ k ∷ ks) ((k.0, r) ∷ ks) (k ∷ put_number ks m r)) (sym (nat_cmp_is m k.0 Less h))
@@ -26,7 +26,7 @@ put_higher m r k ks h = ap (λ o. by_order o ((m, r) ∷ k ∷ ks) ((k.0, r) ∷
 pub found_put : (w : Window) (m : ℕ) (r : Reply) → at_number (put_number w m r) m ≡ Some r
 found_put w m r = find-put nat_cmp nat_cmp_total m m r w ∙ ap (λ b. cond b (Some r) (at_number w m)) ((eq_by_cmp_equiv nat_cmp_total).refl m)
 
--- a number that is found stays so
+-- a number that is found stays found
 still_found : (w : Window) (m n : ℕ) (r : Reply) → is_some (at_number w n) ≡ true → is_some (at_number (put_number w m r) n) ≡ true
 still_found w m n r h =
     let split : (b : Bool) → is_some (cond b (Some r) (at_number w n)) ≡ true = elim [ true ↦ refl | false ↦ h ] in
@@ -39,7 +39,7 @@ first_found k ks = ap (λ b. cond b (Some k.1) (at_number ks k.0)) ((eq_by_cmp_e
 found_first : (n : ℕ) (k : Kept) (ks : Window) → n ≡ k.0 → is_some (at_number (k ∷ ks) n) ≡ true
 found_first n k ks e = let P : ℕ → Type 0 = λ j. is_some (at_number (k ∷ ks) j) ≡ true in subst P (sym e) (ap is_some (first_found k ks))
 
--- a number that is not the first is looked for among the others
+-- a number that is not the first is found among the others, if at all
 found_later : (n : ℕ) (k : Kept) (ks : Window) → n ≢ k.0 → at_number (k ∷ ks) n ≡ at_number ks n
 found_later n k ks ne =
     let by : (b : Bool) → eq_by_cmp nat_cmp n k.0 ≡ b → cond b (Some k.1) (at_number ks n) ≡ at_number ks n = elim [
@@ -101,7 +101,7 @@ low_is_stale w n f l = grind (arith, nat_tests, f, l)
 
 -- ---- a window with one more reply
 
--- where a new number is one too many, it is above the smallest of a full window
+-- if a new number is one too many, it is above the smallest of a full window
 too_many : (k : Kept) (ks : Window) (m : ℕ) (r : Reply) → is_new (k ∷ ks) m ≡ true → 8 < length (put_number (k ∷ ks) m r) → (k.0 < m) × (8 ≤ suc (length ks))
 too_many k ks m r new long =
     let parts = new_parts (k ∷ ks) m new in
@@ -116,11 +116,11 @@ too_many k ks m r new long =
     ] in
     (by (by_order_of m k.0), full)
 
--- where one is dropped, it is the smallest
+-- if a reply is dropped, it is that of the smallest number
 dropped : (k : Kept) (ks : Window) (m : ℕ) (r : Reply) → is_new (k ∷ ks) m ≡ true → 8 < length (put_number (k ∷ ks) m r) → drop 1 (put_number (k ∷ ks) m r) ≡ put_number ks m r
 dropped k ks m r new long = ap (drop 1) (put_higher m r k ks (too_many k ks m r new long).0)
 
--- how a window is after it kept a reply: with room, or without its smallest number
+-- a window after it kept a reply: all of it if at most 8, else without its smallest number
 by_room : (P : Window → Type 0) (p : Window) → (length p ≤ 8 → P p) → (8 < length p → P (drop 1 p)) → P (within_limit p)
 by_room P p room long =
     elim (nat_lt 8 (length p)) as (λ b. nat_lt 8 (length p) ≡ b → P (cond b (drop 1 p) p)) [
@@ -136,7 +136,7 @@ kept_found (k ∷ ks) m r new =
     by_room (λ v. at_number v m ≡ Some r) (put_number (k ∷ ks) m r) (λ room. found_put (k ∷ ks) m r)
     (λ long. ap (λ v. at_number v m) (dropped k ks m r new long) ∙ found_put ks m r)
 
--- ---- windows by rising number
+-- ---- windows sorted by number
 
 both : (a b : Bool) → T a → T b → T (a && b)
 both true b p q = q
@@ -163,7 +163,7 @@ rising_keep w m r h =
     let p : IsRising (put_number w m r) = is_sorted-put nat_cmp nat_cmp_total m r w h in
     by_room IsRising (put_number w m r) (λ room. p) (λ long. rising_drop (put_number w m r) p)
 
--- the others of a rising window are above its smallest number
+-- in a sorted window, the others are above its smallest number
 above_first : (k : Kept) (ks : Window) (m : ℕ) (r : Reply) → IsRising (k ∷ ks) → k.0 < m → k.0 < smallest (put_number ks m r)
 above_first k [] m r h lt = lt
 above_first k (l ∷ ls) m r h lt =
@@ -184,7 +184,7 @@ old_with_room w m n r new room (inr stale) =
     let count : length (put_number w m r) ≡ suc (length w) = length_put w m r (new_parts w m new).0 in
     absurd (omega (arith, full, count, room))
 
--- a number is old in a full window whose smallest number is above it, or where it stands there
+-- a number is old in a full window if the smallest number is above it, or if it is in the window
 old_beyond : (k : Kept) (ks : Window) (m n : ℕ) (r : Reply) → IsRising (k ∷ ks) → is_new (k ∷ ks) m ≡ true → 8 < length (put_number (k ∷ ks) m r) → (is_some (at_number (k ∷ ks) n) ≡ true) ⊎ (is_stale (k ∷ ks) n ≡ true) → is_new (put_number ks m r) n ≡ false
 old_beyond k ks m n r h new long old =
     let shape = too_many k ks m r new long in
@@ -205,7 +205,7 @@ old_beyond k ks m n r h new long old =
     ] in
     by old
 
--- a number that is not new stays so, whatever new number is kept
+-- a number that is not new stays so when any new number is kept
 pub old_stays : (w : Window) (m n : ℕ) (r : Reply) → IsRising w → is_new w m ≡ true → is_new w n ≡ false → is_new (keep w m r) n ≡ false
 unfolding keep
 old_stays [] m n r h new old =
@@ -214,7 +214,7 @@ old_stays (k ∷ ks) m n r h new old =
     by_room (λ v. is_new v n ≡ false) (put_number (k ∷ ks) m r) (λ room. old_with_room (k ∷ ks) m n r new room (old_cases (k ∷ ks) n old))
     (λ long. ap (λ v. is_new v n) (dropped k ks m r new long) ∙ old_beyond k ks m n r h new long (old_cases (k ∷ ks) n old))
 
--- ---- 8 replies at most
+-- ---- at most 8 replies
 
 length_put_le : (w : Window) (m : ℕ) (r : Reply) → length (put_number w m r) ≤ suc (length w)
 length_put_le [] m r = omega arith
@@ -256,7 +256,7 @@ some_kept w m r =
     one_less [] h = absurd (omega (arith, h))
     one_less (k ∷ ks) h = omega (arith, h)
 
--- what holds of the replies that were kept, and of the new one, holds of all that are kept
+-- a property of the kept replies and of the new one holds for all that are kept afterwards
 pub all_kept : (P : Reply → Type 0) (w : Window) (m : ℕ) (r : Reply) → P r → AllByRecursion (λ (k : Kept). P k.1) w → AllByRecursion (λ (k : Kept). P k.1) (keep w m r)
 unfolding keep
 all_kept P w m r q a =

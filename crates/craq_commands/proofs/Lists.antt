@@ -1,4 +1,4 @@
--- Tests of joined lists.
+-- Boolean tests of concatenated lists.
 use Rattle.std.proofs.Common.{◌≡◌, List, ◌++◌, map, arith}
 use Rattle.std.proofs.lemmas.List.Folds.{list_all-append, list_any-append}
 use Rattle.std.specs.Prelude.{Bool, ◌&&◌, ◌||◌}

@@ -5,11 +5,11 @@ use Rattle.std.specs.Ordering.{nat_cmp, eq_by_cmp}
 use Rattle.std.specs.Cmp.{unsigned_ties}
 use Rattle.craq_commands.specs.Kept.{Kept, Window, largest}
 
--- the code's test of numbers is that by which a map is searched
+-- the code's equality of numbers is the one by which maps are searched
 pub same_numbers : (x y : ℕ) → (x == y) ≡ eq_by_cmp nat_cmp x y
 same_numbers x y = unsigned_ties x y
 
--- the largest number is the last one's
+-- the last number is the largest
 last_is_largest : (w : Window) (n : ℕ) (k : Kept) → length w ≡ suc n → slice_get w n ≡ Some k → largest w ≡ k.0
 last_is_largest [] n k e h = absurd (omega (arith, e))
 last_is_largest (x ∷ []) n k e h =

@@ -2,7 +2,7 @@
 use Rattle.std.specs.Prelude.{ℕ, ◌+◌, List, [], ◌∷◌, unwrap_or}
 use Rattle.craq_names.specs.Maps.{at_key, put_key}
 
--- keys with version and value, by rising key
+-- keys with version and value, sorted by key
 abbrev pub Objects : Type 0
 Objects = List (List ℕ × (ℕ × List ℕ))
 
@@ -20,11 +20,11 @@ value_of m key = (object_of m key).1
 unfoldable pub set_object : Objects → List ℕ → ℕ → List ℕ → Objects
 set_object m key version value = put_key m key (version, value)
 
--- one write: the value, at the next version
+-- one write: the value, as the next version
 abbrev pub written : Objects → List ℕ × List ℕ → Objects
 written m w = set_object m w.0 (version_of m w.0 + 1) w.1
 
--- writes one after another
+-- several writes, one after another
 abbrev pub all_written : Objects → List (List ℕ × List ℕ) → Objects
 all_written m [] = m
 all_written m (w ∷ ws) = all_written (written m w) ws

@@ -1,4 +1,5 @@
-//! `Command`, what an update does, and `Update`, a command with its client and number; an `Ask` brings one to a node.
+//! `Command`, the operation of an update, and `Update`, a command with its client and request
+//! number. An `Ask` holds an update.
 ghost use Rattle.std.specs.Prelude.{◌≡◌};
 ghost use Rattle.craq_commands.specs.Evaluation.{chain_of_first, objects_named};
 
@@ -6,36 +7,36 @@ use crate::Mini;
 use craq_names::{ChainId, ClientId, Copied, ObjectId, RequestNo, Same, Value, Version};
 use std::alloc::{AllocError, Global};
 
-/// What an update does to the objects of one chain.
+/// An operation of an update on the objects of one chain.
 #[derive(Debug, Drop)]
 pub enum Command {
-    /// The object takes the value.
+    /// Sets the object's value.
     Put {
         object: ObjectId,
         value: Value,
     },
-    /// The object takes the value if it has the expected version.
+    /// Sets the object's value if the object has the expected version.
     TestAndSet {
         object: ObjectId,
         expect: Version,
         value: Value,
     },
-    /// The value is joined to the end of the object's.
+    /// Appends the bytes to the object's value.
     Append {
         object: ObjectId,
         value: Value,
     },
-    /// The value is joined to the front of the object's.
+    /// Prepends the bytes to the object's value.
     Prepend {
         object: ObjectId,
         value: Value,
     },
-    /// The object's value, a number of 8 bytes with the highest first, rises.
+    /// Adds to the object's value, a big-endian number of 8 bytes.
     Increment {
         object: ObjectId,
         by: u64,
     },
-    /// The object's value, a number of 8 bytes with the highest first, falls.
+    /// Subtracts from the object's value, a big-endian number of 8 bytes.
     Decrement {
         object: ObjectId,
         by: u64,
@@ -45,7 +46,7 @@ pub enum Command {
 }
 
 impl Command {
-    /// The chain that the command is for: that of its first object.
+    /// Returns the command's chain: that of its first object.
     pub fn chain(&self) -> ChainId
         ensures { result ≡ chain_of_first (objects_named self.now) }
     {
@@ -158,8 +159,8 @@ impl Same for Command {
     }
 }
 
-/// A client's command and its request number, from 1. In one chain a client gives each of its updates a
-/// number of its own.
+/// A client's command and its request number, from 1. A client uses each number for only one update
+/// of a chain.
 #[derive(Debug, Drop)]
 pub struct Update {
     pub client: ClientId,

@@ -1,11 +1,12 @@
-//! `Entry`, an update with its outcome, and `Write`, a value that it gives an object; nodes keep entries and pass them on.
+//! `Entry`, an update with its outcome, and `Write`, a value that it gives an object. Nodes store
+//! entries and forward them.
 use crate::Reply;
 use craq_names::{
     ClientId, Copied, Items, Key, NodeId, RequestNo, Same, Seq, Ticket, Value, Version,
 };
 use std::alloc::{AllocError, Global};
 
-/// A value that an entry gives an object, with the version that the object has from then on.
+/// A new value of an object, with the object's new version.
 #[derive(Debug, Drop)]
 pub struct Write {
     pub key: Key,
@@ -29,8 +30,8 @@ impl Same for Write {
     }
 }
 
-/// One update of a history, with what it came to: its reply and its writes. The origin names the
-/// ask that made it, by the head's id and ticket.
+/// One update of a history with its outcome: the reply and the writes. The origin, the head's id
+/// and ticket, names the request that made the entry.
 #[derive(Debug, Drop)]
 pub struct Entry {
     pub position: Seq,

@@ -1,4 +1,5 @@
-//! `evaluate`: what a command writes and what is replied, as the single copy has it; called by the head of a chain.
+//! `evaluate`: the writes and the reply of a command, as on a single copy. The head of a chain
+//! calls it.
 ghost use Rattle.std.specs.Prelude.{◌≡◌, ◌<◌, ◌≤◌, ◌++◌, false, length, map, IfOk};
 ghost use Rattle.craq_names.specs.Limits.{greatest, value_limit, item_limit};
 ghost use Rattle.craq_commands.specs.Objects.{Objects, object_of};
@@ -8,23 +9,23 @@ use crate::{Command, Mini, Reply};
 use craq_names::{Copied, Items, Key, ObjectId, Value, Version};
 use std::alloc::{AllocError, Global};
 
-/// What a command writes: keys with their new values, in order.
+/// The writes of a command: keys with their new values, in order.
 pub type Writes = Items<(Key, Value)>;
 
-/// The objects of one chain, to look at.
+/// Read access to the objects of one chain.
 pub trait Look {
     ghost objects: { Self → Objects };
 
-    /// The newest version and value of the object at a key; an absent object has version 0 and no
-    /// bytes.
+    /// Returns the newest version and value of the object at a key. An absent object has version 0
+    /// and no bytes.
     fn look(&self, key: &Key) -> (Version, &[u8])
         ensures version { result.0 ≡ (object_of (objects self.now) key.now).0 }
         ensures value { result.1.now ≡ (object_of (objects self.now) key.now).1 }
         ensures short { length result.1.now ≤ 4096 };
 }
 
-/// What the command writes on these objects, and its reply. A command that is refused writes
-/// nothing. It fails for want of memory alone.
+/// Returns the command's writes on these objects, and its reply. A command whose condition fails
+/// writes nothing. Fails only when out of memory.
 ///
 /// The caller knows that no object that the command names has version 2^64 - 1.
 #[tactic(auto, unfolding(crate::specs::Evaluation::some_used_up))]
@@ -69,7 +70,7 @@ pub fn evaluate<L: Look>(
     }
 }
 
-/// The object is written as its next version.
+/// Writes the object as its next version.
 fn written(
     alloc: Global,
     key: &Key,
@@ -85,7 +86,7 @@ fn written(
     Ok((writes, Reply::Written(next)))
 }
 
-/// The object is written if it has the expected version.
+/// Writes the object if it has the expected version.
 #[tactic(auto, unfolding(crate::specs::Evaluation::tested))]
 fn tested_write(
     alloc: Global,
@@ -104,7 +105,7 @@ fn tested_write(
     }
 }
 
-/// The object is written with the joined bytes, if they are not too many.
+/// Writes the joined bytes to the object if they are at most 4,096.
 #[tactic(auto, unfolding(crate::specs::Evaluation::joined))]
 fn joined_write(
     alloc: Global,
@@ -127,7 +128,8 @@ fn joined_write(
     written(alloc, key, version, Value::of(bytes)?)
 }
 
-/// The number in a value; an absent object counts as 0.
+/// Returns the number in a value, `None` if the value does not have 8 bytes. An absent object
+/// counts as 0.
 #[tactic(auto, unfolding(crate::specs::Evaluation::number_of))]
 fn number_in(version: Version, bytes: &[u8]) -> Option<u64>
     ensures { result ≡ number_of version bytes.now }
@@ -141,7 +143,7 @@ fn number_in(version: Version, bytes: &[u8]) -> Option<u64>
     }
 }
 
-/// The object is written with a number.
+/// Writes a number to the object.
 fn number_written(
     alloc: Global,
     key: &Key,
@@ -160,7 +162,7 @@ fn number_written(
     )
 }
 
-/// The object's number, if it has one, is written higher by so much.
+/// Adds to the object's number, if it has one and the sum is at most 2^64 - 1.
 #[tactic(auto, unfolding(crate::specs::Evaluation::increased))]
 fn increased_write(
     alloc: Global,
@@ -181,7 +183,7 @@ fn increased_write(
     }
 }
 
-/// The object's number, if it has one, is written lower by so much.
+/// Subtracts from the object's number, if it has one and the difference is at least 0.
 #[tactic(auto, unfolding(crate::specs::Evaluation::decreased))]
 fn decreased_write(
     alloc: Global,
@@ -202,7 +204,7 @@ fn decreased_write(
     }
 }
 
-/// A transaction: its compares first, then its reads, then its writes.
+/// Evaluates a transaction: its compares first, then its reads, then its writes.
 #[tactic(auto, unfolding(crate::specs::Evaluation::transacted))]
 fn transaction<L: Look>(alloc: Global, look: &L, mini: &Mini) -> Result<(Writes, Reply), AllocError>
     ensures { IfOk result (λ r. (r.0, r.1) ≡ transacted (L.objects look.now) mini.now (first_difference (L.objects look.now) 0 mini.now.compares)) }
@@ -217,7 +219,7 @@ fn transaction<L: Look>(alloc: Global, look: &L, mini: &Mini) -> Result<(Writes,
     }
 }
 
-/// The place of the first compare whose object has another version.
+/// Returns the index of the first compare whose object has another version.
 #[tactic(auto, unfolding(crate::specs::Evaluation::first_difference))]
 fn failed_compare<L: Look>(look: &L, compares: &[(ObjectId, Version)]) -> Option<u8>
     requires { length compares.now ≤ item_limit }
@@ -233,7 +235,7 @@ fn failed_compare<L: Look>(look: &L, compares: &[(ObjectId, Version)]) -> Option
     None
 }
 
-/// What the objects are.
+/// Returns the objects' versions and values, in order. Fails only when out of memory.
 fn objects_read<L: Look>(
     alloc: Global,
     look: &L,
@@ -250,7 +252,7 @@ fn objects_read<L: Look>(
     Ok(found)
 }
 
-/// Keys with their new values.
+/// Returns keys with their new values, in order. Fails only when out of memory.
 fn writes_of(alloc: Global, writes: &[(ObjectId, Value)]) -> Result<Vec<(Key, Value)>, AllocError>
     ensures { IfOk result (λ made. made.items ≡ map (λ w. (w.0.key, w.1)) writes.now) }
 {

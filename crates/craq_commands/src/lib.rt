@@ -1,6 +1,5 @@
-//! Commands, their replies, and what a command does to the objects; apart from the node, since `craq_check` and `craq_codec`
-//! use them without it.
-//! Code that runs in the program; `specs/` defines the single copy.
+//! Commands, replies and their effects on objects; usable without the node (`craq_check` does).
+//! Runs in the program; `specs/` defines the single copy.
 #![tactic(auto)]
 
 mod command;

@@ -1,5 +1,5 @@
-//! Tests of the objects that a command names: their chain, for `craq_admission`, and versions that are used up, for
-//! `craq_write`.
+//! Tests of the objects that a command names: their chain, for `craq_admission`, and exhausted
+//! versions, for `craq_write`.
 ghost use Rattle.std.specs.Prelude.{◌≡◌, ◌==◌, map};
 ghost use Rattle.std.specs.List.{list_all, list_any};
 ghost use Rattle.craq_names.specs.Limits.{greatest};
@@ -11,7 +11,7 @@ use crate::transaction::Named;
 use crate::{Command, Look};
 use craq_names::ChainId;
 
-/// Whether each item's object is of the chain.
+/// Returns true exactly if each item's object is of the chain.
 fn are_of_chain<T: Named>(items: &[T], chain: ChainId) -> bool
     ensures { result ≡ list_all (λ (o : ObjectId). o.chain == chain) (map T.object_named items.now) }
 {
@@ -23,7 +23,7 @@ fn are_of_chain<T: Named>(items: &[T], chain: ChainId) -> bool
     true
 }
 
-/// Whether some item's object has no version left.
+/// Returns true exactly if some item's object has version 2^64 - 1, and so no next one.
 fn is_some_used_up<L: Look, T: Named>(look: &L, items: &[T]) -> bool
     ensures { result ≡ list_any (λ (o : ObjectId). version_of (L.objects look.now) o.key == greatest) (map T.object_named items.now) }
 {
@@ -36,7 +36,7 @@ fn is_some_used_up<L: Look, T: Named>(look: &L, items: &[T]) -> bool
 }
 
 impl Command {
-    /// Whether each object that the command names is of the chain.
+    /// Returns true exactly if each object that the command names is of the chain.
     #[tactic(auto, using(crate::proofs::Lists::of_three), unfolding(crate::specs::Evaluation::all_of_chain))]
     pub fn is_of_chain(&self, chain: ChainId) -> bool
         ensures { result ≡ all_of_chain chain (objects_named self.now) }
@@ -56,7 +56,8 @@ impl Command {
         }
     }
 
-    /// Whether some object that the command names has version 2^64 - 1, and so no next one.
+    /// Returns true exactly if some object that the command names has version 2^64 - 1, and so no
+    /// next one.
     #[tactic(auto, using(crate::proofs::Lists::some_of_three), unfolding(crate::specs::Evaluation::some_used_up))]
     pub fn names_used_up<L: Look>(&self, look: &L) -> bool
         ensures { result ≡ some_used_up (L.objects look.now) (objects_named self.now) }

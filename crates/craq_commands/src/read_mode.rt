@@ -1,11 +1,12 @@
-//! `ReadMode`: strong, eventual or bounded; a read's `Ask` says it, and `craq_read` plans by it.
-/// How new the answer to a read has to be.
+//! `ReadMode`: strong, eventual or bounded. A read's `Ask` holds it, and `craq_read` plans by it.
+/// The consistency that a read asks for.
 #[derive(Clone, Copy, Debug, PartialEq, Eq)]
 pub enum ReadMode {
-    /// The committed version at some moment between the ask and its answer.
+    /// Returns the committed version at some moment between request and reply (linearizable).
     Strong,
-    /// The newest version that the node holds, committed or not.
+    /// Returns the newest version that the node holds, committed or not.
     Eventual,
-    /// The newest version held that is at most so many above the clean one.
+    /// Returns the newest version that the node holds and that is at most this many above the clean
+    /// one.
     Bounded(u32),
 }

@@ -1,27 +1,28 @@
-//! `Reply`: what a client is told about an update; entries and windows hold it.
+//! `Reply`: the reply to an update. Entries and windows hold it.
 use craq_names::{Copied, Items, RequestNo, Same, Value, Version};
 use std::alloc::{AllocError, Global};
 
 /// The reply to an update.
 #[derive(Debug, Drop)]
 pub enum Reply {
-    /// The object was written, and has this version.
+    /// The object was written and has this version now.
     Written(Version),
-    /// Nothing was written: the object has this version and not the expected one.
+    /// Nothing was written: the object has this version instead of the expected one.
     Mismatch(Version),
     /// Nothing was written: the joined value would have more than 4,096 bytes.
     TooLong,
-    /// Nothing was written: the object is there, and its value has not 8 bytes.
+    /// Nothing was written: the object exists and its value does not have 8 bytes.
     NotANumber,
     /// Nothing was written: the sum would be above 2^64 - 1.
     Overflow,
     /// Nothing was written: the difference would be below 0.
     Underflow,
-    /// The transaction was done; these were the objects that it reads, before its writes.
+    /// The transaction was done. These are the objects that it read, as they were before its
+    /// writes.
     Done(Items<(Version, Value)>),
-    /// Nothing was written: the compare of this place, counted from 0, was the first to fail.
+    /// Nothing was written: the compare at this index, from 0, was the first to fail.
     CompareFailed(u8),
-    /// The number is below all eight that are kept of the client, of which this is the largest.
+    /// The request number is below all 8 that are kept for the client; this is the largest kept.
     Stale(RequestNo),
 }
 

@@ -1,10 +1,11 @@
-//! `State`: the objects and the kept replies after a list of updates, as it is sent to a node that joins; messages hold it.
+//! `State`: the objects and the kept replies after a list of updates. Messages to a joining node
+//! hold it.
 use crate::Window;
 use craq_names::{ClientId, Copied, Items, Key, Same, Value, Version};
 use std::alloc::{AllocError, Global};
 
-/// The objects with their versions and values, by rising key, and the replies that are kept for
-/// clients, by rising client.
+/// The objects with their versions and values, sorted by key, and the replies kept for clients,
+/// sorted by client.
 #[derive(Debug, Drop)]
 pub struct State {
     pub objects: Items<(Key, (Version, Value))>,
@@ -15,7 +16,7 @@ impl State {
     ghost use Rattle.std.specs.Prelude.{◌≡◌};
     ghost use Rattle.craq_commands.specs.SingleCopy.{opening_state};
 
-    /// No objects, and nothing kept. It takes no memory.
+    /// Returns the empty state: no objects and no kept replies. Allocates nothing.
     pub fn new(alloc: Global) -> Self
         ensures { result ≡ opening_state }
     {

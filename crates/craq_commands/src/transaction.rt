@@ -1,4 +1,4 @@
-//! `Mini`, a transaction whose type keeps its limits; a `Command` can hold one.
+//! `Mini`, a mini-transaction whose type enforces its limits. A `Command` can hold one.
 ghost use Rattle.std.specs.Prelude.{◌≡◌, ◌≤◌, length, map};
 ghost use Rattle.std.specs.List.{list_any};
 ghost use Rattle.craq_names.specs.Limits.{item_limit};
@@ -11,10 +11,10 @@ use craq_names::{ChainId, Copied, Items, ObjectId, Refusal, Same, Value, Version
 use std::alloc::{AllocError, Global};
 use std::marker::Model;
 
-/// A mini-transaction: compares, reads and writes that happen together, in one chain.
+/// A mini-transaction: compares, reads and writes that happen atomically, in one chain.
 ///
-/// Each list has at most 16 items and no object twice, and not all three are empty
-/// (mini-transactions as in the USENIX ATC 2009 paper; the limits are this project's profile).
+/// Each list has at most 16 items and names no object twice, and not all three are empty.
+/// Mini-transactions are from the USENIX ATC 2009 paper; the limits are this project's profile.
 #[derive(Debug, Drop)]
 pub struct Mini {
     compares: Items<(ObjectId, Version)>,
@@ -36,7 +36,7 @@ impl Model for Mini {
 pub(crate) trait Named {
     ghost object_named: { Self → ObjectId };
 
-    /// The object that the item names.
+    /// Returns the object that the item names.
     fn object(&self) -> &ObjectId
         ensures { result.now ≡ object_named self.now };
 }
@@ -57,7 +57,7 @@ impl<T> Named for (ObjectId, T) {
     }
 }
 
-/// Whether one of the items names the object.
+/// Returns true exactly if one of the items names the object.
 fn is_among<T: Named>(object: &ObjectId, items: &[T]) -> bool
     ensures { result ≡ list_any (same_object object.now) (map T.object_named items.now) }
 {
@@ -70,7 +70,7 @@ fn is_among<T: Named>(object: &ObjectId, items: &[T]) -> bool
     false
 }
 
-/// Whether two of the items name one object.
+/// Returns true exactly if two of the items name the same object.
 fn has_double<T: Named>(items: &[T]) -> bool
     ensures { result ≡ stands_twice (map T.object_named items.now) }
 {
@@ -82,7 +82,7 @@ fn has_double<T: Named>(items: &[T]) -> bool
     false
 }
 
-/// Whether two items of one list name one object.
+/// Returns true exactly if two items of one list name the same object.
 fn has_doubles(
     compares: &[(ObjectId, Version)],
     reads: &[ObjectId],
@@ -94,15 +94,15 @@ fn has_doubles(
 }
 
 impl Mini {
-    /// The most items of each list.
+    /// The maximum number of items of each list.
     pub const MOST_ITEMS: usize = 16;
 
-    /// A transaction that writes if each object of `compares` has its version, and then tells
-    /// what the objects of `reads` were before.
+    /// Makes a transaction that writes if each object of `compares` has the given version, and then
+    /// returns the objects of `reads` as they were before.
     ///
-    /// The first of these that applies refuses it: `TooManyItems` where a list has more than 16
-    /// items, `EmptyTransaction` where all three are empty, `DuplicateKey` where an object stands
-    /// twice in one list (it may stand in several).
+    /// The first error that applies is returned: `TooManyItems` if a list has more than 16 items,
+    /// `EmptyTransaction` if all three are empty, `DuplicateKey` if an object occurs twice in one
+    /// list (it may occur in several).
     #[tactic(auto, using(crate::proofs::Doubles::distinct_unless_twice))]
     pub fn new(
         compares: Items<(ObjectId, Version)>,
@@ -128,14 +128,15 @@ impl Mini {
         })
     }
 
-    /// Each transaction is within the limits that `new` tests. It does nothing.
+    /// States that each transaction is within the limits that `new` tests. Does nothing.
     pub fn keeps_limits(&self)
         ensures { IsWithinLimits self.now }
     {
         let _ = &self.compares;
     }
 
-    /// The chain of the first object: of the compares, else the reads, else the writes.
+    /// Returns the chain of the first object: of the compares, else of the reads, else of the
+    /// writes.
     pub fn chain(&self) -> ChainId
         ensures { result ≡ chain_of_first (objects_named (Command.Mini self.now)) }
     {
@@ -151,7 +152,7 @@ impl Mini {
         }
     }
 
-    /// The objects whose versions are compared, each with the version that it must have, in order.
+    /// Returns the objects to compare, each with the version that it must have, in order.
     pub fn compares(&self) -> &[(ObjectId, Version)]
         ensures value { result.now ≡ self.now.compares }
         ensures few { length result.now ≤ item_limit }
@@ -159,7 +160,7 @@ impl Mini {
         self.compares.as_slice()
     }
 
-    /// The objects that are read, in order.
+    /// Returns the objects to read, in order.
     pub fn reads(&self) -> &[ObjectId]
         ensures value { result.now ≡ self.now.reads }
         ensures few { length result.now ≤ item_limit }
@@ -167,7 +168,7 @@ impl Mini {
         self.reads.as_slice()
     }
 
-    /// The objects that are written, each with its new value, in order.
+    /// Returns the objects to write, each with its new value, in order.
     pub fn writes(&self) -> &[(ObjectId, Value)]
         ensures value { result.now ≡ self.now.writes }
         ensures few { length result.now ≤ item_limit }

@@ -1,5 +1,5 @@
-//! The replies that are kept for a client: what is known of a number, and how a new reply is kept; a `State` holds windows,
-//! and `craq_replies` keeps replies by the same calls.
+//! The replies kept for a client: lookup of a request number, and keeping a new reply. A `State`
+//! holds windows, and `craq_replies` keeps replies by the same calls.
 ghost use Rattle.std.specs.Prelude.{◌≡◌, ◌≤◌, [], length, OnOk, OnErr, vec_len, vec_capacity};
 ghost use Rattle.std.specs.Option.{option_copied};
 ghost use Rattle.craq_names.specs.Maps.{at_number};
@@ -12,24 +12,24 @@ use craq_names::{Copied, RequestNo, Same, are_same, copies_of, put_at};
 use std::alloc::{AllocError, Global};
 use std::marker::Model;
 
-/// How many replies are kept for a client at most.
+/// The maximum number of replies kept for a client.
 pub const WINDOW_LIMIT: usize = 8;
 
-/// A request number of a client, and the reply that is kept for it.
+/// A client's request number and the reply kept for it.
 pub type Kept = (RequestNo, Reply);
 
-/// What is known of a client's request number.
+/// The status of a client's request number.
 #[derive(Debug, Drop)]
 pub enum Said<'a> {
-    /// It is new: nothing is said of it yet.
+    /// The number is new: it has no reply yet.
     New,
-    /// It is kept; this is its reply.
+    /// The number's reply is kept; this is it.
     Kept(&'a Reply),
-    /// It is below all numbers of a full window, of which this is the largest.
+    /// The number is below all numbers of a full window; this is the largest in it.
     Stale(RequestNo),
 }
 
-/// The replies to a client's newest request numbers, by rising number: 8 at most (this project's
+/// The replies to a client's newest request numbers, sorted by number: at most 8 (this project's
 /// profile).
 #[derive(Debug, Drop)]
 pub struct Window {
@@ -48,7 +48,7 @@ impl Model for Window {
 }
 
 impl Window {
-    /// No replies. It takes no memory.
+    /// Returns the empty window. Allocates nothing.
     pub fn new(alloc: Global) -> Self
         ensures { result ≡ [] }
     {
@@ -57,7 +57,7 @@ impl Window {
         }
     }
 
-    /// These replies, 8 at most, which come by rising number.
+    /// Makes a window of at most 8 replies, sorted by number.
     pub fn of(replies: Vec<Kept>) -> Self
         requires { length replies.items ≤ 8 }
         ensures { result ≡ replies.items }
@@ -65,7 +65,7 @@ impl Window {
         Window { replies }
     }
 
-    /// The replies with their numbers, by rising number: 8 at most.
+    /// Returns the replies with their numbers, sorted by number: at most 8.
     pub fn as_slice(&self) -> &[Kept]
         ensures value { result.now ≡ self.now }
         ensures few { length self.now ≤ 8 }
@@ -73,7 +73,7 @@ impl Window {
         self.replies.as_slice()
     }
 
-    /// What is known of a number. It takes no memory.
+    /// Looks up a request number. Allocates nothing.
     pub fn look(&self, number: RequestNo) -> Said<'_>
         ensures told { told result ≡ said_of self.now number }
         ensures known { known_by result ≡ known_of self.now number }
@@ -81,8 +81,8 @@ impl Window {
         look_in(self.replies.as_slice(), number)
     }
 
-    /// Keeps the reply to a new number; a ninth drops that of the smallest number. Where memory is
-    /// refused the window stays.
+    /// Keeps the reply to a new number; a ninth drops the reply to the smallest number. Fails only
+    /// when out of memory; the window is unchanged on error.
     pub fn keep(&mut self, number: RequestNo, reply: Reply) -> Result<(), AllocError>
         ensures ok { OnOk result (self.new ≡ keep self.old number reply) }
         ensures err { OnErr result (self.new ≡ self.old) }
@@ -103,7 +103,7 @@ impl Same for Window {
     }
 }
 
-/// Whether a number is below all numbers of a full window.
+/// Returns true exactly if the number is below all numbers of a full window.
 #[tactic(auto, unfolding(crate::specs::Kept::is_stale))]
 fn is_stale_in(replies: &[Kept], number: RequestNo) -> bool
     ensures { result ≡ is_stale replies.now number }
@@ -114,7 +114,7 @@ fn is_stale_in(replies: &[Kept], number: RequestNo) -> bool
     }
 }
 
-/// The reply that is kept for a number.
+/// Returns the reply kept for a number.
 #[tactic(auto, using(crate::proofs::Windows::same_numbers))]
 fn reply_in(replies: &[Kept], number: RequestNo) -> Option<&Reply>
     ensures { option_copied result ≡ at_number replies.now number }
@@ -127,7 +127,7 @@ fn reply_in(replies: &[Kept], number: RequestNo) -> Option<&Reply>
     None
 }
 
-/// What is known of a number, by the replies of a window. It takes no memory.
+/// Looks up a request number among the replies of a window. Allocates nothing.
 #[tactic(auto, using(crate::proofs::Windows::largest_last), unfolding(crate::specs::Kept::said_of, crate::specs::Kept::is_stale))]
 pub fn look_in(replies: &[Kept], number: RequestNo) -> Said<'_>
     ensures told { told result ≡ said_of replies.now number }
@@ -144,8 +144,9 @@ pub fn look_in(replies: &[Kept], number: RequestNo) -> Said<'_>
     }
 }
 
-/// Keeps the reply to a new number among those of a window; a ninth drops that of the smallest number.
-/// If memory is refused, the window stays as it was; it is refused only where there is no room for one more.
+/// Keeps the reply to a new number among those of a window; a ninth drops the reply to the smallest
+/// number. Fails only when out of memory, and only if the vector is at capacity; the window is
+/// unchanged on error.
 #[tactic(auto, unfolding(crate::specs::Kept::keep))]
 pub fn keep_in(replies: &mut Vec<Kept>, number: RequestNo, reply: Reply) -> Result<(), AllocError>
     ensures ok { OnOk result (replies.new.items ≡ keep replies.old.items number reply) }

@@ -1,4 +1,4 @@
--- Nodes whose pasts are alike answer an ask alike.
+-- Nodes with alike pasts give the same reply to a request.
 use Rattle.std.proofs.Common.{◌≡◌, ◌≤◌, ◌==◌, ◌||◌, nat_le, not, ℕ, ◌+◌, Bool, true, cond, List, [], ◌∷◌, ◌++◌, map, Option, Some, None, Result, Ok, Err, refl, sym, ap, ◌∙◌, subst, arith, inl, inr}
 use Rattle.std.proofs.lemmas.Bool.{le-leb}
 use Rattle.craq_names.specs.Limits.{greatest}
@@ -30,7 +30,7 @@ use Rattle.craq_compaction.proofs.Positions.{AreLast, last_in}
 use Rattle.craq_compaction.proofs.Turns.{with_past, SameTurn, branch, same_node, newest_alike, clean_alike}
 use Rattle.craq_compaction.proofs.Messages.{same_within}
 
--- the same turn, or the same refusal
+-- equal transitions, or equal refusals
 abbrev pub SameResult : Result Turn Refusal → Result Turn Refusal → Type 0
 SameResult (Ok t) (Ok u) = SameTurn t u
 SameResult (Ok t) (Err f) = ⊥
@@ -55,7 +55,7 @@ same_reply p h k position reply sends a =
     (λ s. refl)
     (λ s. same_accepted q h k sends sends a refl))
 
--- at positions that are settled, both reply at once
+-- at settled positions, both reply at once
 same_reply_settled : (p : Plain) (h k : Past) (m n : ℕ) (reply : Reply) (sends : List Out) → AreAlike h k → m ≤ k.acknowledged → n ≤ k.acknowledged → SameResult (reply_turn (with_past p h) m reply sends) (reply_turn (with_past p k) n reply sends)
 unfolding reply_turn
 same_reply_settled p h k m n reply sends a b c =
@@ -151,7 +151,7 @@ same_read p h k Strong key a =
     (λ t. same_answered p h k (read h) (read k) a (ap (λ (s : State). object_of s.objects key) es))
     (λ t. same_waiting_read p h k key a)
 
--- ---- asks
+-- ---- requests
 
 same_accepted_ask : (p : Plain) (h k : Past) (ask : Ask) → AreAlike h k → ((client : ℕ) → AreLast k (last_in h client) (last_in k client)) → SameResult (accepted_ask_turn (with_past p h) ask) (accepted_ask_turn (with_past p k) ask)
 same_accepted_ask p h k (asks.Update u) a b =

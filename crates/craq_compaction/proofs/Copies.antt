@@ -1,4 +1,4 @@
--- Nodes whose pasts are alike fill a successor alike, and take a state alike.
+-- Nodes with alike pasts send a successor the same, and install a state in the same way.
 use Rattle.std.proofs.Common.{◌≡◌, ◌==◌, ◌||◌, nat_le, nat_lt, max, not, ℕ, Bool, cond, List, [], ◌++◌, Some, is_some, refl, ap, ◌∙◌, arith}
 use Rattle.std.specs.Prelude.{if◌then◌else◌}
 use Rattle.craq_names.specs.Maps.{at_number}
@@ -43,7 +43,7 @@ same_blank p h k sender count a =
     (λ s. same_ignoring p h k NotReadyHere a)
     (λ s. same_outs p h k (os h) (os k) a (ap (λ (bs : List Body). send_all p sender bs) (same_fill p h k count a))))
 
--- a state takes the place of either past
+-- a state replaces either past
 pub same_copy : (p : Plain) (h k : Past) (sender position : ℕ) (state : State) → AreAlike h k → SameTurn (copy_turn (with_past p h) sender position state) (copy_turn (with_past p k) sender position state)
 unfolding copy_turn
 same_copy p h k sender position state a =

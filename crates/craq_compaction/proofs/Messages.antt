@@ -1,4 +1,4 @@
--- Nodes whose pasts are alike do the same with a message.
+-- Nodes with alike pasts take the same step on a message.
 use Rattle.std.proofs.Common.{◌≡◌, ◌≤◌, ◌<◌, ◌+◌, ◌==◌, ◌||◌, nat_le, nat_lt, max, not, ℕ, Bool, cond, List, [], ◌∷◌, ◌++◌, map, Option, Some, None, refl, sym, ap, ◌∙◌, subst, arith}
 use Rattle.std.proofs.lemmas.Bool.{leb-false, ltb-false}
 use Rattle.craq_commands.specs.declared.entry.Entry.{Entry}

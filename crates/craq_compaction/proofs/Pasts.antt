@@ -1,4 +1,5 @@
--- What a compacted past tells of the past: all that a node reads of it but the positions of settled entries.
+-- Look-ups in a compacted past agree with those in the past, except the positions of settled
+-- entries.
 use Rattle.std.proofs.Common.{◌≡◌, ◌≤◌, ℕ, ◌+◌, ◌-◌, List, ◌++◌, length, take, drop, sym, ap, ◌∙◌, subst, arith, length-drop, length-append}
 use Rattle.std.proofs.lemmas.List.{take-append-drop, take-append-le, drop-append-le, drop-drop}
 use Rattle.std.proofs.Math.Seq.{take-add}
@@ -22,11 +23,11 @@ nothing n = omega arith
 pub settled_count : (h : Past) → HoldsCommitted h → h.acknowledged - h.base ≤ length h.entries
 settled_count h w = omega (arith, w.based, w.within)
 
--- so many entries lie between the acknowledged position and a later one
+-- the number of entries between the commit index and a later position
 later_count : (base acknowledged n : ℕ) → base ≤ acknowledged → acknowledged ≤ n → (acknowledged - base) + (n - acknowledged) ≡ n - base
 later_count base acknowledged n a b = omega arith
 
--- a past whose base is its acknowledged position
+-- a past whose base is its commit index
 abbrev past_at : ℕ → State → List Entry → Past
 past_at n s es = record { base = n; base_state = s; entries = es; acknowledged = n }
 
@@ -49,7 +50,7 @@ compacted_entries h n w le =
     drop-drop (n - h.acknowledged) (h.acknowledged - h.base) h.entries
     ∙ ap (λ (k : ℕ). drop k h.entries) (later_count h.base h.acknowledged n w.based le)
 
--- a compacted past has nothing more to compact
+-- compacting a past twice is compacting it once
 pub compacted_twice : (h : Past) → compacted_in (compacted_in h) ≡ compacted_in h
 compacted_twice h =
     let es : List Entry = entries_in h h.acknowledged in
@@ -72,7 +73,7 @@ compacted_acknowledge h n w le =
 
 -- ---- two pasts
 
--- pasts that are the same once they are compacted
+-- pasts that are equal after compaction
 pub record AreAlike (h k : Past) : Type 0 where
   pub first : HoldsCommitted h
   pub second : HoldsCommitted k
@@ -105,7 +106,7 @@ same_entries h k n a le =
 pub same_later : (h k : Past) → AreAlike h k → entries_in h h.acknowledged ≡ entries_in k k.acknowledged
 same_later h k a = ap (λ (x : Past). x.entries) a.same
 
--- alike pasts stay so with more entries, and with more of them committed
+-- alike pasts stay alike with more entries, and with a higher commit index
 pub alike_append : (h k : Past) (es : List Entry) → AreAlike h k → AreAlike (with_entries_in h es) (with_entries_in k es)
 alike_append h k es a = record {
   first = record { based = a.first.based; within = omega (arith, a.first.within, length-append h.entries es) };
@@ -125,7 +126,7 @@ alike_acknowledge h k n a above below =
           ∙ compacted_acknowledge k n a.second above;
     }
 
--- and with all of them committed
+-- alike pasts stay alike with all their entries committed
 pub alike_committed : (h k : Past) → AreAlike h k → AreAlike (acknowledged_in h (length_in h)) (acknowledged_in k (length_in k))
 alike_committed h k a =
     let P : ℕ → Type 0 = λ n. AreAlike (acknowledged_in h n) (acknowledged_in k (length_in k)) in

@@ -1,4 +1,4 @@
--- The position of a client's newest entry: a compacted past may tell another one, where both are settled.
+-- The position of a client's newest entry: a compacted past may give another, if both are settled.
 use Rattle.std.proofs.Common.{◌≡◌, ◌≤◌, ◌==◌, ◌⊎◌, ℕ, ◌+◌, ◌-◌, Bool, true, false, cond, List, [], ◌∷◌, ◌++◌, length, take, drop, refl, sym, ap, ◌∙◌, arith, inl, inr}
 use Rattle.std.proofs.lemmas.Bool.{cond_both}
 use Rattle.std.proofs.lemmas.List.{take-append-drop, length-take-le}
@@ -16,7 +16,7 @@ last_both client found (e ∷ es) fs = last_both client (if_own e.position found
     if_own : ℕ → ℕ → Bool → ℕ
     if_own x y b = cond b x y
 
--- it depends on entries alone, or there is none of the client
+-- it depends only on the entries, or none is the client's
 last_reads : (client : ℕ) (es : List Entry) → ((m n : ℕ) → last_position client m es ≡ last_position client n es) ⊎ ((m : ℕ) → last_position client m es ≡ m)
 unfolding last_position
 last_reads client [] = inr (λ m. refl)
@@ -29,7 +29,7 @@ last_reads client (e ∷ es) =
       | inr given ↦ by given (e.client == client)
     ]
 
--- it is no higher than the last position
+-- it is at most the last position
 last_within : (client found position : ℕ) (es : List Entry) → AreInRow (position + 1) es → found ≤ position + length es → last_position client found es ≤ position + length es
 unfolding last_position
 last_within client found position [] r h = h
@@ -43,7 +43,7 @@ last_within client found position (e ∷ es) r h =
 abbrev pub last_in : Past → ℕ → ℕ
 last_in h client = last_position client h.base h.entries
 
--- positions that are the same, or of entries that are settled
+-- positions that are equal, or both of settled entries
 abbrev pub AreLast : Past → ℕ → ℕ → Type 0
 AreLast k m n = (m ≡ n) ⊎ ((m ≤ k.acknowledged) × (n ≤ k.acknowledged))
 

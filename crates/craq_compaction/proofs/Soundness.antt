@@ -1,4 +1,4 @@
--- What is remembered of a sound node is a sound node.
+-- The remembered part of a sound node is a sound node.
 use Rattle.std.proofs.Common.{◌≡◌, ◌≤◌, ℕ, ◌+◌, ◌-◌, Bool, true, false, drop, subst, arith}
 use Rattle.craq_names.proofs.Lists.{all_drop}
 use Rattle.craq_model.specs.Plain.{Plain, clean}

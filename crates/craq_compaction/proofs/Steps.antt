@@ -1,4 +1,4 @@
--- What is remembered of a sound node decides its steps.
+-- The remembered part of a sound node decides its steps.
 use Rattle.std.proofs.Common.{◌≡◌, ◌==◌, ℕ, Bool, true, false, [], ◌∷◌, Result, Ok, Err, refl, sym, ap, ◌∙◌}
 use Rattle.craq_names.specs.declared.refusal.Refusal.{Refusal}
 use Rattle.craq_names.specs.declared.refusal.Refusal.TheVariants as refusals
@@ -76,7 +76,7 @@ equal_turns (Ok t) (Err f) h = absurd h
 equal_turns (Err e) (Ok u) h = absurd h
 equal_turns (Err e) (Err f) h = ap (λ (x : Refusal). Err x) h
 
--- ---- a sound node, and what is remembered of it
+-- ---- a sound node and its remembered part
 
 within : (p : Plain) → IsSound p → HoldsCommitted p.past
 within p s = record { based = s.based; within = s.within }
@@ -100,7 +100,7 @@ pub delivery_remembered : (forgets : Bool) (p : Plain) (m : LinkMessage) → IsS
 delivery_remembered true p m s = (same_body p (compacted_in p.past) p.past m m.body (alike p s)).1
 delivery_remembered false p m s = refl
 
--- nodes of which the same is remembered
+-- nodes with the same remembered part
 pub alike_steps : (forgets : Bool) (p q : Plain) (e : Event) → IsSound p → IsSound q → remembered forgets p ≡ remembered forgets q → remembered_turn forgets (node_step p e) ≡ remembered_turn forgets (node_step q e)
 alike_steps forgets p q e s t same =
     sym (step_remembered forgets p e s) ∙ ap (λ (x : Plain). remembered_turn forgets (node_step x e)) same ∙ step_remembered forgets q e t

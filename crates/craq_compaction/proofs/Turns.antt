@@ -1,4 +1,4 @@
--- Nodes whose pasts are alike send the same, and stay alike as they settle.
+-- Nodes with alike pasts send the same, and stay alike as they adopt a membership.
 use Rattle.std.proofs.Common.{◌≡◌, ◌≤◌, ◌==◌, ◌&&◌, nat_le, not, ℕ, Bool, true, false, cond, List, [], ◌∷◌, ◌++◌, map, None, refl, sym, ap, ◌∙◌, subst, arith}
 use Rattle.std.specs.Prelude.{if◌then◌else◌}
 use Rattle.craq_commands.specs.declared.entry.Entry.{Entry}
@@ -21,14 +21,14 @@ use Rattle.craq_compaction.proofs.Pasts.{AreAlike, same_acknowledged, same_lengt
 abbrev pub with_past : Plain → Past → Plain
 with_past p h = record p { past = h }
 
--- the same step, and nodes of which the same is left once their pasts are compacted
+-- equal steps, to nodes that are equal after compaction of their pasts
 abbrev pub SameTurn : Turn → Turn → Type 0
 SameTurn t u = (remembered true t.0 ≡ remembered true u.0) × (t.1 ≡ u.1)
 
 abbrev pub SameNode : Plain → Plain → Type 0
 SameNode p q = remembered true p ≡ remembered true q
 
--- the same test, and what is related on either branch
+-- equal tests, with related results on either branch
 pub branch : {A : Type 0} (R : A → A → Type 0) (b c : Bool) (x y u v : A) → b ≡ c → (c ≡ true → R x u) → (c ≡ false → R y v) → R (cond b x y) (cond c u v)
 branch {A} R b c x y u v e f g =
     let by : (d : Bool) → (d ≡ true → R x u) → (d ≡ false → R y v) → R (cond d x y) (cond d u v) = elim [ true ↦ λ s t. s refl | false ↦ λ s t. t refl ] in
@@ -44,7 +44,7 @@ same_outs p h k os qs a e = (same_node p h k a, ap (λ (o : List Out). (turn_wit
 pub same_ignoring : (p : Plain) (h k : Past) (why : Why) → AreAlike h k → SameTurn (turn_ignoring (with_past p h) why) (turn_ignoring (with_past p k) why)
 same_ignoring p h k why a = (same_node p h k a, refl)
 
--- ---- what is read of a past
+-- ---- look-ups in a past
 
 pub newest_alike : (p : Plain) (h k : Past) → AreAlike h k → newest (with_past p h) ≡ newest (with_past p k)
 unfolding newest
@@ -54,7 +54,7 @@ pub clean_alike : (p : Plain) (h k : Past) → AreAlike h k → clean (with_past
 unfolding clean
 clean_alike p h k a = same_clean h k a
 
--- ---- what is sent
+-- ---- sends
 
 pub same_catch_up : (p : Plain) (h k : Past) (n : ℕ) → AreAlike h k → k.acknowledged ≤ n → catch_up (with_past p h) n ≡ catch_up (with_past p k) n
 unfolding catch_up entries_after
@@ -83,7 +83,7 @@ same_tick_sends p h k a =
     ap (λ (r : List Out). sent r (unready_sends (with_past p h))) (same_ready_sends p h k a)
     ∙ ap (λ (u : List Out). sent (ready_sends (with_past p k)) u) (same_unready_sends p h k a)
 
--- ---- settling in a membership
+-- ---- adopting a membership
 
 same_given : (p : Plain) (h k : Past) → AreAlike h k → answer_outs (all_given (with_past p h)) ≡ answer_outs (all_given (with_past p k))
 unfolding all_given newest

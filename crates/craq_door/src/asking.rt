@@ -1,4 +1,5 @@
-//! `CallTaker`: a store that takes a call without waiting, and by what right it is asked; for `dialogue` and for whoever serves many.
+//! `CallTaker`: a backend that takes a call without waiting, and the right to ask it; for
+//! `dialogue` and for event loops.
 ghost use Rattle.std.specs.Prelude.{IfErr, IfOk, Option, Result};
 ghost use Rattle.craq_letters.specs.declared.token.Token.{Token};
 ghost use Rattle.craq_names.specs.declared.refusal.Refusal.{Refusal};
@@ -11,45 +12,47 @@ use craq_letters::Token;
 use craq_names::Refusal;
 use craq_seat::CallReceipt;
 
-/// The call to which a step of a dialogue came (`Stepped::Calls`). The step alone makes it, and it is neither copied nor let go:
-/// only `Dialogue::ask` takes it. So each call to which a step came is asked, just once.
+/// A call that a step made (`Stepped::Calls`). Only a step makes one, and only `Dialogue::ask`
+/// takes it. It is neither `Copy` nor `Drop`, so each call that a step made is asked exactly once.
 #[derive(Debug)]
 pub struct CallDue {
     _made: (),
 }
 
 impl CallDue {
-    /// A step came to a call.
+    /// Makes the mark of a call that a step made.
     pub(crate) fn new() -> Self {
         CallDue { _made: () }
     }
 
-    /// The call is made.
+    /// Turns the mark into the right to ask the call.
     pub(crate) fn make(self) -> Permit {
         let CallDue { _made: () } = self;
         Permit { _made: () }
     }
 }
 
-/// The right to ask a call. It is made of a call that is due (`CallDue`), by `Dialogue::ask` alone; it is not copied, and whoever
-/// is asked takes it. So no call is asked twice, and none to which no step came, as far as whoever is asked asks nothing without one.
+/// The right to ask a call. Only `Dialogue::ask` makes one, of a call that a step made (`CallDue`).
+/// It is not `Copy`, and the backend takes it. So no call is asked twice, and none that no step
+/// made, as long as the backend asks nothing without one.
 #[derive(Debug, Drop)]
 pub struct Permit {
     _made: (),
 }
 
-/// A store that takes a call without waiting: what comes of it comes at once, or later by a letter.
+/// A backend that takes a call without waiting: its outcome comes at once, or later by a
+/// completion.
 pub trait CallTaker: Reached {
-    /// Which calls were asked of it under which token, and what came of each at once.
+    /// The calls that were asked of it, each with its token and its outcome at once, if there was
+    /// one.
     ghost submits: { Self → Token → Question → Option (Result Called Refusal) → Type 0 };
 
-    /// Makes the call of a question. `Some`: its receipt. `None`: a letter with this token will come, and no other call may
-    /// have that token until then. Refused with one with which the store may refuse the call, and then no letter comes. `few` tells that few
-    /// connections have something to do just now.
+    /// Makes the call of a question. Returns its receipt where it is answered at once; else `None`,
+    /// and a completion with this token will come. No other call may have the token until then.
+    /// `few` says that few connections are busy.
     ///
-    /// What is refused is refused as this store may refuse the call, and a call that is not may be refused with whatever an ask
-    /// of its kind may be refused with. This call was asked under this token, and this came of it at once. It is asked by a
-    /// permit alone: no call twice, and none to which no step of a dialogue came.
+    /// Refused only as this backend may refuse the call, and no completion comes then. A call that
+    /// is not refused at once may be refused later with any refusal of its kind of request.
     fn submit(
         &self,
         permit: Permit,

@@ -1,4 +1,5 @@
-//! `DoorCalls`: the receipts of a door's calls, and the reply with the answer of one; for `door` and `question`.
+//! `DoorCalls`: the receipts of a connection's calls, and the reply to a call; for `door` and
+//! `question`.
 ghost use Rattle.std.specs.Prelude.{◌≡◌, ◌≤◌, [], ◌∷◌, ◌++◌, length, vec_capacity, OnOk, OnErr};
 ghost use Rattle.craq_door.specs.Halves.{HasNoRoom, HasRoom};
 ghost use Rattle.craq_door.specs.Turns.{IsReplyOf, kept, message_of, reply_of};
@@ -10,17 +11,18 @@ use craq_names::Pass;
 use craq_seat::CallReceipt;
 use std::alloc::{AllocError, Global};
 
-/// The calls of one door.
+/// The calls of one request handler.
 #[derive(Drop)]
 pub struct DoorCalls {
-    /// Whether the receipts of earlier turns are kept.
+    /// True where the receipts of earlier requests are kept.
     pub(crate) keeps: bool,
-    /// The receipts of the calls, in order: of all turns where they are kept, else of the last turn alone. A desk alone
-    /// makes receipts, and they are not copied, so a receipt more is that of a call more.
+    /// The receipts of the calls, in order: of all requests where they are kept, else of the last
+    /// one. Only a desk makes receipts, and they are not copied, so one more receipt is that of one
+    /// more call.
     pub(crate) receipts: Vec<CallReceipt>,
 }
 
-/// The reply with a call's answer and the pass that its client has after it.
+/// Returns the reply with the answer of a call and the pass that the client has after it.
 fn reply_of(answer: Answer, pass: Pass) -> ClientReply
     ensures { result ≡ reply_of pass answer }
 {
@@ -35,7 +37,7 @@ fn reply_of(answer: Answer, pass: Pass) -> ClientReply
 }
 
 impl DoorCalls {
-    /// No calls so far. It takes no memory.
+    /// Makes an empty list of calls. Takes no memory.
     pub(crate) fn new(alloc: Global, keeps: bool) -> Self
         ensures keeps { result.keeps ≡ keeps }
         ensures receipts { result.receipts.items ≡ [] }
@@ -46,7 +48,7 @@ impl DoorCalls {
         }
     }
 
-    /// A turn begins: the receipts of earlier turns go unless they are kept. It takes no memory.
+    /// Begins a request: drops the receipts of earlier ones unless they are kept. Takes no memory.
     pub(crate) fn begin(&mut self)
         ensures keeps { self.new.keeps ≡ self.old.keeps }
         ensures receipts { self.new.receipts.items ≡ kept self.old.keeps self.old.receipts.items }
@@ -57,8 +59,8 @@ impl DoorCalls {
         }
     }
 
-    /// Makes room for the receipt of one more call. Refused where there is none and a growth is refused; the receipts stay as
-    /// they are in either case.
+    /// Makes room for the receipt of one more call. Fails only when out of memory. The receipts are
+    /// unchanged in either case.
     pub(crate) fn make_room(&mut self) -> Result<(), AllocError>
         ensures keeps { self.new.keeps ≡ self.old.keeps }
         ensures receipts { self.new.receipts.items ≡ self.old.receipts.items }
@@ -69,9 +71,9 @@ impl DoorCalls {
         Ok(())
     }
 
-    /// The reply to a call with this receipt: its answer, and the pass that the client has after it, the larger of the
-    /// pass that it showed and the stamp of the answer. The receipt stands behind the others from then on. It takes no
-    /// memory.
+    /// Keeps the receipt of a call behind the others and returns the reply: the answer, and the
+    /// pass that the client has after it, the larger of the pass that it showed and the stamp of
+    /// the answer. Takes no memory.
     pub(crate) fn reply_to(&mut self, answer: Answer, receipt: CallReceipt) -> ClientReply
         requires answered { answer ≡ receipt.answer }
         requires room { HasRoom self.old }
@@ -84,7 +86,8 @@ impl DoorCalls {
         reply_of(answer, pass)
     }
 
-    /// The receipts of all calls, in order, where they are kept; else none. It takes no memory.
+    /// Returns the receipts of all calls, in order, where they are kept; else none. Takes no
+    /// memory.
     pub fn into_receipts(self) -> Vec<CallReceipt>
         ensures { result.items ≡ kept self.keeps self.receipts.items }
     {

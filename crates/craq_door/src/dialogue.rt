@@ -1,4 +1,4 @@
-//! `Dialogue`: what serving one client comes to where its calls come back later; for a loop that serves many.
+//! `Dialogue`: the state of one connection whose calls are answered later; for an event loop.
 ghost use Rattle.std.specs.Prelude.{◌≡◌, None};
 ghost use Rattle.craq_door.specs.declared.dialogue.Phase.TheVariants.{Idle};
 ghost use Rattle.craq_door.specs.Dialogues.{KeepsRoom};
@@ -13,21 +13,21 @@ use craq_seat::CallReceipt;
 use std::alloc::{AllocError, Global};
 use std::mem;
 
-/// Why nothing is read or asked any more.
+/// The reason why nothing is read or asked any more.
 #[derive(Debug, Clone, Copy, PartialEq, Eq)]
 pub enum Ending {
-    /// A length above 1,048,576 stands in front, and its refusal is the last that was made due.
+    /// A length above 1,048,576 stands in front. Its refusal is the last reply.
     TooLong,
-    /// Memory lacked: of the next frame no reply is due.
+    /// Out of memory: there is no reply to the next frame.
     Memory,
 }
 
-/// What is done next.
+/// The state of a connection between two steps.
 #[derive(Drop)]
 pub(crate) enum Phase {
     /// The next frame is looked for.
     Idle,
-    /// This message is to be asked.
+    /// This request is to be asked.
     Asks(ClientMessage),
     /// This call is under way.
     Waits(Question),
@@ -35,22 +35,25 @@ pub(crate) enum Phase {
     Over(Ending),
 }
 
-/// What a step came to.
+/// The outcome of a step.
 #[derive(Debug)]
 pub enum Stepped {
     /// There may be another step to take.
     Goes,
-    /// The call of `question` is to be made, by `ask`, and its outcome to be given back by `answer`.
+    /// The call of `question` is to be made, by `ask`, and its outcome to be given back by
+    /// `answer`.
     Calls(CallDue),
-    /// Less than a frame is there: more bytes have to come.
+    /// Less than a frame has come: more bytes are needed.
     Starved,
-    /// Nothing is done before bytes that are due are written or a call came back, or any more.
+    /// Nothing can be done before unsent bytes are written or a call has its outcome; or ever
+    /// again.
     Stays,
 }
 
-/// What serving one client comes to where its calls come back later: bytes in, calls to make, their outcomes, bytes out. At
-/// most one call is under way. What it makes due are the frames of the replies to the frames that came, in their order, and
-/// each reply is that of a turn of a door (`CallDoor`) for just its message.
+/// The state of one connection whose calls are answered later: bytes in, calls to make, their
+/// outcomes, bytes out. At most one call is under way. The unsent bytes are the frames of the
+/// replies to the frames that came, in their order. Each reply is that of a turn of a request
+/// handler (`CallDoor`) for its request.
 #[derive(Drop)]
 pub struct Dialogue {
     talk: Conversation,
@@ -69,7 +72,8 @@ impl Dialogue {
     ghost use Rattle.craq_door.specs.Turns.{kept};
     ghost use Rattle.craq_door.specs.Dialogues.{Answers, Holds, IsUnderWay, Took, ending_of};
 
-    /// Nothing came, nothing was asked, and nothing is due. The receipts of calls are kept or not. It takes no memory.
+    /// Makes the state of a new connection. `keeps`: whether the receipts of its calls are kept.
+    /// Takes no memory.
     pub fn new(alloc: Global, keeps: bool) -> Self
         ensures holds { Holds result.phase result.talk [] [] [] }
         ensures input { result.talk.buffers.input.items ≡ [] }
@@ -84,14 +88,14 @@ impl Dialogue {
         }
     }
 
-    /// Whether bytes may come now: nothing is asked, and it is not over.
+    /// Returns whether bytes may be received: no request is under way, and it is not over.
     pub fn listens(&self) -> bool
         ensures { IsTrue result ↔ (self.now.phase ≡ Phase.Idle) }
     {
         matches!(&self.phase, Phase::Idle)
     }
 
-    /// Why nothing is read or asked any more, once it is over.
+    /// Returns the reason why nothing is read or asked any more, once it is over.
     pub fn ending(&self) -> Option<Ending>
         ensures { result ≡ ending_of self.now.phase }
     {
@@ -101,8 +105,9 @@ impl Dialogue {
         }
     }
 
-    /// These bytes came. The first message of the payload in front may be asked at once; else the next frame is to be looked for,
-    /// as before. It fails for want of memory alone; then the bytes are lost, and it is over.
+    /// Takes bytes that came. The first request of the payload in front may be found at once; else
+    /// the next frame is looked for by a step. Fails only when out of memory; the bytes are lost
+    /// then, and it is over.
     pub fn receive(&mut self, alloc: Global, bytes: &[u8]) -> Result<(), AllocError>
         requires { self.old.phase ≡ Phase.Idle }
         ensures holds { (read written : List ℕ) (turns : History)
@@ -125,14 +130,14 @@ impl Dialogue {
         }
     }
 
-    /// The bytes that are due.
+    /// Lends the unsent bytes.
     pub fn due(&self) -> &[u8]
         ensures { result.now ≡ self.now.talk.buffers.output.items }
     {
         self.talk.due()
     }
 
-    /// So many of the bytes that are due are written.
+    /// Drops the first `count` unsent bytes, which were written.
     pub fn wrote(&mut self, count: usize)
         requires { count ≤ length self.old.talk.buffers.output.items }
         ensures holds { (read written : List ℕ) (turns : History)
@@ -146,7 +151,7 @@ impl Dialogue {
         self.talk.wrote(count);
     }
 
-    /// The call that is under way.
+    /// Lends the call that is under way.
     pub fn question(&self) -> Option<&Question>
         ensures { IsUnderWay self.now.phase (option_copied result) }
     {
@@ -156,8 +161,9 @@ impl Dialogue {
         }
     }
 
-    /// Takes a step, if there is one to take: looks for the next frame, or begins the turn of its next message. It is over
-    /// (`ending`) behind a length above 1,048,576, whose refusal is due then, and where memory lacks, and no more is due then.
+    /// Takes a step, if there is one to take: looks for the next frame, or begins its next request.
+    /// It is over (`ending`) behind a length above 1,048,576, whose refusal is then unsent, and
+    /// when out of memory; nothing more is appended then.
     pub fn step<C: Reached>(&mut self, alloc: Global, callee: &C) -> Stepped
         ensures took { Took (C.tells callee.now) self.old.phase result self.new.phase self.old.talk self.new.talk self.old.calls self.new.calls }
         ensures keeps { self.new.calls.keeps ≡ self.old.calls.keeps }
@@ -168,9 +174,9 @@ impl Dialogue {
         stepped
     }
 
-    /// Makes the call that is under way and due, under this token: what came of it at once, its receipt or why it is refused, or
-    /// nothing, where a letter with this token will come (`CallTaker::submit`). Where no call is under way none is made, and
-    /// nothing came. `few` tells that few connections have something to do just now.
+    /// Makes the call that is under way, under this token. Returns its outcome at once, a receipt
+    /// or a refusal; else `None`, and a completion with this token will come (`CallTaker::submit`).
+    /// Where no call is under way none is made. `few` says that few connections are busy.
     #[tactic(auto, using(crate::proofs::Asked::asked_and_waits, crate::proofs::Asked::asked_and_answered, crate::proofs::Asked::asked_and_refused))]
     pub fn ask<T: CallTaker>(
         &self,
@@ -192,9 +198,9 @@ impl Dialogue {
         }
     }
 
-    /// The call that is under way came back: its turn ends with the call's reply, or with its refusal as it came back, and the
-    /// receipt stands behind the others (`end_turn`). Where memory lacks for the bytes of the reply it is over, and no more is
-    /// due. Where no call is under way nothing happens.
+    /// Takes the outcome of the call that is under way: appends its reply or refusal to the unsent
+    /// bytes, and keeps the receipt behind the others (`end_turn`). Out of memory for the bytes of
+    /// the reply it is over, and nothing is appended. Unchanged where no call is under way.
     pub fn answer(&mut self, alloc: Global, outcome: Result<CallReceipt, Refusal>)
         ensures answers { Answers self.old.phase outcome self.new.phase self.old.talk self.new.talk self.old.calls self.new.calls }
         ensures keeps { self.new.calls.keeps ≡ self.old.calls.keeps }
@@ -203,7 +209,8 @@ impl Dialogue {
         self.phase = answered(alloc, &mut self.talk, &mut self.calls, phase, outcome);
     }
 
-    /// The receipts of all calls, in order, where they are kept; else none. It takes no memory.
+    /// Returns the receipts of all calls, in order, where they are kept; else none. Takes no
+    /// memory.
     pub fn into_receipts(self) -> Vec<CallReceipt>
         ensures { result.items ≡ kept self.calls.keeps self.calls.receipts.items }
     {

@@ -1,4 +1,5 @@
-//! `CallDoor`: the messages of one client, answered by calls of what is served; for whoever serves a connection on its own thread.
+//! `CallDoor`: the request handler of a connection that has a thread of its own; it calls a
+//! backend.
 ghost use Rattle.std.specs.Prelude.{◌≡◌, ℕ, List, [], IfErr, IfOk, OnErr};
 ghost use Rattle.craq_names.specs.declared.name.NodeName.{NodeName};
 ghost use Rattle.craq_names.specs.declared.refusal.Refusal.{Refusal};
@@ -16,39 +17,40 @@ use craq_names::{NodeId, NodeName, Pass, Refusal};
 use craq_seat::CallReceipt;
 use std::alloc::{AllocError, Global};
 
-/// What a connection's calls reach: a store, of which this much is known however it is called.
+/// A backend that connections call, however they call it.
 pub trait Reached {
-    /// Which texts of a status it may tell.
+    /// The texts of a status that it may give.
     ghost tells: { Self → List ℕ → Type 0 };
 
-    /// With what it may refuse a call of a node, with a pass.
+    /// The refusals that it may give to a call of a node with a pass.
     ghost refuses: { Self → NodeName → ℕ → Ask → Refusal → Type 0 };
 
-    /// The chains and their members. It fails for want of memory alone.
+    /// Returns the chains and their members as text. Fails only when out of memory.
     fn status(&self) -> Result<Text, AllocError>
         ensures { IfOk result (λ text. tells self.now text) };
 }
 
-/// A store that is called, where whoever calls waits for the answer.
+/// A backend whose callers wait for the answer.
 pub trait Callee: Reached + Drop {
-    /// Asks a node, with this pass: the answer, and the receipt of the call. Refused with one with which the store may refuse such a
-    /// call.
+    /// Asks a node with this pass. Returns the answer and the receipt of the call. Refused only as
+    /// this backend may refuse such a call.
     fn call(&self, node: NodeName, pass: Pass, ask: Ask) -> Result<(Answer, CallReceipt), Refusal>
         ensures called { IfOk result (λ r. IsCallOf node ask pass r.0 r.1) }
         ensures refused { IfErr result (λ e. Self.refuses self.now node pass ask e) };
 }
 
-/// The door by which the client of one connection calls.
+/// The request handler of one connection.
 #[derive(Drop)]
 pub struct CallDoor<C: Callee> {
-    /// What is called.
+    /// The backend.
     pub callee: C,
     /// The calls so far.
     pub calls: DoorCalls,
 }
 
 impl<C: Callee> CallDoor<C> {
-    /// A door with no calls so far, which keeps receipts or not. It takes no memory.
+    /// Makes the request handler of a new connection. `keeps`: whether receipts are kept. Takes no
+    /// memory.
     pub fn new(alloc: Global, callee: C, keeps: bool) -> Self
         ensures keeps { result.calls.keeps ≡ keeps }
         ensures receipts { result.calls.receipts.items ≡ [] }
@@ -59,7 +61,9 @@ impl<C: Callee> CallDoor<C> {
         }
     }
 
-    /// Asks a node of the chain of the ask's first object, with this pass. The room for the call's receipt is made first.
+    /// Asks a node of the chain of the request's first object, with this pass. Room for the receipt
+    /// is made first: refused `Memory` without it, and nothing is asked; else refused as the
+    /// backend refuses.
     fn call(&mut self, node: NodeId, pass: Pass, ask: Ask) -> Result<ClientReply, Refusal>
         ensures called { IfOk result (λ reply. IsCalled self.old.calls.receipts.items (message_of node pass ask) reply self.new.calls.receipts.items) }
         ensures refused { IfErr result (λ e. or_memory_where (HasNoRoom self.old.calls) (C.refuses self.old.callee) (name_of node ask) pass ask e) }
@@ -76,7 +80,7 @@ impl<C: Callee> CallDoor<C> {
         Ok(self.calls.reply_to(answer, receipt))
     }
 
-    /// What a message comes to.
+    /// Returns the reply to a request, or its refusal. The receipts are unchanged after a refusal.
     fn reply(&mut self, message: ClientMessage) -> Result<ClientReply, Refusal>
         ensures replied { IfOk result (λ reply. IsReplied (C.tells self.old.callee) self.old.calls.receipts.items message reply self.new.calls.receipts.items) }
         ensures refused { IfErr result (λ e. CanRefuse (or_memory_where (HasNoRoom self.old.calls) (C.refuses self.old.callee)) message e) }

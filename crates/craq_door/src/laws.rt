@@ -1,4 +1,5 @@
-//! A law: a turn in two halves is a turn, so that what holds of each turn of a `CallDoor` holds of a `Dialogue` too.
+//! A law: a request in two halves is a turn, so that what holds of each turn of a `CallDoor` holds
+//! of a `Dialogue` too.
 ghost use Rattle.std.specs.Prelude.{◌≡◌, List, Bool, Result, Ok};
 ghost use Rattle.craq_names.specs.declared.refusal.Refusal.{Refusal};
 ghost use Rattle.craq_names.specs.declared.refusal.Refusal.TheVariants.{Closed};
@@ -13,12 +14,13 @@ ghost use Rattle.craq_door.specs.Turns.{IsTurn, kept, or_memory};
 
 use crate::Reached;
 
-/// Laws: a message whose call was made after the first half of its turn, and has its reply from the second half, had a turn.
-/// Whatever the call comes back with, the refusals that can come are those of the second half. Where it comes back with its
-/// own receipt, or refused as the callee may refuse it, the turn is one of a door that refuses as the callee does, or for want
-/// of memory. Where the callee may refuse it with all that the second half can, the turn is one of a door that refuses as the
-/// callee does, whatever receipt came. Where it comes back with another call's receipt, `Refused(Closed)` is told, and no receipt
-/// came. It has no body: the contract is the law.
+/// Laws: a request whose call was made after its first half, and whose reply comes from its second
+/// half, had a turn. Whatever the outcome of the call, the refusals are those of the second half.
+/// Where the call has its own receipt, or was refused as the backend may refuse it, the turn is one
+/// of a request handler that refuses as the backend does, or when out of memory. Where the backend
+/// may refuse the call with all that the second half can, the turn is one of a request handler that
+/// refuses as the backend does, whatever receipt came. With the receipt of another call the reply
+/// is `Refused(Closed)`, and no receipt is kept. It has no body: the contract is the law.
 pub fn halves_are_a_turn<C: Reached>(callee: &C)
     ensures turn { (keeps : Bool) (old mid new : List Called) (m : ClientMessage) (q : Question) (outcome : Result Called Refusal) (reply : ClientReply)
         → BeginsTurn (C.tells callee.now) keeps old m (Calls q) mid → EndsTurn q outcome mid reply new

@@ -1,7 +1,6 @@
-//! The door of a served store: the reply with a call's answer, the receipts of the calls, and what is told in the place of
-//! a reply that no door allows. What it calls is behind the trait `Callee`. Where calls come back later a `Dialogue` is what
-//! serving one client comes to, and what it calls is behind the trait `CallTaker`.
-//! Code that runs in the programs.
+//! The request handlers of a served store: `CallDoor`, which waits for each call of its backend
+//! (`Callee`), and `Dialogue`, whose calls are answered later (`CallTaker`). Code that runs in the
+//! programs.
 #![tactic(auto)]
 
 mod asking;

@@ -1,4 +1,4 @@
-//! What comes next in a dialogue, by its phase: a step, or the outcome of a call; for `dialogue`.
+//! The next state of a connection after a step or the outcome of a call; for `dialogue`.
 ghost use Rattle.std.specs.Prelude.{◌≡◌, None};
 ghost use Rattle.craq_front.specs.Door.{IsAllowed};
 ghost use Rattle.craq_door.specs.Dialogues.{Answers, Continues, Found, HasNoMore, HasOneMore, KeepsRoom, Took};
@@ -13,7 +13,7 @@ use craq_names::Refusal;
 use craq_seat::CallReceipt;
 use std::alloc::Global;
 
-/// The phase after the message that is asked had this reply.
+/// Returns the state after the reply to the request that is under way.
 fn next_phase(talk: &mut Conversation, reply: ClientReply) -> Phase
     requires { IsAllowed reply }
     ensures more { (m : ClientMessage) → HasOneMore (Phase.Asks m) talk.old result talk.new m reply }
@@ -27,7 +27,7 @@ fn next_phase(talk: &mut Conversation, reply: ClientReply) -> Phase
     }
 }
 
-/// Looks for the next frame: the phase after that, and what it came to.
+/// Looks for the next frame. Returns the state after that, and the outcome.
 fn find(alloc: Global, talk: &mut Conversation) -> (Phase, Stepped)
     requires { talk.old.asking ≡ None }
     ensures more { HasNoMore Phase.Idle talk.old result.0 talk.new }
@@ -48,7 +48,7 @@ fn find(alloc: Global, talk: &mut Conversation) -> (Phase, Stepped)
     }
 }
 
-/// Begins the turn of a message.
+/// Begins a request. Returns the state after that, and the outcome.
 fn begin<C: Reached>(
     callee: &C,
     talk: &mut Conversation,
@@ -66,7 +66,7 @@ fn begin<C: Reached>(
     }
 }
 
-/// Takes a step: the phase after it, and what it came to.
+/// Takes a step. Returns the state after it, and the outcome.
 pub(crate) fn advance<C: Reached>(
     alloc: Global,
     callee: &C,
@@ -89,7 +89,7 @@ pub(crate) fn advance<C: Reached>(
     }
 }
 
-/// The phase after the call that is under way came back.
+/// Returns the state after the outcome of the call that is under way.
 pub(crate) fn answered(
     alloc: Global,
     talk: &mut Conversation,

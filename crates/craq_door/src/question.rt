@@ -1,5 +1,5 @@
-//! The two halves of a turn whose call comes back later: what a message asks of a store, and its reply once the call came back;
-//! called by `phases`.
+//! The two halves of a request whose call is answered later: the call that it asks for, and its
+//! reply once the call has its outcome; called by `phases`.
 ghost use Rattle.std.specs.Prelude.{◌≡◌, ◌↔◌, ℕ, List, Err, IfErr, IfOk, OnErr};
 ghost use Rattle.craq_front.specs.Door.{IsAllowed};
 ghost use Rattle.craq_door.specs.Turns.{IsCalled, name_of};
@@ -14,7 +14,7 @@ use craq_names::{NodeId, NodeName, Pass, Refusal};
 use craq_seat::CallReceipt;
 use std::alloc::Global;
 
-/// The call that a message asks for.
+/// The call that a request asks for.
 #[derive(Debug, Drop)]
 pub struct Question {
     pub node: NodeName,
@@ -22,23 +22,23 @@ pub struct Question {
     pub ask: Ask,
 }
 
-/// What a message asks for.
+/// The demand of a request: a call or the status.
 #[derive(Debug, Drop)]
 pub(crate) enum Demand {
     Call(Question),
     Status,
 }
 
-/// The first half of a turn.
+/// The outcome of the first half of a request.
 #[derive(Debug, Drop)]
 pub(crate) enum Begun {
-    /// The turn is over, with this reply.
+    /// The request is answered, by this reply.
     Told(ClientReply),
     /// This call is to be made, and its outcome to be given back.
     Calls(Question),
 }
 
-/// The call of a node of the chain of the ask's first object, with this pass.
+/// Returns the call of a node of the chain of the request's first object, with this pass.
 fn call_of(node: NodeId, pass: Pass, ask: Ask) -> Question
     ensures node { result.node ≡ name_of node ask }
     ensures pass { result.pass ≡ pass }
@@ -51,7 +51,7 @@ fn call_of(node: NodeId, pass: Pass, ask: Ask) -> Question
     Question { node, pass, ask }
 }
 
-/// What a message asks for.
+/// Returns the demand of a request.
 fn demand_of(message: ClientMessage) -> Demand
     ensures { Asks message result }
 {
@@ -69,7 +69,7 @@ fn demand_of(message: ClientMessage) -> Demand
     }
 }
 
-/// The text of a status, as a reply.
+/// Returns the text of a status as a reply. Fails only when out of memory.
 fn status_of<C: Reached>(callee: &C) -> Result<ClientReply, Refusal>
     ensures ok { IfOk result (λ reply. (text : List ℕ) × (reply ≡ ClientReply.Status text) × C.tells callee.now text) }
     ensures err { IfErr result (λ e. e ≡ Refusal.Memory) }
@@ -77,8 +77,9 @@ fn status_of<C: Reached>(callee: &C) -> Result<ClientReply, Refusal>
     Ok(ClientReply::Status(callee.status()?))
 }
 
-/// Begins a turn: a status is told at once. For a call the room for its receipt is made, and is there when the call comes back;
-/// where there was none and a growth is refused, `Refused(Memory)` is told, and the call is not made.
+/// Begins a request. A status is answered at once. For a call, room for its receipt is made, and is
+/// there when the call has its outcome; without it the reply is `Refused(Memory)`, and the call is
+/// not made.
 #[tactic(auto, using(crate::proofs::Halves::status_told, crate::proofs::Halves::memory_told))]
 pub(crate) fn begin_turn<C: Reached>(
     callee: &C,
@@ -99,7 +100,11 @@ pub(crate) fn begin_turn<C: Reached>(
     }
 }
 
-/// The reply to the message that asked for a call, where the call's receipt is that of this question.
+/// Returns the reply to the request that asked for a call, where the receipt is that of this
+/// question. The receipts are unchanged after a refusal.
+///
+/// - `Closed` exactly where the receipt is that of another call.
+/// - `Memory` also where there was no memory for a copy of the answer.
 fn reply_of_call(
     alloc: Global,
     calls: &mut DoorCalls,
@@ -119,10 +124,11 @@ fn reply_of_call(
     Ok(calls.reply_to(answer, receipt))
 }
 
-/// Ends the turn of the message that asked for this call, with the room that `begin_turn` made: the call's reply, or its
-/// refusal as it came back. Where it was answered, it is `Refused(Closed)` exactly where the receipt is another call's, and
-/// `Refused(Memory)` only where there was no memory for a copy of the answer. What no door may tell is `Refused(BadFrame)`.
-/// Where it is refused, the receipts stay as they are.
+/// Ends the request that asked for this call, with the room that `begin_turn` made. Returns the
+/// reply to the call, or its refusal. Of a call that was answered the reply is `Refused(Closed)`
+/// exactly where the receipt is that of another call, and `Refused(Memory)` only where there was no
+/// memory for a copy of the answer. A reply that no request handler may give becomes
+/// `Refused(BadFrame)`. The receipts are unchanged after a refusal.
 pub(crate) fn end_turn(
     alloc: Global,
     calls: &mut DoorCalls,

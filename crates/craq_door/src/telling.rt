@@ -1,4 +1,4 @@
-//! What is told of a message, in the place of what no door may tell too; called by `door` and `question`.
+//! Maps the outcome of a request to its reply; called by `door` and `question`.
 ghost use Rattle.craq_front.specs.Door.{IsAllowed};
 ghost use Rattle.craq_door.specs.Turns.{IsTold, IsToldFor};
 
@@ -6,7 +6,7 @@ use craq_frames::ClientReply;
 use craq_front::is_allowed;
 use craq_names::Refusal;
 
-/// The reply, or `Refused 15` in the place of one that no door allows.
+/// Returns the reply, or `Refused 15` instead of one that no request handler may give.
 fn told_for(reply: ClientReply) -> ClientReply
     ensures allowed { IsAllowed result }
     ensures told { IsToldFor reply result }
@@ -18,8 +18,8 @@ fn told_for(reply: ClientReply) -> ClientReply
     }
 }
 
-/// What is told of a message that came to a reply, or to a refusal; in the place of what no door allows, a text of a
-/// status that is too long, `Refused 15`. It takes no memory.
+/// Returns the reply to a request with this outcome. A status text that is too long becomes
+/// `Refused 15`. Takes no memory.
 pub(crate) fn told(outcome: Result<ClientReply, Refusal>) -> ClientReply
     ensures allowed { IsAllowed result }
     ensures told { IsTold outcome result }

@@ -1,5 +1,5 @@
-//! A store in a process of one's own: three nodes, a client, a node that stops, one that joins, and the audit of all of it;
-//! the gate runs it, and the page on embedding explains it line by line.
+//! Embeds a store in a process: three nodes, a client, a node that stops, one that joins, and the
+//! audit of the whole run. CI runs it, and the page on embedding explains it line by line.
 #![tactic(auto)]
 
 use craq_audit::Audit;
@@ -22,10 +22,11 @@ use std::time::{Clock, Duration};
 use std::{io, thread};
 use thiserror::Error;
 
-/// The stores of this program: their nodes forget what they no longer need, and callers take their steps themselves.
+/// The type of this program's stores: the nodes keep compacted histories, and callers run the steps
+/// themselves.
 type Embedded = Store<ListCore, OpenGate>;
 
-/// What is asked: a put with its number and value, or a strong read.
+/// A request: a put with its number and value, or a strong read.
 #[derive(Clone, Copy)]
 enum Wish<'a> {
     Put(u64, &'a str),
@@ -39,7 +40,7 @@ struct Caller {
     receipts: Vec<CallReceipt>,
 }
 
-/// Why the program ends early.
+/// The reason that the program ends early.
 #[derive(Debug, Drop, Error)]
 enum Fault {
     #[error("{0}")]
@@ -50,13 +51,13 @@ enum Fault {
     Memory(#[from] AllocError),
 }
 
-/// The one chain, its head first.
+/// The only chain, its head first.
 const PLAN_TEXT: &str = "[[chain]]\nname = \"a\"\nnodes = [1, 2, 3]\n";
 
-/// The chain's id: its place in the plan.
+/// The chain's id: its index in the chain configuration.
 const CHAIN: u16 = 0;
 
-/// The one object.
+/// Returns the only object.
 fn object(alloc: Global) -> Result<ObjectId, Refusal> {
     Ok(ObjectId {
         key: Key::new(alloc, b"colour")?,
@@ -64,7 +65,7 @@ fn object(alloc: Global) -> Result<ObjectId, Refusal> {
     })
 }
 
-/// Put `number` of client 7.
+/// Makes put `number` of client 7.
 fn put(alloc: Global, number: u64, value: &str) -> Result<Update, Refusal> {
     let number = RequestNo::new(number)?;
     let object = object(alloc)?;
@@ -78,7 +79,7 @@ fn put(alloc: Global, number: u64, value: &str) -> Result<Update, Refusal> {
     }
 }
 
-/// What a node is asked.
+/// Makes the request that is sent to a node.
 fn ask_of(alloc: Global, wish: Wish<'_>) -> Result<Ask, Refusal> {
     match wish {
         Wish::Put(number, value) => Ok(Ask::Update(put(alloc, number, value)?)),
@@ -89,7 +90,7 @@ fn ask_of(alloc: Global, wish: Wish<'_>) -> Result<Ask, Refusal> {
     }
 }
 
-/// An answer in words.
+/// Returns a reply as text.
 fn text_of(alloc: Global, answer: &Answer) -> Result<String, Refusal> {
     let mut text = String::new(alloc);
     print_answer(&mut text, answer)?;
@@ -97,7 +98,7 @@ fn text_of(alloc: Global, answer: &Answer) -> Result<String, Refusal> {
 }
 
 impl Caller {
-    /// Asks a node once: its answer in words. The receipt is kept.
+    /// Sends one request to a node, keeps the receipt, and returns the reply as text.
     fn call<R>(&mut self, rt: &R, node: NodeName, wish: Wish<'_>) -> Result<String, Refusal>
     where
         R: AllocGlobal + Wait,
@@ -109,7 +110,8 @@ impl Caller {
         text_of(rt.alloc(), &answer)
     }
 
-    /// Asks a node and prints its answer. A node that has joined is asked again until it holds the chain's history.
+    /// Sends a request to a node and prints its reply. Retries every 10 ms while the node is not
+    /// ready.
     fn ask<R>(&mut self, rt: &R, id: u32, wish: Wish<'_>) -> Result<(), Fault>
     where
         R: AllocGlobal + Print + Clock + Wait,
@@ -128,7 +130,7 @@ impl Caller {
         Ok(())
     }
 
-    /// Asks before and after the tail changes, and has all of it audited.
+    /// Sends requests before and after the tail changes, and has the run audited.
     fn work<R>(&mut self, rt: R, store: &Embedded) -> Result<(), Fault>
     where
         R: AllocGlobal + Print + Clock + Threads + Wait + Copy + Send + 'static,
@@ -142,7 +144,7 @@ impl Caller {
     }
 }
 
-/// The tail stops and is removed, and another node joins.
+/// Stops and removes the tail, and adds another node.
 fn change_tail<R>(rt: R, store: &Embedded) -> Result<(), Fault>
 where
     R: Print + Threads + Wait + Copy + Send + 'static,
@@ -154,7 +156,7 @@ where
     Ok(println!(rt; "node 3 stopped and went, node 4 joined")?)
 }
 
-/// Prints what the audit finds of the chain's journals and these receipts.
+/// Prints the audit's findings on the chain's journals and these receipts.
 fn print_audit<R: Print + Wait>(
     rt: &R,
     store: &Embedded,
@@ -169,7 +171,7 @@ fn print_audit<R: Print + Wait>(
     Ok(printed?)
 }
 
-/// Works with a store as a client of it.
+/// Works with a store as one of its clients.
 fn work<R>(rt: R, store: &Embedded) -> Result<(), Fault>
 where
     R: AllocGlobal + Print + Clock + Threads + Wait + Copy + Send + 'static,
@@ -181,7 +183,7 @@ where
     caller.work(rt, store)
 }
 
-/// Lets each node send again what others may lack, until that is over.
+/// Ticks every node until `over` is set, so that nodes resend what others may lack.
 fn tick<R: Clock + Wait>(rt: &R, store: &Embedded, over: &AtomicBool) {
     for _ in rt.forever() {
         if over.load(Ordering::SeqCst) {
@@ -192,7 +194,7 @@ fn tick<R: Clock + Wait>(rt: &R, store: &Embedded, over: &AtomicBool) {
     }
 }
 
-/// Works with a store that is ticked meanwhile.
+/// Works with a store that another thread ticks meanwhile.
 fn work_ticked<R>(rt: R, store: &Embedded) -> Result<(), Fault>
 where
     R: AllocGlobal + Print + Clock + Threads + Wait + Copy + Drop + Send + Sync + 'static,
@@ -225,7 +227,7 @@ where
     worked
 }
 
-/// Tells why the program ended early. Gives the status.
+/// Reports why the program ended early, and returns the exit status.
 fn report<R: Eprint>(rt: &R, fault: &Fault) -> u8 {
     let _ = eprintln!(rt; "{fault}");
     1

@@ -46,12 +46,12 @@ unfolding is_member
 member_last [] id = ap (λ b. b || false) (own id)
 member_last (m ∷ used) id = true_or (m == id) (is_member (used ++ id ∷ []) id) (member_last used id)
 
--- the members and the new one are used, once it is
+-- the members and the new one are used after the join
 pub used_after_join : (used ms : List ℕ) (id : ℕ) → AreUsed used ms → AreUsed (used ++ id ∷ []) (ms ++ id ∷ [])
 used_after_join used [] id h = (member_last used id, tt)
 used_after_join used (m ∷ ms) id h = (member_more used id m h.0, used_after_join used ms id h.1)
 
--- the others are used
+-- the members that stay are used
 pub used_without : (used ms : List ℕ) (id : ℕ) → AreUsed used ms → AreUsed used (without ms id)
 unfolding without
 used_without used [] id h = tt
@@ -103,7 +103,7 @@ distinct_without (m ∷ ms) id h =
 same_number : (m id : ℕ) → nat_eq m id ≡ true → m ≡ id
 same_number m id h = search rules
 
--- an id that was never used is none of the members
+-- an id that was never used is no member
 apart_from_used : (used ms : List ℕ) (id : ℕ) → AreUsed used ms → is_member used id ≡ false → AllByRecursion (λ m. nat_eq m id ≡ false) ms
 apart_from_used used [] id h fresh = tt
 apart_from_used used (m ∷ ms) id h fresh =
@@ -124,7 +124,7 @@ length_without_le (m ∷ ms) id =
     let split : (b : Bool) → length (if b then without ms id else m ∷ without ms id) ≤ suc (length ms) = elim [ true ↦ omega (arith, rest) | false ↦ omega (arith, rest) ] in
     split (m == id)
 
--- of two members one stays
+-- of at least two members, one stays
 some_stay : (ms : List ℕ) (id : ℕ) → IsDistinct nat_eq ms → 2 ≤ length ms → 1 ≤ length (without ms id)
 unfolding IsDistinct without
 some_stay [] id h two = absurd (omega arith)
@@ -142,7 +142,7 @@ some_stay (m ∷ k ∷ ms) id h two =
     ] in
     other (m == id) (k == id) refl refl
 
--- a membership with a new node after the last
+-- a membership after a join
 pub membership_after_join : (used ms : List ℕ) (id : ℕ) → IsMembership ms → AreUsed used ms → is_member used id ≡ false → 1 ≤ id → id ≤ greatest_count → length ms < member_limit → IsMembership (ms ++ id ∷ [])
 membership_after_join used ms id h all fresh low high room =
     record {
@@ -152,7 +152,7 @@ membership_after_join used ms id h all fresh low high room =
       distinct = distinct_more ms id h.distinct (apart_from_used used ms id all fresh);
     }
 
--- a membership without one of several nodes
+-- a membership after a removal
 pub membership_without : (ms : List ℕ) (id : ℕ) → IsMembership ms → 2 ≤ length ms → IsMembership (without ms id)
 membership_without ms id h two =
     let few = h.few in
@@ -163,7 +163,7 @@ membership_without ms id h two =
       distinct = distinct_without ms id h.distinct;
     }
 
--- what the next master keeps
+-- the master's invariant holds after a join, after a removal and at the opening
 pub mastered_after_join : (chain epoch id : ℕ) (ms used : List ℕ) → IsMastered (record { chain = chain; epoch = epoch; members = ms; used = used }) → is_member used id ≡ false → 1 ≤ id → id ≤ greatest_count → length ms < member_limit → IsMastered (record { chain = chain; epoch = epoch + 1; members = ms ++ id ∷ []; used = used ++ id ∷ [] })
 mastered_after_join chain epoch id ms used h fresh low high room =
     record {

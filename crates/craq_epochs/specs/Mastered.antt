@@ -1,4 +1,4 @@
--- The master of a chain: the chain's membership, and the next one.
+-- The master of a chain: the current membership, and the next one.
 use Rattle.std.specs.Prelude.{◌≡◌, ℕ, ◌+◌, ◌≤◌, ◌==◌, nat_le, true, not, ◌&&◌, ◌||◌, if◌then◌else◌, List, [], ◌∷◌, ◌++◌, length, Result, Ok, Err}
 use Rattle.std.specs.List.{AllByRecursion}
 use Rattle.craq_names.specs.Limits.{greatest, member_limit}
@@ -11,13 +11,13 @@ pub record Mastered : Type 0 where
   pub chain : ℕ
   pub epoch : ℕ  -- the number of the membership, from 1
   pub members : List ℕ  -- head first
-  pub used : List ℕ  -- each id that ever was a member, in the order of joining
+  pub used : List ℕ  -- every id that was ever a member, in the order of joining
 
--- a master of these members, before any removal or join
+-- a master of these opening members
 abbrev pub opened : ℕ → List ℕ → Mastered
 opened chain members = record { chain = chain; epoch = 1; members = members; used = members }
 
--- the membership without a stopped node, or why it stays
+-- the membership without a stopped node, or the refusal
 unfoldable pub removed : Mastered → NodeName → Result Mastered Refusal
 removed m stopped =
     if not ((stopped.chain == m.chain) && is_member m.members stopped.node) then Err refusals.NotMember
@@ -25,7 +25,7 @@ removed m stopped =
     else if m.epoch == greatest then Err refusals.Exhausted
     else Ok (record m { epoch = m.epoch + 1; members = without m.members stopped.node })
 
--- the membership with a new node after the last, or why it stays
+-- the membership with a new node at the end, or the refusal
 unfoldable pub joined : Mastered → ℕ → Result Mastered Refusal
 joined m id =
     if (id == 0) || is_member m.used id then Err refusals.UsedId
@@ -33,7 +33,7 @@ joined m id =
     else if m.epoch == greatest then Err refusals.Exhausted
     else Ok (record m { epoch = m.epoch + 1; members = m.members ++ id ∷ []; used = m.used ++ id ∷ [] })
 
--- what a master keeps: a membership, in an epoch from 1, of ids that were all used
+-- the master's invariant: a membership, in an epoch from 1, of ids that are all used
 pub record IsMastered (m : Mastered) : Type 0 where
   pub membership : IsMembership m.members
   pub from_one : 1 ≤ m.epoch

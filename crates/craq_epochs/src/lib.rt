@@ -1,6 +1,5 @@
-//! The master, which alone makes the next membership of a chain, and the switch that stops a node; apart from the node, since
-//! `craq_place` and `craq_wire` use it without the node.
-//! Code that runs in the program.
+//! The master, which alone makes a chain's memberships, and the switch that stops a node.
+//! Runs in the program; usable without the node, as `craq_place` and `craq_wire` use it.
 #![tactic(auto)]
 
 mod master;

@@ -1,4 +1,5 @@
-//! `Master`: it alone makes the memberships of a chain, one after another; `craq_chain`, `craq_seat` and `craq_workers` call it.
+//! `Master`: the only maker of a chain's memberships, one after another. `craq_chain`, `craq_seat`
+//! and `craq_workers` call it.
 ghost use Rattle.std.specs.Prelude.{◌≡◌, ◌⊎◌, ◌↔◌, Ok, Err, IfOk, IfErr, OnOk, OnErr};
 ghost use Rattle.craq_names.specs.Order.{Refuses};
 ghost use Rattle.craq_model.specs.Members.{IsMembership};
@@ -10,9 +11,9 @@ use craq_names::{ChainId, Epoch, Items, NodeId, Refusal};
 use std::alloc::Global;
 use std::marker::Model;
 
-/// The master of a chain. It alone makes memberships, one after another: each is the last with one member
-/// gone or with one more at the end, and bears the next epoch (the master of the OSDI 2004 paper; epochs
-/// and ids that are used once are this project's profile).
+/// The master of a chain, which alone makes memberships, one after another. Each is the last one
+/// without one member or with one more at the end, and has the next epoch. The master is from the
+/// OSDI 2004 paper; epochs and single use of ids are this project's profile.
 #[derive(Debug, Drop)]
 pub struct Master {
     chain: ChainId,
@@ -37,10 +38,11 @@ impl Model for Master {
 }
 
 impl Master {
-    /// The master of a chain whose first membership, of epoch 1, has these members, head first.
+    /// Makes the master of a chain whose first membership, of epoch 1, has these members, head
+    /// first.
     ///
-    /// `BadConfig` exactly where they are no membership: 1 to 8 ids from 1, none twice. `Memory` where a
-    /// growth was refused, and they are one.
+    /// Returns `BadConfig` exactly if they are no membership: 1 to 8 ids from 1, none twice.
+    /// Otherwise fails only when out of memory (`Memory`).
     pub fn open(alloc: Global, chain: ChainId, members: &[NodeId]) -> Result<Self, Refusal>
         ensures ok { IfOk result (λ m. m ≡ opened chain members.now) }
         ensures membership { OnOk result (IsMembership members.now) }
@@ -63,14 +65,14 @@ impl Master {
         })
     }
 
-    /// The chain's id.
+    /// Returns the chain's id.
     pub fn chain(&self) -> ChainId
         ensures { result ≡ self.now.chain }
     {
         self.chain
     }
 
-    /// The present membership. It takes no memory.
+    /// Returns the current membership. Allocates nothing.
     pub fn config(&self) -> &Config
         ensures config { result.now ≡ record { epoch = self.now.epoch; members = self.now.members } }
         ensures mastered { IsMastered self.now }
@@ -78,16 +80,16 @@ impl Master {
         &self.config
     }
 
-    /// The ids that ever were members, in the order of joining. It takes no memory.
+    /// Returns all ids that were ever members, in the order of joining. Allocates nothing.
     pub fn used(&self) -> &[NodeId]
         ensures { result.now ≡ self.now.used }
     {
         self.used.as_slice()
     }
 
-    /// Adds a node after the last member. Refused, with nothing changed, for the first of these that applies:
-    /// `UsedId` where the id is 0 or ever was a member, `ChainFull` where there are 8 members, `Exhausted`
-    /// where the epoch is 2^64 - 1, `Memory` where a growth was refused.
+    /// Appends a node after the last member. The master is unchanged on error. The first error that
+    /// applies is returned: `UsedId` if the id is 0 or was ever a member, `ChainFull` if there are
+    /// 8 members, `Exhausted` if the epoch is 2^64 - 1, `Memory` if out of memory.
     #[tactic(auto, unfolding(crate::specs::Mastered::joined))]
     pub fn join(&mut self, id: NodeId) -> Result<(), Refusal>
         ensures ok { OnOk result (joined self.old id ≡ Ok self.new) }
@@ -111,9 +113,9 @@ impl Master {
         Ok(())
     }
 
-    /// Takes a stopped node out. Refused, with nothing changed, for the first of these that applies:
-    /// `NotMember` where the node of the receipt is no member of this chain, `LastNode` where it is the only
-    /// one, `Exhausted` where the epoch is 2^64 - 1, `Memory` where a growth was refused.
+    /// Removes a stopped node. The master is unchanged on error. The first error that applies is
+    /// returned: `NotMember` if the receipt's node is no member of this chain, `LastNode` if it is
+    /// the only member, `Exhausted` if the epoch is 2^64 - 1, `Memory` if out of memory.
     #[tactic(auto, unfolding(crate::specs::Mastered::removed))]
     pub fn remove(&mut self, receipt: StopReceipt) -> Result<(), Refusal>
         ensures ok { OnOk result (removed self.old receipt ≡ Ok self.new) }

@@ -1,5 +1,5 @@
-//! Tests of lists of ids: which can be members of a chain; and how many members and chains there can be. Called by `master`,
-//! and by crates above that make or read lists of members.
+//! Tests of id lists: which can be the members of a chain. Limits on members and chains. `master`
+//! and higher crates that make or read member lists call this.
 ghost use Rattle.std.specs.Prelude.{◌≡◌, ◌≤◌, ◌↔◌, ℕ, IsTrue, IfOk};
 ghost use Rattle.std.specs.List.{AllByRecursion};
 ghost use Rattle.craq_names.specs.Limits.{greatest_count};
@@ -9,13 +9,13 @@ ghost use Rattle.craq_epochs.specs.Doubles.{stands_twice};
 use craq_names::NodeId;
 use std::alloc::{AllocError, Global};
 
-/// The most members of a chain.
+/// The maximum number of members of a chain.
 pub const MEMBER_LIMIT: usize = 8;
 
-/// The most chains of a store, and of a world.
+/// The maximum number of chains of a store, and of a world.
 pub const MOST_CHAINS: u16 = 64;
 
-/// Whether the id is one of these.
+/// Returns true exactly if the id is one of these.
 #[tactic(auto, unfolding(craq_model::specs::Members::is_member))]
 pub fn is_among(ids: &[NodeId], id: NodeId) -> bool
     ensures { result ≡ is_member ids.now id }
@@ -28,7 +28,7 @@ pub fn is_among(ids: &[NodeId], id: NodeId) -> bool
     false
 }
 
-/// The ids but this one, in order.
+/// Returns the ids without this one, in order. Fails only when out of memory.
 #[tactic(auto, unfolding(craq_model::specs::Members::without))]
 pub fn all_but(alloc: Global, ids: &[NodeId], id: NodeId) -> Result<Vec<NodeId>, AllocError>
     ensures { IfOk result (λ others. others.items ≡ without ids.now id) }
@@ -42,7 +42,7 @@ pub fn all_but(alloc: Global, ids: &[NodeId], id: NodeId) -> Result<Vec<NodeId>,
     Ok(others)
 }
 
-/// Whether some id stands there twice.
+/// Returns true exactly if some id occurs twice.
 fn has_double(ids: &[NodeId]) -> bool
     ensures { result ≡ stands_twice ids.now }
 {
@@ -54,7 +54,7 @@ fn has_double(ids: &[NodeId]) -> bool
     false
 }
 
-/// Whether none of the ids is 0, which is the master's.
+/// Returns true exactly if none of the ids is 0, which is the master's.
 fn all_are_nodes(ids: &[NodeId]) -> bool
     ensures { IsTrue result ↔ AllByRecursion (λ id. (1 ≤ id) × (id ≤ greatest_count)) ids.now }
 {
@@ -66,7 +66,8 @@ fn all_are_nodes(ids: &[NodeId]) -> bool
     true
 }
 
-/// Whether a chain can have these members: 1 to 8 ids from 1, none twice (this project's profile).
+/// Returns true exactly if a chain can have these members: 1 to 8 ids from 1, none twice (this
+/// project's profile).
 #[tactic(auto, using(crate::proofs::Doubles::distinct_unless_twice, crate::proofs::Doubles::once_where_distinct))]
 pub fn is_membership(members: &[NodeId]) -> bool
     ensures { IsTrue result ↔ IsMembership members.now }

@@ -1,12 +1,12 @@
-//! `Switch`, which tells whether a node runs, and the receipt that a stopped one gives: a `Core` has the one, `master` asks for
-//! the other.
+//! `Switch`: the running state of a node, and the receipt of its stop. A `Core` has the switch,
+//! `master` requires the receipt.
 ghost use Rattle.std.specs.Prelude.{◌≡◌, true, false, Ok, Err, Some, None, if◌then◌else◌};
 
 use craq_names::{NodeName, Refusal};
 use std::marker::Model;
 
-/// What shows that a node has stopped: a stopped `Switch` alone gives one, and a contract sees it as
-/// the name of that switch's node.
+/// Evidence that a node has stopped. Only a stopped `Switch` makes one; contracts see it as the
+/// name of the switch's node.
 #[derive(Clone, Copy, Debug, PartialEq, Eq)]
 pub struct StopReceipt {
     stopped: NodeName,
@@ -23,7 +23,7 @@ impl Model for StopReceipt {
 }
 
 impl StopReceipt {
-    /// The node that has stopped.
+    /// Returns the name of the stopped node.
     pub const fn name(self) -> NodeName
         ensures { result ≡ self }
     {
@@ -31,8 +31,8 @@ impl StopReceipt {
     }
 }
 
-/// Whether a node runs. A node halts for good: once stopped, a switch stays so (fail-stop servers, as in
-/// the OSDI 2004 paper).
+/// The running state of a node. A stopped switch stays stopped (fail-stop servers, as in the OSDI
+/// 2004 paper).
 #[derive(Debug, Drop)]
 pub struct Switch {
     name: NodeName,
@@ -48,7 +48,7 @@ impl Model for Switch {
 }
 
 impl Switch {
-    /// The switch of a node that runs. It takes no memory.
+    /// Returns the switch of a running node. Allocates nothing.
     pub const fn on(name: NodeName) -> Self
         ensures { result ≡ record { name = name; running = true } }
     {
@@ -58,15 +58,15 @@ impl Switch {
         }
     }
 
-    /// The node's name.
+    /// Returns the node's name.
     pub const fn name(&self) -> NodeName
         ensures { result ≡ self.now.name }
     {
         self.name
     }
 
-    /// Stops the node, and shows that it has stopped. `Stopped` exactly where it was stopped before;
-    /// the switch is stopped after the call in either case. It takes no memory.
+    /// Stops the node and returns the receipt. Returns `Stopped` exactly if it was stopped before.
+    /// The switch is stopped after the call in either case. Allocates nothing.
     pub fn stop(&mut self) -> Result<StopReceipt, Refusal>
         ensures receipt { result ≡ (if self.old.running then Ok self.old.name else Err Refusal.Stopped) }
         ensures stopped { self.new ≡ record self.old { running = false } }
@@ -78,7 +78,7 @@ impl Switch {
         Ok(StopReceipt { stopped: self.name })
     }
 
-    /// The receipt of the stop, exactly where the switch is stopped. It takes no memory.
+    /// Returns the receipt of the stop, `None` if the switch is not stopped. Allocates nothing.
     pub fn receipt(&self) -> Option<StopReceipt>
         ensures { result ≡ (if self.now.running then None else Some self.now.name) }
     {

@@ -1,4 +1,4 @@
--- A run with an eventual read of what is not committed yet, and its explanation.
+-- A run with an eventual read of an uncommitted version, and its explanation.
 use Rattle.std.proofs.Common.{◌≡◌, ℕ, zero, suc, ◌+◌, List, [], ◌∷◌, ◌++◌, Option, Some, None, refl, sym, ap, subst, ◌∙◌, arith, lit≤, length, length-append}
 use Rattle.std.specs.Prelude.{slice_index}
 use Rattle.std.specs.List.{IsDistinct}
@@ -92,7 +92,7 @@ second_look = record { mode = Strong; object = key; version = 0; value = [] }
 put : Update
 put = record { client = 1; number = 1; command = Put key (97 ∷ []) }
 
--- the read gave the version that the put would write, which was asked before
+-- the read returned the version that the put would write; the put was requested before
 eventual_holds : IsEventual (seen run) clean_and_dirty_reads_explained [] first_answer first_look
 unfolding IsDistinct first_answer first_look key put tested joined number_of increased decreased first_difference transacted all_of_chain some_used_up is_stale is_new keep said_of object_of set_object window_of kept_with apply after_entry values_in values_after newest_within last_position parts_of is_in_order joined_state entries_after newest clean is_member last_of successor_in predecessor_in without runs_of entry_bodies copy_bodies catch_up ready_sends unready_sends tick_sends insert_given by_ticket all_given settling_turn without_reached readiness_turn is_full reply_turn update_turn waiting_read_turn read_turn ask_turn config_turn is_applicable forwarding_turn entries_above entries_turn due_updates later_updates acknowledgement_turn ack_turn query_turn read_with reads_without told_version_turn version_turn fill_bodies blank_turn copy_turn part_turn floor_turn outs_fit node_step node_at set_node sent_in removal_progress join_progress numbers_left chain_step wrote written_at due_place places_of account_with ask_number asks_from receivers_in answers_in answers_from ask_with update_at strong_answers look_of committed_object answered_object
 eventual_holds =

@@ -1,4 +1,4 @@
--- The bounded reads of a script, and what was answered before them.
+-- The bounded reads of a script, and the replies before them.
 use Rattle.std.specs.Prelude.{ℕ, List, [], ◌∷◌}
 use Rattle.craq_commands.specs.declared.read_mode.ReadMode.TheVariants as modes
 use Rattle.craq_commands.specs.declared.reply.Reply.TheVariants.{Written}
@@ -17,13 +17,13 @@ run = run_of (1 ∷ 2 ∷ 3 ∷ []) bounded_reads_moves
 abbrev pub explanation : Explanation
 explanation = explain 0 run
 
--- the answers before the read with bound 1: a put, and the read with bound 0
+-- the replies before the read with bound 1: to a put, and to the read with bound 0
 abbrev pub earlier : List Answered
 earlier =
     record { move = 5; node = 1; ticket = 1; answer = answers.Update (Written 1) }
     ∷ record { move = 9; node = 1; ticket = 5; answer = answers.Read 1 (97 ∷ []) } ∷ []
 
--- an answer to it
+-- a reply to the read with bound 1
 abbrev pub answered : ℕ → List ℕ → Answered
 answered version value = record { move = 10; node = 1; ticket = 6; answer = answers.Read version value }
 

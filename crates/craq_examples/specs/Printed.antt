@@ -1,4 +1,4 @@
--- Moves and what is printed of them.
+-- Moves, and the lines printed for them.
 use Rattle.std.specs.Prelude.{ℕ, ◌+◌, List, [], ◌∷◌, ◌++◌, map, length, Option, Some, None, Result, Ok, Err}
 use Rattle.craq_names.specs.declared.refusal.Refusal.{Refusal}
 use Rattle.craq_model.specs.declared.message.Body.{Body}
@@ -16,7 +16,7 @@ use Rattle.craq_runs.specs.Chain.{Chain, Progress, opening_chain, chain_step}
 use Rattle.craq_runs.specs.Runs.{progressed}
 use Rattle.craq_runs.specs.Seen.{node_of}
 
--- what is printed of a message
+-- the text printed for a message
 pub data Text : Type 0 where
   Config : (epoch : ℕ) → Text
   Entry : (position : ℕ) → Text
@@ -29,7 +29,7 @@ pub data Text : Type 0 where
   Batch : (first : ℕ) (last : ℕ) → Text
   Floor : (count : ℕ) → Text
 
--- what is printed of a move
+-- a line printed for a move
 pub data Line : Type 0 where
   Sent : (number : ℕ) (from : ℕ) (to : ℕ) (text : Text) → Line
   Answered : (node : ℕ) (ticket : ℕ) (answer : Answer) → Line
@@ -49,7 +49,7 @@ text_of epoch (bodies.Part part) = Part part.position part.number part.count
 text_of epoch (bodies.Batch es) = Batch (first_position es) (final_position es)
 text_of epoch (bodies.Floor count) = Floor count
 
--- the outs of a node, after so many messages
+-- the lines for a node's outs, after `sent` messages
 abbrev pub out_lines : ℕ → ℕ → List Out → List Line
 out_lines sent node [] = []
 out_lines sent node (outs.Send to m ∷ os) = Sent (sent + 1) m.sender to (text_of m.epoch m.body) ∷ out_lines (sent + 1) node os
@@ -75,7 +75,7 @@ abbrev pub taken_move : Move → Result Progress Refusal → List Taken
 taken_move m (Ok x) = record { chosen = m; step = x.1 } ∷ []
 taken_move m (Err e) = []
 
--- the moves that are taken, with their steps
+-- the accepted moves, with their steps
 abbrev pub taken : Chain → List Move → List Taken
 taken c [] = []
 taken c (m ∷ ms) =

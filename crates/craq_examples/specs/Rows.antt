@@ -1,4 +1,4 @@
--- Scripts, what is printed of them, and their explanations.
+-- Scripts, the lines printed for them, and their explanations.
 use Rattle.std.specs.Prelude.{ℕ, ◌+◌, ◌/◌, ◌%◌, List, [], ◌∷◌, ◌++◌, map, replicate}
 use Rattle.std.specs.List.{range_with_len}
 use Rattle.craq_model.specs.Past.{installed_in}
@@ -589,7 +589,7 @@ eight_kept_lines =
     ∷ Answered 1 13 (answers.Update (Written 11))
     ∷ Answered 1 14 (answers.Update (Written 10)) ∷ []
 
--- the places of answers at node 1, whose tickets go up from this one
+-- the linearization points of replies at node 1, whose tickets go up from this one
 abbrev pub places_from : ℕ → List ℕ → List Place
 places_from ticket [] = []
 places_from ticket (p ∷ ps) = record { node = 1; ticket = ticket; position = p } ∷ places_from (ticket + 1) ps
@@ -639,7 +639,7 @@ batch_explained =
 abbrev pub numbered_key : ℕ → List ℕ
 numbered_key n = 107 ∷ (48 + n / 10) ∷ (48 + n % 10) ∷ []
 
--- node 1, which has written 65 objects by 65 puts of client 1
+-- node 1, which has written 65 objects for 65 puts of client 1
 abbrev pub node_of_many : Plain
 node_of_many =
     record (opening_member (record { chain = 0; node = 1 }) (1 ∷ [])) {
@@ -649,7 +649,7 @@ node_of_many =
       });
     }
 
--- its chain after node 2 joined, when no node knows it yet
+-- its chain after node 2 joined, before any node knows it
 abbrev pub chain_of_many : Chain
 chain_of_many =
     record (opening_chain 0 (1 ∷ [])) {

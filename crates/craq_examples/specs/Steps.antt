@@ -1,4 +1,4 @@
--- Whole steps and messages, with each field, and nodes where many asks wait.
+-- Steps and messages, field by field, and nodes where many requests wait.
 use Rattle.std.specs.Prelude.{ℕ, List, [], ◌∷◌, map, replicate, Option, Some, None}
 use Rattle.craq_commands.specs.declared.command.Update.{Update}
 use Rattle.craq_commands.specs.declared.command.Command.TheVariants.{Put}
@@ -19,11 +19,11 @@ use Rattle.craq_runs.specs.Runs.{after_moves}
 use Rattle.craq_examples.specs.Printed.{taken}
 use Rattle.craq_examples.specs.Rows.{object}
 
--- the steps of the moves that are taken
+-- the steps of the accepted moves
 abbrev pub steps_of : List ℕ → List Move → List Step
 steps_of members ms = map (λ (t : Taken). t.step) (taken (opening_chain 0 members) ms)
 
--- the message of a number, after the moves
+-- the message of this number, after the moves
 abbrev pub message_of : List ℕ → List Move → ℕ → Option LinkMessage
 message_of members ms number =
     message_at (after_moves (opening_chain 0 members) (taken (opening_chain 0 members) ms)).messages number
@@ -56,16 +56,17 @@ clean_and_dirty_reads_steps =
     ∷ step None (Send 1 (message 3 1 1 (bodies.VersionIs 2 0)))
     ∷ step None (Answer 2 (answers.Read 0 [])) ∷ []
 
--- the state that a joined node is sent: c as third version of k, and the replies to client 1's puts
+-- the state that a joining node receives: c as third version of k, and the replies to client 1's
+-- puts
 abbrev pub third_copy : LinkMessage
 third_copy = message 3 4 2 (bodies.Copy 3 (record { objects = (107 ∷ [], (3, 99 ∷ [])) ∷ []; kept = (1, (1, Written 1) ∷ (2, Written 2) ∷ (3, Written 3) ∷ []) ∷ [] }))
 
--- node 1 of two, where so many reads wait
+-- node 1 of two, where `count` reads wait
 abbrev pub busy : ℕ → Plain
 busy count =
     record (opening_member (record { chain = 0; node = 1 }) (1 ∷ 2 ∷ [])) { waiting_reads = replicate count (record { ticket = 1; key = 107 ∷ [] }) }
 
--- node 1 of two, after so many tickets
+-- node 1 of two, after `ticket` tickets
 abbrev pub late : ℕ → Plain
 late ticket = record (opening_member (record { chain = 0; node = 1 }) (1 ∷ 2 ∷ [])) { last_ticket = ticket }
 

@@ -1,5 +1,5 @@
-//! Worked scripts, computed by the definitions alone; they show what the definitions say, and no crate uses them.
-//! Laws: functions without bodies, whose contracts are the theorems.
+//! Worked scripts, computed from the definitions alone, as examples; no other crate uses them.
+//! States laws: functions without bodies whose contracts are the theorems.
 #![tactic(auto, unfolding(craq_commands::specs::Evaluation::tested, craq_commands::specs::Evaluation::joined, craq_commands::specs::Evaluation::number_of, craq_commands::specs::Evaluation::increased, craq_commands::specs::Evaluation::decreased, craq_commands::specs::Evaluation::first_difference, craq_commands::specs::Evaluation::transacted, craq_commands::specs::Evaluation::all_of_chain, craq_commands::specs::Evaluation::some_used_up, craq_commands::specs::Kept::is_stale, craq_commands::specs::Kept::is_new, craq_commands::specs::Kept::keep, craq_commands::specs::Kept::said_of, craq_commands::specs::Objects::object_of, craq_commands::specs::Objects::set_object, craq_commands::specs::SingleCopy::window_of, craq_commands::specs::SingleCopy::kept_with, craq_commands::specs::SingleCopy::apply, craq_commands::specs::SingleCopy::after_entry, craq_model::specs::Past::values_in, craq_model::specs::Past::values_after, craq_model::specs::Past::newest_within, craq_model::specs::Past::last_position, craq_model::specs::Parts::parts_of, craq_model::specs::Parts::is_in_order, craq_model::specs::Parts::joined_state, craq_model::specs::Plain::entries_after, craq_model::specs::Plain::newest, craq_model::specs::Plain::clean, craq_model::specs::Members::is_member, craq_model::specs::Members::last_of, craq_model::specs::Members::successor_in, craq_model::specs::Members::predecessor_in, craq_model::specs::Members::without, craq_model::specs::Sends::runs_of, craq_model::specs::Sends::entry_bodies, craq_model::specs::Sends::copy_bodies, craq_model::specs::Sends::catch_up, craq_model::specs::Sends::ready_sends, craq_model::specs::Sends::unready_sends, craq_model::specs::Sends::tick_sends, craq_model::specs::Settle::insert_given, craq_model::specs::Settle::by_ticket, craq_model::specs::Settle::all_given, craq_model::specs::Settle::settling_turn, craq_model::specs::Settle::without_reached, craq_model::specs::Settle::readiness_turn, craq_model::specs::Asks::is_full, craq_model::specs::Asks::reply_turn, craq_model::specs::Asks::update_turn, craq_model::specs::Asks::waiting_read_turn, craq_model::specs::Asks::read_turn, craq_model::specs::Asks::ask_turn, craq_model::specs::Deliveries::config_turn, craq_model::specs::Deliveries::is_applicable, craq_model::specs::Deliveries::forwarding_turn, craq_model::specs::Deliveries::entries_above, craq_model::specs::Deliveries::entries_turn, craq_model::specs::Deliveries::due_updates, craq_model::specs::Deliveries::later_updates, craq_model::specs::Deliveries::acknowledgement_turn, craq_model::specs::Deliveries::ack_turn, craq_model::specs::Deliveries::query_turn, craq_model::specs::Deliveries::read_with, craq_model::specs::Deliveries::reads_without, craq_model::specs::Deliveries::told_version_turn, craq_model::specs::Deliveries::version_turn, craq_model::specs::Deliveries::fill_bodies, craq_model::specs::Deliveries::blank_turn, craq_model::specs::Deliveries::copy_turn, craq_model::specs::Deliveries::part_turn, craq_model::specs::Deliveries::floor_turn, craq_model::specs::Node::outs_fit, craq_model::specs::Node::node_step, craq_runs::specs::Chain::node_at, craq_runs::specs::Chain::set_node, craq_runs::specs::Chain::sent_in, craq_runs::specs::Chain::removal_progress, craq_runs::specs::Chain::join_progress, craq_runs::specs::Chain::numbers_left, craq_runs::specs::Chain::chain_step, craq_runs::specs::Explain::wrote, craq_runs::specs::Explain::written_at, craq_runs::specs::Explain::due_place, craq_runs::specs::Explain::places_of, craq_runs::specs::Explain::account_with, craq_runs::specs::Explain::ask_number, craq_runs::specs::Seen::asks_from, craq_runs::specs::Seen::receivers_in, craq_runs::specs::Seen::answers_in, craq_runs::specs::Seen::answers_from, craq_runs::specs::Seen::ask_with, craq_runs::specs::Seen::update_at, craq_runs::specs::Seen::strong_answers, craq_runs::specs::Valid::look_of, craq_runs::specs::Valid::committed_object, craq_runs::specs::Valid::answered_object))]
 
 ghost use Rattle.std.specs.Prelude.{◌≡◌, ◌-◌, ◌^◌, [], ◌∷◌, Some, None, Err, IsOk};
@@ -117,13 +117,13 @@ pub fn whole_join()
     ensures explained { explain 0 (run_of (1 ∷ []) whole_join_moves) ≡ whole_join_explained }
 {}
 
-/// Of nine replies the eight of the largest numbers are kept.
+/// Of 9 replies, the 8 with the largest numbers are kept.
 pub fn eight_kept()
     ensures printed { play (1 ∷ []) eight_kept_moves ≡ eight_kept_lines }
     ensures explained { explain 0 (run_of (1 ∷ []) eight_kept_moves) ≡ eight_kept_explained }
 {}
 
-/// A tick sends three entries as one batch, which is acknowledged once.
+/// A tick sends three entries as one batch, which gets one acknowledgement.
 pub fn batch()
     ensures printed { play (1 ∷ 2 ∷ []) batch_moves ≡ batch_lines }
     ensures explained { explain 0 (run_of (1 ∷ 2 ∷ []) batch_moves) ≡ batch_explained }
@@ -135,24 +135,24 @@ pub fn runs()
     ensures thirty_three { run_lengths 33 ≡ 16 ∷ 16 ∷ 1 ∷ [] }
 {}
 
-/// A state of 65 items is sent in parts of 64 and 1, and one of 129 in two parts of 64 and one of 1.
+/// A state of 65 items is sent in parts of 64 and 1, one of 129 in two parts of 64 and one of 1.
 pub fn part_items()
     ensures sixty_five { part_counts 60 5 ≡ 64 ∷ 1 ∷ [] }
     ensures hundred_twenty_nine { part_counts 100 29 ≡ 64 ∷ 64 ∷ 1 ∷ [] }
 {}
 
-/// A state of 66 items comes in two parts, the second one first and twice.
+/// A state of 66 items comes in two parts; the second arrives first, and twice.
 pub fn parts()
     ensures { printed chain_of_many parts_moves ≡ parts_lines }
 {}
 
-/// This run can happen, and its explanation holds of it.
+/// This run is possible, and its explanation is valid for it.
 pub fn clean_and_dirty_reads_hold()
     ensures run { IsRunOf 0 (run_of (1 ∷ 2 ∷ 3 ∷ []) clean_and_dirty_reads_moves) }
     ensures valid { IsValid (run_of (1 ∷ 2 ∷ 3 ∷ []) clean_and_dirty_reads_moves) clean_and_dirty_reads_explained }
 {}
 
-/// The strong answers of these runs are explained.
+/// The strong replies of these runs are explained.
 pub fn strong_answers_hold()
     ensures one_put { StrongHold (seen (run_of (1 ∷ 2 ∷ 3 ∷ []) one_put_moves)) one_put_explained }
     ensures query_overtaken { StrongHold (seen (run_of (1 ∷ 2 ∷ 3 ∷ []) query_overtaken_moves)) query_overtaken_explained }
@@ -162,24 +162,24 @@ pub fn strong_answers_hold()
     ensures one_node { StrongHold (seen (run_of (1 ∷ []) one_node_moves)) one_node_explained }
 {}
 
-/// An explanation without places holds of no run with a strong answer.
+/// An explanation without linearization points is valid for no run with a strong reply.
 pub fn no_empty_explanation()
     ensures { ¬ (HasForm (seen (run_of (1 ∷ 2 ∷ 3 ∷ []) one_put_moves)) (record one_put_explained { places = [] })) }
 {}
 
-/// A wrong place explains no answer: this read gave the version of the second put.
+/// A wrong linearization point explains no reply: this read returned the version of the second put.
 pub fn no_early_place()
     ensures { ¬ (StrongHold (seen (run_of (1 ∷ 2 ∷ 3 ∷ []) query_overtaken_moves)) (record query_overtaken_explained { places = record { node = 2; ticket = 1; position = 1 } ∷ [] })) }
 {}
 
-/// Steps and messages, with each field.
+/// Steps and messages, field by field.
 pub fn whole_steps()
     ensures steps { steps_of (1 ∷ 2 ∷ 3 ∷ []) clean_and_dirty_reads_moves ≡ clean_and_dirty_reads_steps }
     ensures entry { message_of (1 ∷ 2 ∷ 3 ∷ []) one_put_moves 1 ≡ Some (message 1 2 1 (Body.Entry first_entry)) }
     ensures copy { message_of (1 ∷ 2 ∷ 3 ∷ []) join_moves 20 ≡ Some third_copy }
 {}
 
-/// At most 1,024 asks wait, and the last ticket is 2^64 - 1; the ticket is looked at first.
+/// At most 1,024 requests wait, and the last ticket is 2^64 - 1. The ticket is tested first.
 pub fn limits()
     ensures room { IsOk (node_step (busy 1023) (Event.Ask (Ask.Update put))) }
     ensures full { node_step (busy 1024) (Event.Ask (Ask.Update put)) ≡ Err Refusal.PendingFull }
@@ -188,7 +188,8 @@ pub fn limits()
     ensures ticket_first { node_step (record (busy 1024) { last_ticket = 2 ^ 64 - 1 }) (Event.Ask (Ask.Update put)) ≡ Err Refusal.Exhausted }
 {}
 
-/// A read with bound 1 gives version 2 while version 1 is committed, and could not give version 3.
+/// A read with bound 1 returns version 2 while version 1 is committed, and could not return version
+/// 3.
 pub fn bounded_answers()
     ensures looked { look_of (seen run) (answered 2 (98 ∷ [])) ≡ Some (look 2 (98 ∷ [])) }
     ensures right { IsBounded (seen run) explanation 1 earlier (answered 2 (98 ∷ [])) (look 2 (98 ∷ [])) }

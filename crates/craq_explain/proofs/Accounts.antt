@@ -51,7 +51,7 @@ moves_on : (c : Chain) (m : Move) (step : Step) → Takes (chain_step c m) step 
 unfolding chain_step
 moves_on c m step h = counted c step (move_progress c m) h
 
--- the account's asks are those of the moves
+-- the account's requests are those of the moves
 pub asks_after : (w : Account) (ts : List Taken) → AreTaken w.chain ts → (account_of w ts).asks ≡ w.asks ++ asks_from (w.chain.moves + 1) ts
 unfolding asks_from
 asks_after w [] h = sym (append-nil w.asks)
@@ -64,7 +64,7 @@ asks_after w (t ∷ ts) h =
     ∙ ap (λ (xs : List Asked). xs ++ asks_from (w.chain.moves + 1 + 1) ts) (asks_then w t)
     ∙ append_assoc w.asks (ask_in (w.chain.moves + 1) t.step.ticket t.chosen) (asks_from (w.chain.moves + 1 + 1) ts)
 
--- the moves of a beginning are counted
+-- the moves of a prefix are counted
 pub count_after : (c : Chain) (ts : List Taken) → AreTaken c ts → (after_moves c ts).moves ≡ c.moves + length ts
 count_after c [] h = omega arith
 count_after c (t ∷ ts) h =
@@ -72,7 +72,7 @@ count_after c (t ∷ ts) h =
     let here = moves_on c t.chosen t.step h.0 in
     omega (arith, later, here)
 
--- a beginning of moves that are taken is taken, and so is the next
+-- a prefix of taken moves is taken, and so is the next move
 pub taken_before : (c : Chain) (ts : List Taken) (i : ℕ) → AreTaken c ts → AreTaken c (take i ts)
 taken_before c [] zero h = tt
 taken_before c [] (suc i) h = tt
@@ -88,7 +88,7 @@ same_progress : (w new : Chained) (t : Taken) (r : Result Progress Refusal) → 
 same_progress w new t (Ok x) h e = let put : with_move w (record { chosen = t.chosen; step = x.1 }) ≡ new = cc in sym put ∙ ap (λ (s : Step). with_move w (record { chosen = t.chosen; step = s })) h
 same_progress w new t (Err r) h e = absurd h
 
--- the chain that takes the move of a run once more keeps the run's step
+-- the chain that replays a move of a run keeps the run's step
 pub took_again : (w new : Chained) (t : Taken) → Takes (chain_step (chain_of w) t.chosen) t.step → after_taking w t.chosen ≡ Ok new → new ≡ with_move w t
 took_again w new t h e = same_progress w new t (chain_step (chain_of w) t.chosen) h e
 
@@ -96,7 +96,7 @@ took_again w new t h e = same_progress w new t (chain_step (chain_of w) t.chosen
 pub chain_with : (w : Chained) (t : Taken) → chain_of (with_move w t) ≡ after_move (chain_of w) t.chosen
 chain_with w t = after_push (opening_chain w.chain w.run.members) w.run.moves t
 
--- the notes of the account after a move, by what was seen of the chain before it and after it
+-- the notes of the account after a move, from the chain before it and after it
 pub noted_after : (w : Account) (t : Taken) (c d : Chain) (node : ℕ) (stands : Option Plain) (n : Notes) → w.chain ≡ c → d ≡ after_move c t.chosen → node ≡ node_of (map (λ (x : LinkMessage). x.receiver) c.messages) t.chosen → stands ≡ as_running (node_at d.nodes node) → IsNoted (account_with w t node (after_move w.chain t.chosen) stands stands) n → IsNoted (account_after w t) n
 noted_after w t c d node stands n e ed en es h =
     let next : Chain = after_move w.chain t.chosen in

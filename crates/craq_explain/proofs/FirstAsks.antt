@@ -1,4 +1,4 @@
--- The first ask with a name.
+-- The first request with a name.
 use Rattle.std.proofs.Common.{◌≡◌, ◌≤◌, ◌+◌, ◌-◌, ℕ, suc, List, [], ◌∷◌, ◌++◌, Option, Some, None, refl, sym, ap, arith, ◌∙◌}
 use Rattle.std.specs.Prelude.{option_map, slice_get}
 use Rattle.craq_model.specs.declared.ask.Ask.{Ask}
@@ -19,7 +19,7 @@ unfolding ask_with
 found_later [] ys node ticket h = refl
 found_later (x ∷ xs) ys node ticket h = grind (arith, h, found_later xs ys node ticket)
 
--- a move's ask has the move's number
+-- a move's request has the move's number
 numbered : (number : ℕ) (t : Option ℕ) (m : Move) (node ticket : ℕ) (a : Asked) → ask_with (ask_in number t m) node ticket ≡ Some a → a.move ≡ number
 unfolding ask_with
 numbered number t (moves.Ask n ask) node ticket a h = grind (arith, h)
@@ -29,7 +29,7 @@ numbered number t (moves.Stop k) node ticket a h = cc
 numbered number t (moves.Remove k) node ticket a h = cc
 numbered number t (moves.Join k) node ticket a h = cc
 
--- where the first ask with a name stands among the moves
+-- the move of the first request with a name
 pub record Stands (from : ℕ) (ts : List Taken) (node ticket : ℕ) (a : Asked) : Type 0 where
   pub taken : Taken
   pub above : from ≤ a.move
@@ -74,12 +74,12 @@ no_move : (r : Option Asked) → None ≡ option_map (λ (a : Asked). a.move) r 
 no_move None h = refl
 no_move (Some a) h = cc
 
--- what has no number was not asked
+-- a name without a number has no request
 pub unasked : (xs : List Asked) (node ticket : ℕ) → None ≡ asked_at xs (node, ticket) → None ≡ option_map (λ (a : Asked). a.ask) (ask_with xs node ticket)
 unfolding asked_at
 unasked xs node ticket h = no_move (ask_with xs node ticket) h
 
--- an ask of this number
+-- a request of this number
 record Found (r : Option Asked) (number : ℕ) : Type 0 where
   pub ask : Asked
   pub is : r ≡ Some ask
@@ -103,14 +103,14 @@ one_taken t u h = cc
 no_taken : (t : Taken) → (let r : Option Taken = None in r) ≡ Some t → ⊥
 no_taken t h = cc
 
--- a number that was noted is a move's
+-- a noted number is that of a move
 pub numbered_move : (ts : List Taken) (node ticket number : ℕ) → Some number ≡ asked_at (asks_from 1 ts) (node, ticket) → None ≡ slice_get ts (number - 1) → ⊥
 numbered_move ts node ticket number h none =
     let f = found_at (asks_from 1 ts) node ticket number h in
     let s = stands 1 ts node ticket f.ask f.is in
     no_taken s.taken (none ∙ ap (λ n. slice_get ts (n - 1)) (sym f.numbered) ∙ s.here)
 
--- and that move asked
+-- and that move is a request
 pub asked_by : (ts : List Taken) (t : Taken) (node ticket number : ℕ) (ask : Option Ask) → Some number ≡ asked_at (asks_from 1 ts) (node, ticket) → Some t ≡ slice_get ts (number - 1) → ((n : ℕ) → ask_with (ask_in n t.step.ticket t.chosen) node ticket ≡ asked_as n node ticket ask) → ask ≡ option_map (λ (a : Asked). a.ask) (ask_with (asks_from 1 ts) node ticket)
 asked_by ts t node ticket number ask h at asks =
     let f = found_at (asks_from 1 ts) node ticket number h in

@@ -1,4 +1,4 @@
--- Look-ups of an account, as it grows.
+-- Lookups in an account, as it grows.
 use Rattle.std.proofs.Common.{◌≡◌, ◌+◌, ◌<◌, ◌≤◌, ℕ, suc, add-one, Bool, true, false, List, [], ◌∷◌, ◌++◌, length, get_or, map, drop, drop-cons, Option, Some, None, refl, sym, ap, ◌∙◌}
 use Rattle.std.specs.Prelude.{◌&&◌, ◌==◌, unwrap_or}
 use Rattle.std.specs.List.{list_any}
@@ -28,7 +28,7 @@ never : (b : Bool) (x : Option ℕ) (number : ℕ) → option_or x (number_if (b
 never true x number = none_put x number
 never false x number = none_put x number
 
--- an ask without a ticket is not found
+-- a request without a ticket is not found
 pub asked_stay : (asks : List Asked) (number node : ℕ) (ask : Ask) (name : ℕ × ℕ) → asked_at (asks ++ ask_in number None (moves.Ask node ask)) name ≡ asked_at asks name
 unfolding asked_at ask_with
 asked_stay asks number node ask name =
@@ -45,7 +45,7 @@ pub written_push : (entries : List Entry) (e : Entry) (write : List ℕ × ℕ) 
 unfolding first_written
 written_push entries e write = first_push (wrote write.0 write.1) (λ (x : Entry). x.position) entries e
 
--- whether writes have this version of the key
+-- one of the writes has this version of the key
 abbrev pub any_wrote : List Write → List ℕ × ℕ → Bool
 any_wrote ws q = list_any (λ (x : Write). same_bytes x.key q.0 && (x.version == q.1)) ws
 
@@ -64,7 +64,7 @@ writes_noted ws i position x all q h so =
     ∙ sym (at_drop_all (λ (vs : List Write). option_or x (number_if (any_wrote vs q) position)) ws i h)
     ∙ so
 
--- the number of an entry's ask
+-- the number of an entry's request
 pub numbered_ask : (asks : List Asked) (m : BTreeMap (ℕ × ℕ) ℕ) (e : Entry) → Tells name_cmp m (asked_at asks) → unwrap_or (get name_cmp m (origin e)) 0 ≡ ask_number asks e
 unfolding ask_number asked_at
 numbered_ask asks m e tells = ap (λ (n : Option ℕ). unwrap_or n 0) (tells (origin e))
@@ -79,7 +79,7 @@ pub origins_push : (entries : List Entry) (e : Entry) → map origin (entries ++
 origins_push [] e = refl
 origins_push (x ∷ xs) e = ap (λ (ns : List (ℕ × ℕ)). origin x ∷ ns) (origins_push xs e)
 
--- the explanation that an account tells
+-- the explanation from an account
 pub told : (w : Account) (asks lens : List ℕ) (places : List Place) → asks ≡ map (ask_number w.asks) w.committed → lens ≡ w.lens → places ≡ w.places → (let e : Explanation = record { asks = asks; lens = lens; places = places } in e) ≡ explanation_in w
 told w asks lens places a l p =
     ap (λ (x : List ℕ). let e : Explanation = record { asks = x; lens = lens; places = places } in e) a

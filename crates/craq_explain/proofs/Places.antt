@@ -1,4 +1,4 @@
--- The places of a step's answers, out by out.
+-- The places of a step's replies, output by output.
 use Rattle.std.proofs.Common.{◌≡◌, ◌<◌, ◌≤◌, ◌+◌, ℕ, suc, add-one, List, [], ◌∷◌, ◌++◌, length, get_or, drop, drop-cons, Option, Some, None, Result, Ok, Err, refl, sym, ap, ◌∙◌, append_assoc}
 use Rattle.std.specs.Prelude.{IfOk, option_map}
 use Rattle.std.specs.declared.alloc.AllocError.{AllocError}
@@ -14,7 +14,7 @@ use Rattle.craq_runs.specs.Explain.{place_by, place_if_asked, places_of}
 use Rattle.craq_runs.specs.Seen.{Answered, Asked, answers_in, ask_with}
 use Rattle.craq_explain.specs.Shown.{places_in}
 
--- one more out's place
+-- one more output's place
 pub carried : (F : List Out → List Place) (outs : List Out) (i : ℕ) (out : Out) (ps qs new all : List Place) → i < length outs → out ≡ get_or outs i out → F (out ∷ drop (i + 1) outs) ≡ qs ++ F (drop (i + 1) outs) → new ≡ ps ++ qs → ps ++ F (drop i outs) ≡ all → new ++ F (drop (i + 1) outs) ≡ all
 carried F outs i out ps qs new all h is here put so =
     let at : drop i outs ≡ out ∷ drop (i + 1) outs = drop-cons outs i out h ∙ ap (λ (x : Out). x ∷ drop (suc i) outs) (sym is) ∙ ap (λ n. out ∷ drop n outs) (sym (add-one i)) in
@@ -27,7 +27,7 @@ nothing_out : (asks : List Asked) (due : List Place) (committed : List Entry) (p
 unfolding places_of answers_in
 nothing_out asks due committed p word number node = refl
 
--- past the last out there is nothing to come
+-- past the last output nothing is added
 pub all_put : (asks : List Asked) (due : List Place) (committed : List Entry) (p : Option Plain) (word : Option (ℕ × ℕ)) (number node : ℕ) (outs : List Out) (i : ℕ) (ps all : List Place) → length outs ≤ i → ps ++ places_of asks due committed p word (answers_in number node (drop i outs)) ≡ all → ps ≡ all
 all_put asks due committed p word number node outs i ps all h so =
     sym (append-nil ps)
@@ -38,7 +38,7 @@ by_ask : (due : List Place) (entries : List Entry) (p : Option Plain) (word : Op
 by_ask due entries p word a ask None h = cc
 by_ask due entries p word a ask (Some x) h = let same : ask ≡ x.ask = cc in ap (place_by due entries p word a) (sym same)
 
--- the place of an answer to an ask
+-- the place of a reply to a request
 answered : (xs : List Asked) (due : List Place) (entries : List Entry) (p : Option Plain) (word : Option (ℕ × ℕ)) (number node ticket : ℕ) (answer : Answer) (out : Out) (later : List Out) (ask : Ask) (ps : List Place) → out ≡ outs.Answer ticket answer → Some ask ≡ option_map (λ (x : Asked). x.ask) (ask_with xs node ticket) → ps ≡ place_by due entries p word (record { move = number; node = node; ticket = ticket; answer = answer }) ask → places_of xs due entries p word (answers_in number node (out ∷ later)) ≡ ps ++ places_of xs due entries p word (answers_in number node later)
 unfolding places_of answers_in
 answered xs due entries p word number node ticket answer out later ask ps is asked here =

@@ -1,4 +1,4 @@
--- A run that is taken once more, after some of its moves.
+-- A replayed run, after some of its moves.
 use Rattle.std.proofs.Common.{◌≡◌, ◌<◌, ◌+◌, ℕ, List, [], ◌∷◌, ◌++◌, length, get_or, take, sym, ap, arith, ◌≤◌, ◌∙◌}
 use Rattle.std.proofs.lemmas.List.{length-take-le, take_more}
 use Rattle.craq_runs.specs.declared.run.Run.{Run}
@@ -10,7 +10,7 @@ use Rattle.craq_runs.specs.Seen.{ask_in, asks_from}
 use Rattle.craq_chain.specs.Chained.{Chained, chain_of, with_move}
 use Rattle.craq_explain.proofs.Accounts.{asks_after, asks_then, chain_after, count_after, one_more, taken_before, taken_next}
 
--- the chain, and the account, after so many moves of the run
+-- the chain, and the account, after i moves of the run
 abbrev pub chain_at : ℕ → Run → ℕ → Chained
 chain_at chain run i = record { chain = chain; run = record { members = run.members; moves = take i run.moves } }
 

@@ -60,7 +60,7 @@ module _ (committed : List Entry) (p q : Option Plain) (word : Option (ℕ × �
   same_places xs due [] = refl
   same_places xs due (a ∷ later) = rw (same_place due a (ask_with xs a.node a.ticket), same_places xs due later) refl
 
--- so the account is the same, where reads stand at the same places
+-- so the account is the same, if reads have the same places
 pub same_account : (w : Account) (t : Taken) (node : ℕ) (next : Chain) (old new : Option Plain) → ((entries : List Entry) (key : List ℕ) → read_place entries new (tail_word w t.chosen) key ≡ read_place entries old (tail_word w t.chosen) key) → account_with w t node next (as_running new) (as_running new) ≡ account_with w t node next old new
 unfolding account_with
 same_account w t node next old new same =

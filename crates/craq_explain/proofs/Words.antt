@@ -1,4 +1,4 @@
--- A version that the tail tells leaves the clean state of the node that asked as it is.
+-- A version that the tail reports does not change the clean state of the node that receives it.
 use Rattle.std.proofs.Common.{◌≡◌, ◌+◌, ◌-◌, ℕ, Bool, true, false, List, [], ◌∷◌, ◌++◌, map, Option, Some, None, Result, Ok, Err, refl, sym, ap, subst, ◌∙◌}
 use Rattle.std.specs.Prelude.{◌==◌, not, nat_lt, if◌then◌else◌, slice_index}
 use Rattle.craq_names.specs.declared.refusal.Refusal.{Refusal}
@@ -47,7 +47,7 @@ version_clean p sender ticket version = by_test (not (sender == last_of p.member
 body_clean : (p : Plain) (m : LinkMessage) (ticket version : ℕ) → clean (body_turn p m (bodies.VersionIs ticket version)).0 ≡ clean p
 body_clean p m ticket version = by_test (m.epoch == p.epoch) (version_turn p m.sender ticket version) (turn_ignoring p OtherEpoch) p (version_clean p m.sender ticket version) refl
 
--- a step leaves what is clean, or is refused
+-- a step keeps the clean state, or is refused
 abbrev Cleans : Plain → Result Turn Refusal → Type 0
 Cleans p (Ok t) = clean t.0 ≡ clean p
 Cleans p (Err e) = Unit {0}
@@ -91,7 +91,7 @@ module _ (c : Chain) (m : LinkMessage) (key : List ℕ) where
   met_clean ticket version w None e = unchanged None e
   met_clean ticket version w (Some p) e = turned_clean p (node_step p (events.Deliver m)) e refl (step_clean p m ticket version w)
 
--- once the word arrives the same is clean at its receiver
+-- the receiver's clean state is the same after the report arrives
 arrived_clean : (c : Chain) (number : ℕ) (m : LinkMessage) (key : List ℕ) (ticket version : ℕ) → message_at c.messages number ≡ Some m → m.body ≡ bodies.VersionIs ticket version → clean_at (node_at c.nodes m.receiver) key ≡ clean_at (node_at (after_move c (moves.Deliver number)).nodes m.receiver) key
 unfolding chain_step
 arrived_clean c number m key ticket version e w = rw e (met_clean c m key ticket version w (node_at c.nodes m.receiver) refl)
@@ -113,7 +113,7 @@ message_place entries c number sent key None e = refl
 message_place entries c number sent key (Some m) e =
     subst (λ node. read_place entries (node_at (after_move c (moves.Deliver number)).nodes node) (word_of sent m.body) key ≡ read_place entries (node_at c.nodes node) (word_of sent m.body) key) (sym (sent_to c.messages number m e)) (word_place entries c number sent key m m.body e refl)
 
--- a read stands at the same place by the node before the move and by the node after it
+-- a read has the same place by the node before the move and by the node after it
 pub same_reads : (w : Account) (m : Move) (entries : List Entry) (key : List ℕ) → let node = node_of (map (λ (x : LinkMessage). x.receiver) w.chain.messages) m in read_place entries (node_at (after_move w.chain m).nodes node) (tail_word w m) key ≡ read_place entries (node_at w.chain.nodes node) (tail_word w m) key
 same_reads w (moves.Deliver number) entries key = message_place entries w.chain number (slice_index w.sent_at (number - 1)) key (message_at w.chain.messages number) refl
 same_reads w (moves.Ask node ask) entries key = refl

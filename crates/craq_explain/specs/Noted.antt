@@ -1,4 +1,4 @@
--- What is noted of a run beside its chain.
+-- The notes of a run, without its chain.
 use Rattle.std.specs.Prelude.{◌≡◌}
 use Rattle.craq_runs.specs.Explain.{Account}
 use Rattle.craq_explain.specs.declared.account.Notes.{Notes}

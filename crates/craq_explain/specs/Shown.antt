@@ -1,4 +1,4 @@
--- What is lent of a run and of its nodes, as contracts see it.
+-- Borrowed parts of a run and of its nodes, as contracts see them.
 use Rattle.std.specs.Prelude.{ℕ, true, List, [], ◌∷◌, Option, Some, None}
 use Rattle.std.specs.Option.{option_map}
 use Rattle.std.specs.Borrow.{Bor}
@@ -10,12 +10,12 @@ use Rattle.craq_history.specs.Nodes.{plain_of}
 use Rattle.craq_runs.specs.declared.explanation.Place.{Place}
 use Rattle.craq_runs.specs.Seen.{Asked}
 
--- what the move of a number asked at a node, where it got this ticket
+-- the request of the move of a number at a node, if it got this ticket
 abbrev pub asked_as : ℕ → ℕ → ℕ → Option Ask → Option Asked
 asked_as number node ticket None = None
 asked_as number node ticket (Some ask) = Some (record { move = number; node = node; ticket = Some ticket; ask = ask })
 
--- the plain node of a lent node, as it was while it ran
+-- the plain node of a borrowed node, as it was while it ran
 abbrev pub plain_in : {H : Type 0} → (H → Past) → Option (Bor (Node H)) → Option Plain
 plain_in {H} past node = option_map (λ (n : Bor (Node H)). plain_of past n.now) node
 

@@ -1,4 +1,4 @@
-//! What is noted of a run, move by move; called by `replay`.
+//! Notes of a run, taken move by move; used by `replay`.
 ghost use Rattle.std.specs.Prelude.{◌≡◌, ◌+◌, ◌++◌, ℕ, List, IfOk, OnOk, length, map};
 ghost use Rattle.craq_commands.specs.declared.entry.Entry.{Entry};
 ghost use Rattle.craq_runs.specs.declared.explanation.Place.{Place};
@@ -18,7 +18,7 @@ use craq_plain::PlainHistory;
 use craq_runs::{Explanation, Place, Taken};
 use std::alloc::{AllocError, Global};
 
-/// The account of a run, but for its chain.
+/// The account of a run, without its chain.
 #[derive(Drop)]
 pub(crate) struct Notes {
     tables: Tables,
@@ -30,7 +30,7 @@ pub(crate) struct Notes {
 impl Notes {
     ghost use Rattle.craq_explain.specs.Noted.{IsNoted};
 
-    /// No notes. It takes no memory.
+    /// Makes empty notes. Never allocates.
     pub(crate) fn new(alloc: Global) -> Self
         ensures { (chain : ℕ) (members : List ℕ) → IsNoted (opening_account chain members) result }
     {
@@ -42,14 +42,14 @@ impl Notes {
         }
     }
 
-    /// How many were committed after the step that sent each message.
+    /// Returns the number committed after the step that sent each message.
     pub(crate) fn sent_at(&self) -> &[u64]
         ensures { result.now ≡ self.now.sent_at.items }
     {
         self.sent_at.as_slice()
     }
 
-    /// Notes of one more move, the last of these; `stands` is its node after the move.
+    /// Adds the last of these moves to the notes; `stands` is its node after the move.
     pub(crate) fn add(
         &mut self,
         alloc: Global,
@@ -79,7 +79,7 @@ impl Notes {
         Ok(())
     }
 
-    /// The explanation that the notes of all moves tell.
+    /// Returns the explanation from the notes of all moves.
     pub(crate) fn explained(self, alloc: Global) -> Result<Explanation, AllocError>
         ensures { (w : Account) → IsNoted w self → IfOk result (λ e. e ≡ explanation_in w) }
     {
@@ -92,7 +92,8 @@ impl Notes {
     }
 }
 
-/// The numbers of the asks that made the committed entries; 0 where there is none.
+/// Returns the numbers of the requests that made the committed entries, 0 for an entry without a
+/// request.
 fn ask_numbers(alloc: Global, tables: &Tables) -> Result<Vec<u64>, AllocError>
     ensures { (asks : List Asked) (due : List Place) (entries : List Entry) → AreTables asks due entries tables.now → IfOk result (λ numbers. numbers.items ≡ map (ask_number asks) entries) }
 {

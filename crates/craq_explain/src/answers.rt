@@ -1,4 +1,4 @@
-//! Where the strong answers of a step stand; called by `account` and `replay`.
+//! The linearization points of the strong replies of a step; used by `account` and `replay`.
 ghost use Rattle.std.specs.Prelude.{◌≡◌, ◌∷◌, ◌-◌, ◌++◌, ℕ, List, IfOk, OnOk, slice_index};
 ghost use Rattle.std.specs.Option.{option_copied};
 ghost use Rattle.craq_commands.specs.declared.entry.Entry.{Entry};
@@ -21,7 +21,7 @@ use craq_plain::PlainHistory;
 use craq_runs::{Place, Taken};
 use std::alloc::{AllocError, Global};
 
-/// How many were committed after the step that sent the message of this number, from 1.
+/// Returns the number committed after the step that sent the message of this number, from 1.
 fn sent_with(sent_at: &[u64], number: u64) -> u64
     ensures { result ≡ slice_index sent_at.now (number - 1) }
 {
@@ -31,7 +31,8 @@ fn sent_with(sent_at: &[u64], number: u64) -> u64
     }
 }
 
-/// The committed version that a message tells, with how many were committed after the step that sent it.
+/// Returns the committed version that a message reports, with the number committed after the step
+/// that sent it.
 pub(crate) fn word_in(
     sent_at: &[u64],
     message: Option<&LinkMessage>,
@@ -48,7 +49,7 @@ pub(crate) fn word_in(
     }
 }
 
-/// The clean version of a key; 0 where there is no node.
+/// Returns the clean version of a key, 0 if there is no node.
 #[tactic(auto, unfolding(craq_model::specs::Plain::clean))]
 fn clean_at(node: Option<&Node<PlainHistory>>, key: &Key) -> Version
     ensures { result ≡ clean_at (plain_in ⟦<PlainHistory as History>⟧.past node.entry) key.now }
@@ -59,7 +60,8 @@ fn clean_at(node: Option<&Node<PlainHistory>>, key: &Key) -> Version
     }
 }
 
-/// Where a strong read of the key stands: by the tail's word if there is one, else after this step.
+/// Returns the position of a strong read of the key: by the tail's report if there is one, else
+/// after this step.
 fn read_place(
     alloc: Global,
     tables: &Tables,
@@ -79,7 +81,7 @@ fn read_place(
     tables.committed.written_at(alloc, key, clean)
 }
 
-/// Where the answer to an ask stands, if that is strong.
+/// Returns the linearization point of the reply to a request, if the reply is strong.
 #[tactic(auto, unfolding(craq_runs::specs::Explain::due_place, crate::specs::Tables::due_of))]
 fn place_by(
     alloc: Global,
@@ -107,7 +109,7 @@ fn place_by(
     }))
 }
 
-/// Where an out stands, if it answers a strong ask of these moves.
+/// Returns the linearization point of an output, if it replies to a strong request of these moves.
 #[tactic(auto, unfolding(craq_runs::specs::Seen::answers_in, craq_runs::specs::Explain::places_of))]
 fn place_in(
     alloc: Global,
@@ -128,7 +130,7 @@ fn place_in(
     }
 }
 
-/// Puts a place, if there is one, after those so far.
+/// Appends a place, if there is one.
 fn put_place(places: &mut Vec<Place>, place: Option<Place>) -> Result<(), AllocError>
     ensures { OnOk result (places.new.items ≡ places.old.items ++ places_in place) }
 {
@@ -141,7 +143,7 @@ fn put_place(places: &mut Vec<Place>, place: Option<Place>) -> Result<(), AllocE
     }
 }
 
-/// Puts the places of the strong answers of a move, the last of these, after those so far.
+/// Appends the places of the strong replies of the last of these moves.
 pub(crate) fn add_places(
     alloc: Global,
     tables: &Tables,

@@ -1,4 +1,5 @@
-//! The asks of a run by node and ticket, and where the replies to updates stand; called by `tables` and `answers`.
+//! The requests of a run by node and ticket, and the places of the replies to updates; used by
+//! `tables` and `answers`.
 ghost use Rattle.std.specs.Prelude.{◌≡◌, ◌++◌, ◌-◌, ℕ, List, OnOk, option_map, slice_get};
 ghost use Rattle.std.specs.Option.{option_copied};
 ghost use Rattle.craq_runs.specs.declared.explanation.Place.{Place};
@@ -13,7 +14,7 @@ use craq_names::{NodeId, Ticket};
 use craq_runs::{Move, Place, Taken};
 use std::alloc::AllocError;
 
-/// Notes the number of a move at the ticket that it got, if it is an ask.
+/// Notes the number of a move at the ticket that it got, if it is a request.
 pub(crate) fn note_ask(
     asked: &mut TicketNumbers,
     number: u64,
@@ -33,7 +34,7 @@ pub(crate) fn note_ask(
     }
 }
 
-/// Notes where a reply stands, if one is due.
+/// Notes the place of a pending reply, if there is one.
 pub(crate) fn note_due(due: &mut TicketNumbers, place: Option<Place>) -> Result<(), AllocError>
     ensures { (places : List Place) → Tells name_cmp due.old (due_of places) → OnOk result (Tells name_cmp due.new (due_of (places ++ places_in place))) }
 {
@@ -46,7 +47,7 @@ pub(crate) fn note_due(due: &mut TicketNumbers, place: Option<Place>) -> Result<
     }
 }
 
-/// What a move asked at this node, where it got this ticket.
+/// Returns the request of a move at this node, if it got this ticket.
 #[tactic(auto, unfolding(craq_runs::specs::Seen::ask_with))]
 fn asked_in(taken: &Taken, node: NodeId, ticket: Ticket) -> Option<&Ask>
     ensures { (number : ℕ) → ask_with (ask_in number taken.now.step.ticket taken.now.chosen) node ticket ≡ asked_as number node ticket (option_copied result) }
@@ -63,14 +64,15 @@ fn asked_in(taken: &Taken, node: NodeId, ticket: Ticket) -> Option<&Ask>
     }
 }
 
-/// The move of this number, from 1.
+/// Returns the move of this number, from 1.
 fn move_at(moves: &[Taken], number: u64) -> Option<&Taken>
     ensures { option_copied result ≡ slice_get moves.now (number - 1) }
 {
     moves.get(number.saturating_sub(1) as usize)
 }
 
-/// What was asked first at a node under a ticket, by the numbers of the moves that asked.
+/// Returns the first request at a node under a ticket; `asked` has the numbers of the moves that
+/// made requests.
 pub(crate) fn ask_of<'a>(
     asked: &TicketNumbers,
     moves: &'a [Taken],

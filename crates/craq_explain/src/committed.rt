@@ -1,4 +1,4 @@
-//! What is kept of the committed entries; called by `tables`.
+//! Tables of the committed entries; used by `tables`.
 ghost use Rattle.std.specs.Prelude.{◌≡◌, ◌++◌, ◌∷◌, [], ℕ, List, OnOk, IfOk, length};
 ghost use Rattle.std.specs.Option.{option_or};
 ghost use Rattle.std.specs.BTreeMap.{get};
@@ -18,25 +18,25 @@ use craq_plain::PlainHistory;
 use std::alloc::{AllocError, Global};
 use std::collections::BTreeMap;
 
-/// A position for each of some versions of keys.
+/// A position for each known version of a key.
 type Positions = BTreeMap<(Key, Version), u64>;
 
-/// Of the committed entries, in order: who asked for each, and at which position each version of a key was
-/// written first.
+/// The committed entries, in order: the origin of each, and the position of the first entry that
+/// wrote each version of a key.
 #[derive(Drop)]
 pub(crate) struct Committed {
     origins: Vec<(NodeId, Ticket)>,
     written: Positions,
 }
 
-/// Whether a node is a tail: ready, and the last of the members that it knows.
+/// Returns true if a node is a tail: ready, and the last of the members that it knows.
 fn is_tail(node: &Node<PlainHistory>) -> bool
     ensures { result ≡ is_tail (plain_of ⟦<PlainHistory as History>⟧.past node.now) }
 {
     node.ready && last_member(node.members.as_slice()) == node.name.node
 }
 
-/// Notes the position of the versions that an entry wrote, where they have none.
+/// Notes the position of each version that an entry wrote, unless the version has one.
 #[tactic(auto, unfolding(craq_runs::specs::Explain::wrote))]
 fn note_writes(alloc: Global, written: &mut Positions, entry: &Entry) -> Result<(), AllocError>
     ensures { OnOk result ((q : List ℕ × ℕ) → get write_cmp written.new q ≡ option_or (get write_cmp written.old q) (number_if (wrote q.0 q.1 entry.now) entry.now.position)) }
@@ -51,7 +51,7 @@ fn note_writes(alloc: Global, written: &mut Positions, entry: &Entry) -> Result<
 impl Committed {
     ghost use Rattle.craq_explain.specs.Tables.{IsCommitted};
 
-    /// No entries. It takes no memory.
+    /// Makes an empty table. Never allocates.
     pub(crate) fn new(alloc: Global) -> Self
         ensures { IsCommitted [] result }
     {
@@ -61,21 +61,22 @@ impl Committed {
         }
     }
 
-    /// How many entries there are.
+    /// Returns the number of entries.
     pub(crate) fn count(&self) -> u64
         ensures { (entries : List Entry) → IsCommitted entries self.now → result ≡ length entries }
     {
         self.origins.len() as u64
     }
 
-    /// Who asked for each entry.
+    /// Returns the origin of each entry.
     pub(crate) fn origins(&self) -> &[(NodeId, Ticket)]
         ensures { result.now ≡ self.now.origins.items }
     {
         self.origins.as_slice()
     }
 
-    /// The position of the first entry that wrote this version of the key; 0 where there is none.
+    /// Returns the position of the first entry that wrote this version of the key, 0 if there is
+    /// none.
     #[tactic(auto, unfolding(craq_runs::specs::Explain::written_at, crate::specs::Tables::first_written))]
     pub(crate) fn written_at(
         &self,
@@ -89,7 +90,7 @@ impl Committed {
         Ok(self.written.get(&write).copied().unwrap_or(0))
     }
 
-    /// One more entry.
+    /// Appends an entry.
     fn push(&mut self, alloc: Global, entry: &Entry) -> Result<(), AllocError>
         ensures { (entries : List Entry) → IsCommitted entries self.old → OnOk result (IsCommitted (entries ++ entry.now ∷ []) self.new) }
     {
@@ -98,7 +99,7 @@ impl Committed {
         Ok(())
     }
 
-    /// More entries.
+    /// Appends entries.
     fn add(&mut self, alloc: Global, more: &[Entry]) -> Result<(), AllocError>
         ensures { (entries : List Entry) → IsCommitted entries self.old → OnOk result (IsCommitted (entries ++ more.now) self.new) }
     {
@@ -108,7 +109,8 @@ impl Committed {
         Ok(())
     }
 
-    /// What is committed after a step of this node: a tail commits all that it has.
+    /// Appends the entries that are committed after a step of this node: a tail commits all its
+    /// entries.
     #[tactic(auto, unfolding(craq_model::specs::Plain::entries_after))]
     pub(crate) fn commit(
         &mut self,

@@ -1,4 +1,5 @@
-//! Numbers by key, of which the first that is put stays; called by `asks`, `committed`, `answers` and `account`.
+//! Numbers by key; the first number put at a key stays. Used by `asks`, `committed`, `answers` and
+//! `account`.
 ghost use Rattle.std.specs.Prelude.{◌≡◌, OnOk};
 ghost use Rattle.std.specs.Option.{option_or};
 ghost use Rattle.std.specs.BTreeMap.{get, is_at};
@@ -8,7 +9,7 @@ use craq_names::{NodeId, Ticket};
 use std::alloc::AllocError;
 use std::collections::BTreeMap;
 
-/// A number for each of some tickets of nodes.
+/// A number for each known ticket of a node.
 pub(crate) type TicketNumbers = BTreeMap<(NodeId, Ticket), u64>;
 
 /// Puts a number at a key, unless the key has one.
@@ -26,7 +27,7 @@ pub(crate) fn put_first<K: Ord + Drop>(
     Ok(())
 }
 
-/// The number of a ticket of a node.
+/// Returns the number of a ticket of a node.
 pub(crate) fn number_of(numbers: &TicketNumbers, node: NodeId, ticket: Ticket) -> Option<u64>
     ensures { result ≡ get name_cmp numbers.now (node, ticket) }
 {

@@ -1,6 +1,5 @@
-//! The explanation of any run of a chain, found by taking the run's moves once more; for `craq_world`, `craq_play`,
-//! `craq_schedules` and `craq_lab`. Apart from `craq_check`, which has to know nothing of nodes.
-//! Code that runs in the program.
+//! Finds the explanation of any run of a chain by replaying the run's moves on its nodes.
+//! Runs in the program: in `craq_world`, `craq_play`, `craq_schedules` and `craq_lab`.
 #![tactic(auto)]
 
 mod account;

@@ -1,4 +1,5 @@
-//! What is noted of a move: where a reply is due, and what was sent; called by `account` and `tables`.
+//! Notes of one move: its pending reply, and the messages that it sent; used by `account` and
+//! `tables`.
 ghost use Rattle.std.specs.Prelude.{◌≡◌, ◌++◌, OnOk, map};
 ghost use Rattle.craq_model.specs.declared.message.LinkMessage.{LinkMessage};
 ghost use Rattle.craq_runs.specs.Chain.{sent_in};
@@ -12,8 +13,8 @@ use craq_plain::PlainHistory;
 use craq_runs::{Move, Place};
 use std::alloc::AllocError;
 
-/// Where the reply to the ask of a move stands, if that is an update and got a ticket: at its client's newest
-/// entry, or after all that was committed before.
+/// Returns the linearization point of the reply to a move's request, if that is an update and got a
+/// ticket: the larger of its client's newest position and the number committed before.
 pub(crate) fn due_in(
     before: u64,
     ticket: Option<Ticket>,
@@ -41,7 +42,7 @@ pub(crate) fn due_in(
     }
 }
 
-/// Puts the count after those so far, once for each message among outs.
+/// Appends the count, once for each message among the outputs.
 #[tactic(auto, unfolding(craq_runs::specs::Chain::sent_in))]
 pub(crate) fn add_sends(sent_at: &mut Vec<u64>, count: u64, outs: &[Out]) -> Result<(), AllocError>
     ensures { OnOk result (sent_at.new.items ≡ sent_at.old.items ++ map (λ (m : LinkMessage). count) (sent_in outs.now)) }

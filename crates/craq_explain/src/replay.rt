@@ -1,4 +1,4 @@
-//! A run, taken once more: `explain_run_of`, the call of the crate.
+//! The replay of a run: `explain_run_of`, the function of the crate.
 ghost use Rattle.std.specs.Prelude.{◌≡◌, ◌+◌, ◌++◌, Ok, IfOk, OnOk, length};
 ghost use Rattle.craq_runs.specs.Chain.{chain_step, node_at};
 ghost use Rattle.craq_runs.specs.Runs.{IsRunOf, Takes};
@@ -19,7 +19,7 @@ use craq_plain::PlainHistory;
 use craq_runs::{Explanation, Move, Run, Taken};
 use std::alloc::{AllocError, Global};
 
-/// A chain takes a move of a run once more, which is refused for want of memory alone.
+/// Replays a move of a run in a chain. Fails only when out of memory.
 fn take_again(
     alloc: Global,
     core: &mut ChainCore<NodeCore<PlainHistory>>,
@@ -34,7 +34,8 @@ fn take_again(
     }
 }
 
-/// The word of the tail that a move delivers, with how many were committed after the step that sent it.
+/// Returns the tail's report that a move delivers, with the number committed after the step that
+/// sent it.
 fn tail_word(
     core: &ChainCore<NodeCore<PlainHistory>>,
     sent_at: &[u64],
@@ -48,7 +49,7 @@ fn tail_word(
     }
 }
 
-/// The node of this id, where the chain ever had one.
+/// Returns the node of this id, if the chain ever had one.
 fn node_in(core: &ChainCore<NodeCore<PlainHistory>>, id: NodeId) -> Option<&Node<PlainHistory>>
     ensures { plain_in ⟦<PlainHistory as History>⟧.past result ≡ as_running (node_at (chain_of core.now).nodes id) }
 {
@@ -58,8 +59,8 @@ fn node_in(core: &ChainCore<NodeCore<PlainHistory>>, id: NodeId) -> Option<&Node
     }
 }
 
-/// A chain of these members, head first, before any move. They are those of a run, so it fails for want of
-/// memory alone.
+/// Opens a chain of these members, head first, before any move. They are those of a run, so it
+/// fails only when out of memory.
 fn opened_core(
     alloc: Global,
     chain: ChainId,
@@ -73,7 +74,7 @@ fn opened_core(
     }
 }
 
-/// One more move, the last of these, in the chain that their run leads to, and its notes.
+/// Replays the last of these moves in the chain to which the run leads, and notes it.
 fn replay_move(
     alloc: Global,
     core: &mut ChainCore<NodeCore<PlainHistory>>,
@@ -91,7 +92,7 @@ fn replay_move(
     Ok(())
 }
 
-/// The notes of a whole run.
+/// Returns the notes of a whole run.
 fn replay_all(alloc: Global, chain: ChainId, run: &Run) -> Result<Notes, AllocError>
     requires { IsRunOf chain run.now }
     ensures { IfOk result (λ notes. IsNoted (account_of (opening_account chain run.now.members) run.now.moves) notes) }
@@ -105,9 +106,10 @@ fn replay_all(alloc: Global, chain: ChainId, run: &Run) -> Result<Notes, AllocEr
     Ok(notes)
 }
 
-/// The explanation of a run of the chain of this id (which the run does not hold), by the definitions: the
-/// asks of the committed updates, how many were committed after each move, and where each strong answer
-/// stands. Every run has one, whoever made it. It fails for want of memory alone.
+/// Returns the explanation, by the definitions, of a run of the chain of this id (which the run
+/// does not hold): the requests of the committed updates, the number committed after each move, and
+/// the linearization point of each strong reply. Every run has one, from whatever source. Fails
+/// only when out of memory.
 pub fn explain_run_of(alloc: Global, chain: ChainId, run: &Run) -> Result<Explanation, AllocError>
     requires { IsRunOf chain run.now }
     ensures { IfOk result (λ e. e ≡ explain chain run.now) }

@@ -1,4 +1,4 @@
-//! What is looked up for the answers of a run; filled by `account`, and read by `answers`.
+//! Tables for the linearization points of a run; filled by `account`, and read by `answers`.
 ghost use Rattle.std.specs.Prelude.{◌≡◌, ◌++◌, [], List, OnOk, length};
 ghost use Rattle.craq_commands.specs.declared.entry.Entry.{Entry};
 ghost use Rattle.craq_runs.specs.declared.explanation.Place.{Place};
@@ -17,17 +17,18 @@ use craq_runs::Taken;
 use std::alloc::{AllocError, Global};
 use std::collections::BTreeMap;
 
-/// A move that was taken once more.
+/// A replayed move.
 #[derive(Drop)]
 pub(crate) struct Replayed<'a> {
     pub taken: &'a Taken,
-    /// At which node it happened; 0 for the master.
+    /// The node of the move, 0 for the master.
     pub node: NodeId,
-    /// The word of the tail that it delivered, with how many were committed after the step that sent it.
+    /// The tail's report that the move delivered, with the number committed after the step that
+    /// sent it.
     pub word: Option<(Version, u64)>,
 }
 
-/// The asks so far, the positions of the replies to updates, and the committed entries.
+/// The requests so far, the positions of the replies to updates, and the committed entries.
 #[derive(Drop)]
 pub(crate) struct Tables {
     pub asked: TicketNumbers,
@@ -38,7 +39,7 @@ pub(crate) struct Tables {
 impl Tables {
     ghost use Rattle.craq_explain.specs.Tables.{AreTables};
 
-    /// Nothing so far. It takes no memory.
+    /// Makes empty tables. Never allocates.
     pub(crate) fn new(alloc: Global) -> Self
         ensures { AreTables [] [] [] result }
     {
@@ -49,7 +50,7 @@ impl Tables {
         }
     }
 
-    /// One more move, of this number; `stands` is its node after the move.
+    /// Adds the move of this number; `stands` is its node after the move.
     pub(crate) fn add(
         &mut self,
         alloc: Global,

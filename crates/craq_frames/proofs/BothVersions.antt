@@ -1,4 +1,4 @@
--- Payloads of both versions are read as they are spelled, and spelled as they are read.
+-- Reading payloads of both versions is the inverse of writing them.
 use Rattle.std.proofs.Common.{◌≡◌, ℕ, ◌^◌, ◌<◌, ◌≤◌, true, false, Bool, cond, eqb, ltb, List, [], ◌++◌, length, Option, Some, None, refl, sym, ap, subst, ◌∙◌, append_assoc, arith}
 use Rattle.std.specs.Int.{w8}
 use Rattle.std.specs.List.{flat_map, AllByRecursion, list_all}
@@ -29,7 +29,7 @@ use Rattle.craq_frames.specs.Tests.{is_answer, is_answered}
 use Rattle.craq_frames.proofs.Payloads.{passed, ask_tagged, answer_tagged}
 use Rattle.craq_frames.proofs.Tests.{decides_answer}
 
--- ---- from 1 to 8 of them
+-- ---- lists of 1 to 8
 
 module _ {A : Type 0} (spelling : A → List ℕ) (fits : A → Type 0) (part : List ℕ → Option (A × List ℕ)) (exact : IsExact spelling fits part) where
   few_takes : (bytes : List ℕ) (x : List A × List ℕ) → IsBytes bytes → few_at part bytes ≡ Some x → Takes bytes (counted w8 spelling x.0) x.1 × AreFew fits x.0
@@ -50,7 +50,7 @@ module _ {A : Type 0} (spelling : A → List ℕ) (fits : A → Type 0) (part : 
       ap (few_at part) (append_assoc (number w8 (length xs)) (flat_map spelling xs) rest)
       ∙ rw (u8_exact.again (length xs) (flat_map spelling xs ++ rest) small, le-ltb _ _ h.some, le-ltb _ _ h.few) (many_again spelling fits part exact xs rest h.each)
 
--- ---- a version, a kind, and what goes with them
+-- ---- a version, a kind, and what follows them
 
 record IsVersioned {P : Type 0} (version_of kind_of : P → ℕ) (tail : P → List ℕ) (fits : P → Type 0) (body_at : ℕ → ℕ → List ℕ → Option (P × List ℕ)) : Type 0 where
   version_small : (p : P) → version_of p < 2 ^ 8
@@ -90,11 +90,11 @@ module _ {P : Type 0} (version_of kind_of : P → ℕ) (tail : P → List ℕ) (
       let told : body_at (version_of p) (kind_of p) (tail p) ≡ Some (p, []) = ap (body_at (version_of p) (kind_of p)) (sym (append-nil (tail p))) ∙ versioned.again p [] h in
       rw (heads, told) refl
 
--- what was read, made into another value
+-- the value that was read, mapped to another
 made : {A B : Type 0} (f : A → B) (read : Option (A × List ℕ)) (x : B × List ℕ) → mapped f read ≡ Some x → (y : A × List ℕ) × (read ≡ Some y) × ((f y.0, y.1) ≡ x)
 made f read x e = let b = bind_some read (λ y. Some (f y.0, y.1)) x e in (b.0, b.1, some_is _ x b.2)
 
--- ---- what clients send
+-- ---- payloads of clients
 
 asked_version : Payload → ℕ
 asked_version (payloads.One version m) = version_number version
@@ -182,7 +182,7 @@ payload_only bytes p other e s = some_is other p (sym (payload_is_read bytes oth
 pub no_payload : (bytes : List ℕ) (p : Payload) → versioned_at payload_body_at bytes ≡ None → SpellsPayload p bytes → ⊥
 no_payload bytes p e s = let one = sym (payload_is_read bytes p s) ∙ e in cc
 
--- ---- what clients get
+-- ---- payloads of servers
 
 told_version : Answered → ℕ
 told_version (replies.One version m) = version_number version

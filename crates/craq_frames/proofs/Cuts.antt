@@ -1,4 +1,4 @@
--- What the codec cuts off in front is a frame of the grammar, and a frame of the grammar is cut off.
+-- The codec cuts off exactly the frames of the grammar.
 use Rattle.std.proofs.Common.{◌≡◌, ℕ, ◌+◌, ◌^◌, ◌<◌, ◌≤◌, ◌↔◌, ◌≢◌, ◌∙◌, Bool, true, false, ◌&&◌, leb, ltb, List, [], ◌++◌, length, take, drop, All, Some, None, Ok, Err, le-leb, append-nil, refl, sym, ap, subst, arith, append_assoc, length-append, length-take, take-append-drop, inl, inr}
 use Rattle.std.specs.Int.{w32, to_be_bytes, from_be_bytes}
 use Rattle.std.specs.Int.Digits.{number_from_digits}
@@ -22,7 +22,7 @@ use Rattle.craq_frames.specs.Frame.{frame, frame_layout, payload_limit, BeginsTo
 use Rattle.craq_frames.specs.Reading.{is_partial, lacks_bytes}
 use Rattle.craq_frames.proofs.Frames.{digits, each_byte}
 
--- a length, and what follows it
+-- the bytes are a length and a rest
 record Headed (bytes : List ℕ) : Type 0 where
   n : ℕ
   rest : List ℕ
@@ -62,7 +62,7 @@ module _ (n : ℕ) (rest : List ℕ) (few : n < 2 ^ 32) where
       ∙ rw sum (ap (λ o. cut_adjusted o (drop 4 (number w32 n ++ rest))) (cond-true _ _ _ (lt-ltb n (2 ^ 64) (omega (arith, few)))))
       ∙ ap (cut_payload n) after_it
 
-  -- what is cut off where the length is within the limit
+  -- a payload is cut off if the length is within the limit
   cut_parts : (payload after : List ℕ) → cut_frame frame_layout (number w32 n ++ rest) ≡ cut_off payload after → (n ≡ length payload) × (n ≤ payload_limit) × (rest ≡ payload ++ after)
   cut_parts payload after e = elim (cases_lt payload_limit n) [
     | inl above ↦ let no = sym (cut_long above) ∙ e in absurd cc
@@ -139,13 +139,13 @@ never_overflows bytes h e = elim (cases_lt (length bytes) 4) [
   | inr long ↦ let d = headed bytes (all_bytes bytes h) long in never_parts d.n d.rest d.few (ap (cut_frame frame_layout) (sym d.parts) ∙ e)
 ]
 
--- ---- what stands at the front: less than a frame, a length above the limit, or a frame
+-- ---- at the front is less than a frame, a length above the limit, or a frame
 
 and_true : (x y : Bool) → (x && y) ≡ true → (x ≡ true) × (y ≡ true)
 and_true true y e = (refl, e)
 and_true false y e = absurd cc
 
--- what the test of less than a frame is where a length stands at the front
+-- the test of less than a frame, where a length is at the front
 partial_headed : (bytes : List ℕ) (fits : IsBytes bytes) (h : Headed bytes) → is_partial bytes ≡ (leb h.n payload_limit && ltb (length h.rest) h.n)
 unfolding is_partial
 partial_headed bytes fits h =
@@ -165,7 +165,7 @@ partial_is bytes fits t = elim (cases_lt (length bytes) 4) [
       inr (h.n, h.rest, leb-true _ _ both.0, h.parts, ltb-true _ _ both.1)
 ]
 
--- what the codec finds at the front of bytes that are not less than a frame
+-- the codec finds a length above the limit or a frame, if the bytes are not less than a frame
 pub data Found (bytes : List ℕ) : Type 0 where
   long : BeginsTooLong bytes → cut_frame frame_layout bytes ≡ too_big → Found bytes
   whole : (payload rest : List ℕ) → length payload ≤ payload_limit → bytes ≡ frame payload ++ rest → cut_frame frame_layout bytes ≡ cut_off payload rest → Found bytes
@@ -193,7 +193,7 @@ found bytes fits t = elim (cases_lt (length bytes) 4) [
       ]
 ]
 
--- ---- what `decode` answers of such bytes, where the codec waits for a head
+-- ---- the result of `decode` on such bytes, where the codec waits for a head
 
 module _ (c t : LengthDelimitedCodec) (bytes ys : List ℕ) (same : codec_layout c ≡ frame_layout) (head : c.state ≡ Head) (fits : IsBytes bytes) (enough : is_partial bytes ≡ false) where
   finds : cut c bytes ≡ cut_frame frame_layout bytes

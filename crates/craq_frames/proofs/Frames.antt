@@ -1,4 +1,4 @@
--- What the codec writes is a payload's frame.
+-- The codec writes a payload's frame.
 use Rattle.std.proofs.Common.{◌≡◌, ℕ, ◌<◌, ◌∙◌, true, List, [], ◌∷◌, ◌++◌, length, get_or, Some, refl, sym, ap, subst, arith, inl, inr, All, leb, le-leb, ◌-◌}
 use Rattle.std.specs.Prelude.{pos}
 use Rattle.std.specs.Int.{w32, from_be_bytes, to_be_bytes}

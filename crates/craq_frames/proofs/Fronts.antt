@@ -1,4 +1,4 @@
--- What stands at the front of bytes, by the length that is read there; and a frame whose length was put over a first one.
+-- Classifies the front of bytes by the length read there; and a frame whose length was overwritten.
 use Rattle.std.proofs.Common.{◌≡◌, ℕ, ◌+◌, ◌<◌, ◌≤◌, ◌∙◌, List, ◌++◌, length, take, drop, Option, Some, None, refl, sym, ap, arith, append_assoc, length-append, length-take, take-append-drop, inl, inr}
 use Rattle.std.specs.Int.{w32, from_be_bytes}
 use Rattle.std.specs.Io.{StartsWith}
@@ -17,7 +17,7 @@ none_read : {Y : Type 0} (e : Unread) (read : Option Y) → Fails e read → (e 
 none_read unread.Memory read h free = absurd (free refl)
 none_read unread.BadFrame read h free = h
 
--- no length stands at the front
+-- no length is at the front
 pub no_length : (bytes : List ℕ) (e : Unread) → Fails e (number_at w32 bytes) → (e ≡ unread.Memory → ⊥) → IsPartial bytes
 unfolding number_at
 no_length bytes e h free = elim (cases_lt (length bytes) 4) [
@@ -34,7 +34,7 @@ module _ (bytes : List ℕ) (n : ℕ) (rest : List ℕ) (fits : IsBytes bytes) (
   pub long_length : payload_limit < n → BeginsTooLong bytes
   long_length above = let t = u32_exact.takes bytes (n, rest) fits read in (n, rest, above, t.1, t.0.parts)
 
-  -- fewer bytes follow than it says
+  -- fewer bytes follow than the length says
   pub few_follow : n ≤ payload_limit → length rest < n → IsPartial bytes
   few_follow within lacks = let t = u32_exact.takes bytes (n, rest) fits read in inr (n, rest, within, t.0.parts, lacks)
 
@@ -59,7 +59,8 @@ starts_before xs ys zs h =
     let shorter : length ys ≤ length (ys ++ zs) = omega (arith, length-append ys zs) in
     sym (take-take (length ys) (length (ys ++ zs)) xs shorter) ∙ ap (take (length ys)) h ∙ take_at ys zs (length ys) refl
 
--- `new` is `old`, a first length and the payload, and `set` is `new` with the payload's length put over the first
+-- `new` is `old`, a placeholder length and the payload; `set` is `new` with the payload's length
+-- written over the placeholder
 module _ (old new payload : List ℕ) (parts : new ≡ (old ++ number w32 0) ++ payload) where
   pub room_for_length : length old + 4 ≤ length new
   room_for_length = omega (arith, ap length parts, length-append (old ++ number w32 0) payload, length-append old (number w32 0), four_bytes 0)

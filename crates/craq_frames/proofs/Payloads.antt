@@ -1,4 +1,4 @@
--- Payloads are read as they are spelled, and spelled as they are read.
+-- Reading payloads is the inverse of writing them.
 use Rattle.std.proofs.Common.{◌≡◌, ℕ, ◌^◌, ◌<◌, ◌≤◌, Bool, true, false, cond, eqb, leb, List, [], ◌++◌, length, Option, Some, None, refl, sym, ap, subst, ◌∙◌, append_assoc, arith, le-leb}
 use Rattle.std.specs.Int.{w8, w32, w64}
 use Rattle.std.specs.Str.{is_utf8}
@@ -32,7 +32,7 @@ use Rattle.craq_frames.specs.Reading.{mode_body_at, mode_at, update_of, update_a
 use Rattle.craq_frames.specs.Tests.{is_answer}
 use Rattle.craq_frames.proofs.Tests.{decides_answer}
 
--- ---- what clients send
+-- ---- payloads of clients
 
 mode_takes : (tag : ℕ) (bytes : List ℕ) (x : ReadMode × List ℕ) → IsBytes bytes → mode_body_at tag bytes ≡ Some x → (Takes bytes (mode_body x.0) x.1 × ModeFits x.0) × (mode_tag x.0 ≡ tag)
 unfolding mode_body_at
@@ -97,14 +97,14 @@ ask_small asks.Status = omega arith
 pub ask_tagged : IsTagged ask_kind ask_body AskFits ask_body_at
 ask_tagged = record { small = ask_small; takes = ask_takes; again = ask_again }
 
--- ---- what clients get
+-- ---- payloads of servers
 
--- a test that let something pass
+-- a test that was passed
 pub passed : {A : Type 0} (b : Bool) (r : Option A) (y : A) → cond b r None ≡ Some y → (b ≡ true) × (r ≡ Some y)
 passed true r y e = (refl, e)
 passed false r y e = absurd cc
 
--- what is known of a refusal that was named
+-- the number and the detail of a refusal, which fits its widths
 abbrev IsNamed : Refusal → ℕ → ℕ → Type 0
 IsNamed r n d = (number_of r ≡ n) × (detail_of r ≡ d) × RefusalFits r
 
@@ -277,7 +277,7 @@ module _ {X : Type 0} (kind_of : X → ℕ) (body : X → List ℕ) (fits : X �
       let said : body_at (kind_of m) (body m) ≡ Some (m, []) = ap (body_at (kind_of m)) (sym (append-nil (body m))) ∙ tagged.again m [] h in
       rw (heads, said) refl
 
--- ---- what `decode` says
+-- ---- the contract of `decode`
 
 ask_is_read : (bytes : List ℕ) (m : ClientMessage) → SpellsAsk m bytes → payload_at ask_body_at bytes ≡ Some m
 unfolding ask_spelling ask

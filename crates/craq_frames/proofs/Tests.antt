@@ -1,4 +1,4 @@
--- The tests of what clients get tell whether its rules hold.
+-- The tests of replies to clients decide their rules.
 use Rattle.std.proofs.Common.{length}
 use Rattle.std.specs.Bool.{Decides}
 use Rattle.std.proofs.lemmas.Bool.Decides.{Decides-ltb}

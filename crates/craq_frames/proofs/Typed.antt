@@ -1,4 +1,4 @@
--- What clients send and get has a spelling, where it keeps its rules and is a value of its type.
+-- Requests and replies that keep their rules and are values of their types have an encoding.
 use Rattle.std.proofs.Common.{ℕ, List, refl}
 use Rattle.std.specs.Prelude.{◌↔◌}
 use Rattle.craq_codec.proofs.Typed.{reply_fits}

@@ -1,4 +1,4 @@
--- Whether bytes are a text, as a test.
+-- A test whether bytes are UTF-8.
 use Rattle.std.proofs.Common.{◌≡◌, ℕ, List, true, false}
 use Rattle.std.specs.Str.{IsUtf8, is_utf8}
 use Rattle.std.proofs.lemmas.Bool.{false_from_ne_true}

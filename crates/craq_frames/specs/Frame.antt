@@ -8,18 +8,19 @@ use Rattle.craq_codec.specs.NumberSpelling.{number}
 abbrev pub payload_limit : ℕ
 payload_limit = 1048576
 
--- the length of the payload alone, and the payload
+-- the length of the payload only, and the payload
 abbrev pub frame : List ℕ → List ℕ
 frame payload = number w32 (length payload) ++ payload
 
--- the frames of the codec: a length of four bytes, the highest first, and at most so many bytes
+-- the codec's frames: a length of four bytes, highest first, and a payload within the limit
 abbrev pub frame_layout : Layout
 frame_layout = with_reachable_limit (record default_layout { max_frame_len = payload_limit })
 
--- a length above the limit stands at the front
+-- a length above the limit is at the front
 abbrev pub BeginsTooLong : List ℕ → Type 0
 BeginsTooLong bytes = (n : ℕ) × (rest : List ℕ) × (payload_limit < n) × (n < 2 ^ 32) × (bytes ≡ number w32 n ++ rest)
 
--- less than a frame: no whole length, or a length within the limit and fewer bytes than it says
+-- less than a frame: an incomplete length, or a length within the limit and fewer bytes than it
+-- says
 abbrev pub IsPartial : List ℕ → Type 0
 IsPartial bytes = (length bytes < 4) ⊎ ((n : ℕ) × (rest : List ℕ) × (n ≤ payload_limit) × (bytes ≡ number w32 n ++ rest) × (length rest < n))

@@ -1,4 +1,4 @@
--- Reading payloads from left to right.
+-- Reads payloads from left to right.
 use Rattle.std.specs.Prelude.{ℕ, nat_le, nat_lt, Bool, true, ◌&&◌, List, length, Option, Some, None, ◌==◌, if◌then◌else◌}
 use Rattle.std.specs.Int.{w8, w32, w64}
 use Rattle.std.specs.Str.{is_utf8}
@@ -28,6 +28,7 @@ use Rattle.craq_frames.specs.declared.versions.Payload.TheVariants as payloads
 use Rattle.craq_frames.specs.declared.versions.Answered.{Answered}
 use Rattle.craq_frames.specs.declared.versions.Answered.TheVariants as replies
 
+-- what follows the tag of a mode
 unfoldable pub mode_body_at : ℕ → List ℕ → Option (ReadMode × List ℕ)
 mode_body_at tag bytes =
     if tag == 1 then Some (Strong, bytes)
@@ -35,23 +36,29 @@ mode_body_at tag bytes =
     else if tag == 3 then mapped Bounded (number_at w32 bytes)
     else None
 
+-- a tag, and what follows it
 unfoldable pub mode_at : List ℕ → Option (ReadMode × List ℕ)
 mode_at bytes = do
   tag ← number_at w8 bytes
   mode_body_at tag.0 tag.1
 
+-- the update with these fields
 abbrev pub update_of : ℕ × (ℕ × Command) → Update
 update_of x = record { client = x.0; number = x.1.0; command = x.1.1 }
 
+-- a client, a number and a command
 unfoldable pub update_at : List ℕ → Option (Update × List ℕ)
 update_at bytes = mapped update_of (pair_at (number_at w64) (pair_at request_at command_at) bytes)
 
+-- the request of an update, with these fields
 abbrev pub asked_update : ℕ × (ℕ × Update) → ClientMessage
 asked_update x = asks.Update x.0 x.1.0 x.1.1
 
+-- the request of a read, with these fields
 abbrev pub asked_read : ℕ × (ℕ × (ReadMode × ObjectId)) → ClientMessage
 asked_read x = asks.Read x.0 x.1.0 x.1.1.0 x.1.1.1
 
+-- what follows the kind of a request
 unfoldable pub ask_body_at : ℕ → List ℕ → Option (ClientMessage × List ℕ)
 ask_body_at kind bytes =
     if kind == 1 then mapped asked_update (pair_at (number_at w32) (pair_at (number_at w64) update_at) bytes)
@@ -59,13 +66,13 @@ ask_body_at kind bytes =
     else if kind == 3 then Some (asks.Status, bytes)
     else None
 
--- a kind, and what goes with it
+-- a kind, and what follows it
 unfoldable pub ask_at : List ℕ → Option (ClientMessage × List ℕ)
 ask_at bytes = do
   kind ← number_at w8 bytes
   ask_body_at kind.0 kind.1
 
--- the refusals that tell nothing beside their number
+-- the refusals without a detail
 unfoldable pub bare_refusal : ℕ → Option Refusal
 bare_refusal number =
     if number == 1 then Some refusals.BadKey
@@ -96,6 +103,7 @@ bare_refusal number =
     else if number == 28 then Some refusals.Io
     else None
 
+-- the refusal of this number with this detail, 0 if it has none
 unfoldable pub refusal_named : ℕ → ℕ → Option Refusal
 refusal_named number detail =
     if number == 9 then (if nat_le detail greatest_count then Some (refusals.NotHead detail) else None)
@@ -103,24 +111,29 @@ refusal_named number detail =
     else if detail == 0 then bare_refusal number
     else None
 
+-- a number and a detail
 unfoldable pub refusal_at : List ℕ → Option (Refusal × List ℕ)
 refusal_at bytes = do
   x ← pair_at (number_at w8) (number_at w64) bytes
   r ← refusal_named x.0.0 x.0.1
   Some (r, x.1)
 
+-- a count of 4 bytes, and that number of bytes of UTF-8
 unfoldable pub text_at : List ℕ → Option (List ℕ × List ℕ)
 text_at bytes = do
   n ← number_at w32 bytes
   t ← bytes_at n.0 n.1
   if is_utf8 t.0 then Some t else None
 
+-- the reply to an update, with these fields
 abbrev pub answered_update : ℕ × Reply → ClientReply
 answered_update x = answers.Update x.0 x.1
 
+-- the reply to a read, with these fields
 abbrev pub answered_read : ℕ × (ℕ × List ℕ) → ClientReply
 answered_read x = answers.Read x.0 x.1.0 x.1.1
 
+-- what follows the kind of a reply
 unfoldable pub answer_body_at : ℕ → List ℕ → Option (ClientReply × List ℕ)
 answer_body_at kind bytes =
     if kind == 1 then mapped answered_update (pair_at (number_at w64) reply_at bytes)
@@ -129,16 +142,17 @@ answer_body_at kind bytes =
     else if kind == 4 then mapped answers.Status (text_at bytes)
     else None
 
+-- a kind, and what follows it
 unfoldable pub answer_at : List ℕ → Option (ClientReply × List ℕ)
 answer_at bytes = do
   kind ← number_at w8 bytes
   answer_body_at kind.0 kind.1
 
--- what was read, where no byte is left
+-- the value that was read, if no byte is left
 abbrev pub whole : {A : Type 0} → Option (A × List ℕ) → Option A
 whole read = read >>= λ x. if length x.1 == 0 then Some x.0 else None
 
--- version 1, the kind, what goes with it, and no byte after it
+-- version 1, the kind, what follows it, and no byte after it
 unfoldable pub payload_at : {A : Type 0} → (ℕ → List ℕ → Option (A × List ℕ)) → List ℕ → Option A
 payload_at body bytes = do
   x ← pair_at (number_at w8) (number_at w8) bytes
@@ -146,26 +160,27 @@ payload_at body bytes = do
 
 -- ---- payloads of versions 1 and 2
 
--- from 1 to 8 of them, after their count
+-- a list of 1 to 8, after its count
 unfoldable pub few_at : {A : Type 0} → (List ℕ → Option (A × List ℕ)) → List ℕ → Option (List A × List ℕ)
 few_at part bytes = do
   count ← number_at w8 bytes
   if nat_lt count.0 1 then None else if nat_lt many_limit count.0 then None else many_at part count.0 count.1
 
--- what goes with a version and a kind
+-- what follows a version and a kind
 unfoldable pub payload_body_at : ℕ → ℕ → List ℕ → Option (Payload × List ℕ)
 payload_body_at version kind bytes =
     if version == 1 then mapped (payloads.One First) (ask_body_at kind bytes)
     else if version == 2 then (if kind == many_asks then mapped payloads.Many (few_at ask_at bytes) else mapped (payloads.One Second) (ask_body_at kind bytes))
     else None
 
+-- what follows a version and a kind of a server's payload
 unfoldable pub answered_body_at : ℕ → ℕ → List ℕ → Option (Answered × List ℕ)
 answered_body_at version kind bytes =
     if version == 1 then mapped (replies.One First) (answer_body_at kind bytes)
     else if version == 2 then (if kind == many_answers then mapped replies.Many (few_at answer_at bytes) else mapped (replies.One Second) (answer_body_at kind bytes))
     else None
 
--- a version, a kind, what goes with them, and no byte after it
+-- a version, a kind, what follows them, and no byte after it
 unfoldable pub versioned_at : {A : Type 0} → (ℕ → ℕ → List ℕ → Option (A × List ℕ)) → List ℕ → Option A
 versioned_at body bytes = do
   x ← pair_at (number_at w8) (number_at w8) bytes
@@ -173,11 +188,11 @@ versioned_at body bytes = do
 
 -- ---- frames
 
--- whether no whole length was read, or one within the limit and fewer bytes than it says
+-- no complete length was read, or a length within the limit and fewer bytes than it says
 abbrev pub lacks_bytes : Option (ℕ × List ℕ) → Bool
 lacks_bytes None = true
 lacks_bytes (Some x) = nat_le x.0 payload_limit && nat_lt (length x.1) x.0
 
--- whether there is less than a frame at the front
+-- less than a frame is at the front
 unfoldable pub is_partial : List ℕ → Bool
 is_partial bytes = lacks_bytes (number_at w32 bytes)

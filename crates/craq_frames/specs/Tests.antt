@@ -1,4 +1,4 @@
--- The rules of what clients get, as tests.
+-- The rules of replies to clients, as tests.
 use Rattle.std.specs.Prelude.{◌^◌, ◌==◌, nat_le, nat_lt, Bool, true, not, ◌||◌, length}
 use Rattle.craq_names.specs.declared.refusal.Refusal.{Refusal}
 use Rattle.craq_names.specs.declared.refusal.Refusal.TheVariants.{NotHead}
@@ -9,10 +9,12 @@ use Rattle.craq_frames.specs.declared.answer.ClientReply.TheVariants as answers
 use Rattle.craq_frames.specs.declared.versions.Answered.{Answered}
 use Rattle.craq_frames.specs.declared.versions.Answered.TheVariants as replies
 
+-- a head that the refusal names is not node 0
 abbrev pub names_node : Refusal → Bool
 names_node (NotHead head) = nat_le 1 head
 names_node _ = true
 
+-- a reply keeps its rules
 abbrev pub is_answer : ClientReply → Bool
 is_answer (answers.Update pass r) = is_reply r
 is_answer (answers.Read pass version v) = not (version == 0) || (length v == 0)

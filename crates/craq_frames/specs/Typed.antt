@@ -1,5 +1,5 @@
--- Replies to clients as their type holds them: each number of its width, each value of a length that its type allows, texts of
--- UTF-8, and lists and texts of any length.
+-- Replies to clients as their type holds them: each number fits its width, each value has a length
+-- that its type allows, texts are UTF-8, and lists and texts have any length.
 use Rattle.std.specs.Prelude.{◌<◌, ◌^◌}
 use Rattle.std.specs.Str.{IsUtf8}
 use Rattle.craq_codec.specs.PartSpelling.{IsValue}

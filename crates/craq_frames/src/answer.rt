@@ -1,4 +1,5 @@
-//! `ClientReply`: what a client gets, with its reading and writing; called by `first` and `versions`.
+//! `ClientReply`: a reply to a client, with its reading and writing; used by `first` and
+//! `versions`.
 ghost use Rattle.std.specs.Prelude.{◌≡◌, ◌<◌, ◌^◌, ◌++◌, length, OnOk, OnErr};
 ghost use Rattle.std.specs.Io.{StartsWith};
 ghost use Rattle.craq_names.specs.Refused.{detail_of};
@@ -19,7 +20,7 @@ use craq_names::{NodeId, Pass, Refusal, Stamp, Value, Version};
 use std::alloc::{AllocError, Global};
 use std::str::from_utf8;
 
-/// What a client gets from a server of a store.
+/// A reply of a store's server to a client.
 #[derive(Debug, Drop)]
 pub enum ClientReply {
     /// The reply to an update, and the pass to show from now on.
@@ -27,19 +28,19 @@ pub enum ClientReply {
         pass: Pass,
         reply: Reply,
     },
-    /// The object that was read: version 0 and no bytes where it is absent.
+    /// The object that was read: version 0 and no bytes if it is absent.
     Read {
         pass: Pass,
         version: Version,
         value: Value,
     },
-    /// Why nothing was done.
+    /// The reason why nothing was done.
     Refused(Refusal),
     /// The chains and their members.
     Status(Text),
 }
 
-/// The refusal of this number that tells nothing beside it.
+/// Returns the refusal of this number that has no detail.
 #[tactic(auto, unfolding(crate::specs::Reading::bare_refusal))]
 fn plain_refusal(number: u8) -> Option<Refusal>
     ensures { result ≡ bare_refusal number }
@@ -75,7 +76,7 @@ fn plain_refusal(number: u8) -> Option<Refusal>
     }
 }
 
-/// The refusal of this number that tells this beside it.
+/// Returns the refusal of this number with this detail.
 #[tactic(auto, unfolding(crate::specs::Reading::refusal_named))]
 fn named_refusal(number: u8, detail: u64) -> Option<Refusal>
     ensures { result ≡ refusal_named number detail }
@@ -95,7 +96,7 @@ fn named_refusal(number: u8, detail: u64) -> Option<Refusal>
     }
 }
 
-/// The refusal at the front, and the bytes after it.
+/// Reads the refusal at the front; returns it with the bytes after it.
 #[tactic(auto, unfolding(crate::specs::Reading::refusal_at, craq_codec::specs::PartReading::pair_at))]
 fn read_refused(bytes: &[u8]) -> Result<(ClientReply, &[u8]), Unread>
     ensures { Gives (λ x. (x.0, x.1.now)) result (mapped answers.Refused (refusal_at bytes.now)) }
@@ -108,7 +109,7 @@ fn read_refused(bytes: &[u8]) -> Result<(ClientReply, &[u8]), Unread>
     }
 }
 
-/// The text at the front, and the bytes after it.
+/// Reads the text at the front; returns it with the bytes after it.
 #[tactic(auto, using(crate::proofs::Utf8::test_of_text, crate::proofs::Utf8::test_of_no_text), unfolding(crate::specs::Reading::text_at, craq_codec::specs::NumberReading::bytes_at))]
 fn read_text(alloc: Global, bytes: &[u8]) -> Result<(Text, &[u8]), Unread>
     ensures { Gives (λ x. (x.0, x.1.now)) result (text_at bytes.now) }
@@ -125,7 +126,7 @@ fn read_text(alloc: Global, bytes: &[u8]) -> Result<(Text, &[u8]), Unread>
     }
 }
 
-/// What goes with the kind of a reply to a client, and the bytes after it.
+/// Reads what follows the kind of a reply to a client; returns the reply with the bytes after it.
 #[tactic(auto, unfolding(crate::specs::Reading::answer_body_at, craq_codec::specs::PartReading::pair_at))]
 pub(crate) fn read_answer_body(
     alloc: Global,
@@ -161,7 +162,7 @@ pub(crate) fn read_answer_body(
     }
 }
 
-/// What a refusal tells beside its number.
+/// Returns the detail of a refusal, 0 if it has none.
 fn told(refusal: &Refusal) -> u64
     ensures value { result ≡ detail_of refusal.now }
     ensures fits { RefusalFits refusal.now }
@@ -173,7 +174,7 @@ fn told(refusal: &Refusal) -> u64
     }
 }
 
-/// Appends a refusal. Where it fails, what was there before is still in front.
+/// Appends a refusal. On an error the old bytes are still in front.
 fn append_refusal(out: &mut BytesMut, refusal: &Refusal) -> Result<(), AllocError>
     ensures fits { OnOk result (RefusalFits refusal.now) }
     ensures spelled { OnOk result (out.new.items ≡ out.old.items ++ spelled_refusal refusal.now) }
@@ -183,7 +184,7 @@ fn append_refusal(out: &mut BytesMut, refusal: &Refusal) -> Result<(), AllocErro
     write_u64(out, told(refusal))
 }
 
-/// Appends a text. Where it fails, what was there before is still in front.
+/// Appends a text. On an error the old bytes are still in front.
 fn append_text(out: &mut BytesMut, text: &Text) -> Result<(), AllocError>
     requires { length text.now < 2 ^ 32 }
     ensures fits { OnOk result (IsText text.now) }
@@ -204,7 +205,7 @@ impl Part for ClientReply {
 
     ghost part_at = { answer_at };
 
-    /// The rules of replies are not tested.
+    /// Does not test the rules of replies.
     #[tactic(auto, unfolding(crate::specs::Reading::answer_at))]
     fn read(alloc: Global, bytes: &[u8]) -> Result<(Self, &[u8]), Unread> {
         let (kind, rest) = read_u8(bytes)?;
@@ -241,7 +242,7 @@ impl Part for ClientReply {
     }
 }
 
-/// Whether a refusal that names a head names a node.
+/// Returns false if the refusal names node 0 as the head.
 fn is_of_node(refusal: Refusal) -> bool
     ensures { result ≡ names_node refusal }
 {
@@ -251,7 +252,7 @@ fn is_of_node(refusal: Refusal) -> bool
     }
 }
 
-/// The rules of replies to clients.
+/// Tests the rules of replies to clients.
 pub(crate) fn test_answer(answer: &ClientReply) -> bool
     ensures { result ≡ is_answer answer.now }
 {

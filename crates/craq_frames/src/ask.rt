@@ -1,4 +1,5 @@
-//! `ClientMessage`: what a client sends, with its reading and writing; called by `first` and `versions`.
+//! `ClientMessage`: a client's request, with its reading and writing; used by `first` and
+//! `versions`.
 ghost use Rattle.std.specs.Prelude.{◌≡◌, ⊤, ◌++◌, OnOk, OnErr};
 ghost use Rattle.std.specs.Io.{StartsWith};
 ghost use Rattle.craq_codec.specs.NumberReading.{Gives};
@@ -14,11 +15,11 @@ use craq_commands::{ReadMode, Update};
 use craq_names::{ClientId, NodeId, ObjectId, Pass, RequestNo, Stamp};
 use std::alloc::{AllocError, Global};
 
-/// What a client sends to a server of a store.
+/// A request of a client to a store's server.
 #[derive(Debug, Drop)]
 pub enum ClientMessage {
-    /// An update at a node of the chain that its objects name. The pass is the largest stamp that
-    /// the client has seen.
+    /// An update at a node of the chain that its objects name. The pass is the largest that the
+    /// client has seen.
     Update {
         node: NodeId,
         pass: Pass,
@@ -31,11 +32,11 @@ pub enum ClientMessage {
         mode: ReadMode,
         object: ObjectId,
     },
-    /// The chains and their members.
+    /// Asks for the chains and their members.
     Status,
 }
 
-/// What goes with the tag of a mode, and the bytes after it.
+/// Reads what follows the tag of a mode; returns the mode with the bytes after it.
 #[tactic(auto, unfolding(crate::specs::Reading::mode_body_at))]
 fn read_mode_body(tag: u8, bytes: &[u8]) -> Result<(ReadMode, &[u8]), Unread>
     ensures { Gives (λ x. (x.0, x.1.now)) result (mode_body_at tag bytes.now) }
@@ -51,7 +52,7 @@ fn read_mode_body(tag: u8, bytes: &[u8]) -> Result<(ReadMode, &[u8]), Unread>
     }
 }
 
-/// The mode at the front, and the bytes after it.
+/// Reads the mode at the front; returns it with the bytes after it.
 #[tactic(auto, unfolding(crate::specs::Reading::mode_at))]
 fn read_mode(bytes: &[u8]) -> Result<(ReadMode, &[u8]), Unread>
     ensures { Gives (λ x. (x.0, x.1.now)) result (mode_at bytes.now) }
@@ -60,7 +61,7 @@ fn read_mode(bytes: &[u8]) -> Result<(ReadMode, &[u8]), Unread>
     read_mode_body(tag, rest)
 }
 
-/// The update at the front, and the bytes after it.
+/// Reads the update at the front; returns it with the bytes after it.
 #[tactic(auto, unfolding(crate::specs::Reading::update_at, craq_codec::specs::PartReading::pair_at, craq_codec::specs::PartReading::request_at))]
 fn read_update(alloc: Global, bytes: &[u8]) -> Result<(Update, &[u8]), Unread>
     ensures { Gives (λ x. (x.0, x.1.now)) result (update_at bytes.now) }
@@ -79,7 +80,7 @@ fn read_update(alloc: Global, bytes: &[u8]) -> Result<(Update, &[u8]), Unread>
     Ok((update, rest))
 }
 
-/// What goes with the kind of a message of a client, and the bytes after it.
+/// Reads what follows the kind of a request; returns the request with the bytes after it.
 #[tactic(auto, unfolding(crate::specs::Reading::ask_body_at, craq_codec::specs::PartReading::pair_at))]
 pub(crate) fn read_ask_body(
     alloc: Global,
@@ -118,7 +119,7 @@ pub(crate) fn read_ask_body(
     }
 }
 
-/// Appends a mode. Where it fails, what was there before is still in front.
+/// Appends a mode. On an error the old bytes are still in front.
 #[tactic(auto, unfolding(crate::specs::Payload::mode))]
 fn append_mode(out: &mut BytesMut, mode: &ReadMode) -> Result<(), AllocError>
     ensures fits { OnOk result (ModeFits mode.now) }
@@ -135,7 +136,7 @@ fn append_mode(out: &mut BytesMut, mode: &ReadMode) -> Result<(), AllocError>
     }
 }
 
-/// Appends an update. Where it fails, what was there before is still in front.
+/// Appends an update. On an error the old bytes are still in front.
 #[tactic(auto, unfolding(crate::specs::Payload::update))]
 fn append_update(out: &mut BytesMut, update: &Update) -> Result<(), AllocError>
     ensures fits { OnOk result (UpdateFits update.now) }

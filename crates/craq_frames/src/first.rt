@@ -1,5 +1,5 @@
-//! One message or one reply as a payload of version 1: the calls of `ClientMessage` and `ClientReply`; for `exchange`
-//! in `craq_front`.
+//! One request or one reply as a payload of version 1: `encode` and `decode` of `ClientMessage` and
+//! `ClientReply`; used by `exchange` in `craq_front`.
 ghost use Rattle.std.specs.Prelude.{◌≡◌, ◌⊎◌, ◌↔◌, ℕ, List, Err, IfOk, IfErr, IsTrue, true};
 ghost use Rattle.craq_codec.specs.NumberReading.{Gives};
 ghost use Rattle.craq_frames.specs.Payload.{IsAnswer, SpellsAsk, SpellsAnswer};
@@ -13,7 +13,7 @@ use craq_codec::{Part, Unread, read_u8, write_u8};
 use craq_names::Refusal;
 use std::alloc::{AllocError, Global};
 
-/// The message that the bytes spell, all of the bytes.
+/// Decodes the request that all of the bytes encode.
 #[tactic(auto, unfolding(crate::specs::Reading::payload_at, craq_codec::specs::PartReading::pair_at))]
 fn read_ask(alloc: Global, bytes: &[u8]) -> Result<ClientMessage, Unread>
     ensures { Gives (λ m. m) result (payload_at ask_body_at bytes.now) }
@@ -30,7 +30,7 @@ fn read_ask(alloc: Global, bytes: &[u8]) -> Result<ClientMessage, Unread>
     Ok(ask)
 }
 
-/// The reply that the bytes spell, all of the bytes, whose rules are not tested yet.
+/// Decodes the reply that all of the bytes encode, without testing its rules.
 #[tactic(auto, unfolding(crate::specs::Reading::payload_at, craq_codec::specs::PartReading::pair_at))]
 fn read_answer(alloc: Global, bytes: &[u8]) -> Result<ClientReply, Unread>
     ensures { Gives (λ m. m) result (payload_at answer_body_at bytes.now) }
@@ -48,14 +48,14 @@ fn read_answer(alloc: Global, bytes: &[u8]) -> Result<ClientReply, Unread>
 }
 
 impl ClientMessage {
-    /// Whether the message can be spelled: each one can (`asks_with_spellings`).
+    /// Returns true: each request has an encoding (`asks_with_spellings`).
     pub fn spelled(&self) -> bool
         ensures { result ≡ true }
     {
         true
     }
 
-    /// The payload of the message, of version 1. It fails for want of memory alone.
+    /// Encodes the request as a payload of version 1. Fails only when out of memory.
     #[tactic(auto, unfolding(crate::specs::Payload::ask_spelling))]
     pub fn encode(&self, alloc: Global) -> Result<Bytes, AllocError>
         ensures { IfOk result (λ bytes. SpellsAsk self.now bytes) }
@@ -66,14 +66,14 @@ impl ClientMessage {
         Ok(out.freeze()?)
     }
 
-    /// The message that the payload of version 1 spells, all of its bytes. `BadFrame` exactly where it spells
-    /// none; `Memory` where a growth was refused. Room is asked for only for what was read.
+    /// Decodes the request that all bytes of a payload of version 1 encode. `BadFrame` exactly if
+    /// they encode none; `Memory` if an allocation failed. Allocates only for bytes that were read.
     pub fn decode(alloc: Global, bytes: &[u8]) -> Result<Self, Refusal>
-        // What is read is spelled so.
+        // The bytes encode the request that is returned.
         ensures found { IfOk result (λ m. SpellsAsk m bytes.now) }
-        // No other message is spelled so.
+        // They encode no other request.
         ensures only { IfOk result (λ m. (other : ClientMessage) → SpellsAsk other bytes.now → other ≡ m) }
-        // Where nothing is read, no message is spelled so, or memory ran out.
+        // On an error the bytes encode no request, or memory ran out.
         ensures bad { result ≡ Err Refusal.BadFrame → (m : ClientMessage) → SpellsAsk m bytes.now → ⊥ }
         ensures err { IfErr result (λ e. (e ≡ Refusal.BadFrame) ⊎ (e ≡ Refusal.Memory)) }
     {
@@ -86,16 +86,17 @@ impl ClientMessage {
 }
 
 impl ClientReply {
-    /// Whether the reply can be spelled, that is, whether bytes exist that spell it
-    /// (`replies_with_spellings`): a reply to an update keeps its rules, an absent object has no bytes, a
-    /// refusal names no node 0 as the head, and a text has fewer than 2^32 bytes (this project's profile).
+    /// Returns true if the reply has an encoding (`replies_with_spellings`; this project's
+    /// profile). A reply to an update keeps its rules, an absent object has no bytes, a refusal
+    /// does not name node 0 as the head, a text has fewer than 2^32 bytes.
     pub fn spelled(&self) -> bool
         ensures { IsTrue result ↔ IsAnswer self.now }
     {
         test_answer(self)
     }
 
-    /// The payload of a reply that can be spelled, of version 1. It fails for want of memory alone.
+    /// Encodes a reply that has an encoding as a payload of version 1. Fails only when out of
+    /// memory.
     #[tactic(auto, unfolding(crate::specs::Payload::answer_spelling))]
     pub fn encode(&self, alloc: Global) -> Result<Bytes, AllocError>
         requires { IsAnswer self.now }
@@ -107,14 +108,14 @@ impl ClientReply {
         Ok(out.freeze()?)
     }
 
-    /// The reply that the payload of version 1 spells, all of its bytes. `BadFrame` exactly where it spells
-    /// none; `Memory` where a growth was refused. Room is asked for only for what was read.
+    /// Decodes the reply that all bytes of a payload of version 1 encode. `BadFrame` exactly if
+    /// they encode none; `Memory` if an allocation failed. Allocates only for bytes that were read.
     pub fn decode(alloc: Global, bytes: &[u8]) -> Result<Self, Refusal>
-        // What is read is spelled so.
+        // The bytes encode the reply that is returned.
         ensures found { IfOk result (λ m. SpellsAnswer m bytes.now) }
-        // No other reply is spelled so.
+        // They encode no other reply.
         ensures only { IfOk result (λ m. (other : ClientReply) → SpellsAnswer other bytes.now → other ≡ m) }
-        // Where nothing is read, no reply is spelled so, or memory ran out.
+        // On an error the bytes encode no reply, or memory ran out.
         ensures bad { result ≡ Err Refusal.BadFrame → (m : ClientReply) → SpellsAnswer m bytes.now → ⊥ }
         ensures err { IfErr result (λ e. (e ≡ Refusal.BadFrame) ⊎ (e ≡ Refusal.Memory)) }
     {

@@ -1,5 +1,5 @@
-//! Frames: a payload behind its length, cut off the front of bytes and written at the end; called by `craq_front` and
-//! `craq_server`.
+//! Frames: a payload after its length, cut off the front of bytes and written at the end; used by
+//! `craq_front` and `craq_server`.
 ghost use Rattle.std.specs.Prelude.{◌≡◌, ◌≢◌, ◌<◌, ◌≤◌, ◌+◌, ◌^◌, ◌⊎◌, ◌↔◌, ℕ, List, ◌++◌, length, take, drop, All, Ok, Err, None, IsTrue, IfSome, IfOk, IfErr, OnOk, OnErr};
 ghost use Rattle.std.specs.IoError.{error_kind};
 ghost use Rattle.std.specs.declared.io.ErrorKind.TheVariants.{OutOfMemory};
@@ -18,8 +18,8 @@ use tokio_util::codec::{Decoder, Encoder, LengthDelimitedCodec};
 /// The most bytes of a payload.
 pub const MAX_PAYLOAD: usize = 1_048_576;
 
-/// A codec of frames, at the head of a frame: a length of 4 bytes, the highest first, which counts
-/// the payload alone, and a payload of at most 1,048,576 bytes.
+/// Returns a codec of frames, at the head of a frame. A frame is a length of 4 bytes, highest
+/// first, which counts the payload only, and a payload of at most 1,048,576 bytes.
 pub fn frame_codec() -> LengthDelimitedCodec
     ensures layout { codec_layout result ≡ frame_layout }
     ensures state { IsAtHead result }
@@ -29,8 +29,8 @@ pub fn frame_codec() -> LengthDelimitedCodec
         .new_codec()
 }
 
-/// Writes the payload's frame at the end. `FrameTooLong` exactly where the payload has more than
-/// 1,048,576 bytes; `Memory` where a growth was refused. After a refusal the bytes are as before.
+/// Writes the payload's frame at the end. `FrameTooLong` exactly if the payload has more than
+/// 1,048,576 bytes; `Memory` if an allocation failed. The bytes are unchanged on an error.
 pub fn write_frame(out: &mut BytesMut, payload: Bytes) -> Result<(), Refusal>
     ensures ok { OnOk result (out.new.items ≡ out.old.items ++ frame payload) }
     ensures long { (result ≡ Err Refusal.FrameTooLong) ↔ (payload_limit < length payload) }
@@ -47,7 +47,7 @@ pub fn write_frame(out: &mut BytesMut, payload: Bytes) -> Result<(), Refusal>
     }
 }
 
-/// Whether there is less than a frame at the front.
+/// Returns true if less than a frame is at the front.
 #[tactic(auto, unfolding(crate::specs::Reading::is_partial))]
 fn is_partial_frame(bytes: &[u8]) -> bool
     ensures value { result ≡ is_partial bytes.now }
@@ -59,16 +59,17 @@ fn is_partial_frame(bytes: &[u8]) -> bool
     }
 }
 
-/// Whether memory ran out.
+/// Returns true if memory ran out.
 fn is_out_of_memory(e: &io::Error) -> bool
     ensures { IsTrue result ↔ (error_kind e.now ≡ OutOfMemory) }
 {
     e.kind() == io::ErrorKind::OutOfMemory
 }
 
-/// Cuts off the frame at the front and gives its payload. `Ok(None)` exactly where there is less than a frame, and
-/// nothing is changed then; `FrameTooLong` exactly where a length above 1,048,576 stands at the front, and the bytes
-/// stay; `Memory` where a growth was refused, and then the length may be cut off, or not.
+/// Cuts the frame off the front and returns its payload. `Ok(None)` exactly if less than a frame is
+/// at the front; `FrameTooLong` exactly if a length above 1,048,576 is at the front; the bytes are
+/// unchanged in both cases. `Memory` if an allocation failed; the length may then be cut off or
+/// not.
 pub fn cut_off_frame(buffer: &mut BytesMut) -> Result<Option<BytesMut>, Refusal>
     ensures whole { IfOk result (λ found. IfSome found (λ payload. (length payload.items ≤ payload_limit)
         × (buffer.old.items ≡ frame payload.items ++ buffer.new.items))) }
@@ -93,7 +94,7 @@ pub fn cut_off_frame(buffer: &mut BytesMut) -> Result<Option<BytesMut>, Refusal>
     }
 }
 
-/// Puts a number of 4 bytes over those from `at` on.
+/// Overwrites the 4 bytes from `at` on with a number.
 #[tactic(auto, unfolding(craq_codec::specs::NumberSpelling::number))]
 pub(crate) fn set_u32(bytes: &mut [u8], at: usize, n: u32)
     requires { at + 4 ≤ length bytes.old }
@@ -102,8 +103,8 @@ pub(crate) fn set_u32(bytes: &mut [u8], at: usize, n: u32)
     bytes[at..at + 4].copy_from_slice(&n.to_be_bytes());
 }
 
-/// The payload whose frame stands at the front. `Ok(None)` exactly where there is less than a frame; `FrameTooLong` exactly where
-/// a length above 1,048,576 stands at the front. It takes no memory.
+/// Returns the payload of the frame at the front. `Ok(None)` exactly if less than a frame is at the
+/// front; `FrameTooLong` exactly if a length above 1,048,576 is at the front. Never allocates.
 pub fn payload_in_front(bytes: &[u8]) -> Result<Option<&[u8]>, Refusal>
     ensures whole { IfOk result (λ found. IfSome found (λ payload. (rest : List ℕ) × (length payload.now ≤ payload_limit)
         × (bytes.now ≡ frame payload.now ++ rest))) }
@@ -126,14 +127,14 @@ pub fn payload_in_front(bytes: &[u8]) -> Result<Option<&[u8]>, Refusal>
     }
 }
 
-/// A codec of `frame_codec` at the head of a frame cuts off the frames of the grammar, and refuses
-/// those whose length is above the limit. It does nothing.
+/// States that a codec of `frame_codec` at the head of a frame cuts off the frames of the grammar,
+/// and refuses those whose length is above the limit. Does nothing.
 pub fn cuts_frames()
-    // A payload is cut off exactly where its frame stands at the front.
+    // A payload is cut off exactly if its frame is at the front.
     ensures whole { (bytes payload rest : List ℕ) → All (λ b. b < 2 ^ 8) bytes
         → (cut_frame frame_layout bytes ≡ cut_off payload rest)
         ↔ ((length payload ≤ payload_limit) × (bytes ≡ frame payload ++ rest)) }
-    // A frame is refused as too long exactly where a length above the limit stands at the front.
+    // A frame is refused as too long exactly if a length above the limit is at the front.
     ensures long { (bytes : List ℕ) → All (λ b. b < 2 ^ 8) bytes
         → (cut_frame frame_layout bytes ≡ too_big) ↔ BeginsTooLong bytes }
     // There is no other refusal.

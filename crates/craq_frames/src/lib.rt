@@ -1,6 +1,5 @@
-//! What clients and servers of a store say to one another, as bytes in frames; for the server's crates and for `craq`.
-//! A crate apart since a client needs it and needs no node.
-//! Code that runs in the programs.
+//! Encodes the requests and replies of clients as bytes in frames; a client needs no node for it.
+//! Runs in the programs: in the server's crates and in `craq`.
 #![tactic(auto)]
 
 mod answer;
@@ -20,7 +19,7 @@ pub use laws::{asks_with_spellings, replies_with_spellings};
 pub use text::Text;
 pub use versions::{Answered, MOST_MESSAGES, Payload, PayloadVersion};
 
-/// The version of payloads of one message or one reply.
+/// The version of payloads of one request or one reply.
 const PAYLOAD_VERSION: u8 = 1;
 
 /// The bytes that most payloads need at most.

@@ -1,11 +1,12 @@
-//! `Text`: a text that contracts see as its bytes; a reply to a client that asks for the status holds one.
+//! `Text`: a text whose contracts speak of its bytes; a reply to a client that asks for the status
+//! holds one.
 ghost use Rattle.std.specs.Prelude.{◌≡◌, ℕ, List, string_bytes, IfOk};
 ghost use Rattle.std.specs.Str.{IsUtf8};
 
 use std::alloc::{AllocError, Global};
 use std::marker::Model;
 
-/// A text that a contract sees as its bytes, which are UTF-8.
+/// A text of UTF-8 whose contracts speak of its bytes.
 #[derive(Debug, Drop)]
 pub struct Text {
     text: String,
@@ -18,7 +19,7 @@ impl Model for Text {
 }
 
 impl Text {
-    /// The text, in memory of its own. It fails for want of memory alone.
+    /// Copies the text into new memory. Fails only when out of memory.
     pub fn new(alloc: Global, text: &str) -> Result<Self, AllocError>
         ensures { IfOk result (λ t. t ≡ text.now) }
     {
@@ -27,14 +28,14 @@ impl Text {
         })
     }
 
-    /// This text.
+    /// Wraps a string without copying it.
     pub fn of(text: String) -> Self
         ensures { result ≡ string_bytes text }
     {
         Text { text }
     }
 
-    /// The text, lent.
+    /// Borrows the text.
     pub fn as_str(&self) -> &str
         ensures { result.now ≡ self.now }
     {

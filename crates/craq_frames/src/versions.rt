@@ -1,5 +1,5 @@
-//! Payloads of versions 1 and 2, those of several messages among them: `Payload` and `Answered`; for the conversation
-//! of `craq_front`, which takes both versions, and for `craq_server`.
+//! Payloads of versions 1 and 2, also those of several requests: `Payload` and `Answered`; used by
+//! the protocol codec of `craq_front`, which accepts both versions, and by `craq_server`.
 ghost use Rattle.std.specs.Prelude.{◌≡◌, ◌≤◌, ◌+◌, ◌⊎◌, ℕ, List, ◌++◌, length, take, drop, Err, IfOk, IfErr, OnOk, OnErr};
 ghost use Rattle.std.specs.Io.{StartsWith};
 ghost use Rattle.std.specs.List.{AllByRecursion, list_all};
@@ -20,10 +20,10 @@ use craq_codec::{Part, Unread, read_parts, read_u8, write_short_list, write_u8, 
 use craq_names::{Items, Refusal};
 use std::alloc::{AllocError, Global};
 
-/// The most messages of a payload.
+/// The most requests in a payload.
 pub const MOST_MESSAGES: usize = 8;
 
-/// The kind of a payload of several messages.
+/// The kind of a payload of several requests.
 const MANY_ASKS: u8 = 4;
 
 /// The kind of a payload of several replies.
@@ -32,14 +32,14 @@ const MANY_ANSWERS: u8 = 5;
 /// The version of a payload.
 #[derive(Clone, Copy, Debug, PartialEq, Eq)]
 pub enum PayloadVersion {
-    /// Version 1: one message, or one reply.
+    /// Version 1: one request, or one reply.
     First,
-    /// Version 2: as the first, and also several messages in one payload, or their replies.
+    /// Version 2: like version 1, and also several requests in one payload, or their replies.
     Second,
 }
 
 impl PayloadVersion {
-    /// The byte that a payload of this version begins with.
+    /// Returns the first byte of a payload of this version.
     fn number(self) -> u8
         ensures { result ≡ version_number self }
     {
@@ -50,26 +50,28 @@ impl PayloadVersion {
     }
 }
 
-/// What a payload of a client says.
+/// The content of a client's payload.
 #[derive(Debug, Drop)]
 pub enum Payload {
-    /// One message, in a payload of this version.
+    /// One request, in a payload of this version.
     One(PayloadVersion, ClientMessage),
-    /// From 1 to 8 messages, in a payload of version 2.
+    /// From 1 to 8 requests, in a payload of version 2.
     Many(Items<ClientMessage>),
 }
 
-/// What a payload of a server says.
+/// The content of a server's payload.
 #[derive(Debug, Drop)]
 pub enum Answered {
     /// One reply, in a payload of this version.
     One(PayloadVersion, ClientReply),
-    /// From 1 to 8 replies, in a payload of version 2: those of the messages of one payload, in their order.
+    /// From 1 to 8 replies, in a payload of version 2: those of the requests of one payload, in
+    /// their order.
     Many(Items<ClientReply>),
 }
 
-/// A byte of count, from 1 to 8, at the front and so many values, and the bytes after them. `BadFrame`
-/// exactly where the bytes do not begin so.
+/// Reads a count of one byte, from 1 to 8, and that number of values; returns them with the bytes
+/// after them. `BadFrame` exactly if no such list is at the front; `Memory` if an allocation
+/// failed.
 #[tactic(auto, unfolding(crate::specs::Reading::few_at))]
 fn read_few<T: Part>(alloc: Global, bytes: &[u8]) -> Result<(Items<T>, &[u8]), Unread>
     ensures { Gives (λ x. (x.0, x.1.now)) result (few_at T.part_at bytes.now) }
@@ -85,7 +87,8 @@ fn read_few<T: Part>(alloc: Global, bytes: &[u8]) -> Result<(Items<T>, &[u8]), U
     read_parts(alloc, count, rest)
 }
 
-/// What goes with a version and a kind of a payload of a client, and the bytes after it.
+/// Reads what follows the version and the kind of a client's payload; returns the payload with the
+/// bytes after it.
 #[tactic(auto, unfolding(crate::specs::Reading::payload_body_at))]
 fn read_payload_body(
     alloc: Global,
@@ -111,7 +114,8 @@ fn read_payload_body(
     }
 }
 
-/// What goes with a version and a kind of a payload of a server, and the bytes after it.
+/// Reads what follows the version and the kind of a server's payload; returns the payload with the
+/// bytes after it.
 #[tactic(auto, unfolding(crate::specs::Reading::answered_body_at))]
 fn read_answered_body(
     alloc: Global,
@@ -137,7 +141,7 @@ fn read_answered_body(
     }
 }
 
-/// What the bytes of a payload of a client spell, all of the bytes.
+/// Decodes the client's payload that all of the bytes encode.
 #[tactic(auto, unfolding(crate::specs::Reading::versioned_at, craq_codec::specs::PartReading::pair_at))]
 fn read_payload(alloc: Global, bytes: &[u8]) -> Result<Payload, Unread>
     ensures { Gives (λ p. p) result (versioned_at payload_body_at bytes.now) }
@@ -151,7 +155,7 @@ fn read_payload(alloc: Global, bytes: &[u8]) -> Result<Payload, Unread>
     Ok(payload)
 }
 
-/// What the bytes of a payload of a server spell, all of the bytes. The rules of replies are not tested yet.
+/// Decodes the server's payload that all of the bytes encode, without testing the rules of replies.
 #[tactic(auto, unfolding(crate::specs::Reading::versioned_at, craq_codec::specs::PartReading::pair_at))]
 fn read_answered(alloc: Global, bytes: &[u8]) -> Result<Answered, Unread>
     ensures { Gives (λ p. p) result (versioned_at answered_body_at bytes.now) }
@@ -165,7 +169,7 @@ fn read_answered(alloc: Global, bytes: &[u8]) -> Result<Answered, Unread>
     Ok(answered)
 }
 
-/// Writes what a client sends at the end.
+/// Writes a client's payload at the end.
 #[tactic(auto, unfolding(crate::specs::Versions::payload_spelling), using(craq_codec::proofs::Free::all_of_any))]
 fn write_payload(out: &mut BytesMut, payload: &Payload) -> Result<(), AllocError>
     requires { IsPayload payload.now }
@@ -185,7 +189,7 @@ fn write_payload(out: &mut BytesMut, payload: &Payload) -> Result<(), AllocError
     }
 }
 
-/// Writes what a client gets at the end.
+/// Writes a server's payload at the end.
 #[tactic(auto, unfolding(crate::specs::Versions::answered_spelling))]
 fn write_answered(out: &mut BytesMut, answered: &Answered) -> Result<(), AllocError>
     requires { IsAnswered answered.now }
@@ -206,7 +210,7 @@ fn write_answered(out: &mut BytesMut, answered: &Answered) -> Result<(), AllocEr
     }
 }
 
-/// Writes the frame of what a client gets at the end, its length behind its payload.
+/// Writes the frame of a server's payload at the end; sets its length after its payload is written.
 fn append_answered(out: &mut BytesMut, answered: &Answered) -> Result<(), AllocError>
     requires rules { IsAnswered answered.now }
     requires few { (payload : List ℕ) → SpellsAnswered answered.now payload → length payload ≤ payload_limit }
@@ -222,14 +226,14 @@ fn append_answered(out: &mut BytesMut, answered: &Answered) -> Result<(), AllocE
     Ok(())
 }
 
-/// Whether each of the replies keeps the rules of replies.
+/// Returns true if each reply keeps the rules of replies.
 fn test_answers(replies: &[ClientReply]) -> bool
     ensures { result ≡ list_all is_answer replies.now }
 {
     replies.iter().all(|reply| test_answer(reply))
 }
 
-/// The rules of the replies of a payload.
+/// Tests the rules of the replies of a payload.
 fn test_answered(answered: &Answered) -> bool
     ensures { result ≡ is_answered answered.now }
 {
@@ -240,7 +244,7 @@ fn test_answered(answered: &Answered) -> bool
 }
 
 impl Payload {
-    /// The bytes of the payload. Several messages have to be from 1 to 8. It fails for want of memory alone.
+    /// Encodes the payload. Several requests must be from 1 to 8. Fails only when out of memory.
     pub fn encode(&self, alloc: Global) -> Result<Bytes, AllocError>
         requires { IsPayload self.now }
         ensures { IfOk result (λ bytes. SpellsPayload self.now bytes) }
@@ -250,14 +254,15 @@ impl Payload {
         Ok(out.freeze()?)
     }
 
-    /// What the bytes spell as a payload of version 1 or 2, all of the bytes. `BadFrame` exactly where they spell
-    /// none; `Memory` where a growth was refused. Room is asked for only for what was read.
+    /// Decodes the client's payload of version 1 or 2 that all of the bytes encode. `BadFrame`
+    /// exactly if they encode none; `Memory` if an allocation failed. Allocates only for bytes that
+    /// were read.
     pub fn decode(alloc: Global, bytes: &[u8]) -> Result<Self, Refusal>
-        // What is read is spelled so.
+        // The bytes encode the payload that is returned.
         ensures found { IfOk result (λ p. SpellsPayload p bytes.now) }
-        // No other payload is spelled so.
+        // They encode no other payload.
         ensures only { IfOk result (λ p. (other : Payload) → SpellsPayload other bytes.now → other ≡ p) }
-        // Where nothing is read, no payload is spelled so, or memory ran out.
+        // On an error the bytes encode no payload, or memory ran out.
         ensures bad { result ≡ Err Refusal.BadFrame → (p : Payload) → SpellsPayload p bytes.now → ⊥ }
         ensures err { IfErr result (λ e. (e ≡ Refusal.BadFrame) ⊎ (e ≡ Refusal.Memory)) }
     {
@@ -270,8 +275,9 @@ impl Payload {
 }
 
 impl Answered {
-    /// Writes the frame of the payload at the end. Each reply has to be one that can be spelled, several have to be from 1 to 8,
-    /// and the payload has to be within the limit. It fails for want of memory alone, and the bytes are then as before.
+    /// Writes the frame of the payload at the end. Each reply must have an encoding, several must
+    /// be from 1 to 8, and the payload must be within the limit. Fails only when out of memory; the
+    /// bytes are then unchanged.
     pub fn write_frame(&self, out: &mut BytesMut) -> Result<(), AllocError>
         requires rules { IsAnswered self.now }
         requires few { (payload : List ℕ) → SpellsAnswered self.now payload → length payload ≤ payload_limit }
@@ -287,8 +293,8 @@ impl Answered {
         written
     }
 
-    /// The bytes of the payload. Each reply has to be one that can be spelled, and several have to be from 1 to 8.
-    /// It fails for want of memory alone.
+    /// Encodes the payload. Each reply must have an encoding, and several must be from 1 to 8.
+    /// Fails only when out of memory.
     pub fn encode(&self, alloc: Global) -> Result<Bytes, AllocError>
         requires { IsAnswered self.now }
         ensures { IfOk result (λ bytes. SpellsAnswered self.now bytes) }
@@ -298,14 +304,15 @@ impl Answered {
         Ok(out.freeze()?)
     }
 
-    /// What the bytes spell as a payload of version 1 or 2, all of the bytes. `BadFrame` exactly where they spell
-    /// none; `Memory` where a growth was refused. Room is asked for only for what was read.
+    /// Decodes the server's payload of version 1 or 2 that all of the bytes encode. `BadFrame`
+    /// exactly if they encode none; `Memory` if an allocation failed. Allocates only for bytes that
+    /// were read.
     pub fn decode(alloc: Global, bytes: &[u8]) -> Result<Self, Refusal>
-        // What is read is spelled so.
+        // The bytes encode the payload that is returned.
         ensures found { IfOk result (λ p. SpellsAnswered p bytes.now) }
-        // No other payload is spelled so.
+        // They encode no other payload.
         ensures only { IfOk result (λ p. (other : Answered) → SpellsAnswered other bytes.now → other ≡ p) }
-        // Where nothing is read, no payload is spelled so, or memory ran out.
+        // On an error the bytes encode no payload, or memory ran out.
         ensures bad { result ≡ Err Refusal.BadFrame → (p : Answered) → SpellsAnswered p bytes.now → ⊥ }
         ensures err { IfErr result (λ e. (e ≡ Refusal.BadFrame) ⊎ (e ≡ Refusal.Memory)) }
     {

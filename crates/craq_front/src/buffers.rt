@@ -1,4 +1,4 @@
-//! The two buffers of a connection, filled only where nothing is due; for `Conversation`, `serve` and `exchange`.
+//! The two buffers of a connection; for `Conversation`, `serve` and `exchange`.
 ghost use Rattle.std.specs.Prelude.{◌≡◌, ◌+◌, ◌-◌, ◌^◌, ◌<◌, ◌≤◌, ◌⊎◌, ◌↔◌, ℕ, List, [], ◌++◌, length, take, Ok, Err, IsTrue, IfOk, IfErr, OnOk, OnErr};
 ghost use Rattle.std.specs.Io.KnownBytes.{Appends, Consumes, IsAtEnd, Keeps};
 
@@ -10,19 +10,20 @@ use std::alloc::Global;
 /// The most bytes that are read at once.
 const MOST_AT_ONCE: usize = 8_192;
 
-/// So many bytes of replies are written before more of them are made.
+/// The bytes of unsent replies from which on they are written before more are made. This project's
+/// profile.
 pub(crate) const MOST_DUE: usize = 65_536;
 
-/// The two ends of a connection's bytes.
+/// The input and the output buffer of a connection.
 #[derive(Drop)]
 pub(crate) struct Buffers {
-    /// What was read, and not yet cut off as a frame.
+    /// The bytes that were read and not yet cut off as a frame.
     pub(crate) input: BytesMut,
-    /// What is due, and not yet written.
+    /// The bytes that are to be written.
     pub(crate) output: BytesMut,
 }
 
-/// Writes all of the bytes.
+/// Writes all of the bytes. `Io` where a write failed; a prefix of them is written then.
 fn write_all<W: Sink>(writer: &mut W, bytes: &[u8]) -> Result<(), Refusal>
     requires { W.count writer.old < 2 ^ 64 - 1 }
     ensures ok { OnOk result (Appends (W.contents writer.old) (W.contents writer.new) bytes.now
@@ -42,7 +43,7 @@ fn write_all<W: Sink>(writer: &mut W, bytes: &[u8]) -> Result<(), Refusal>
 }
 
 impl Buffers {
-    /// Nothing was read, and nothing is due. It takes no memory.
+    /// Makes empty buffers. Takes no memory.
     pub(crate) fn new(alloc: Global) -> Self
         ensures input { result.input.items ≡ [] }
         ensures output { result.output.items ≡ [] }
@@ -53,15 +54,16 @@ impl Buffers {
         }
     }
 
-    /// Whether no more replies are to be made before what is due is written.
+    /// Returns whether unsent bytes have to be written before more replies are made.
     pub(crate) fn is_full(&self) -> bool
         ensures { IsTrue result ↔ (MOST_DUE ≤ length self.now.output.items) }
     {
         self.output.len() >= MOST_DUE
     }
 
-    /// Reads once, and tells how many bytes came: none exactly at the end of the input. Nothing may be due: no reply
-    /// waits for a read. `Memory` where a growth was refused, and then nothing was read; `Io` where the read failed.
+    /// Reads once and returns how many bytes came: 0 exactly at the end of the input. Nothing may
+    /// be unsent: no reply waits for a read. `Memory` where a growth was refused, and nothing was
+    /// read; `Io` where the read failed.
     pub(crate) fn fill<R: Source>(&mut self, reader: &mut R) -> Result<usize, Refusal>
         requires due { self.old.output.items ≡ [] }
         requires count { R.count reader.old < 2 ^ 64 - 1 }
@@ -92,7 +94,7 @@ impl Buffers {
         }
     }
 
-    /// Writes what is due. `Io` where a write failed, and then a beginning of it is written.
+    /// Writes all unsent bytes. `Io` where a write failed; a prefix of them is written then.
     pub(crate) fn flush<W: Sink>(&mut self, writer: &mut W) -> Result<(), Refusal>
         requires { W.count writer.old < 2 ^ 64 - 1 }
         ensures ok { OnOk result (Appends (W.contents writer.old) (W.contents writer.new) self.old.output.items
@@ -107,7 +109,8 @@ impl Buffers {
         Ok(())
     }
 
-    /// What serving answers at the end of the input, after so many frames: `Closed` where less than a frame is left.
+    /// Returns the result of serving at the end of the input, after `frames` frames: `Closed` where
+    /// a part of a frame is left.
     pub(crate) fn ended(&self, frames: u64) -> Result<u64, Refusal>
         ensures ok { IfOk result (λ n. (n ≡ frames) × (self.now.input.items ≡ [])) }
         ensures err { IfErr result (λ e. (e ≡ Refusal.Closed) × (0 < length self.now.input.items)) }

@@ -1,5 +1,6 @@
-//! `Conversation`: what serving one client comes to, without a stream and without a door: bytes in, messages to ask, their
-//! replies, bytes out. `serve` drives one over a stream, a loop over readiness drives many.
+//! `Conversation`: the protocol codec of one connection, without a stream and without a request
+//! handler. Bytes go in and requests come out; replies go in and bytes come out. `serve` drives one
+//! over a stream; an event loop drives many.
 ghost use Rattle.std.specs.Prelude.{◌≡◌, ◌≤◌, ◌↔◌, ℕ, List, None, Some, Ok, [], ◌++◌, drop, length, IsTrue, IfOk, IfSome, OnErr};
 ghost use Rattle.craq_frames.specs.Frame.{frame, payload_limit};
 ghost use Rattle.craq_frames.specs.Versions.{IsPayload, SpellsPayload};
@@ -17,39 +18,40 @@ use craq_frames::{
 use craq_names::Refusal;
 use std::alloc::{AllocError, Global};
 
-/// So many bytes are decoded where they lie rather than copied first. To copy fewer costs less than to decode them among the reads of
-/// other connections.
+/// The least bytes of a read that are decoded in place rather than copied first. Copying fewer
+/// costs less than decoding them between the reads of other connections.
 const MANY_BYTES: usize = 1_024;
 
-/// The payload of which a message is asked just now.
+/// The payload whose request is under way.
 #[derive(Drop)]
 pub(crate) enum Asking {
-    /// It has one message, and is of this version.
+    /// A payload of one request, of this version.
     One(PayloadVersion),
-    /// It has several.
+    /// A payload of several requests.
     Many(Several),
 }
 
-/// What comes next in a conversation.
+/// The next event of a connection.
 #[derive(Debug, Drop)]
 pub enum Step {
-    /// This message is to be asked, and its reply to be given back.
+    /// This request is to be asked, and its reply to be given back.
     Ask(ClientMessage),
-    /// A payload that spells nothing is answered `BadFrame`.
+    /// A payload that encodes nothing was answered `BadFrame`.
     Refused,
-    /// Less than a frame is there.
+    /// Less than a whole frame has come.
     Nothing,
 }
 
-/// What serving one client comes to: the bytes that came and are not yet cut into frames, the payload that is being
-/// answered, and the bytes that are due. At most one message is asked at a time.
+/// The protocol codec of one connection: the bytes that came and are not yet cut into frames, the
+/// payload that is being answered, and the unsent bytes. At most one request is under way at a
+/// time.
 #[derive(Drop)]
 pub struct Conversation {
     pub(crate) buffers: Buffers,
     pub(crate) asking: Option<Asking>,
 }
 
-/// The first message of a payload, and the payload as it stands while that message is asked.
+/// Returns the first request of a payload, and the payload while that request is under way.
 fn first_of(alloc: Global, payload: Payload) -> (ClientMessage, Asking)
     requires { IsPayload payload }
     ensures { (bytes : List ℕ) → SpellsPayload payload bytes → IsFirst (Some result.1) result.0 bytes }
@@ -63,7 +65,9 @@ fn first_of(alloc: Global, payload: Payload) -> (ClientMessage, Asking)
     }
 }
 
-/// A payload that came: its first message is asked, or its refusal is due.
+/// Decodes a payload. Returns its first request, or appends the refusal `BadFrame` to `output`.
+///
+/// `Memory` where a growth was refused; `output` is unchanged then.
 fn open(
     alloc: Global,
     output: &mut BytesMut,
@@ -90,7 +94,7 @@ fn open(
 }
 
 impl Conversation {
-    /// Nothing came, and nothing is due. It takes no memory.
+    /// Makes the codec of a new connection. Takes no memory.
     pub fn new(alloc: Global) -> Self
         ensures input { result.buffers.input.items ≡ [] }
         ensures output { result.buffers.output.items ≡ [] }
@@ -102,9 +106,9 @@ impl Conversation {
         }
     }
 
-    /// These bytes came behind those before, where no message is asked. The first message of the payload in front of them may be
-    /// asked at once, and is given then; else all of them wait, and `next` says what comes of them. It fails for want of memory
-    /// alone, and nothing is changed then.
+    /// Takes bytes that came behind those before, while no request is under way. May return the
+    /// first request of the payload in front of them at once; else all of them wait for `next`.
+    /// Fails only when out of memory; unchanged then.
     pub fn receive(
         &mut self,
         alloc: Global,
@@ -122,8 +126,9 @@ impl Conversation {
         Ok(None)
     }
 
-    /// A payload in front of these bytes is decoded where it lies, where they are many and no bytes wait before them: only what is
-    /// behind it waits then. Where they are few, there is none, or it does not decode, nothing is changed.
+    /// Decodes a payload in front of these bytes in place, where they are many and none wait before
+    /// them; only what is behind it waits then. Unchanged, with the result `None`, where they are
+    /// few, have no whole payload, or do not decode. Fails only when out of memory.
     fn receive_in_place(
         &mut self,
         alloc: Global,
@@ -152,21 +157,22 @@ impl Conversation {
         Ok(Some(message))
     }
 
-    /// Whether no more messages are to be asked before what is due is written: 65,536 bytes or more are.
+    /// Returns whether unsent bytes have to be written before another request is asked: where there
+    /// are 65,536 or more.
     pub fn is_full(&self) -> bool
         ensures { IsTrue result ↔ (MOST_DUE ≤ length self.now.buffers.output.items) }
     {
         self.buffers.is_full()
     }
 
-    /// The bytes that are due.
+    /// Lends the unsent bytes.
     pub fn due(&self) -> &[u8]
         ensures { result.now ≡ self.now.buffers.output.items }
     {
         self.buffers.output.as_slice()
     }
 
-    /// So many of the bytes that are due are written.
+    /// Drops the first `count` unsent bytes, which were written.
     pub fn wrote(&mut self, count: usize)
         requires { count ≤ length self.old.buffers.output.items }
         ensures output { self.new.buffers.output.items ≡ drop count self.old.buffers.output.items }
@@ -176,12 +182,12 @@ impl Conversation {
         self.buffers.output.advance(count);
     }
 
-    /// What comes next, where no message is asked: the frame in front is cut off, and its first message is asked or its
-    /// refusal is due.
+    /// Cuts off the frame in front, while no request is under way. Returns its first request, or
+    /// appends its refusal to the unsent bytes.
     ///
-    /// - `FrameTooLong` where a length above 1,048,576 stands in front: the refusal's frame is due, and the conversation is
-    ///   over once it is written.
-    /// - `Memory` where a growth was refused: nothing more is due then, and the conversation is over.
+    /// - `FrameTooLong` where a length above 1,048,576 stands in front: the refusal's frame is
+    ///   unsent, and the connection is over once it is written.
+    /// - `Memory` where a growth was refused: nothing was appended, and the connection is over.
     pub fn next(&mut self, alloc: Global) -> Result<Step, Refusal>
         requires { self.old.asking ≡ None }
         ensures { (due : List ℕ) × (self.new.buffers.output.items ≡ self.old.buffers.output.items ++ due)
@@ -203,9 +209,11 @@ impl Conversation {
         }
     }
 
-    /// The message that is asked has this reply, which a door may give. The next message of the same payload is asked then
-    /// and has to get its reply; behind the last, the frame of all replies of the payload is due. Where no message is asked
-    /// nothing happens. `Memory` where a growth was refused: nothing more is due then, and the conversation is over.
+    /// Takes the reply to the request that is under way, which a request handler may give. Returns
+    /// the next request of the same payload; after the last, appends the frame of all its replies
+    /// to the unsent bytes. Unchanged where no request is under way.
+    ///
+    /// `Memory` where a growth was refused: nothing was appended, and the connection is over.
     pub fn reply(&mut self, reply: ClientReply) -> Result<Option<ClientMessage>, Refusal>
         requires { IsAllowed reply }
         ensures follows { (due : List ℕ) × (self.new.buffers.output.items ≡ self.old.buffers.output.items ++ due)
@@ -222,7 +230,7 @@ impl Conversation {
         }
     }
 
-    /// The same among several messages.
+    /// Takes the reply to a request of a payload of several, as `reply` does.
     fn reply_of_several(
         &mut self,
         several: Several,

@@ -1,4 +1,5 @@
-//! `Door`: what answers the messages of one client, and which replies it may give; implemented by whoever has a store.
+//! `Door`: the request handler of one client, and the replies that it may give; implemented by
+//! those that have a store.
 ghost use Rattle.std.specs.Prelude.{◌↔◌, IsTrue};
 ghost use Rattle.craq_frames.specs.declared.answer.ClientReply.{ClientReply};
 ghost use Rattle.craq_frames.specs.declared.ask.ClientMessage.{ClientMessage};
@@ -6,22 +7,23 @@ ghost use Rattle.craq_front.specs.Door.{IsShort, IsAllowed};
 
 use craq_frames::{ClientMessage, ClientReply};
 
-/// The most bytes of a reply's payload.
+/// The most bytes of a reply's payload. This project's profile.
 pub(crate) const MOST_OF_A_REPLY: usize = 100_000;
 
-/// What answers the messages of one client.
+/// The request handler of one client.
 pub trait Door {
-    /// A turn: the door before, what it was asked, what it answered, and the door after.
+    /// A turn: the handler before, its request, its reply, and the handler after.
     ghost turn: { Self → ClientMessage → ClientReply → Self → Type 0 };
 
-    /// Answers a message. The reply can be spelled, in a payload of at most 100,000 bytes. Whatever the door refuses it
-    /// answers as `ClientReply::Refused`.
+    /// Answers a request. The reply has an encoding in a payload of at most 100,000 bytes. A
+    /// refusal is the reply `ClientReply::Refused`.
     fn ask(&mut self, message: ClientMessage) -> ClientReply
         ensures turn { turn self.old message result self.new }
         ensures allowed { IsAllowed result };
 }
 
-/// Whether the reply goes into a payload of at most 100,000 bytes. A status text alone can be longer.
+/// Returns whether the reply fits a payload of at most 100,000 bytes. Only a status text can be
+/// longer.
 fn is_short(reply: &ClientReply) -> bool
     ensures { IsTrue result ↔ IsShort reply.now }
 {
@@ -31,7 +33,8 @@ fn is_short(reply: &ClientReply) -> bool
     }
 }
 
-/// Whether a door may give the reply: it can be spelled, in a payload of at most 100,000 bytes.
+/// Returns whether a request handler may give the reply: it has an encoding, in a payload of at
+/// most 100,000 bytes.
 pub fn is_allowed(reply: &ClientReply) -> bool
     ensures { IsTrue result ↔ IsAllowed reply.now }
 {

@@ -1,4 +1,4 @@
-//! `exchange`: one message sent and its reply received; for a client.
+//! `exchange`: sends one request and receives its reply; for a client.
 ghost use Rattle.std.specs.Prelude.{◌≡◌, ◌+◌, ◌-◌, ◌^◌, ◌<◌, ◌⊎◌, ℕ, List, [], ◌++◌, Err, IfOk, IfErr, OnOk};
 ghost use Rattle.std.specs.Io.KnownBytes.{Appends, Consumes, IsAtEnd};
 ghost use Rattle.craq_frames.specs.Frame.{frame, BeginsTooLong, IsPartial};
@@ -11,7 +11,7 @@ use craq_frames::{ClientMessage, ClientReply, cut_off_frame, write_frame};
 use craq_names::Refusal;
 use std::alloc::Global;
 
-/// Writes the frame of a message into an empty buffer. It fails for want of memory alone.
+/// Writes the frame of a request into an empty buffer. Fails only when out of memory.
 #[tactic(auto, using(crate::proofs::Asks::ask_few))]
 fn frame_message(
     alloc: Global,
@@ -28,7 +28,13 @@ fn frame_message(
     write_frame(output, payload)
 }
 
-/// Reads until a whole frame came, and gives its payload. Nothing may be read yet, and nothing may be due.
+/// Reads until a whole frame has come and returns its payload. Nothing was read before, and nothing
+/// is unsent.
+///
+/// - `FrameTooLong` where a length above 1,048,576 came.
+/// - `Closed` where the input ended before a whole frame.
+/// - `Io` where a read failed.
+/// - `Memory` where a growth was refused.
 fn receive<S: Source>(buffers: &mut Buffers, stream: &mut S) -> Result<BytesMut, Refusal>
     requires input { buffers.old.input.items ≡ [] }
     requires due { buffers.old.output.items ≡ [] }
@@ -58,23 +64,24 @@ fn receive<S: Source>(buffers: &mut Buffers, stream: &mut S) -> Result<BytesMut,
     }
 }
 
-/// Sends a message as a frame of version 1, and waits for the frame of its reply.
+/// Sends a request as a frame of version 1, and waits for the frame of its reply.
 ///
-/// - `BadFrame` where the frame that came is no reply of version 1.
+/// - `BadFrame` where the frame that came is not a reply of version 1.
 /// - `FrameTooLong` where a length above 1,048,576 came.
 /// - `Closed` where the input ended before a whole frame.
 /// - `Io` where a read or a write failed and the stream counted it. No failed call is tried again.
 /// - `Memory` where a growth was refused.
 ///
-/// After each of these the connection is over, and an update may have taken effect or not. The count of failed calls has
-/// to be below 2^64 - 1 (this project's profile).
+/// After each of these the connection is over, and an update may or may not have taken effect. The
+/// count of failed calls has to be below 2^64 - 1 (this project's profile).
 pub fn exchange<S: Source + Sink>(
     alloc: Global,
     stream: &mut S,
     message: &ClientMessage,
 ) -> Result<ClientReply, Refusal>
     requires { S.count stream.old < 2 ^ 64 - 1 }
-    // What is sent and then received, `mid` being the stream in between, as `Exchanged` says for each result.
+    // The bytes sent and then received, `mid` being the stream in between, as `Exchanged` says for
+    // each result.
     ensures exchanged { (sent : List ℕ) × (mid : S) × (received : List ℕ) × (faults : ℕ)
         × Appends (S.contents stream.old) (S.contents mid) sent
         × Consumes (S.remaining mid) (S.remaining stream.new) received

@@ -1,5 +1,5 @@
-//! Laws: which replies a door may give, and what the bytes of a conversation are; for whoever reads the contracts, since no
-//! code calls them.
+//! Laws: which replies a request handler may give, and what the bytes of a connection are. For
+//! readers of the contracts; no code calls them.
 ghost use Rattle.std.specs.Prelude.{◌≤◌, ◌↔◌, ℕ, List, [], ◌∷◌, ◌++◌, length, Option, None, Some, Ok};
 ghost use Rattle.craq_frames.specs.declared.answer.ClientReply.{ClientReply};
 ghost use Rattle.craq_frames.specs.Payload.{AnswerFits, IsAnswer, answer_spelling};
@@ -10,15 +10,17 @@ ghost use Rattle.craq_front.specs.Door.{IsAllowed, reply_limit};
 ghost use Rattle.craq_front.specs.Steps.{Advances, Follows};
 ghost use Rattle.craq_front.specs.Talk.{History, Stands};
 
-/// A door may give exactly the replies that can be spelled in a payload of at most 100,000 bytes. The reply is a value of
-/// its type, whose numbers are of their widths. It has no body: the contract is the law.
+/// Law: a request handler may give exactly the replies that have an encoding in a payload of at
+/// most 100,000 bytes. The reply is a value of its type, whose numbers are within their widths. It
+/// has no body: the contract is the law.
 pub fn allowed_replies_are_short()
     ensures { (r : ClientReply) → AnswerFits r
         → IsAllowed r ↔ (IsAnswer r × (length (answer_spelling r) ≤ reply_limit)) }
 {}
 
-/// Laws: what a conversation made due answers what came to it. Its bytes may come in any parts; each message that is asked
-/// is a turn with the reply that is given back. It has no body: the contract is the law.
+/// Laws: the bytes that a codec makes answer the bytes that came to it. These may come in any
+/// parts; each request that is asked is a turn with the reply that is given back. It has no body:
+/// the contract is the law.
 pub fn conversations_answer()
     ensures begins { Stands [] [] [] None None [] }
     ensures received { (read made input more : List ℕ) (a : Option Asking) (m : Option ClientMessage) (turns : History)

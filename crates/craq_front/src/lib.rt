@@ -1,6 +1,6 @@
-//! How clients reach a store over a stream of bytes: frames of messages in, frames of replies out. For `craq_door` and
-//! `craq_server` at one end and the program `craq` at the other; a crate apart, since it knows no store.
-//! Code that runs in the programs.
+//! The protocol between clients and a server over a stream of bytes: frames of requests in, frames
+//! of replies out. For servers and for the client `craq`; it knows no store. Code that runs in the
+//! programs.
 #![tactic(auto)]
 
 mod buffers;

@@ -1,4 +1,4 @@
-//! The frames of replies, made due; called by `conversation`.
+//! Appends the frames of replies to the unsent bytes; called by `conversation`.
 ghost use Rattle.std.specs.Prelude.{◌≡◌, ℕ, List, ◌++◌, IfErr, OnOk, OnErr};
 ghost use Rattle.std.specs.List.{AllByRecursion};
 ghost use Rattle.craq_frames.specs.Frame.{frame};
@@ -11,8 +11,8 @@ use bytes::BytesMut;
 use craq_frames::{Answered, ClientReply, PayloadVersion};
 use craq_names::Refusal;
 
-/// Makes the frame of the replies to a payload due, replies that a door may give. `Memory` where a growth was refused, and
-/// then nothing more is due.
+/// Appends the frame of the replies to a payload, each of which a request handler may give.
+/// `Memory` where a growth was refused; `output` is unchanged then.
 pub(crate) fn make_due(output: &mut BytesMut, answered: Answered) -> Result<(), Refusal>
     requires rules { IsAnswered answered }
     requires allowed { AllByRecursion IsAllowed (told answered) }
@@ -27,7 +27,8 @@ pub(crate) fn make_due(output: &mut BytesMut, answered: Answered) -> Result<(), 
     }
 }
 
-/// Makes the frame of a refusal due, of version 1. `Memory` where a growth was refused, and then nothing more is due.
+/// Appends the frame of a refusal, of version 1. `Memory` where a growth was refused; `output` is
+/// unchanged then.
 pub(crate) fn refuse(output: &mut BytesMut, why: Refusal) -> Result<(), Refusal>
     requires { NamesNode why }
     ensures ok { OnOk result ((reply : List ℕ) × (output.new.items ≡ output.old.items ++ frame reply)

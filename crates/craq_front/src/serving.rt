@@ -1,4 +1,4 @@
-//! `serve`: the replies to all that a connection brings, in order; the server's loop for one client.
+//! `serve`: answers all requests of a connection, in order; the server's loop for one client.
 ghost use Rattle.std.specs.Prelude.{◌≡◌, ◌≢◌, ◌+◌, ◌-◌, ◌^◌, ◌<◌, ℕ, List, None, [], ◌++◌, false, Ok, Err, IfOk, IfErr, OnOk, OnErr};
 ghost use Rattle.std.specs.Io.KnownBytes.{Appends, Consumes, IsAtEnd};
 ghost use Rattle.craq_frames.specs.Frame.{frame};
@@ -10,8 +10,8 @@ use craq_frames::ClientMessage;
 use craq_names::Refusal;
 use std::alloc::Global;
 
-/// Asks the door the first message of a payload and those behind it, until the frame of their replies is due. `Memory` where
-/// a growth was refused, and then nothing more is due.
+/// Asks the request handler the first request of a payload and those behind it, and appends the
+/// frame of their replies. `Memory` where a growth was refused; nothing was appended then.
 fn answer_payload<D: Door>(
     talk: &mut Conversation,
     door: &mut D,
@@ -34,9 +34,11 @@ fn answer_payload<D: Door>(
     Ok(())
 }
 
-/// Makes the frame of the reply to the next payload due; false where there is less than a frame. A length above the limit is
-/// answered `FrameTooLong`, and that refusal's frame is due. `Memory` where a growth was refused, and then nothing more
-/// is due.
+/// Appends the frame of the reply to the next payload; returns false where there is less than a
+/// frame.
+///
+/// - `FrameTooLong` at a length above the limit; that refusal's frame was appended.
+/// - `Memory` where a growth was refused; nothing was appended.
 fn answer_next<D: Door>(
     alloc: Global,
     talk: &mut Conversation,
@@ -57,8 +59,9 @@ fn answer_next<D: Door>(
     }
 }
 
-/// Answers the next frames, until less than a frame is left (true) or many bytes are due (false), and counts them.
-/// `Exhausted` once the count is 2^64 - 1. Where nothing was due, many bytes are due only after a frame was answered.
+/// Answers the next frames until less than a frame is left (true) or many bytes are unsent (false),
+/// and counts them. `Exhausted` once the count is 2^64 - 1. Where nothing was unsent before, false
+/// comes only after a frame was answered.
 fn answer_batch<D: Door>(
     alloc: Global,
     talk: &mut Conversation,
@@ -86,21 +89,26 @@ fn answer_batch<D: Door>(
     Ok(false)
 }
 
-/// Answers each frame that the reader gives by a frame written to the writer, in order, until the input ends between two
-/// frames; then it tells how many frames there were. A payload of one message gets the door's reply, in the payload's
-/// version; a payload of several messages gets the door's replies to each, in order; a payload that spells nothing gets
-/// `Refused(BadFrame)`, and the door is not asked. The replies to all frames that one read brought are written together,
-/// or in parts where they are many bytes, and the reader is asked for more only after all of them are written.
+/// Answers each frame of the reader by a frame written to the writer, in order, until the input
+/// ends between two frames. Returns the number of frames. A payload of one request gets the reply
+/// of the request handler, in the payload's version; a payload of several requests gets the replies
+/// to each, in order; a payload that encodes nothing gets `Refused(BadFrame)`, and the handler is
+/// not asked. The replies to all frames of one read are written together, or in parts where they
+/// are many bytes. The reader is asked for more only after all of them are written.
 ///
-/// - `FrameTooLong` where a length is above 1,048,576. The last frame written is `Refused(FrameTooLong)`.
+/// - `FrameTooLong` where a length is above 1,048,576. The last frame written is
+///   `Refused(FrameTooLong)`.
 /// - `Closed` where the input ends inside a frame.
-/// - `Io` where a read or a write failed and the stream counted it: after a read the replies to all whole frames are
-///   written, after a write a beginning of the replies. No failed call is tried again.
-/// - `Memory` where a growth was refused, and `Exhausted` only once the frames that were answered and the bytes that were
-///   read are 2^64 - 1 together, or more: the whole replies to all earlier frames are written.
+/// - `Io` where a read or a write failed and the stream counted it: after a read the replies to all
+///   whole frames are written, after a write a prefix of the replies. No failed call is tried
+///   again.
+/// - `Memory` where a growth was refused: the whole replies to all earlier frames are written.
+/// - `Exhausted` only after 2^64 - 1 reads and frames together: the whole replies to all earlier
+///   frames are written. A stream shows its bytes and not its reads, so the contract bounds the
+///   reads by their bytes (`IsUsedUp`).
 ///
-/// After each of these the connection is over. The counts of failed calls have to be below 2^64 - 1 (this project's
-/// profile).
+/// After each of these the connection is over. The counts of failed calls have to be below 2^64 - 1
+/// (this project's profile).
 pub fn serve<R: Source, W: Sink, D: Door>(
     alloc: Global,
     reader: &mut R,
@@ -109,7 +117,7 @@ pub fn serve<R: Source, W: Sink, D: Door>(
 ) -> Result<u64, Refusal>
     requires reads { R.count reader.old < 2 ^ 64 - 1 }
     requires writes { W.count writer.old < 2 ^ 64 - 1 }
-    // What is written answers what was read, as `Session` says for each result.
+    // The bytes written answer the bytes read, as `Session` says for each result.
     ensures session { (read : List ℕ) × (written : List ℕ) × (fault : Fault)
         × Consumes (R.remaining reader.old) (R.remaining reader.new) read
         × Appends (W.contents writer.old) (W.contents writer.new) written

@@ -1,11 +1,11 @@
-//! `Several`: how far a payload of several messages is answered; for `conversation`.
+//! `Several`: a payload of several requests while it is answered; for `conversation`.
 use craq_frames::{ClientMessage, ClientReply};
 use craq_names::Items;
 use std::alloc::{AllocError, Global};
 use std::marker::Model;
 
-/// A payload of several messages, of which one is asked just now. A contract sees it as the messages behind that one and the
-/// replies to those before it.
+/// A payload of several requests, one of which is under way. A contract sees it as the requests
+/// behind that one and the replies to those before it.
 #[derive(Drop)]
 pub(crate) struct Several {
     waiting: Vec<ClientMessage>,
@@ -25,12 +25,12 @@ impl Model for Several {
     ghost invariant = { λ s. AreAnswered (length s.waiting.items) s.replies };
 }
 
-/// What is done once a message has its reply.
+/// The continuation once a request has its reply.
 #[derive(Drop)]
 pub(crate) enum Replied {
-    /// The next message is asked.
+    /// The next request is asked.
     Asks(ClientMessage, Several),
-    /// Each has its reply.
+    /// Each request has its reply.
     All(Items<ClientReply>),
 }
 
@@ -40,7 +40,7 @@ impl Several {
     ghost use Rattle.craq_front.specs.Door.{IsAllowed};
     ghost use Rattle.craq_front.specs.Steps.{AfterReply};
 
-    /// The first of some messages is asked.
+    /// Begins to answer 1 to 8 requests. Returns the first one, which is to be asked.
     pub(crate) fn begin(alloc: Global, messages: Items<ClientMessage>) -> (ClientMessage, Several)
         requires some { 1 ≤ length messages }
         requires few { length messages ≤ many_limit }
@@ -53,7 +53,7 @@ impl Several {
         (first, Several { waiting, replies })
     }
 
-    /// The message that is asked has its reply. It fails for want of memory alone.
+    /// Takes the reply to the request that is under way. Fails only when out of memory.
     pub(crate) fn add(self, reply: ClientReply) -> Result<Replied, AllocError>
         requires { IsAllowed reply }
         ensures { IfOk result (AfterReply self.0 self.1 reply) }

@@ -1,19 +1,20 @@
-//! `Source` and `Sink`, the streams that `serve` and `exchange` know, and `Stream`, which makes them of std's.
+//! `Source` and `Sink`, the streams of `serve` and `exchange`, and `Stream`, which makes them of
+//! std's readers and writers.
 ghost use Rattle.std.specs.Prelude.{◌≡◌, ℕ, ◌+◌, ◌-◌, ◌^◌, ◌<◌, ◌≤◌, List, Option, length, take, Ok, IfOk, OnErr};
 ghost use Rattle.std.specs.Io.KnownBytes.{Appends, Consumes, IsAtEnd, Keeps};
 
 use std::io::{Read, Write};
 
-/// A call of a stream that failed. The stream has counted it.
+/// The error of a failed call of a stream. The stream has counted it.
 #[derive(Clone, Copy, Debug, PartialEq, Eq)]
 pub struct Failed;
 
 /// A stream that counts those of its calls that failed.
 pub trait Counted {
-    /// How many of its calls failed.
+    /// The number of its calls that failed.
     ghost count: { Self → ℕ };
 
-    /// How many of its calls failed so far.
+    /// Returns the number of its calls that failed so far.
     fn faults(&self) -> u64
         ensures { result ≡ count self.now };
 }
@@ -23,9 +24,9 @@ pub trait Source: Counted {
     /// The bytes that reads will give from here on, where they are known.
     ghost remaining: { Self → Option (List ℕ) };
 
-    /// Reads once into the front of the buffer, and tells how many bytes came: none at the end of the input, or where
-    /// the buffer has no room. A call that fails gives no byte and raises the count of failed calls by 1; no other call
-    /// changes that count. The count has to be below 2^64 - 1.
+    /// Reads once into the front of the buffer and returns how many bytes came: 0 at the end of the
+    /// input, or where the buffer has no room. A failed call gives no byte and raises the count of
+    /// failed calls by 1; no other call changes it. The count has to be below 2^64 - 1.
     fn read(&mut self, buffer: &mut [u8]) -> Result<usize, Failed>
         requires { Self.count self.old < 2 ^ 64 - 1 }
         ensures gave { IfOk result (λ n. (n ≤ length buffer.new)
@@ -41,9 +42,9 @@ pub trait Sink: Counted {
     /// The bytes that it took, where they are known.
     ghost contents: { Self → Option (List ℕ) };
 
-    /// Writes the front of the bytes, and tells how many were taken: at least 1 where there is any. A call that fails
-    /// takes no byte and raises the count of failed calls by 1; no other call changes that count. The count has to be
-    /// below 2^64 - 1.
+    /// Writes the front of the bytes and returns how many were taken: at least 1 where there are
+    /// any. A failed call takes no byte and raises the count of failed calls by 1; no other call
+    /// changes it. The count has to be below 2^64 - 1.
     fn write(&mut self, bytes: &[u8]) -> Result<usize, Failed>
         requires { Self.count self.old < 2 ^ 64 - 1 }
         ensures took { IfOk result (λ n. (n ≤ length bytes.now) × (0 < length bytes.now → 0 < n)
@@ -53,7 +54,8 @@ pub trait Sink: Counted {
             × (Self.count self.new ≡ Self.count self.old + 1)) };
 }
 
-/// A source of any std reader, and a sink of any std writer. A write that took no byte of some counts as failed.
+/// Makes a source of any std reader and a sink of any std writer. A write that took none of some
+/// bytes counts as failed.
 #[derive(Drop)]
 pub struct Stream<S> {
     stream: S,
@@ -61,7 +63,7 @@ pub struct Stream<S> {
 }
 
 impl<S> Stream<S> {
-    /// A stream over a reader or writer. No call has failed yet.
+    /// Makes a stream over a reader or writer. No call has failed yet.
     pub fn new(stream: S) -> Self
         ensures stream { result.stream ≡ stream }
         ensures faults { result.faults ≡ 0 }
@@ -69,7 +71,7 @@ impl<S> Stream<S> {
         Stream { stream, faults: 0 }
     }
 
-    /// The reader or writer.
+    /// Returns the reader or writer.
     pub fn into_inner(self) -> S
         ensures { result ≡ self.stream }
     {

@@ -1,4 +1,4 @@
--- A master that came from the one that was opened comes so after one more step.
+-- One more step keeps a master that came from the opened one.
 use Rattle.std.proofs.Common.{◌≡◌, ℕ, ◌++◌, [], ◌∷◌, Result, Ok, Err, refl, sym, subst}
 use Rattle.craq_names.specs.declared.refusal.Refusal.{Refusal}
 use Rattle.craq_model.specs.declared.step.Step.{Step}
@@ -13,7 +13,7 @@ use Rattle.craq_seat.specs.Taken.{TakesTurn}
 use Rattle.craq_seat.proofs.Taking.{replays_more}
 use Rattle.craq_held.specs.Membered.{CanBecome}
 
--- the master of a cell came from the one that was opened
+-- the master of a cell came from the opened one
 abbrev Comes : Celled Mastered BookEvent → Type 0
 Comes c = CanBecome (first_master c.opening) c.inside
 

@@ -1,4 +1,5 @@
--- The cells of a chain whose locks are held, and what an audit of a chain that runs confirms.
+-- The cells of a chain whose locks are held, and the claims that an audit of a running chain
+-- confirms.
 use Rattle.std.specs.Prelude.{List, Result}
 use Rattle.std.specs.List.{AllByRecursion}
 use Rattle.std.specs.declared.sync.MutexGuard.{MutexGuard}
@@ -25,13 +26,14 @@ pub record Held (C : Type 0) : Type 0 where
 abbrev pub cell_in : {C W : Type 0} → MutexGuard (Seated C W) → Celled C Event
 cell_in seat = (mutex_guard_value seat).desk.cell
 
--- the master is one that was opened with members, and each step of the master and of the nodes is their own: replaying a
--- journal leads to what its cell has
+-- the master was opened with members, and each step of the master and of the nodes is their own:
+-- replaying a journal leads to its cell
 pub record AreOwn {C : Type 0} (represents : C → Plain → Type 0) (held : Held C) : Type 0 where
   pub book : IsBook held.book
   pub cells : AllByRecursion (IsKept represents) held.cells
 
--- the answer, or the refusal, is that of an audit of cells whose steps are their own, and whose master is such a one
+-- the result is that of an audit of cells whose steps are their own, and whose master has the
+-- property
 pub record Confirms {C : Type 0} (represents : C → Plain → Type 0) (IsSuch : Celled Mastered BookEvent → Type 0) (receipts : List Called) (answer : Result Audit Refusal) : Type 0 where
   pub held : Held C
   pub own : AreOwn represents held

@@ -1,4 +1,4 @@
--- The memberships of a chain: those that its master can come to.
+-- The memberships of a chain: those that its master can reach.
 use Rattle.std.specs.Prelude.{◌≡◌, ⊤, List, [], ◌∷◌}
 use Rattle.craq_model.specs.declared.config.Config.{Config}
 use Rattle.craq_epochs.specs.Mastered.{Mastered}
@@ -7,11 +7,11 @@ use Rattle.craq_seat.specs.declared.journal.Record.{Record}
 use Rattle.craq_seat.specs.Books.{book_step}
 use Rattle.craq_seat.specs.Journal.{Replays}
 
--- some steps, each as the definitions have it, lead from the first master to this one
+-- some steps by the definitions lead from the first master to this one
 abbrev pub CanBecome : Mastered → Mastered → Type 0
 CanBecome first now = (steps : List (Record BookEvent)) × Replays book_step first steps now
 
--- it is the membership that this master has after some such steps
+-- the membership of a master after some such steps
 pub record IsMembershipOf (first : Mastered) (config : Config) : Type 0 where
   pub now : Mastered
   pub becomes : CanBecome first now

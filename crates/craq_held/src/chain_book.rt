@@ -1,4 +1,4 @@
-//! `ChainBook`: a master's cell that a running store puts behind a lock; for `craq_workers`.
+//! `ChainBook`: a master's cell that a running store keeps behind a lock; used by `craq_workers`.
 ghost use Rattle.std.specs.Prelude.{◌≡◌, ◌⊎◌, ◌↔◌, Err, IfErr, IfOk, OnOk};
 ghost use Rattle.craq_epochs.specs.Mastered as masters;
 ghost use Rattle.craq_held.specs.Membered.{CanBecome};
@@ -12,8 +12,9 @@ use craq_seat::{BookCell, BookEvent, Receipt};
 use std::alloc::Global;
 use std::marker::Model;
 
-/// A master's cell, with a journal or without, whose master came from the one that was opened by steps of a master alone.
-/// So whoever takes its lock finds a membership of the chain and the members of the cell's opening.
+/// A master's cell, with or without a journal, whose master came from the opened one by steps of a
+/// master only. So a thread that takes its lock finds a membership of the chain and the members of
+/// the cell's opening.
 #[derive(Drop)]
 pub struct ChainBook {
     cell: BookCell,
@@ -34,7 +35,7 @@ impl Model for ChainBook {
 }
 
 impl ChainBook {
-    /// The cell of a chain's master before any step, as `BookCell::open` has it.
+    /// Opens the cell of a chain's master before any step, as `BookCell::open` does.
     pub fn open(
         alloc: Global,
         chain: ChainId,
@@ -52,14 +53,14 @@ impl ChainBook {
         }
     }
 
-    /// One step of the master, exactly as `BookCell::take` has it.
+    /// Takes one step of the master, exactly as `BookCell::take` does.
     pub fn take(&mut self, alloc: Global, event: BookEvent, pass: Pass) -> Result<Receipt, Refusal>
         ensures { TakesTurn self.old self.new event pass result }
     {
         self.cell.take(alloc, event, pass)
     }
 
-    /// The master's cell. It takes no memory.
+    /// Returns the master's cell. Never allocates.
     pub fn cell(&self) -> &BookCell
         ensures cell { result.now ≡ self.now }
         ensures becomes { CanBecome (first_master self.now.opening) self.now.inside }

@@ -1,4 +1,5 @@
-//! `HeldChain`: a chain's cells whose locks are held, as one value that lends them; for a store that is audited as it runs.
+//! `HeldChain`: a chain's cells whose locks are held, as one value that lends them; used to audit a
+//! running store.
 ghost use Rattle.std.specs.Prelude.{◌≡◌, ◌≤◌, [], IfOk, length, map, vec_capacity, vec_len};
 ghost use Rattle.std.specs.List.{AllByRecursion};
 ghost use Rattle.craq_audit.specs.Audited.{Audits};
@@ -14,9 +15,9 @@ use std::alloc::{AllocError, Global};
 use std::marker::Model;
 use std::sync::MutexGuard;
 
-/// The cells of a chain: its master's, which whoever has its lock lends, and its nodes', each under its lock. No step is taken
-/// at them as long as this value is there. A contract sees these cells, and that each step of theirs is their own. Which cell
-/// stands behind a lock that nobody has no contract can say.
+/// The cells of a chain: its master's, lent by the holder of its lock, and its nodes', each under
+/// its lock. While this value exists, they take no step. A contract sees these cells, and that each
+/// of their steps is their own. No contract can say which cell is behind a free lock.
 #[derive(Drop)]
 pub struct HeldChain<'b, 's, C: Core, W: Drop = ()> {
     alloc: Global,
@@ -37,7 +38,7 @@ impl<'b, 's, C: Core, W: Drop> Model for HeldChain<'b, 's, C, W> {
     ghost invariant = { λ h. AreOwn C.represents (record { book = h.book.now; cells = map cell_in h.seats.items }) × (h.room.items ≡ []) × (length h.seats.items ≤ vec_capacity h.room) };
 }
 
-/// The cells that locks hold keep what their type says. It does nothing.
+/// States that the cells behind held locks keep the invariants of their type. Does nothing.
 fn keep_seats<C: Core, W: Drop>(seats: &[MutexGuard<'_, Seated<C, W>>])
     ensures { AllByRecursion (IsKept C.represents) (map cell_in seats.now) }
 {
@@ -46,7 +47,8 @@ fn keep_seats<C: Core, W: Drop>(seats: &[MutexGuard<'_, Seated<C, W>>])
     }
 }
 
-/// The cells of seats whose locks are held, in their order, in a list with room for them. It takes no memory.
+/// Lists the cells behind these held locks, in the order of their seats. The list has room for
+/// them, so it never allocates.
 fn cells_in<'a, 's, C: Core, W: Drop>(
     room: Vec<&'a Cell<C>>,
     seats: &'a [MutexGuard<'s, Seated<C, W>>],
@@ -63,8 +65,9 @@ fn cells_in<'a, 's, C: Core, W: Drop>(
 }
 
 impl<'b, 's, C: Core, W: Drop> HeldChain<'b, 's, C, W> {
-    /// A master's cell and those behind these locks, in the order of their seats, and room for their audit. It fails for want of
-    /// memory alone, and then the locks of the nodes are free.
+    /// Makes the value of a master's cell and those behind these locks, in the order of their
+    /// seats, with room for their audit. Fails only when out of memory; the locks of the nodes are
+    /// then released.
     pub fn new(
         alloc: Global,
         book: &'b BookCell,
@@ -84,14 +87,14 @@ impl<'b, 's, C: Core, W: Drop> HeldChain<'b, 's, C, W> {
         })
     }
 
-    /// The master's cell. It takes no memory.
+    /// Returns the master's cell. Never allocates.
     pub fn book(&self) -> &BookCell
         ensures { result.now ≡ self.now.book }
     {
         self.book
     }
 
-    /// The nodes' cells, in the order of their seats. It fails for want of memory alone.
+    /// Returns the nodes' cells, in the order of their seats. Fails only when out of memory.
     pub fn cells(&self) -> Result<Vec<&Cell<C>>, AllocError>
         ensures { IfOk result (λ cells. cells_of cells.items ≡ self.now.cells) }
     {
@@ -99,10 +102,10 @@ impl<'b, 's, C: Core, W: Drop> HeldChain<'b, 's, C, W> {
         Ok(cells_in(room, self.seats.as_slice()))
     }
 
-    /// The audit of these cells with call receipts, exactly as `craq_audit::audit` has it: their journals as one run, or the
-    /// first fault. Afterwards the locks of the nodes are free, and the cells as they were. Where it answers `Merged` the run is
-    /// the merge of the journals and a run of the chain, which `explain_run` explains, and each receipt is an ask and its answer
-    /// in that run.
+    /// Audits these cells with call receipts, exactly as `craq_audit::audit` does: returns their
+    /// journals as one run, or the first fault. Releases the locks of the nodes, and leaves the
+    /// cells unchanged. With `Merged` the run is the merge of the journals and a run of the chain,
+    /// which `explain_run` explains, and each receipt is a request and its reply in that run.
     ///
     /// Refused as `craq_audit::audit` is.
     pub fn audit(self, receipts: &[CallReceipt]) -> Result<Audit, Refusal>

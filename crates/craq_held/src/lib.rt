@@ -1,6 +1,5 @@
-//! The cells of a chain whose locks are held, and their audit; and a master's cell that keeps what a lock can tell of it: a
-//! membership of its chain. For `craq_workers`. A crate apart from `craq_audit` since the audit itself knows no locks. Code
-//! that runs in the program.
+//! The cells of a chain whose locks are held, and their audit; and a master's cell for a lock.
+//! Runs in the program, in `craq_workers`; the audit itself, in `craq_audit`, knows no locks.
 #![tactic(auto)]
 
 mod chain_book;

@@ -1,4 +1,4 @@
--- A change that gains a part leaves the history.
+-- A change that gains a part leaves the history unchanged.
 use Rattle.std.proofs.Common.{◌≡◌, ap}
 use Rattle.craq_model.specs.Past.{Past}
 use Rattle.craq_history.specs.declared.change.GatheringChange.{GatheringChange}

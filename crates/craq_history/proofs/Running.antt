@@ -1,4 +1,4 @@
--- Entries that are sent in runs: what is sent already, and the run with the entries that are left, come to the same all along.
+-- Sending entries in runs: the finished messages and the remaining entries together are invariant.
 use Rattle.std.proofs.Common.{◌≡◌, ℕ, suc, ◌+◌, ◌<◌, ◌≤◌, List, [], ◌∷◌, ◌++◌, length, drop, get_or, sym, ap, ◌∙◌, arith, append_assoc, length-append, add-one, drop-cons}
 use Rattle.std.proofs.lemmas.List.{append-nil}
 use Rattle.craq_commands.specs.declared.entry.Entry.{Entry}
@@ -21,7 +21,7 @@ pub empty_body : (xs : List Entry) → length xs ≡ 0 → [] ≡ entry_bodies x
 empty_body [] h = sym no_body
 empty_body (x ∷ xs) h = absurd (omega (arith, h))
 
--- the messages that are made, with those of the entries that are left
+-- the finished messages and those of the remaining entries
 abbrev pub with_rest : List Body → List Entry → List Body
 with_rest bodies es = bodies ++ entry_bodies es
 
@@ -34,7 +34,7 @@ full made run rest e h =
     ∙ ap (λ (bs : List Body). made ++ bs) (sym (full_body (run ++ e ∷ []) rest h))
     ∙ not_full made run rest e
 
--- one more of the entries that are left
+-- one more of the remaining entries
 pub next : (made more : List Body) (run now : List Entry) (es rest : List Entry) (i : ℕ) (e : Entry) → i < length es → e ≡ get_or es i e
     → ((later : List Entry) → with_rest more (now ++ later) ≡ with_rest made (run ++ e ∷ later)) → with_rest more (now ++ (drop (i + 1) es ++ rest)) ≡ with_rest made (run ++ (drop i es ++ rest))
 next made more run now es rest i e h is step =
@@ -42,7 +42,7 @@ next made more run now es rest i e h is step =
     ∙ step (drop (suc i) es ++ rest)
     ∙ ap (λ (l : List Entry). with_rest made (run ++ (l ++ rest))) (sym (drop-cons es i e h ∙ ap (λ (x : Entry). x ∷ drop (suc i) es) (sym is)))
 
--- two parts, and what is left of the run
+-- two parts, and the rest of the run
 pub all : (first second last : List Body) (one two es later : List Entry) → ((rest : List Entry) → with_rest first (one ++ rest) ≡ entry_bodies (es ++ rest))
     → ((rest : List Entry) → with_rest second (two ++ rest) ≡ with_rest first (one ++ (later ++ rest))) → last ≡ second ++ entry_bodies two → last ≡ entry_bodies (es ++ later)
 all first second last one two es later f s e =

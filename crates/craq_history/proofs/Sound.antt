@@ -1,5 +1,5 @@
--- A change that leads to a sound node: what it commits is held, entries follow in a row, are applicable and can be spelled, and a
--- state that it copies is sound.
+-- A change that leads to a sound node: it holds what it commits, its entries are consecutive,
+-- applicable and have an encoding, and a state that it installs is sound.
 use Rattle.std.proofs.Common.{None, Some, subst, arith}
 use Rattle.std.proofs.Math.Seq.{drop-append_seam}
 use Rattle.std.specs.Prelude.{true, ◌≡◌, ℕ, ◌+◌, ◌++◌, List, length, drop, Option}

@@ -1,4 +1,4 @@
--- What a step changes of a node, part by part.
+-- The changes of a step to a node, part by part.
 use Rattle.std.specs.Prelude.{⊤, ℕ, ◌+◌, Bool, true, false, ◌||◌, if◌then◌else◌, List, [], ◌∷◌, ◌++◌, Option, None, Some}
 use Rattle.craq_model.specs.declared.config.Config.{Config}
 use Rattle.craq_model.specs.declared.waiting.WaitingUpdate.{WaitingUpdate}
@@ -22,19 +22,19 @@ past_by histories.Stays h = h
 past_by (histories.Grows entries) h = with_entries_in h entries
 past_by (histories.IsCopied position state) h = installed_in position state
 
--- the gathering after a change of it
+-- the gathering after its change
 abbrev pub gathering_by : GatheringChange → Option Gathering → Option Gathering
 gathering_by gatherings.Stays g = g
 gathering_by (gatherings.Gains part) g = Some (with_part (gathering_for part g) part)
 gathering_by gatherings.Dropped g = None
 
--- a part is gained
+-- the change gains a part
 abbrev pub IsGain : GatheringChange → Type 0
 IsGain gatherings.Stays = ⊥
 IsGain (gatherings.Gains part) = ⊤
 IsGain gatherings.Dropped = ⊥
 
--- the past with its new acknowledged position, if there is one
+-- the past with its new commit index, if there is one
 abbrev pub commits_by : Option ℕ → Past → Past
 commits_by None h = h
 commits_by (Some position) h = acknowledged_in h position
@@ -47,7 +47,7 @@ abbrev pub members_by : Option Config → List ℕ → List ℕ
 members_by None members = members
 members_by (Some config) members = config.members
 
--- a new membership forgets the floor; a floor that is told is kept
+-- a new membership drops the floor; otherwise a received floor is kept
 abbrev pub floor_by : Option Config → Option ℕ → Option ℕ → Option ℕ
 floor_by (Some config) told floor = None
 floor_by None (Some count) floor = Some count
@@ -89,7 +89,7 @@ changed p c =
       running = p.running;
     }
 
--- a change of nothing, and that of an accepted ask
+-- the change of nothing, and that of an accepted request
 abbrev pub no_change : Change
 no_change =
     record { accepted = false; membership = None; history = histories.Stays; gathering = gatherings.Stays; acknowledged = None; floor = None; becomes_ready = false; waiting = waits.Same }

@@ -1,10 +1,10 @@
--- What is in memory of a past.
+-- The part of a past that is in memory.
 use Rattle.std.specs.Prelude.{◌≡◌, ◌<◌, ◌≤◌, ◌-◌, take}
 use Rattle.craq_commands.specs.SingleCopy.{after_entries}
 use Rattle.craq_model.specs.Past.{Past, entries_in}
 
--- some of the settled entries, from the first one on, are folded into the state before them; the others, at least one, are
--- entries still
+-- a prefix of the settled entries is applied to the state before them; the others, at least one,
+-- are still entries
 pub record ArePartlyFolded (old new : Past) : Type 0 where
   pub from : old.base ≤ new.base
   pub to : new.base < new.acknowledged

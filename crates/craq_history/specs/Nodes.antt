@@ -1,10 +1,10 @@
--- The plain node that a node stands for.
+-- The plain node that a node represents.
 use Rattle.std.specs.Prelude.{true}
 use Rattle.craq_model.specs.Plain.{Plain}
 use Rattle.craq_history.specs.declared.node.Node.{Node}
 use Rattle.craq_model.specs.Past.{Past}
 
--- a running node, with the past that its history stands for
+-- a running node, with the past that its history represents
 abbrev pub plain_of : {H : Type 0} → (H → Past) → Node H → Plain
 plain_of past n =
     record {

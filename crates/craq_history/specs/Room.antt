@@ -1,4 +1,4 @@
--- Room for one more ask that waits.
+-- Room for one more waiting request.
 use Rattle.std.specs.Prelude.{◌<◌, ⊤, Vec, vec_len, vec_capacity}
 use Rattle.std.specs.declared.alloc.Global.{Global}
 use Rattle.craq_model.specs.declared.waiting.WaitingUpdate.{WaitingUpdate}

@@ -1,74 +1,76 @@
-//! What a step changes of a node: `Change`, which the rules of `craq_read` and `craq_write` plan and `Node::apply` makes.
+//! `Change`: the changes that a step makes to a node. The rules of `craq_read` and `craq_write`
+//! plan it, and `Node::apply` applies it.
 ghost use Rattle.std.specs.Prelude.{◌≡◌};
 
 use craq_commands::{Entry, State};
 use craq_model::{Config, StatePart, WaitingRead, WaitingUpdate};
 use craq_names::{Items, Seq, Ticket};
 
-/// What a step does to a node's history.
+/// A step's change of a node's history.
 #[derive(Debug, Drop)]
 pub enum HistoryChange {
-    /// It stays.
+    /// The history is unchanged.
     Stays,
-    /// More entries.
+    /// These entries are appended.
     Grows(Items<Entry>),
-    /// The state after a position takes its place.
+    /// The state after a position replaces the history.
     IsCopied { position: Seq, state: State },
 }
 
-/// What a step does to the parts of a state that a node gathers.
+/// A step's change of the parts that a node gathers.
 #[derive(Debug, Drop)]
 pub enum GatheringChange {
-    /// They stay.
+    /// The parts are unchanged.
     Stays,
-    /// One more part, in a new gathering where it is of a later position.
+    /// One more part is kept, in a new gathering if its position is later.
     Gains(StatePart),
     /// They are dropped.
     Dropped,
 }
 
-/// What a step does to the asks that wait.
+/// A step's change of the waiting requests.
 #[derive(Debug, Drop)]
 pub enum WaitingChange {
-    /// They stay.
+    /// The waiting requests are unchanged.
     Same,
     /// One more update waits.
     OneUpdate(WaitingUpdate),
     /// One more read waits.
     OneRead(WaitingRead),
-    /// The updates up to the position wait no more.
+    /// The updates up to the position no longer wait.
     UpdatesAnswered(Seq),
-    /// The read of the ticket waits no more.
+    /// The read of the ticket no longer waits.
     ReadAnswered(Ticket),
-    /// Nothing waits any more.
+    /// No request waits any more.
     AllAnswered,
 }
 
-/// What a step changes of a node. It is worked out first, and made once nothing can refuse the step.
+/// The changes that a step makes to a node. They are planned first, and applied once nothing can
+/// refuse the step.
 #[derive(Debug, Drop)]
 pub struct Change {
-    /// An ask was accepted, and took the next ticket.
+    /// True if a request was accepted; it takes the next ticket.
     pub accepted: bool,
-    /// The membership that is taken; the floor is forgotten with it.
+    /// The membership to adopt, if there is one; it drops the floor.
     pub membership: Option<Config>,
-    /// What happens to the history.
+    /// The change of the history.
     pub history: HistoryChange,
-    /// What happens to the parts that are gathered. One is gained only where the history stays.
+    /// The change of the gathered parts. One is gained only if the history is unchanged.
     pub gathering: GatheringChange,
-    /// How many entries are known to be committed from now on.
+    /// The new commit index, if it changes.
     pub acknowledged: Option<Seq>,
-    /// The floor that was told.
+    /// The new floor, if there is one.
     pub floor: Option<Seq>,
-    /// The node becomes ready.
+    /// True if the node becomes ready.
     pub becomes_ready: bool,
-    /// What happens to the asks that wait.
+    /// The change of the waiting requests.
     pub waiting: WaitingChange,
 }
 
 impl Change {
     ghost use Rattle.craq_history.specs.Change.{no_change};
 
-    /// A step that changes nothing.
+    /// Returns the change that changes nothing.
     pub fn none() -> Self
         ensures { result ≡ no_change }
     {

@@ -1,6 +1,5 @@
-//! What a node keeps of the past, behind the trait `History`, and what a step changes of a node; apart, since the crates of
-//! rules and those of pasts both stand on it.
-//! Code that runs in the program.
+//! The trait `History` for a node's past, and `Change`, the changes that a step makes to a node.
+//! Runs in the program; the crates of rules and those of pasts both build on it.
 #![tactic(auto)]
 
 mod change;

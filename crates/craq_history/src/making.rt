@@ -1,4 +1,5 @@
-//! Makes a change of a node: `Node::apply`, which `craq_node` calls with what a rule has planned.
+//! `Node::apply`, which applies a change to a node. `craq_node` calls it with the changes that
+//! rules plan.
 ghost use Rattle.std.specs.Prelude.{◌≡◌, ◌<◌, ◌-◌, ◌^◌, ◌++◌, ◌∷◌, [], true, IsOk, OnOk, OnErr, vec_len, vec_capacity};
 ghost use Rattle.craq_model.specs.Deliveries.{later_updates, reads_without};
 ghost use Rattle.craq_history.specs.Change.{changed, no_change, past_by, gathering_by, IsGain, commits_by, updates_by, reads_by, epoch_by, members_by, floor_by, ticket_by};
@@ -15,7 +16,7 @@ use craq_model::{Config, Gathering, StatePart, WaitingRead, WaitingUpdate};
 use craq_names::{Epoch, Items, NodeId, Seq, Ticket};
 use std::alloc::{AllocError, Global};
 
-/// Adds an item where there is room, which takes no memory.
+/// Appends an item within the capacity. Allocates nothing.
 fn push_within<T: Drop>(items: &mut Vec<T>, item: T)
     requires { vec_len items.old < vec_capacity items.old }
     ensures { items.new.items ≡ items.old.items ++ item ∷ [] }
@@ -23,7 +24,8 @@ fn push_within<T: Drop>(items: &mut Vec<T>, item: T)
     items.push(item).unwrap();
 }
 
-/// Makes room for one more ask that waits, where the change has one.
+/// Reserves room for one more waiting request if the change adds one. Fails only when out of
+/// memory.
 fn make_room(
     updates: &mut Vec<WaitingUpdate>,
     reads: &mut Vec<WaitingRead>,
@@ -41,7 +43,7 @@ fn make_room(
     }
 }
 
-/// Keeps the updates that wait for a later position.
+/// Keeps only the updates that wait for a later position.
 fn keep_later(updates: &mut Vec<WaitingUpdate>, position: Seq)
     ensures { updates.new.items ≡ later_updates position updates.old.items }
 {
@@ -55,7 +57,7 @@ fn drop_read(reads: &mut Vec<WaitingRead>, ticket: Ticket)
     reads.retain(|read| read.ticket != ticket);
 }
 
-/// Changes what waits.
+/// Applies the change of the waiting requests.
 fn change_waiting(
     updates: &mut Vec<WaitingUpdate>,
     reads: &mut Vec<WaitingRead>,
@@ -78,7 +80,7 @@ fn change_waiting(
     }
 }
 
-/// Changes the history, but for what is committed.
+/// Applies the change of the history, except the commit. Fails only when out of memory.
 fn change_history<H: History>(history: &mut H, change: HistoryChange) -> Result<(), AllocError>
     requires grows { CanGrow (length_in (H.past history.old)) change }
     requires in_row { FollowsInRow (length_in (H.past history.old)) change }
@@ -96,7 +98,8 @@ fn change_history<H: History>(history: &mut H, change: HistoryChange) -> Result<
     }
 }
 
-/// Adds a part to what is gathered: to a new gathering where there is none, or one of a lower position.
+/// Adds a part to the gathering, or to a new one if there is none, or only one of a lower position.
+/// Fails only when out of memory.
 fn gather(
     alloc: Global,
     gathering: &mut Option<Gathering>,
@@ -120,7 +123,7 @@ fn gather(
     Ok(())
 }
 
-/// Changes what is gathered.
+/// Applies the change of the gathering. Fails only when out of memory.
 fn change_gathering(
     alloc: Global,
     gathering: &mut Option<Gathering>,
@@ -140,8 +143,8 @@ fn change_gathering(
     }
 }
 
-/// Commits the entries up to a position, if there is one. Where a growth was refused, settled entries are in memory for
-/// longer, which nothing that the node says shows; so that answer is dropped.
+/// Commits the entries up to a position, if there is one. If out of memory, settled entries only
+/// stay in memory for longer, which no output of the node shows; so the error is dropped.
 fn commit<H: History>(history: &mut H, acknowledged: Option<Seq>)
     requires { HoldsCommitted (commits_by acknowledged (H.past history.old)) }
     ensures { H.past history.new ≡ remembered_in H.forgets (commits_by acknowledged (H.past history.old)) }
@@ -151,7 +154,7 @@ fn commit<H: History>(history: &mut H, acknowledged: Option<Seq>)
     }
 }
 
-/// Takes a membership, if there is one, and a floor.
+/// Adopts a membership, if there is one, and a floor.
 fn take_membership(
     epoch: &mut Epoch,
     members: &mut Items<NodeId>,
@@ -177,7 +180,7 @@ fn take_membership(
     }
 }
 
-/// The next ticket, where an ask was accepted.
+/// Returns the next ticket if a request was accepted, else the last one.
 fn ticket_after(accepted: bool, last: Ticket) -> Ticket
     requires { accepted ≡ true → last < 2 ^ 64 - 1 }
     ensures { result ≡ ticket_by accepted last }
@@ -190,9 +193,9 @@ fn ticket_after(accepted: bool, last: Ticket) -> Ticket
 }
 
 impl<H: History> Node<H> {
-    /// Makes the change, after which the node has to be sound; where the history forgets settled entries, the
-    /// node then stands for one that forgot them. Where memory is refused the node stands for the plain node that
-    /// it stood for before. A change of nothing takes no memory.
+    /// Applies a change after which the node satisfies the invariant. Over a compacting history the
+    /// node then represents one that forgot the settled entries. Fails only when out of memory; the
+    /// represented node is unchanged on error. A change of nothing allocates nothing.
     #[tactic(auto, using(crate::proofs::Apart::past_stays, crate::proofs::Sound::holds_after, crate::proofs::Sound::copy_is_sound))]
     pub fn apply(&mut self, alloc: Global, change: Change) -> Result<(), AllocError>
         requires can { CanMake (plain_of H.past self.old) change }

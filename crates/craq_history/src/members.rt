@@ -1,10 +1,11 @@
-//! Members of a chain, head first: the first, the last and the neighbours; called by `outs`, by the rules and by `craq_explain`.
+//! Members of a chain, head first: the first, the last and the neighbours. `outs`, the rules and
+//! `craq_explain` call this.
 ghost use Rattle.std.specs.Prelude.{◌≡◌};
 ghost use Rattle.craq_model.specs.Members.{is_member, first_of, last_of, successor_in, predecessor_in};
 
 use craq_names::NodeId;
 
-/// Whether the id is among the members.
+/// Returns true exactly if the id is a member.
 #[tactic(auto, unfolding(craq_model::specs::Members::is_member))]
 pub fn is_member_of(members: &[NodeId], id: NodeId) -> bool
     ensures { result ≡ is_member members.now id }
@@ -17,7 +18,7 @@ pub fn is_member_of(members: &[NodeId], id: NodeId) -> bool
     false
 }
 
-/// The first member; 0 where there is none.
+/// Returns the first member, 0 if there is none.
 pub fn first_member(members: &[NodeId]) -> NodeId
     ensures { result ≡ first_of members.now }
 {
@@ -27,7 +28,7 @@ pub fn first_member(members: &[NodeId]) -> NodeId
     }
 }
 
-/// The last member; 0 where there is none.
+/// Returns the last member, 0 if there is none.
 #[tactic(auto, unfolding(craq_model::specs::Members::last_of))]
 pub fn last_member(members: &[NodeId]) -> NodeId
     ensures { result ≡ last_of members.now }
@@ -42,7 +43,7 @@ pub fn last_member(members: &[NodeId]) -> NodeId
     last
 }
 
-/// The member right after this one.
+/// Returns the member right after this one, `None` if there is none.
 #[tactic(auto, unfolding(craq_model::specs::Members::successor_in))]
 pub fn successor_of(members: &[NodeId], id: NodeId) -> Option<NodeId>
     ensures { result ≡ successor_in members.now id }
@@ -55,7 +56,7 @@ pub fn successor_of(members: &[NodeId], id: NodeId) -> Option<NodeId>
     None
 }
 
-/// The member right before this one.
+/// Returns the member right before this one, `None` if there is none.
 #[tactic(auto, unfolding(craq_model::specs::Members::predecessor_in))]
 pub fn predecessor_of(members: &[NodeId], id: NodeId) -> Option<NodeId>
     ensures { result ≡ predecessor_in members.now id }

@@ -1,4 +1,4 @@
-//! What a node sends; called by the rules of `craq_read` and `craq_write`.
+//! A node's sends. The rules of `craq_read` and `craq_write` call this.
 ghost use Rattle.std.specs.Prelude.{◌≡◌, ◌<◌, ◌≤◌, ◌++◌, ◌∷◌, [], List, OnOk, OnErr, IfOk, map, take, length, option_to_list};
 ghost use Rattle.craq_commands.specs.declared.entry.Entry.{Entry};
 ghost use Rattle.craq_model.specs.declared.waiting.WaitingRead.{WaitingRead};
@@ -13,7 +13,7 @@ use craq_names::{Copied, Epoch, Items, NodeId, NodeName, Seq, Stamp};
 use std::alloc::{AllocError, Global};
 use std::mem;
 
-/// Who sends, and in which epoch.
+/// The sender of a message, and its epoch.
 #[derive(Clone, Copy, Debug, PartialEq, Eq)]
 pub struct Sender {
     pub name: NodeName,
@@ -21,7 +21,7 @@ pub struct Sender {
 }
 
 impl Sender {
-    /// The sender's id.
+    /// Returns the sender's id.
     pub fn id(&self) -> NodeId
         ensures { result ≡ self.now.name.node }
     {
@@ -29,7 +29,8 @@ impl Sender {
     }
 }
 
-/// A message of the node in its epoch. Its stamp and index are set by whoever carries it.
+/// Returns a message of the node in its epoch. The journaled node (`Cell`) sets its stamp and
+/// index.
 pub fn message(sender: &Sender, to: NodeId, body: Body) -> Out
     ensures { result ≡ sent_from sender.now.name sender.now.epoch to body }
 {
@@ -47,7 +48,7 @@ pub fn message(sender: &Sender, to: NodeId, body: Body) -> Out
     }
 }
 
-/// Returns `added`; if that is an error, it first cuts `outs` back to its first `len`.
+/// Returns `added`; if that is an error, first truncates `outs` to `len` items.
 fn undo_if_err(
     outs: &mut Vec<Out>,
     len: usize,
@@ -63,7 +64,7 @@ fn undo_if_err(
     added
 }
 
-/// Sends one message. Where it fails, the outs are as before.
+/// Adds one message. The outs are unchanged on error.
 fn send(outs: &mut Vec<Out>, sender: &Sender, to: NodeId, body: Body) -> Result<(), AllocError>
     ensures sent { OnOk result (outs.new.items ≡ outs.old.items ++ sent_from sender.now.name sender.now.epoch to body ∷ []) }
     ensures same { OnErr result (outs.new.items ≡ outs.old.items) }
@@ -72,7 +73,7 @@ fn send(outs: &mut Vec<Out>, sender: &Sender, to: NodeId, body: Body) -> Result<
     Ok(())
 }
 
-/// A run of entries as one message; a run of none makes none.
+/// Returns a run of entries as one message, `None` if it is empty.
 fn message_of(mut run: Vec<Entry>) -> Option<Body>
     requires { length run.items ≤ 16 }
     ensures { option_to_list result ≡ entry_bodies run.items }
@@ -86,7 +87,7 @@ fn message_of(mut run: Vec<Entry>) -> Option<Body>
     }
 }
 
-/// Adds an entry to a run. A run that is full joins the messages.
+/// Adds an entry to a run. A full run is added to the messages.
 fn add_to_run(
     bodies: &mut Vec<Body>,
     alloc: Global,
@@ -107,7 +108,7 @@ fn add_to_run(
     Ok(())
 }
 
-/// Adds entries to a run. Each run that is full joins the messages.
+/// Adds entries to a run. Each full run is added to the messages.
 fn add_to_runs(
     bodies: &mut Vec<Body>,
     alloc: Global,
@@ -125,7 +126,7 @@ fn add_to_runs(
     Ok(())
 }
 
-/// The messages that bring entries in a row, which come in two parts.
+/// Returns the messages that send consecutive entries, given in two parts.
 fn messages_of(alloc: Global, entries: &[Entry], later: &[Entry]) -> Result<Vec<Body>, AllocError>
     ensures { IfOk result λ bodies. bodies.items ≡ entry_bodies (entries.now ++ later.now) }
 {
@@ -142,7 +143,7 @@ fn messages_of(alloc: Global, entries: &[Entry], later: &[Entry]) -> Result<Vec<
     }
 }
 
-/// Sends each of these messages. Where it fails, the outs are as before.
+/// Adds each of these messages. The outs are unchanged on error.
 fn send_all(
     outs: &mut Vec<Out>,
     sender: &Sender,
@@ -160,8 +161,9 @@ fn send_all(
     Ok(())
 }
 
-/// Sends entries in a row, which come in two parts: in runs of 16, a run of one as an entry and a longer one
-/// as a batch (this project's profile). It fails for want of memory alone, and the outs are then as before.
+/// Adds the sends of consecutive entries, given in two parts. They go in runs of 16: a run of one
+/// as an entry, a longer one as a batch (this project's profile). Fails only when out of memory;
+/// the outs are unchanged on error.
 pub fn send_entries(
     outs: &mut Vec<Out>,
     alloc: Global,
@@ -177,7 +179,7 @@ pub fn send_entries(
     send_all(outs, sender, to, bodies)
 }
 
-/// Asks the last member about this read. Where it fails, the outs are as before.
+/// Adds a version query for this read to the last member. The outs are unchanged on error.
 fn send_query(
     outs: &mut Vec<Out>,
     alloc: Global,
@@ -195,7 +197,7 @@ fn send_query(
     send(outs, sender, to, body)
 }
 
-/// Asks the last member about each of these reads. Where it fails, the outs are as before.
+/// Adds version queries for these reads to the last member. The outs are unchanged on error.
 fn send_queries(
     outs: &mut Vec<Out>,
     alloc: Global,
@@ -214,8 +216,8 @@ fn send_queries(
     Ok(())
 }
 
-/// Sends the successor these entries in two parts, and how many the history has. Where it fails, the
-/// outs are as before.
+/// Adds these entries, in two parts, and the length of the history, to the successor. The outs are
+/// unchanged on error.
 fn catch_up(
     outs: &mut Vec<Out>,
     alloc: Global,
@@ -238,8 +240,8 @@ fn catch_up(
     undo_if_err(outs, len, sent)
 }
 
-/// Tells the predecessor, if there is one. It fails for want of memory alone, and the outs are then as
-/// before.
+/// Adds a message to the predecessor, if there is one. Fails only when out of memory; the outs are
+/// unchanged on error.
 pub fn tell_predecessor(
     outs: &mut Vec<Out>,
     sender: &Sender,
@@ -256,10 +258,10 @@ pub fn tell_predecessor(
     }
 }
 
-/// What a ready node repeats, added to the outs: to its successor the entries after the acknowledged
-/// position (in two parts) and the length of its history, to its predecessor the acknowledged
-/// position, and to the last member, where that is another, a question for each waiting read. It fails
-/// for want of memory alone, and the outs are then as before.
+/// Adds the sends that a ready node repeats. To its successor: the entries after the commit index
+/// (in two parts) and the length of its history. To its predecessor: the commit index. To the last
+/// member, if that is another: a query for each waiting read. Fails only when out of memory; the
+/// outs are unchanged on error.
 pub fn add_ready_outs(
     outs: &mut Vec<Out>,
     alloc: Global,
@@ -286,8 +288,8 @@ pub fn add_ready_outs(
     undo_if_err(outs, len, asked)
 }
 
-/// What an unready node repeats: it tells its predecessor how many entries it has. It fails for want of
-/// memory alone, and the outs are then as before.
+/// Adds the send that an unready node repeats: its entry count, to its predecessor. Fails only when
+/// out of memory; the outs are unchanged on error.
 pub fn add_unready_outs(
     outs: &mut Vec<Out>,
     sender: &Sender,

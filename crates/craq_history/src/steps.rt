@@ -1,11 +1,11 @@
-//! Steps by what they say; made by the rules of `craq_read` and `craq_write`, and by `craq_node`.
+//! Makers of steps. The rules of `craq_read` and `craq_write`, and `craq_node`, call them.
 ghost use Rattle.std.specs.Prelude.{◌≡◌, [], Some, None};
 
 use craq_model::{Out, Step, Why};
 use craq_names::{Items, Ticket};
 use std::alloc::Global;
 
-/// The step of an accepted ask.
+/// Returns the step of an accepted request.
 pub fn accepted(ticket: Ticket, outs: Vec<Out>) -> Step
     ensures { result ≡ record { ticket = Some ticket; outs = outs.items; ignored = None } }
 {
@@ -16,7 +16,7 @@ pub fn accepted(ticket: Ticket, outs: Vec<Out>) -> Step
     }
 }
 
-/// A step that is no ask.
+/// Returns a step without a request.
 pub fn done(outs: Vec<Out>) -> Step
     ensures { result ≡ record { ticket = None; outs = outs.items; ignored = None } }
 {
@@ -27,7 +27,7 @@ pub fn done(outs: Vec<Out>) -> Step
     }
 }
 
-/// The step of a message that is ignored. It takes no memory.
+/// Returns the step that ignores a message. Allocates nothing.
 pub fn ignoring(alloc: Global, why: Why) -> Step
     ensures { result ≡ record { ticket = None; outs = []; ignored = Some why } }
 {

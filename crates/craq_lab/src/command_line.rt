@@ -1,58 +1,60 @@
-//! The command line of `craq_lab`: its commands, its helps, and what was asked; called by `main`.
+//! Defines the command line of `craq_lab`: its commands, help texts and parsed form; called by
+//! `main`.
 use clap::builder::ValueParser;
 use clap::{Arg, ArgAction, ArgMatches, Command, Error};
 use craq_line::VERSION;
 use craq_script::GREATEST_NODE;
 use std::alloc::{AllocError, Global};
 
-/// What the nodes of a chain keep.
+/// The history that the nodes of a chain keep.
 #[derive(Clone, Copy)]
 pub enum CoreKind {
     /// Every entry.
     Plain,
-    /// The state after the entries that are known to be committed, and the other entries.
+    /// The state after the entries known to be committed, and the other entries.
     List,
 }
 
-/// The nodes of the chain that is played on.
+/// The nodes of the chain that a script is played on.
 #[derive(Clone, Copy)]
 pub struct Nodes {
     pub count: u32,
     pub core: CoreKind,
 }
 
-/// What a command line asks for.
+/// The parsed form of a command line.
 #[derive(Clone, Copy)]
 pub enum Wanted<'a> {
-    /// To play the script of this file, or of standard input, on a chain of these nodes.
+    /// Plays the script of this file, or of standard input, on a chain of these nodes.
     Play {
         nodes: Nodes,
         file: Option<&'a str>,
     },
-    /// To play one schedule of the script of this file, drawn by these choices.
+    /// Plays one schedule of the script of this file, drawn by these choices.
     Draw {
         nodes: Nodes,
         file: &'a str,
         choices: &'a str,
     },
-    /// To stop and remove the node of this id after each move of the script of this file.
+    /// Stops and removes the node of this id after each move of the script of this file.
     Stops {
         nodes: Nodes,
         file: &'a str,
         node: &'a str,
     },
-    /// To draw what the script of this file does.
+    /// Draws the run of the script of this file.
     Picture {
         nodes: Nodes,
         file: &'a str,
     },
-    /// To play the script of this file, and check the explanation in another file against it.
+    /// Plays the script of this file, and checks the linearization witness in another file against
+    /// the run.
     Check {
         nodes: Nodes,
         file: &'a str,
         explanation: &'a str,
     },
-    /// Nothing: the command line names no command.
+    /// The command line names no command.
     Nothing,
 }
 
@@ -174,7 +176,7 @@ column C`, `no array: MEMBER`, or `bad item: MEMBER[I]`, with I counted from 0.
 Example:
   craq_lab play script | tail -n 1 > explanation; craq_lab check script explanation";
 
-/// How many nodes the chain has: `[--nodes N]`.
+/// Declares `[--nodes N]`, the number of nodes of the chain.
 fn nodes_arg<'a>(alloc: Global) -> Arg<'a> {
     Arg::new(alloc, "nodes")
         .long("nodes")
@@ -185,7 +187,7 @@ fn nodes_arg<'a>(alloc: Global) -> Arg<'a> {
         .help("How many nodes the chain has; they are numbered from 1, the head")
 }
 
-/// What the nodes keep: `[--core CORE]`.
+/// Declares `[--core CORE]`, the history that the nodes keep.
 fn core_arg<'a>(alloc: Global) -> Arg<'a> {
     Arg::new(alloc, "core")
         .long("core")
@@ -198,7 +200,7 @@ fn core_arg<'a>(alloc: Global) -> Arg<'a> {
         )
 }
 
-/// A command with its texts and its first arguments, `[--nodes N] [--core CORE]`.
+/// Declares a command with its texts and its first arguments, `[--nodes N] [--core CORE]`.
 fn command_with_nodes<'a>(
     alloc: Global,
     name: &'a str,
@@ -212,19 +214,19 @@ fn command_with_nodes<'a>(
     command.arg(core_arg(alloc))
 }
 
-/// The argument `FILE`, which must be given.
+/// Declares the required argument `FILE`.
 fn script_arg<'a>(alloc: Global) -> Arg<'a> {
     Arg::new(alloc, "FILE").required(true).help("The script")
 }
 
-/// `play [--nodes N] [--core CORE] [FILE]`.
+/// Declares `play [--nodes N] [--core CORE] [FILE]`.
 fn play_command<'a>(alloc: Global) -> Result<Command<'a>, AllocError> {
     let command = command_with_nodes(alloc, "play", PLAY_ABOUT, PLAY_HELP)?;
     let file = Arg::new(alloc, "FILE").help("The script; without it, standard input is played");
     command.arg(file)
 }
 
-/// `draw [--nodes N] [--core CORE] FILE CHOICES`.
+/// Declares `draw [--nodes N] [--core CORE] FILE CHOICES`.
 fn draw_command<'a>(alloc: Global) -> Result<Command<'a>, AllocError> {
     let command = command_with_nodes(alloc, "draw", DRAW_ABOUT, DRAW_HELP)?;
     let command = command.arg(script_arg(alloc))?;
@@ -234,7 +236,7 @@ fn draw_command<'a>(alloc: Global) -> Result<Command<'a>, AllocError> {
     command.arg(choices)
 }
 
-/// `stops [--nodes N] [--core CORE] FILE NODE`.
+/// Declares `stops [--nodes N] [--core CORE] FILE NODE`.
 fn stops_command<'a>(alloc: Global) -> Result<Command<'a>, AllocError> {
     let command = command_with_nodes(alloc, "stops", STOPS_ABOUT, STOPS_HELP)?;
     let command = command.arg(script_arg(alloc))?;
@@ -245,13 +247,13 @@ fn stops_command<'a>(alloc: Global) -> Result<Command<'a>, AllocError> {
     command.arg(node)
 }
 
-/// `picture [--nodes N] [--core CORE] FILE`.
+/// Declares `picture [--nodes N] [--core CORE] FILE`.
 fn picture_command<'a>(alloc: Global) -> Result<Command<'a>, AllocError> {
     let command = command_with_nodes(alloc, "picture", PICTURE_ABOUT, PICTURE_HELP)?;
     command.arg(script_arg(alloc))
 }
 
-/// `check [--nodes N] [--core CORE] FILE EXPLANATION`.
+/// Declares `check [--nodes N] [--core CORE] FILE EXPLANATION`.
 fn check_command<'a>(alloc: Global) -> Result<Command<'a>, AllocError> {
     let command = command_with_nodes(alloc, "check", CHECK_ABOUT, CHECK_HELP)?;
     let command = command.arg(script_arg(alloc))?;
@@ -261,7 +263,7 @@ fn check_command<'a>(alloc: Global) -> Result<Command<'a>, AllocError> {
     command.arg(explanation)
 }
 
-/// `craq_lab COMMAND ..`, with no command yet.
+/// Declares `craq_lab COMMAND ..` without its commands.
 fn bare_command<'a>(alloc: Global) -> Command<'a> {
     Command::new(alloc, "craq_lab")
         .version(VERSION)
@@ -271,41 +273,42 @@ fn bare_command<'a>(alloc: Global) -> Command<'a> {
         .arg_required_else_help(true)
 }
 
-/// `craq_lab COMMAND ..`.
+/// Declares `craq_lab COMMAND ..`.
 fn whole_command<'a>(alloc: Global) -> Result<Command<'a>, AllocError> {
     let play = play_command(alloc)?;
     let command = bare_command(alloc).subcommand(play)?;
     with_schedules(alloc, command)
 }
 
-/// The command with all commands but `play` as its last ones.
+/// Adds all commands except `play`.
 fn with_schedules<'a>(alloc: Global, command: Command<'a>) -> Result<Command<'a>, AllocError> {
     let draw = draw_command(alloc)?;
     let command = command.subcommand(draw)?;
     with_stops(alloc, command)
 }
 
-/// The command with `stops` and the commands that look at a whole run as its last commands.
+/// Adds `stops`, and the commands for a whole run.
 fn with_stops<'a>(alloc: Global, command: Command<'a>) -> Result<Command<'a>, AllocError> {
     let stops = stops_command(alloc)?;
     let command = command.subcommand(stops)?;
     with_picture(alloc, command)
 }
 
-/// The command with `picture` and `check` as its last commands.
+/// Adds `picture` and `check`.
 fn with_picture<'a>(alloc: Global, command: Command<'a>) -> Result<Command<'a>, AllocError> {
     let picture = picture_command(alloc)?;
     let command = command.subcommand(picture)?;
     with_check(alloc, command)
 }
 
-/// The command with `check` as its last command.
+/// Adds `check`.
 fn with_check<'a>(alloc: Global, command: Command<'a>) -> Result<Command<'a>, AllocError> {
     let check = check_command(alloc)?;
     command.subcommand(check)
 }
 
-/// The nodes that the words after a command's name ask for.
+/// Returns the nodes that the words after a command's name give: 3 nodes and the core `list` by
+/// default.
 fn nodes_of(given: &ArgMatches<'_>) -> Nodes {
     let core = match given.get_str("core") {
         Some("plain") => CoreKind::Plain,
@@ -317,7 +320,7 @@ fn nodes_of(given: &ArgMatches<'_>) -> Nodes {
     }
 }
 
-/// What the words after a command's name ask for.
+/// Returns the parsed form of a command and the words after its name.
 fn wanted_of<'a>(name: &str, given: &ArgMatches<'a>) -> Wanted<'a> {
     let nodes = nodes_of(given);
     let file = given.get_str("FILE");
@@ -345,8 +348,8 @@ fn wanted_of<'a>(name: &str, given: &ArgMatches<'a>) -> Wanted<'a> {
     }
 }
 
-/// What the words of a command line ask for, the program's own among them; else clap's error, which
-/// may be the help that was asked for.
+/// Parses the words of a command line, the program's own name included. Otherwise returns clap's
+/// error, which may be the help or version that was requested.
 pub fn wanted_by<'a>(alloc: Global, words: &'a [&'a str]) -> Result<Wanted<'a>, Error> {
     let command = whole_command(alloc)?;
     let matches = command.try_get_matches_from(words)?;

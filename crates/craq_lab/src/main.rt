@@ -1,6 +1,9 @@
-//! The program, which `./play` and `tools/rows/run` start: `craq_lab play [--nodes N] [--core CORE] [FILE]`,
-//! `craq_lab draw [--nodes N] [--core CORE] FILE CHOICES`, `craq_lab stops [--nodes N] [--core CORE] FILE NODE`,
-//! `craq_lab picture [--nodes N] [--core CORE] FILE`, `craq_lab check [--nodes N] [--core CORE] FILE EXPLANATION`.
+//! Runs the program that `./play` and `tools/rows/run` start, one of:
+//! - `craq_lab play [--nodes N] [--core CORE] [FILE]`
+//! - `craq_lab draw [--nodes N] [--core CORE] FILE CHOICES`
+//! - `craq_lab stops [--nodes N] [--core CORE] FILE NODE`
+//! - `craq_lab picture [--nodes N] [--core CORE] FILE`
+//! - `craq_lab check [--nodes N] [--core CORE] FILE EXPLANATION`
 #![tactic(auto)]
 
 ghost use Rattle.std.specs.Prelude.{◌≤◌};
@@ -30,10 +33,10 @@ use std::rt::Files;
 use std::sync::Wait;
 use std::{fs, io};
 
-/// The status where a locked cell did otherwise than the chain.
+/// The exit status if a locked node and the chain differ in what they did.
 const CELLS_DIFFER: u8 = 5;
 
-/// The bytes of the file, or of standard input.
+/// Reads the bytes of the file, or of standard input if there is none.
 fn bytes_of<R>(rt: &R, file: Option<&str>) -> io::Result<Vec<u8>>
 where
     R: AllocGlobal + Files + Input,
@@ -48,7 +51,7 @@ where
     }
 }
 
-/// Tells why a script was not played, and gives the status.
+/// Reports why a script was not played, and returns the exit status.
 fn report_fault<R>(rt: &R, fault: &PlayFault) -> io::Result<u8>
 where
     R: AllocGlobal + Eprint,
@@ -67,7 +70,7 @@ where
     }
 }
 
-/// Tells why nothing was read, and gives the status.
+/// Reports why a file was not read, and returns the exit status.
 fn report_unread<R>(rt: &R, file: Option<&str>, kind: ErrorKind) -> io::Result<u8>
 where
     R: AllocGlobal + Eprint,
@@ -80,7 +83,7 @@ where
     Ok(BAD_INPUT)
 }
 
-/// Prints what a script gave. Gives the status.
+/// Prints a script's output, or reports why there is none. Returns the exit status.
 fn report<R>(rt: &R, played: Result<String, PlayFault>) -> io::Result<u8>
 where
     R: AllocGlobal + Print + Eprint,
@@ -94,7 +97,7 @@ where
     }
 }
 
-/// How a script is played.
+/// The use to make of a script.
 #[derive(Clone, Copy)]
 enum Way<'a> {
     Play,
@@ -104,7 +107,7 @@ enum Way<'a> {
     Check(&'a Explanation),
 }
 
-/// What a script prints on a chain of so many nodes, each a core of this type.
+/// Returns the output of a script on a chain of `nodes` nodes, each a core of type `C`.
 fn played<C: Core, R: AllocGlobal + Wait>(
     rt: &R,
     nodes: u32,
@@ -127,7 +130,7 @@ fn played<C: Core, R: AllocGlobal + Wait>(
     }
 }
 
-/// Plays the script of a file and prints what it did. Gives the status.
+/// Plays the script of a file and prints its output. Returns the exit status.
 fn play_file<R>(rt: &R, nodes: Nodes, file: Option<&str>, way: &Way<'_>) -> io::Result<u8>
 where
     R: AllocGlobal + Files + Input + Print + Eprint + Wait,
@@ -145,7 +148,7 @@ where
     report(rt, printed)
 }
 
-/// Plays the schedule that the choices draw. Gives the status.
+/// Plays the schedule that the choices draw. Returns the exit status.
 fn draw_file<R>(rt: &R, nodes: Nodes, file: &str, choices: &str) -> io::Result<u8>
 where
     R: AllocGlobal + Files + Input + Print + Eprint + Wait,
@@ -159,7 +162,7 @@ where
     }
 }
 
-/// Plays the script up to each of its moves, and stops the node there. Gives the status.
+/// Plays the script up to each of its moves, and stops the node there. Returns the exit status.
 fn stops_file<R>(rt: &R, nodes: Nodes, file: &str, node: &str) -> io::Result<u8>
 where
     R: AllocGlobal + Files + Input + Print + Eprint + Wait,
@@ -173,7 +176,7 @@ where
     }
 }
 
-/// Tells why a file was not read as an explanation, and gives the status.
+/// Reports why a file was not read as a linearization witness, and returns the exit status.
 fn report_misread<R>(rt: &R, file: &str, misread: &Misread) -> io::Result<u8>
 where
     R: AllocGlobal + Eprint,
@@ -185,7 +188,8 @@ where
     Ok(BAD_INPUT)
 }
 
-/// Plays the script of a file, and checks the explanation in another file against it. Gives the status.
+/// Plays the script of a file, and checks the linearization witness in another file against the
+/// run. Returns the exit status.
 fn check_file<R>(rt: &R, nodes: Nodes, file: &str, claimed: &str) -> io::Result<u8>
 where
     R: AllocGlobal + Files + Input + Print + Eprint + Wait,
@@ -200,7 +204,7 @@ where
     }
 }
 
-/// Does what the words of the command line ask for. Gives the status.
+/// Runs the command that the words of the command line give. Returns the exit status.
 fn answer<'a, R>(rt: &R, words: &'a [&'a str]) -> io::Result<u8>
 where
     R: AllocGlobal + Files + Input + Print + Eprint + Wait,
@@ -228,7 +232,7 @@ where
     }
 }
 
-/// Does what these words of a command line ask for. Gives the status.
+/// Runs the command that these words give. Returns the exit status.
 fn run_words<R>(rt: &R, words: &[String]) -> io::Result<u8>
 where
     R: AllocGlobal + Env + Files + Input + Print + Eprint + Wait,
@@ -240,7 +244,9 @@ where
     answer(rt, texts.as_slice())
 }
 
-/// Does what the command line asks for, where its words are text. Gives the status.
+/// Runs the command of the process's own command line. Returns the exit status.
+///
+/// Words that are not UTF-8 are reported as bad input.
 fn run<R>(rt: &R) -> io::Result<u8>
 where
     R: AllocGlobal + Env + Files + Input + Print + Eprint + Wait,

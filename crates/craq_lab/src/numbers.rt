@@ -1,11 +1,12 @@
-//! Numbers and choices on the command line, by the grammar of scripts; called by `main`.
+//! Parses numbers and choices on the command line by the grammar of scripts; called by `main`.
 use craq_script::number_up_to;
 use std::alloc::{AllocError, Global};
 
 /// The greatest number of 32 bits.
 const GREATEST: u64 = 0xffff_ffff;
 
-/// The number of 32 bits that the word spells, by the grammar of scripts: digits with no leading zero.
+/// Parses the word as a number of 32 bits: decimal digits without a leading zero. `None` for any
+/// other word.
 pub fn number_of(word: &[u8]) -> Option<u32> {
     match number_up_to(GREATEST, word) {
         Ok(number) => Some(number as u32),
@@ -13,7 +14,8 @@ pub fn number_of(word: &[u8]) -> Option<u32> {
     }
 }
 
-/// The numbers that a text spells, parted by commas; none where a part spells none.
+/// Parses a comma-separated list of numbers of 32 bits; `None` if one part is not a number. Fails
+/// only when out of memory.
 pub fn choices_of(alloc: Global, text: &str) -> Result<Option<Vec<u32>>, AllocError> {
     let mut choices = Vec::new(alloc);
     for word in text.as_bytes().split(|byte| *byte == b',') {

@@ -1,4 +1,4 @@
-//! What is printed of a whole run: its picture, or whether an explanation of it holds; called by `main`.
+//! Prints a whole run: its picture, or the verdict on a linearization witness; called by `main`.
 ghost use Rattle.std.specs.Prelude.{◌≤◌};
 
 use craq_chain::ChainCore;
@@ -11,7 +11,7 @@ use craq_runs::Explanation;
 use craq_schedules::chain_after;
 use std::alloc::Global;
 
-/// The picture of what a script does on a chain of so many nodes. Refused as `chain_after` is.
+/// Draws the run of a script on a chain of `nodes` nodes. Refused as `chain_after` is.
 pub fn picture<C: Core>(alloc: Global, nodes: u32, script: &[u8]) -> Result<String, Refusal>
     requires { (1 ≤ nodes) × (nodes ≤ 8) }
 {
@@ -20,8 +20,8 @@ pub fn picture<C: Core>(alloc: Global, nodes: u32, script: &[u8]) -> Result<Stri
     Ok(picture_of(alloc, chain.run(), &explanation)?)
 }
 
-/// Whether an explanation holds of what a script does on a chain of so many nodes: `true` or `false`, on a line. Refused as
-/// `chain_after` is.
+/// Prints `true` if the linearization witness passes `check` for the run of a script on a chain of
+/// `nodes` nodes, else `false`, as one line. Refused as `chain_after` is.
 pub fn verdict<C: Core>(
     alloc: Global,
     nodes: u32,

@@ -1,4 +1,4 @@
--- Runs of entries and parts of states are full, but for the last ones.
+-- Runs of entries and parts of states are full, except the last.
 use Rattle.std.proofs.Common.{◌≡◌, ◌<◌, ◌≤◌, ℕ, zero, suc, ◌+◌, ◌-◌, ◌*◌, List, map, length, take, drop, min, ◌∙◌, arith, length-drop}
 use Rattle.std.proofs.lemmas.List.{length-take}
 use Rattle.std.specs.List.{range_with_len}
@@ -10,7 +10,7 @@ use Rattle.craq_model.specs.Parts.{item_count, share, part_count, part_of, parts
 use Rattle.craq_model.specs.Sends.{runs_of}
 use Rattle.craq_laws.specs.Pieces.{AreFullButLast}
 
--- pieces that come by a number are full but for the last, where those of lower numbers are full
+-- numbered pieces are full except the last, if those of lower numbers are full
 module _ {A : Type 0} (count : A → ℕ) (n : ℕ) (piece : ℕ → A) where
   numbered : (first c : ℕ) → ((k : ℕ) → first ≤ k → k + 1 < first + c → count (piece k) ≡ n)
       → ((k : ℕ) → k + 1 ≡ first + c → first ≤ k → (1 ≤ count (piece k)) × (count (piece k) ≤ n)) → AreFullButLast count n (map piece (range_with_len first c))
@@ -42,7 +42,7 @@ runs_full es =
     let most = run_most (length es - 16 * k) in
     (omega (arith, size, some), omega (arith, size, most)))
 
--- the items of a state from one place up to another
+-- the items of a state from one index up to another
 share_count : (s : State) (a b : ℕ) → item_count (share s a b) ≡ (min b (length s.objects) - a) + (min (b - length s.objects) (length s.kept) - (a - length s.objects))
 share_count s a b = simp (length-take, length-drop)
 

@@ -1,4 +1,5 @@
--- How the single copy goes on: versions rise, and the reply to a client stays until it asks again.
+-- The evolution of the single copy: versions rise, and a client's reply stays until its next
+-- request.
 use Rattle.std.proofs.Common.{◌≡◌, ◌≢◌, ◌<◌, ◌≤◌, ◌⊎◌, ℕ, ◌+◌, Bool, true, false, cond, List, [], ◌∷◌, ◌++◌, Option, Some, unwrap_or, is_some, ⊎_elim, refl, sym, ap, ◌∙◌, inl, inr, arith, subst}
 use Rattle.std.specs.Ordering.{nat_cmp, eq_by_cmp}
 use Rattle.std.specs.Cmp.{eq_by_cmp_equiv, nat_cmp_total}
@@ -18,7 +19,7 @@ use Rattle.craq_laws.proofs.Copies.{after_from-append}
 use Rattle.craq_commands.proofs.Keeping.{IsRising, found_is_old, kept_found, rising_keep, old_stays}
 use Rattle.craq_laws.proofs.Writes.{found_here, written_elsewhere, told_apart}
 
--- the object has a higher version, or is the same
+-- the object has a higher version, or is unchanged
 abbrev pub IsNoOlder : Objects → Objects → List ℕ → Type 0
 IsNoOlder m n key = (version_of m key < version_of n key) ⊎ (object_of n key ≡ object_of m key)
 
@@ -78,7 +79,7 @@ versions_tell us vs key same =
     ] in
     by (no_older us vs key)
 
--- what is kept for a client, once it is put there, and for another client
+-- the replies kept for a client after they are set, and for another client
 pub kept_here : (s : State) (client : ℕ) (w : Window) → window_of (record s { kept = put_number s.kept client w }) client ≡ w
 unfolding window_of
 kept_here s client w =
@@ -90,12 +91,12 @@ put_elsewhere s client other w n =
     let apart : eq_by_cmp nat_cmp client other ≡ false = told_apart (nat_cmp client other) (λ e. n (nat_cmp-IsAntisymmetric client other e)) in
     ap (λ (o : Option Window). unwrap_or o []) (find-put nat_cmp nat_cmp_total client other w s.kept ∙ ap (λ b. cond b (Some w) (find nat_cmp client s.kept)) apart)
 
--- the window of a client depends on what is kept alone
+-- a client's window depends only on the kept replies
 same_window : (s t : State) (client : ℕ) → s.kept ≡ t.kept → window_of s client ≡ window_of t client
 unfolding window_of
 same_window s t client e = ap (λ (k : List (ℕ × Window)). unwrap_or (at_number k client) []) e
 
--- what is kept for another client stays
+-- the replies kept for another client are unchanged
 pub kept_elsewhere : (s : State) (u : Update) (client : ℕ) → client ≢ u.client → window_of (apply s u) client ≡ window_of s client
 unfolding apply kept_with
 kept_elsewhere s u client n =
@@ -108,12 +109,12 @@ kept_elsewhere s u client n =
 pub said_elsewhere : (s : State) (u : Update) (client number : ℕ) → client ≢ u.client → said (apply s u) client number ≡ said s client number
 said_elsewhere s u client number n = ap (λ k. said_of k number) (kept_elsewhere s u client n)
 
--- a number that is not new changes nothing
+-- an update whose number is not new changes nothing
 pub apply-old : (s : State) (u : Update) → is_new_to s u.client u.number ≡ false → apply s u ≡ s
 unfolding apply
 apply-old s u h = rw h refl
 
--- what is kept for a client after a new update of its own
+-- the replies kept for a client after a new update of its own
 pub kept_applied : (s : State) (u : Update) → is_new_to s u.client u.number ≡ true → window_of (apply s u) u.client ≡ keep (window_of s u.client) u.number (eval s.objects u.command).1
 unfolding apply kept_with
 kept_applied s u new =
@@ -121,7 +122,7 @@ kept_applied s u new =
     let next : State = record { objects = all_written s.objects (eval s.objects u.command).0; kept = put_number s.kept u.client w } in
     rw new (same_window next (record s { kept = put_number s.kept u.client w }) u.client refl ∙ kept_here s u.client w)
 
--- an applied number is no longer new
+-- an applied number is not new
 pub applied_is_old : (s : State) (u : Update) → is_new_to (apply s u) u.client u.number ≡ false
 applied_is_old s u =
     let reply : Reply = (eval s.objects u.command).1 in
@@ -132,9 +133,9 @@ applied_is_old s u =
     ] in
     by (is_new_to s u.client u.number) refl
 
--- ---- windows that rise
+-- ---- sorted windows
 
--- each client's window is by rising number
+-- each client's window is sorted by number
 abbrev pub HasRisingWindows : State → Type 0
 HasRisingWindows s = (client : ℕ) → IsRising (window_of s client)
 
@@ -156,7 +157,7 @@ pub after_rises : (s : State) (us : List Update) → HasRisingWindows s → HasR
 after_rises s [] h = h
 after_rises s (u ∷ us) h = after_rises (apply s u) us (apply_rises s u h)
 
--- a number that is not new stays so, whatever update comes
+-- a number that is not new stays so after any update
 pub old_after_one : (s : State) (u : Update) (client number : ℕ) → HasRisingWindows s → is_new_to s client number ≡ false → is_new_to (apply s u) client number ≡ false
 old_after_one s u client number h old =
     let reply : Reply = (eval s.objects u.command).1 in
@@ -175,7 +176,7 @@ pub old_after_more : (s : State) (us : List Update) (client number : ℕ) → Ha
 old_after_more s [] client number h old = old
 old_after_more s (u ∷ us) client number h old = old_after_more (apply s u) us client number (apply_rises s u h) (old_after_one s u client number h old)
 
--- what was asked once is never new again
+-- a number that was requested once is never new again
 pub never_new_again : (us vs : List Update) (client number : ℕ) → is_new_to (after us) client number ≡ false → is_new_to (after (us ++ vs)) client number ≡ false
 never_new_again us vs client number old =
     ap (λ (t : State). is_new_to t client number) (after_from-append opening_state us vs) ∙ old_after_more (after us) vs client number (after_rises opening_state us opening_rises) old

@@ -122,7 +122,7 @@ reply_turn-name : (p : Plain) (position : ℕ) (reply : Reply) (sends : List Out
 unfolding reply_turn
 reply_turn-name p position reply sends = grind (arith)
 
--- the same for a node that has committed
+-- a reply at a node that commits first if it is last
 replies_after : (p : Plain) (position : ℕ) (reply : Reply) (sends : List Out) → Gives p.name (reply_turn (committed_if_last p) position reply sends)
 replies_after p position reply sends = subst (λ (n : NodeName). Gives n (reply_turn (committed_if_last p) position reply sends)) (commits-name p) (reply_turn-name (committed_if_last p) position reply sends)
 

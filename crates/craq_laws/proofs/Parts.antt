@@ -1,4 +1,5 @@
--- The parts of a state, joined in order, are the state; and the runs of entries, one after another, are the entries.
+-- The parts of a state, joined in order, are the state; the runs of entries, concatenated, are the
+-- entries.
 use Rattle.std.proofs.Common.{◌≡◌, ◌≤◌, ℕ, zero, suc, ◌+◌, ◌-◌, ◌*◌, List, [], ◌∷◌, ◌++◌, map, length, take, drop, refl, sym, ap, ◌∙◌, arith, append_assoc, length-append}
 use Rattle.std.proofs.lemmas.List.{take-append-drop, drop_all, take_all}
 use Rattle.std.specs.List.{flat_map, range_with_len}
@@ -15,7 +16,7 @@ nothing_between zero xs = refl
 nothing_between (suc n) [] = refl
 nothing_between (suc n) (x ∷ xs) = nothing_between n xs
 
--- from one place to another, and on to a third
+-- adjacent ranges of a list make one range
 between : {A : Type 0} (a b c : ℕ) (xs : List A) → a ≤ b → b ≤ c → drop a (take b xs) ++ drop b (take c xs) ≡ drop a (take c xs)
 between zero zero c xs h k = refl
 between zero (suc b) zero xs h k = absurd (omega (arith, k))
@@ -30,7 +31,7 @@ flat_mapped : {A B C : Type 0} (f : B → List C) (g : A → B) (xs : List A) �
 flat_mapped f g [] = refl
 flat_mapped f g (x ∷ xs) = ap (λ l. f (g x) ++ l) (flat_mapped f g xs)
 
--- pieces between rising places, one after another
+-- pieces between ascending indexes, concatenated
 module _ {A : Type 0} (place : ℕ → ℕ) (rises : (i j : ℕ) → i ≤ j → place i ≤ place j) (xs : List A) where
   abbrev piece : ℕ → List A
   piece i = drop (place (i - 1)) (take (place i) xs)

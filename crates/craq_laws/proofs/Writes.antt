@@ -21,7 +21,7 @@ told_apart Greater n = refl
 exact_keys : IsAntisymmetric key_cmp
 exact_keys = slice_cmp-IsAntisymmetric nat_cmp-IsAntisymmetric
 
--- keys that are not the same bytes are two in the order
+-- keys with different bytes are different in the order
 two_keys : (k key : List ℕ) → same_bytes k key ≡ false → eq_by_cmp key_cmp key k ≡ false
 two_keys k key n =
     told_apart (key_cmp key k) (λ e. let t : same_bytes k key ≡ true = (bytes_decides k key).1 (sym (exact_keys key k e)) in cc)
@@ -40,7 +40,7 @@ found_elsewhere m key other x n =
 pub same_maps : (m n : Objects) → T (is_sorted key_cmp m) → T (is_sorted key_cmp n) → ((key : List ℕ) → at_key m key ≡ at_key n key) → m ≡ n
 same_maps m n s t f = same_entries key_cmp nat_list_cmp_total exact_keys m n s t f
 
--- a write leaves each other object
+-- a write leaves every other object unchanged
 pub written_elsewhere : (m : Objects) (w : List ℕ × List ℕ) (key : List ℕ) → same_bytes w.0 key ≡ false → object_of (written m w) key ≡ object_of m key
 unfolding object_of set_object
 written_elsewhere m w key n =

@@ -1,4 +1,5 @@
-//! `Addressee`: the right to put one letter into a box, in which there is room for it; made and told by `craq_workers`.
+//! `Addressee`: the right to put one completion into a queue that has room for it; made and used by
+//! `craq_workers`.
 ghost use Rattle.std.specs.Prelude.{◌≡◌, IfOk};
 
 use crate::letterbox::Letterbox;
@@ -8,8 +9,8 @@ use std::alloc::AllocError;
 use std::marker::Model;
 use std::sync::{Arc, Wait};
 
-/// Where the reply to one call goes, and under which token. Whoever has it has to tell it a reply, or its owner waits for good.
-/// A contract sees its token.
+/// The place of one expected completion: its queue and its token. Its holder has to `tell` it a
+/// reply or `forgo` it; else the queue's owner waits forever. A contract sees the token.
 #[derive(Drop)]
 pub struct Addressee {
     letters: Arc<Letterbox>,
@@ -25,7 +26,8 @@ impl Model for Addressee {
 }
 
 impl Addressee {
-    /// The addressee of this token, for whose letter there is room from now on. It fails for want of memory alone.
+    /// Reserves room for a completion under this token. Fails only when out of memory, and then
+    /// nothing changes.
     pub fn expect<R: Wait>(
         rt: &R,
         letters: &Arc<Letterbox>,
@@ -38,12 +40,13 @@ impl Addressee {
         Ok(Addressee { letters, token })
     }
 
-    /// The reply goes into the box. It takes no memory.
+    /// Puts the completion into the queue, and wakes the owner if it sleeps. Takes no memory.
     pub fn tell<R: Wait>(self, rt: &R, reply: Outcome) {
         self.letters.put(rt, self.token, reply);
     }
 
-    /// No letter will come: the reply was given in hand. It takes no memory.
+    /// Gives the room back: the reply was returned directly, and no completion will come. Takes no
+    /// memory.
     pub fn forgo<R: Wait>(self, rt: &R) {
         self.letters.forgo(rt);
     }

@@ -1,23 +1,24 @@
-//! `Letterbox`: where the replies to the asks of one thread, or of one client, come together; made by the clients of
-//! `craq_workers` and the crews of `craq_server`.
+//! `Letterbox`: the completion queue of one thread or one client; made by the clients of
+//! `craq_workers` and the event loops of `craq_server`.
 use crate::pile::{Letter, Outcome, Pile};
 use crate::token::Token;
 use mio::Waker;
 use std::alloc::{AllocError, Global};
 use std::sync::{Condvar, Mutex, Wait};
 
-/// Where the replies to the asks of one owner come together. Any thread may put a letter in; the owner alone takes them.
+/// A completion queue. Any thread may put completions in; only the owner takes them.
 #[derive(Drop)]
 pub struct Letterbox {
     pile: Mutex<Pile>,
-    /// Wakes an owner who waits for letters alone.
+    /// Wakes an owner that waits for completions only.
     bell: Condvar,
-    /// Wakes an owner who waits for readiness too.
+    /// Wakes an owner that also waits for readiness of sockets.
     waker: Option<Waker>,
 }
 
 impl Letterbox {
-    /// An empty box of an owner who is woken by this waker, or by the box itself where there is none. It takes no memory.
+    /// Makes an empty queue. Its owner is woken by `waker`, or, without one, only within `wait`.
+    /// Takes no memory.
     pub fn new(alloc: Global, waker: Option<Waker>) -> Self {
         Letterbox {
             pile: Mutex::new(Pile::new(alloc)),
@@ -26,12 +27,12 @@ impl Letterbox {
         }
     }
 
-    /// Makes room for one letter more. It fails for want of memory alone.
+    /// Reserves room for one more completion. Fails only when out of memory.
     pub(crate) fn expect<R: Wait>(&self, rt: &R) -> Result<(), AllocError> {
         self.pile.lock(rt).expect()
     }
 
-    /// A letter for which room was made comes. One that nobody expects is let go.
+    /// Puts in a completion for which there is room. Drops one that nobody expects.
     pub(crate) fn put<R: Wait>(&self, rt: &R, token: Token, reply: Outcome) {
         let mut pile = self.pile.lock(rt);
         if !pile.expects() {
@@ -44,7 +45,7 @@ impl Letterbox {
         }
     }
 
-    /// An expected letter will not come.
+    /// Gives back the room of a completion that will not come.
     pub(crate) fn forgo<R: Wait>(&self, rt: &R) {
         self.pile.lock(rt).forgo();
     }
@@ -58,18 +59,18 @@ impl Letterbox {
         }
     }
 
-    /// All letters that have come go to the end of these. Where there is no room they stay until the next look.
+    /// Moves all completions to the end of `into`. Out of memory, they stay until the next call.
     pub fn take<R: Wait>(&self, rt: &R, into: &mut Vec<Letter>) {
         self.pile.lock(rt).take(into);
     }
 
-    /// Whether nothing came since the last look, so that the owner may sleep. From then on the next letter or `nudge`
-    /// wakes it.
+    /// Returns whether nothing came since the last look, so that the owner may sleep. From then on
+    /// the next completion or `nudge` wakes it.
     pub fn may_sleep<R: Wait>(&self, rt: &R) -> bool {
         self.pile.lock(rt).may_sleep()
     }
 
-    /// Wakes the owner where it sleeps, and makes it look once more before it does.
+    /// Wakes the owner if it sleeps, and makes it look once more before it does.
     pub fn nudge<R: Wait>(&self, rt: &R) {
         let sleeps = self.pile.lock(rt).tell();
         if sleeps {
@@ -77,7 +78,7 @@ impl Letterbox {
         }
     }
 
-    /// The next letter, once there is one. Only for an owner that the box itself wakes.
+    /// Waits for a completion and takes it. Only for a queue without a waker.
     pub fn wait<R: Wait>(&self, rt: &R) -> Option<Letter> {
         let mut pile = self.pile.lock(rt);
         for _ in rt.forever() {

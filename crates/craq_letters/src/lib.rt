@@ -1,6 +1,7 @@
-//! Replies on their way to those who wait for them: a box of letters, into which any thread puts, and its one owner, who
-//! looks into it between other work or sleeps until a letter comes. For `craq_workers`, `craq_door`, `craq_ready` and `craq_server`;
-//! a crate apart, since `craq_ready` takes letters without knowing the store that puts them.
+//! Completions on their way to those who wait for them. Any thread puts a completion into a queue;
+//! the queue's one owner polls it between other work, or sleeps until one comes. For
+//! `craq_workers`, `craq_door`, `craq_ready` and `craq_server`; a crate apart, since `craq_ready`
+//! takes completions without knowing the store that puts them.
 //! Code that runs in the programs.
 #![tactic(auto)]
 

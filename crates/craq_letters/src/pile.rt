@@ -1,4 +1,5 @@
-//! The letters that lie in a box, with room for each that is expected; called by `letterbox`, under its lock.
+//! `Pile`: the completions in a queue, with room for each that is expected; called by `letterbox`,
+//! under its lock.
 ghost use Rattle.std.specs.Prelude.{◌≡◌, ◌≤◌, ◌↔◌, ◌+◌, ◌-◌, ◌++◌, [], ◌∷◌, None, false, true, IfSome, IsTrue, OnErr, OnOk};
 
 use crate::token::Token;
@@ -7,22 +8,22 @@ use craq_seat::CallReceipt;
 use std::alloc::{AllocError, Global};
 use std::marker::Model;
 
-/// What a caller is told: the receipt of its answered call, or why it was refused.
+/// The reply to a call: the receipt of the answered call, or the refusal.
 pub type Outcome = Result<CallReceipt, Refusal>;
 
-/// A reply, under the token by which its reader knows the call.
+/// A completion: a reply, and the token by which its reader knows the call.
 #[derive(Drop)]
 pub struct Letter {
     pub token: Token,
     pub reply: Outcome,
 }
 
-/// The letters that have come and are not yet taken. There is room for each that is expected.
+/// The completions that have come and are not yet taken. There is room for each that is expected.
 #[derive(Drop)]
 pub(crate) struct Pile {
     letters: Vec<Letter>,
     expected: usize,
-    /// The owner is to look before it sleeps.
+    /// The owner has to look before it sleeps.
     told: bool,
     /// The owner sleeps, or is about to.
     sleeps: bool,
@@ -40,7 +41,7 @@ impl Model for Pile {
 }
 
 impl Pile {
-    /// No letters yet, and none expected. It takes no memory.
+    /// Makes an empty pile that expects nothing. Takes no memory.
     pub(crate) fn new(alloc: Global) -> Self
         ensures { result ≡ record { letters = []; expected = 0; told = false; sleeps = false } }
     {
@@ -52,7 +53,8 @@ impl Pile {
         }
     }
 
-    /// One letter more is expected, and there is room for it.
+    /// Reserves room for one more completion, which is expected from now on. Fails only when out of
+    /// memory, and then nothing changes.
     pub(crate) fn expect(&mut self) -> Result<(), AllocError>
         ensures ok { OnOk result (self.new ≡ record self.old { expected = self.old.expected + 1 }) }
         ensures err { OnErr result (self.new ≡ self.old) }
@@ -65,7 +67,7 @@ impl Pile {
         Ok(())
     }
 
-    /// An expected letter will not come.
+    /// Expects one completion less.
     pub(crate) fn forgo(&mut self)
         ensures { self.new ≡ record self.old { expected = self.old.expected - 1 } }
     {
@@ -74,8 +76,8 @@ impl Pile {
         }
     }
 
-    /// An expected letter comes, into the room that there is for it. The owner is to look before it sleeps. The answer tells
-    /// whether it sleeps, and so has to be woken.
+    /// Puts in an expected completion. The owner has to look before it sleeps. Returns whether it
+    /// sleeps now, and so has to be woken. Takes no memory.
     pub(crate) fn put(&mut self, letter: Letter) -> bool
         requires { 1 ≤ self.old.expected }
         ensures comes { self.new ≡ record { letters = self.old.letters ++ letter ∷ []; expected = self.old.expected - 1; told = true; sleeps = false } }
@@ -86,14 +88,15 @@ impl Pile {
         self.tell()
     }
 
-    /// Whether a letter is expected.
+    /// Returns whether a completion is expected.
     pub(crate) fn expects(&self) -> bool
         ensures { IsTrue result ↔ (1 ≤ self.now.expected) }
     {
         self.expected >= 1
     }
 
-    /// The owner is to look before it sleeps. The answer tells whether it sleeps, and so has to be woken.
+    /// Makes the owner look before it sleeps. Returns whether it sleeps now, and so has to be
+    /// woken.
     pub(crate) fn tell(&mut self) -> bool
         ensures told { self.new ≡ record self.old { told = true; sleeps = false } }
         ensures wakes { result ≡ self.old.sleeps }
@@ -104,7 +107,8 @@ impl Pile {
         sleeps
     }
 
-    /// All letters go to the end of these, or none where there is no room. From then on only what comes later is news.
+    /// Moves all completions to the end of `into`, or none when out of memory. From then on only
+    /// what comes later is news.
     pub(crate) fn take(&mut self, into: &mut Vec<Letter>)
         ensures none_lost { into.new.items ++ self.new.letters ≡ into.old.items ++ self.old.letters }
         ensures news { self.new.told ≡ false → self.new.letters ≡ [] }
@@ -113,7 +117,7 @@ impl Pile {
         self.told = into.append(&mut self.letters).is_err();
     }
 
-    /// The letter that came last, if there is one.
+    /// Takes the completion that came last, if there is one.
     pub(crate) fn pop(&mut self) -> Option<Letter>
         ensures some { IfSome result (λ letter. self.old.letters ≡ self.new.letters ++ letter ∷ []) }
         ensures none { result ≡ None → self.old.letters ≡ [] }
@@ -122,8 +126,8 @@ impl Pile {
         self.letters.pop()
     }
 
-    /// Whether there is no news and no letter, and the owner may sleep; it then counts as asleep, and the next letter or `tell`
-    /// wakes it.
+    /// Returns whether there is neither news nor a completion, so that the owner may sleep. It then
+    /// counts as asleep, and the next completion or `tell` wakes it.
     pub(crate) fn may_sleep(&mut self) -> bool
         ensures sleeps { IsTrue result ↔ ((self.old.told ≡ false) × (self.old.letters ≡ [])) }
         ensures asleep { self.new ≡ record self.old { told = false; sleeps = result } }

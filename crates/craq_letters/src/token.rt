@@ -1,8 +1,9 @@
-//! `Token`: by what the owner of a box knows which of its calls a letter is about; chosen by whoever makes the calls.
+//! `Token`: names the call that a completion is about; chosen by the caller.
 
-/// By what the owner of a box knows which call a letter is about: the key of the connection that made the call, and which of that
-/// connection's calls it is. Of 2^64 calls of a connection in a row no two have one number, so what comes of an earlier call is not
-/// taken for what comes of a later one.
+/// Names the call that a completion is about: the key of the connection that made the call, and the
+/// number of the call among that connection's calls. Of 2^64 consecutive calls of a connection no
+/// two have the same number, so a completion of an earlier call is never taken for one of a later
+/// call.
 #[derive(Debug, Clone, Copy, PartialEq, Eq)]
 pub struct Token {
     pub connection: usize,

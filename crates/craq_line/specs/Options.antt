@@ -15,25 +15,20 @@ name_of options.Connections = codes "connections"
 name_of options.Threads = codes "threads"
 name_of options.Most = codes "most"
 name_of options.Idle = codes "idle"
+name_of options.MostLeap = codes "most-leap"
 
--- the least number that an option takes
-abbrev pub least_of : NumberOption → ℕ
-least_of options.Connections = 0
-least_of options.Threads = 0
-least_of options.Most = 1
-least_of options.Idle = 0
-
--- the greatest number that an option takes
+-- the greatest number that an option takes; the least is 0
 abbrev pub greatest_of : NumberOption → ℕ
 greatest_of options.Connections = 2 ^ 32 - 1
 greatest_of options.Threads = 64
 greatest_of options.Most = 2 ^ 32 - 1
 greatest_of options.Idle = 2 ^ 32 - 1
+greatest_of options.MostLeap = 2 ^ 32 - 1
 
--- the number that a text spells, where there is a text
-abbrev pub spelled : ℕ → ℕ → Option (List ℕ) → Option ℕ
-spelled least most None = None
-spelled least most (Some text) = number_between least most text
+-- the number up to `most` that a text encodes, where there is a text
+abbrev pub spelled : ℕ → Option (List ℕ) → Option ℕ
+spelled most None = None
+spelled most (Some text) = number_between 0 most text
 
 -- the number, or the option that has none
 abbrev pub known : NumberOption → Option ℕ → Result ℕ NumberOption
@@ -42,7 +37,7 @@ known option None = Err option
 
 -- the number of an option among what a parse found
 abbrev pub number_of : NumberOption → Found → Result ℕ NumberOption
-number_of option found = known option (spelled (least_of option) (greatest_of option) (first_value found (name_of option)))
+number_of option found = known option (spelled (greatest_of option) (first_value found (name_of option)))
 
 infixl 10 ◌>>=◌
 abbrev pub ◌>>=◌ : {A B : Type 0} → Result A NumberOption → (A → Result B NumberOption) → Result B NumberOption
@@ -56,7 +51,8 @@ numbers_of found = do
   threads ← number_of options.Threads found
   most ← number_of options.Most found
   idle ← number_of options.Idle found
-  Ok (record { connections = connections; threads = threads; most = most; idle = idle })
+  most_leap ← number_of options.MostLeap found
+  Ok (record { connections = connections; threads = threads; most = most; idle = idle; most_leap = most_leap })
 
 -- what a function returned is what the options have, or the option at fault, unless memory ran out
 abbrev pub Has : {X : Type 0} → Result X Unfit → Result X NumberOption → Type 0

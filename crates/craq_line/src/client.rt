@@ -1,4 +1,5 @@
-//! The command line of `craq`: its options, its help, and what its command is to do; called by the main of `craq`.
+//! The command line of `craq`: its options, its help, and what its command is to do; called by the
+//! main of `craq`.
 use crate::commands::task_of;
 use crate::numbers::number_between;
 use crate::{Task, Unread, VERSION};
@@ -8,24 +9,27 @@ use craq_names::{NodeId, Pass, Stamp};
 use craq_script::GREATEST_NODE;
 use std::alloc::{AllocError, Global};
 
-/// What a command line asks of `craq`.
+/// The command line of `craq`, read.
 #[derive(Debug, Drop)]
 pub struct CallLine<'a> {
-    /// Where the server listens: a host and a port.
+    /// The address of the server: a host and a port.
     pub address: &'a str,
     /// The node that is asked.
     pub node: NodeId,
     /// The pass that is shown: the largest stamp that the client has seen.
     pub pass: Pass,
-    /// What is to be done.
+    /// The task.
     pub task: Task,
 }
 
-/// Why a command line of `craq` asks for nothing.
+/// Why a command line of `craq` has no task.
 #[derive(Debug, Drop)]
 pub enum Fault {
-    /// clap's error: the words are wrong, or ask for help or the version. Its kind is `OutOfMemory` where a growth was refused.
+    /// clap's error: the options are wrong, or ask for help or the version. Its kind is
+    /// `OutOfMemory` where a growth was refused.
     Words(Error),
+    /// clap's error with what was expected: the words of the command fit no script line.
+    Command(Error),
     /// A growth was refused.
     Memory,
 }
@@ -81,28 +85,28 @@ Printed:
                      again under its NUMBER. 1 a key of more than 128 bytes, 2 a value of more than
                      4096, 3 more than 16 items in a list, 4 no item, 5 an object twice in a list,
                      6 number 0, 7 no such chain, 8 two chains, 9 not the head, which follows,
-                     10 not ready, 11 stopped, 12 too many asks wait or too many are connected,
-                     13 a counter at its greatest number or a pass far above any that the server
-                     told, 14 the server lacks memory, 15 bytes that spell no request, 16 a
+                     10 not ready, 11 stopped, 12 too many requests wait, 13 a counter at its
+                     greatest number (with --most-leap also a pass far above any that the server
+                     sent), 14 the server is out of memory, 15 bytes that are no request, 16 a
                      request that is too long, 23 no such node, 27 the server closes
 
 Status: 0 after an answer; 1 with `cannot print` where the output takes no text, or `cannot
-read` where the prompt's input gives none; 2 after a bad command line, with the word that was
-expected; 3 with `refused N`, or with `no memory`; 4 with `connection` where there is none, or
+read` where the prompt's input gives none; 2 after a bad command line, and with `script line 1`
+and the word that was expected after a bad command; 3 with `refused N`, or with `no memory`; 4 with `connection` where there is none, or
 it broke.
 
 Examples:
-  craq --connect 127.0.0.1:7117 --node 1 put 1 1 colour blue
-  craq --connect 127.0.0.1:7117 --node 1 tas 1 2 colour 1 green
-  craq --connect 127.0.0.1:7117 --node 1 append 1 3 colour ish
-  craq --connect 127.0.0.1:7117 --node 1 prepend 1 4 colour dark
-  craq --connect 127.0.0.1:7117 --node 1 inc 1 5 visits 1
-  craq --connect 127.0.0.1:7117 --node 1 dec 1 6 visits 1
-  craq --connect 127.0.0.1:7117 --node 1 mini 1 7 c:visits:2 r:colour w:seen:yes
-  craq --connect 127.0.0.1:7117 --node 3 --pass 9 read strong colour
-  craq --connect 127.0.0.1:7117 --node 3 status";
+  craq --connect 127.0.0.1:7000 --node 1 put 1 1 colour blue
+  craq --connect 127.0.0.1:7000 --node 1 tas 1 2 colour 1 green
+  craq --connect 127.0.0.1:7000 --node 1 append 1 3 colour ish
+  craq --connect 127.0.0.1:7000 --node 1 prepend 1 4 colour dark
+  craq --connect 127.0.0.1:7000 --node 1 inc 1 5 visits 1
+  craq --connect 127.0.0.1:7000 --node 1 dec 1 6 visits 1
+  craq --connect 127.0.0.1:7000 --node 1 mini 1 7 c:visits:2 r:colour w:seen:yes
+  craq --connect 127.0.0.1:7000 --node 3 --pass 9 read strong colour
+  craq --connect 127.0.0.1:7000 --node 3 status";
 
-/// An option with a value.
+/// Makes an option with a value.
 fn option_arg<'a>(alloc: Global, name: &'a str, value: &'a str, help: &'a str) -> Arg<'a> {
     Arg::new(alloc, name)
         .long(name)
@@ -111,7 +115,7 @@ fn option_arg<'a>(alloc: Global, name: &'a str, value: &'a str, help: &'a str) -
         .help(help)
 }
 
-/// `--connect ADDRESS --node N [--pass P]`, with help and version.
+/// Makes the command with `--connect ADDRESS --node N [--pass P]`, help and version.
 fn command_with_options<'a>(alloc: Global) -> Result<Command<'a>, AllocError> {
     let connect = option_arg(alloc, "connect", "ADDRESS", "Where the server listens");
     let node = option_arg(alloc, "node", "N", "The node that is asked");
@@ -131,7 +135,7 @@ fn command_with_options<'a>(alloc: Global) -> Result<Command<'a>, AllocError> {
     command.arg(pass.default_value("0"))
 }
 
-/// `craq --connect ADDRESS --node N [--pass P] [COMMAND ..]`.
+/// Makes the command `craq --connect ADDRESS --node N [--pass P] [COMMAND ..]`.
 fn whole_command<'a>(alloc: Global) -> Result<Command<'a>, AllocError> {
     let command = command_with_options(alloc)?;
     let words = Arg::new(alloc, "COMMAND")
@@ -142,19 +146,19 @@ fn whole_command<'a>(alloc: Global) -> Result<Command<'a>, AllocError> {
     command.arg(words)
 }
 
-/// The node and the pass of a command line; none where a number is outside the grammar.
+/// Returns the node and the pass of a command line; `None` where a number is outside the grammar.
 fn numbers_in(matches: &ArgMatches<'_>) -> Option<(NodeId, Pass)> {
     let node = number_between(0, GREATEST_NODE, matches.get_str("node")?.as_bytes()).ok()?;
     let pass = number_between(0, u64::MAX, matches.get_str("pass")?.as_bytes()).ok()?;
     Some((NodeId::new(node as u32), Pass::of(Stamp::new(pass))))
 }
 
-/// clap's error about a command line, with this text.
+/// Returns clap's error about the options, with this text. Fails only when out of memory.
 fn wrong_words(command: &mut Command<'_>, told: &str) -> Result<Fault, Fault> {
     Ok(Fault::Words(command.error(ErrorKind::ValueValidation, told)?))
 }
 
-/// What the words of a command ask `craq` to do: to be a prompt where there are none.
+/// Returns the task of a command's words: a prompt where there are none.
 fn task_in(
     alloc: Global,
     command: &mut Command<'_>,
@@ -169,16 +173,18 @@ fn task_in(
         Err(Unread::Memory) => Err(Fault::Memory),
         Err(Unread::Bad(bad)) => {
             let told = bad.told(alloc, words)?;
-            Err(wrong_words(command, told.as_str())?)
+            let error = command.error(ErrorKind::ValueValidation, told.as_str())?;
+            Err(Fault::Command(error))
         }
     }
 }
 
 impl<'a> CallLine<'a> {
-    /// What these words of a command line ask for, the program's own name first. Numbers are spelled as in scripts.
+    /// Reads a command line, the program's own name first. Numbers are encoded as in scripts.
     ///
-    /// `Words` where clap finds a fault, where a word of the command is not what is expected there, or where the words ask for
-    /// help or the version; `Memory` where a growth was refused.
+    /// `Words` where clap finds a fault in the options, or where the words ask for help or the
+    /// version; `Command` where the words of the command fit no script line; `Memory` where a
+    /// growth was refused.
     pub fn read(alloc: Global, words: &'a [&'a str]) -> Result<Self, Fault> {
         let mut command = whole_command(alloc)?;
         let matches = command.try_get_matches_from_mut(words)?;

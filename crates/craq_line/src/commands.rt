@@ -1,4 +1,4 @@
-//! What the words of a command ask for, or the first that is not what is expected there; for `client` and for a prompt.
+//! Reads the words of a command: its task, or the first wrong word; for `client` and for a prompt.
 ghost use Rattle.std.specs.Prelude.{◌≡◌, map, drop};
 ghost use Rattle.craq_script.specs.Words.{item_of};
 ghost use Rattle.craq_line.specs.Commands.{Reads, expect, word_at, object_and_value, object_and_number, test_and_set_of, items_from, change_of, update_of, read_of, name_of, request_of, load_of, watch_of, task_of};
@@ -212,10 +212,11 @@ fn name_at(words: &[&str]) -> Result<Name, Unread>
     }
 }
 
-/// What the words of a command ask of this node: its name, and what that name asks for. Numbers, objects, values, modes and items
-/// are spelled as in scripts; a value may have any characters.
+/// Returns the request of a command to this node: its name, and what that name asks for. Numbers,
+/// objects, values, modes and items are spelled as in scripts; a value may have any characters.
 ///
-/// `Bad` with the first word that is not what is expected there, or is missing; `Memory` where a growth was refused.
+/// `Bad` with the first word that is not what is expected there, or is missing; `Memory` where a
+/// growth was refused.
 #[tactic(auto, unfolding(crate::specs::Commands::request_of))]
 pub fn request_of(alloc: Global, node: NodeId, words: &[&str]) -> Result<Request, Unread>
     ensures { Reads (λ x. x) result (request_of node (map (λ w. w.now) words.now)) }
@@ -255,9 +256,10 @@ fn watch_of(words: &[&str]) -> Result<Option<u64>, Unread>
     at_end(Some(seconds), words, 2)
 }
 
-/// What `craq` is to do by the words behind its options, at this node: a prompt where there is none.
+/// Returns the task of the words behind the options, at this node: a prompt where there are none.
 ///
-/// `Bad` with the first word that is not what is expected there, or is missing; `Memory` where a growth was refused.
+/// `Bad` with the first word that is not what is expected there, or is missing; `Memory` where a
+/// growth was refused.
 #[tactic(auto, unfolding(crate::specs::Commands::task_of))]
 pub(crate) fn task_of(alloc: Global, node: NodeId, words: &[&str]) -> Result<Task, Unread>
     ensures { Reads (λ x. x) result (task_of node (map (λ w. w.now) words.now)) }

@@ -1,10 +1,10 @@
-//! What the words of a command have to be, and the text about one that is not; for `words` and `commands`.
+//! The expected words of a command, and the text about a wrong one; for `words` and `commands`.
 ghost use Rattle.std.specs.Prelude.{◌≡◌};
 ghost use Rattle.craq_line.specs.declared.expected.Unread.TheVariants.{Memory};
 
 use std::alloc::{AllocError, AllocFailed, Global};
 
-/// What a word of a command has to be.
+/// The kind of word that is expected.
 #[derive(Clone, Copy, Debug, PartialEq, Eq)]
 pub enum Expected {
     /// The name of a command.
@@ -25,11 +25,11 @@ pub enum Expected {
     Mode,
     /// An item of a transaction.
     Item,
-    /// How many connections are made.
+    /// The number of connections.
     Connections,
     /// For how many seconds.
     Seconds,
-    /// How many of 100 requests are reads.
+    /// The number of reads in 100 requests.
     Reads,
     /// The id of a node.
     Node,
@@ -42,7 +42,7 @@ pub enum Expected {
 pub struct BadWord {
     /// Its place: the command's name stands at 0.
     pub place: usize,
-    /// What is expected at that place.
+    /// The word that is expected at that place.
     pub expected: Expected,
 }
 
@@ -72,7 +72,7 @@ impl<T: Drop> From<AllocFailed<T>> for Unread {
 }
 
 impl Expected {
-    /// What is expected, in words.
+    /// Returns the expected word, described.
     const fn told(self) -> &'static str {
         match self {
             Expected::Command => "a command, as put, read, status or help",
@@ -96,7 +96,8 @@ impl Expected {
 }
 
 impl BadWord {
-    /// What was expected, and which of the words stands there.
+    /// Returns the text about the wrong word: the expected one, and the one that stands there.
+    /// Fails only when out of memory.
     pub fn told(&self, alloc: Global, words: &[&str]) -> Result<String, AllocError> {
         let expected = self.expected.told();
         match words.get(self.place) {

@@ -1,6 +1,6 @@
-//! The command lines of the programs `craqd` and `craq`, the words of a command, and what each program does around its work.
-//! For these two and `craq_lab`; a crate apart, since programs cannot share modules.
-//! Code that runs in the programs.
+//! The command lines of the programs `craqd` and `craq`, the words of a command, and what each
+//! program does around its work. For these two and `craq_lab`; a crate apart, since programs cannot
+//! share modules. Code that runs in the programs.
 #![tactic(auto)]
 
 mod client;
@@ -23,5 +23,5 @@ pub use program::{
 pub use server::Line;
 pub use task::{Load, Request, Task};
 
-/// What `--version` prints of each program behind its name.
+/// The version that `--version` prints behind the name of each program.
 pub const VERSION: &str = "0.1.0";

@@ -5,8 +5,8 @@ ghost use Rattle.craq_line.specs.Numbers.{number_between};
 
 use craq_script::{Misread, number_up_to};
 
-/// The number that the text spells, where it lies within these bounds: decimal digits without a sign and without a leading
-/// zero, as in scripts.
+/// The number that the text spells, where it lies within these bounds: decimal digits without a
+/// sign and without a leading zero, as in scripts.
 ///
 /// `OutsideGrammar` where it spells none.
 pub(crate) fn number_between(least: u64, most: u64, text: &[u8]) -> Result<u64, Misread>

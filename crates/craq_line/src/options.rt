@@ -1,7 +1,8 @@
-//! The options of `craqd` that have numbers: their names, bounds, defaults and helps, and what they have on a command line; for `server`.
+//! The options of `craqd` that have numbers: their names, bounds, defaults and helps, and their
+//! values on a command line; for `server`.
 ghost use Rattle.std.specs.Prelude.{◌≡◌, ◌≤◌, IfOk};
 ghost use Rattle.clap.specs.Words.{found_of};
-ghost use Rattle.craq_line.specs.Options.{name_of, least_of, greatest_of, number_of, numbers_of, Has};
+ghost use Rattle.craq_line.specs.Options.{name_of, greatest_of, number_of, numbers_of, Has};
 
 use crate::numbers::number_between;
 use clap::ArgMatches;
@@ -10,14 +11,16 @@ use craq_script::Misread;
 /// An option of `craqd` that has a number.
 #[derive(Clone, Copy, Debug, PartialEq, Eq)]
 pub(crate) enum NumberOption {
-    /// After how many connections the server ends.
+    /// The number of connections after which the server ends.
     Connections,
-    /// How many threads serve all connections.
+    /// The number of threads that serve all connections.
     Threads,
-    /// How many connections there are at once.
+    /// The most connections at once.
     Most,
-    /// After how many seconds without a request a connection ends.
+    /// The seconds without a byte after which a connection ends.
     Idle,
+    /// The most that a pass may lie above the largest pass that was returned.
+    MostLeap,
 }
 
 /// The numbers of all options.
@@ -27,19 +30,20 @@ pub(crate) struct Numbers {
     pub threads: u32,
     pub most: u32,
     pub idle: u32,
+    pub most_leap: u32,
 }
 
-/// Why there is no number.
+/// Why an option gives no number.
 #[derive(Clone, Copy, Debug, PartialEq, Eq)]
 pub(crate) enum Unfit {
     /// A growth was refused.
     Memory,
-    /// The option's value is no number that it takes.
+    /// The option's value is not a number within its bounds.
     Option(NumberOption),
 }
 
 impl NumberOption {
-    /// Its name.
+    /// Returns its name.
     pub(crate) const fn name<'a>(self) -> &'a str
         ensures { result.now ≡ name_of self }
     {
@@ -48,20 +52,11 @@ impl NumberOption {
             NumberOption::Threads => "threads",
             NumberOption::Most => "most",
             NumberOption::Idle => "idle",
+            NumberOption::MostLeap => "most-leap",
         }
     }
 
-    /// The least number that it takes.
-    const fn least(self) -> u64
-        ensures { result ≡ least_of self }
-    {
-        match self {
-            NumberOption::Most => 1,
-            _ => 0,
-        }
-    }
-
-    /// The greatest number that it takes.
+    /// Returns the greatest number that it takes; the least is 0.
     const fn greatest(self) -> u64
         ensures { result ≡ greatest_of self }
     {
@@ -71,15 +66,7 @@ impl NumberOption {
         }
     }
 
-    /// What it has where it is not given.
-    pub(crate) const fn default<'a>(self) -> &'a str {
-        match self {
-            NumberOption::Most => "1024",
-            _ => "0",
-        }
-    }
-
-    /// The name of its value in helps.
+    /// Returns the name of its value in helps.
     pub(crate) const fn value_name<'a>(self) -> &'a str {
         match self {
             NumberOption::Idle => "SECONDS",
@@ -87,65 +74,75 @@ impl NumberOption {
         }
     }
 
-    /// What it does.
+    /// Returns its help.
     pub(crate) const fn help<'a>(self) -> &'a str {
         match self {
             NumberOption::Connections => "End after N connections; 0 does not end",
             NumberOption::Threads => {
                 "Serve all connections by N threads, at most 64; 0 serves each by a thread of its own"
             }
-            NumberOption::Most => "Serve at most N connections at once, from 1",
+            NumberOption::Most => {
+                "Serve at most N connections at once; 0 serves as many as descriptors allow"
+            }
             NumberOption::Idle => {
                 "End a connection that sends or takes nothing for so many seconds; 0 ends none"
+            }
+            NumberOption::MostLeap => {
+                "Refuse a pass more than N above the largest that was printed or sent; 0 takes any"
             }
         }
     }
 
-    /// What it takes.
+    /// Returns what it takes, in words.
     pub(crate) const fn told(self) -> &'static str {
         match self {
             NumberOption::Connections =>
                 "--connections takes a number of 32 bits in decimal digits",
             NumberOption::Threads => "--threads takes a number from 0 to 64 in decimal digits",
-            NumberOption::Most => "--most takes a number of 32 bits from 1 on in decimal digits",
+            NumberOption::Most => "--most takes a number of 32 bits in decimal digits",
             NumberOption::Idle => "--idle takes a number of 32 bits in decimal digits",
+            NumberOption::MostLeap => "--most-leap takes a number of 32 bits in decimal digits",
         }
     }
 }
 
-/// The number of an option.
+/// Returns the number of an option.
 ///
-/// `Option` with it where its value is no number within its bounds, or where it has none.
+/// `Option` with it where its value is not a number within its bounds, or is missing; `Memory`
+/// where a growth was refused.
 fn number_of(matches: &ArgMatches<'_>, option: NumberOption) -> Result<u32, Unfit>
     ensures value { Has result (number_of option (found_of matches.now)) }
-    ensures bounds { IfOk result (λ n. (least_of option ≤ n) × (n ≤ greatest_of option)) }
+    ensures bound { IfOk result (λ n. n ≤ greatest_of option) }
 {
     let Some(text) = matches.get_str(option.name()) else {
         return Err(Unfit::Option(option));
     };
-    match number_between(option.least(), option.greatest(), text.as_bytes()) {
+    match number_between(0, option.greatest(), text.as_bytes()) {
         Ok(number) => Ok(number as u32),
         Err(Misread::Memory) => Err(Unfit::Memory),
         Err(Misread::OutsideGrammar) => Err(Unfit::Option(option)),
     }
 }
 
-/// The numbers of all options.
+/// Returns the numbers of all options.
 ///
-/// `Option` with the first whose value is no number within its bounds.
+/// `Option` with the first whose value is not a number within its bounds; `Memory` where a growth
+/// was refused.
 #[tactic(auto, unfolding(crate::specs::Options::numbers_of))]
 pub(crate) fn numbers_of(matches: &ArgMatches<'_>) -> Result<Numbers, Unfit>
     ensures value { Has result (numbers_of (found_of matches.now)) }
-    ensures bounds { IfOk result (λ n. (n.threads ≤ 64) × (1 ≤ n.most)) }
+    ensures bound { IfOk result (λ n. n.threads ≤ 64) }
 {
     let connections = number_of(matches, NumberOption::Connections)?;
     let threads = number_of(matches, NumberOption::Threads)?;
     let most = number_of(matches, NumberOption::Most)?;
     let idle = number_of(matches, NumberOption::Idle)?;
+    let most_leap = number_of(matches, NumberOption::MostLeap)?;
     Ok(Numbers {
         connections,
         threads,
         most,
         idle,
+        most_leap,
     })
 }

@@ -1,5 +1,5 @@
-//! What each program does around its own work: the words of its command line, and what is told where they are wrong or where
-//! nothing more can be printed; for the mains of the programs.
+//! The shared parts of the programs: reading their words, and reporting wrong words or a failed
+//! output; for the mains of the programs.
 ghost use Rattle.std.specs.Prelude.{◌≡◌, ◌⊎◌, IfOk};
 
 use clap::Error;
@@ -19,7 +19,8 @@ pub const NO_MEMORY: u8 = 3;
 
 /// The words of the command line, the program's own among them.
 ///
-/// An error of kind `InvalidData` where one is not UTF-8, of kind `OutOfMemory` where a growth was refused.
+/// An error of kind `InvalidData` where one is not UTF-8, of kind `OutOfMemory` where a growth was
+/// refused.
 pub fn words_of<R: AllocGlobal + Env>(rt: &R) -> io::Result<Vec<String>> {
     let mut words = Vec::new(rt.alloc());
     for word in env::args(rt)? {
@@ -28,7 +29,7 @@ pub fn words_of<R: AllocGlobal + Env>(rt: &R) -> io::Result<Vec<String>> {
     Ok(words)
 }
 
-/// Tells that a word of the command line is not UTF-8. Gives the status, `BAD_INPUT`.
+/// Prints that a word of the command line is not UTF-8. Returns the status, `BAD_INPUT`.
 pub fn report_no_text<R: Eprint>(rt: &R) -> io::Result<u8>
     ensures { IfOk result (λ status. status ≡ BAD_INPUT) }
 {
@@ -36,7 +37,7 @@ pub fn report_no_text<R: Eprint>(rt: &R) -> io::Result<u8>
     Ok(BAD_INPUT)
 }
 
-/// Tells that a growth was refused. Gives this status.
+/// Prints that the process is out of memory. Returns this status.
 pub fn report_memory<R: Eprint>(rt: &R, no_memory: u8) -> io::Result<u8>
     ensures { IfOk result (λ status. status ≡ no_memory) }
 {
@@ -44,8 +45,8 @@ pub fn report_memory<R: Eprint>(rt: &R, no_memory: u8) -> io::Result<u8>
     Ok(no_memory)
 }
 
-/// Tells what is wrong with the words of the command line, or prints the help that they ask for. Gives the status: 0 after a
-/// help, `no_memory` where a growth was refused, else `BAD_INPUT`.
+/// Prints what is wrong with the command line, or the help that it asks for. Returns the status: 0
+/// after a help, `no_memory` where a growth was refused, else `BAD_INPUT`.
 pub fn report_words<R: Print + Eprint>(rt: &R, error: &Error, no_memory: u8) -> io::Result<u8>
     ensures { IfOk result (λ status. (status ≡ 0) ⊎ (status ≡ no_memory) ⊎ (status ≡ BAD_INPUT)) }
 {
@@ -56,8 +57,8 @@ pub fn report_words<R: Print + Eprint>(rt: &R, error: &Error, no_memory: u8) -> 
     Ok(if error.use_stderr() { BAD_INPUT } else { 0 })
 }
 
-/// Tells why nothing more is printed: there was no memory, or the output takes no text. Gives the status: `no_memory` or
-/// `CANNOT_PRINT`.
+/// Prints why nothing more is printed: out of memory, or the output takes no text. Returns the
+/// status: `no_memory` or `CANNOT_PRINT`.
 pub fn report_failure<R: Eprint>(rt: &R, kind: ErrorKind, no_memory: u8) -> u8
     ensures { (result ≡ no_memory) ⊎ (result ≡ CANNOT_PRINT) }
 {

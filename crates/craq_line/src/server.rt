@@ -8,26 +8,29 @@ use clap::error::ErrorKind;
 use clap::{Arg, ArgAction, ArgMatches, Command, Error};
 use std::alloc::{AllocError, Global};
 
-/// What a command line asks of `craqd`.
+/// The command line of `craqd`, read.
 #[derive(Clone, Copy, Debug)]
 pub struct Line<'a> {
     /// The plan file.
     pub plan: &'a str,
-    /// Where to listen: a host and a port.
+    /// The address to listen on: a host and a port.
     pub address: &'a str,
-    /// After how many connections the server ends; 0 where it does not.
+    /// The number of connections after which the server ends; 0 for no end.
     pub connections: u32,
-    /// How many threads serve all connections, at most 64; 0 where each connection has a thread of its own.
+    /// The number of threads that serve all connections, at most 64; 0 for a thread for each
+    /// connection.
     pub threads: u32,
-    /// How many connections are served at once, from 1.
+    /// The most connections at once; 0 for as many as descriptors allow.
     pub most: u32,
-    /// After how many seconds without a byte from the client a connection ends; 0 where none ends so.
+    /// The seconds without a byte after which a connection ends; 0 for never.
     pub idle: u32,
-    /// Whether the server ends once its standard input ends.
+    /// The most that a pass may lie above the largest pass that was returned; 0 for no such bound.
+    pub most_leap: u32,
+    /// True where the server ends once its standard input ends.
     pub until_input_ends: bool,
-    /// Whether journals are kept; only of a server that ends.
+    /// True where journals are kept, and audited if the server ends in order.
     pub journal: bool,
-    /// Whether connections and refusals are told of on standard error.
+    /// True where connections and refusals are logged on standard error.
     pub log: bool,
 }
 
@@ -40,7 +43,7 @@ answered once the last one has it; every node answers reads. All nodes run in th
 in threads, and everything is kept in memory: it is gone when the server ends.";
 
 const JOURNAL: &str =
-    "Keep a journal of each node, and audit them in the end; it takes --connections or --until-input-ends";
+    "Keep a journal of each node, and audit them once the server ends in order (--connections, --until-input-ends)";
 
 const LOG: &str = "Print connections and refusals on standard error";
 
@@ -64,10 +67,10 @@ text; 2 with `cannot read PLAN`, `plan refused`, or after a bad command line; 3 
 memory`; 4 with `cannot listen`; 5 with `audit refused N`.
 
 Example:
-  craqd plan.toml 127.0.0.1:7117
+  craqd plan.toml 127.0.0.1:7000
   craqd --journal --connections 3 plan.toml 127.0.0.1:0";
 
-/// An option without a value.
+/// Makes an option without a value.
 fn flag_arg<'a>(alloc: Global, name: &'a str, help: &'a str) -> Arg<'a> {
     Arg::new(alloc, name)
         .long(name)
@@ -75,22 +78,22 @@ fn flag_arg<'a>(alloc: Global, name: &'a str, help: &'a str) -> Arg<'a> {
         .help(help)
 }
 
-/// An option with a number.
+/// Makes an option with a number, 0 by default.
 fn number_arg<'a>(alloc: Global, option: NumberOption) -> Arg<'a> {
     Arg::new(alloc, option.name())
         .long(option.name())
         .value_name(option.value_name())
         .action(ArgAction::Set)
-        .default_value(option.default())
+        .default_value("0")
         .help(option.help())
 }
 
-/// An argument that must be given.
+/// Makes an argument that must be given.
 fn needed_arg<'a>(alloc: Global, name: &'a str, help: &'a str) -> Arg<'a> {
     Arg::new(alloc, name).required(true).help(help)
 }
 
-/// The command with its texts, and no argument.
+/// Makes the command with its texts and no argument.
 fn named_command<'a>(alloc: Global) -> Command<'a> {
     Command::new(alloc, "craqd")
         .about(ABOUT)
@@ -99,7 +102,8 @@ fn named_command<'a>(alloc: Global) -> Command<'a> {
         .after_help(HELP)
 }
 
-/// `[--journal] [--connections N] [--until-input-ends]`, which say how long the server runs and what it keeps of it.
+/// Adds `[--journal] [--connections N] [--until-input-ends]`: how long the server runs, and what it
+/// keeps. Fails only when out of memory.
 fn command_with_ends<'a>(alloc: Global) -> Result<Command<'a>, AllocError> {
     let journal = flag_arg(alloc, "journal", JOURNAL);
     let command = named_command(alloc).arg(journal)?;
@@ -107,7 +111,8 @@ fn command_with_ends<'a>(alloc: Global) -> Result<Command<'a>, AllocError> {
     command.arg(flag_arg(alloc, "until-input-ends", UNTIL_INPUT_ENDS))
 }
 
-/// `[--threads N] [--most N] [--idle SECONDS]` behind these, which say how connections are served.
+/// Adds `[--threads N] [--most N] [--idle SECONDS]`: how connections are served. Fails only when
+/// out of memory.
 fn command_with_options<'a>(alloc: Global) -> Result<Command<'a>, AllocError> {
     let command = command_with_ends(alloc)?;
     let command = command.arg(number_arg(alloc, NumberOption::Threads))?;
@@ -115,24 +120,25 @@ fn command_with_options<'a>(alloc: Global) -> Result<Command<'a>, AllocError> {
     command.arg(number_arg(alloc, NumberOption::Idle))
 }
 
-/// `[--log]` behind these.
+/// Adds `[--most-leap N] [--log]`. Fails only when out of memory.
 fn command_with_log<'a>(alloc: Global) -> Result<Command<'a>, AllocError> {
     let command = command_with_options(alloc)?;
+    let command = command.arg(number_arg(alloc, NumberOption::MostLeap))?;
     command.arg(flag_arg(alloc, "log", LOG))
 }
 
-/// `craqd [OPTION ..] PLAN ADDRESS`.
+/// Makes the command `craqd [OPTION ..] PLAN ADDRESS`. Fails only when out of memory.
 fn whole_command<'a>(alloc: Global) -> Result<Command<'a>, AllocError> {
     let command = command_with_log(alloc)?;
     let command = command.arg(needed_arg(alloc, "PLAN", "The plan file"))?;
     command.arg(needed_arg(
         alloc,
         "ADDRESS",
-        "Where to listen, as 127.0.0.1:7117; port 0 takes any that is free",
+        "Where to listen, as 127.0.0.1:7000; port 0 takes any that is free",
     ))
 }
 
-/// What the words are told to be where they ask for nothing.
+/// Returns the text about an option without a number.
 const fn told(unfit: Unfit) -> &'static str {
     match unfit {
         Unfit::Memory => "no memory",
@@ -140,7 +146,7 @@ const fn told(unfit: Unfit) -> &'static str {
     }
 }
 
-/// What the matches of a command line ask for, or what is wrong with them.
+/// Returns the command line that was matched, or the text about what is wrong with it.
 fn line_of<'a>(matches: &ArgMatches<'a>) -> Result<Line<'a>, &'static str>
     ensures { IfOk result IsServable }
 {
@@ -151,13 +157,6 @@ fn line_of<'a>(matches: &ArgMatches<'a>) -> Result<Line<'a>, &'static str>
         Ok(numbers) => numbers,
         Err(unfit) => return Err(told(unfit)),
     };
-    let (journal, until_input_ends) = (
-        matches.get_flag("journal"),
-        matches.get_flag("until-input-ends"),
-    );
-    if journal && numbers.connections == 0 && !until_input_ends {
-        return Err("--journal takes an end of the server: --connections N or --until-input-ends");
-    }
     Ok(Line {
         plan,
         address,
@@ -165,18 +164,20 @@ fn line_of<'a>(matches: &ArgMatches<'a>) -> Result<Line<'a>, &'static str>
         threads: numbers.threads,
         most: numbers.most,
         idle: numbers.idle,
-        until_input_ends,
-        journal,
+        most_leap: numbers.most_leap,
+        until_input_ends: matches.get_flag("until-input-ends"),
+        journal: matches.get_flag("journal"),
         log: matches.get_flag("log"),
     })
 }
 
 impl<'a> Line<'a> {
-    /// What these words of a command line ask for, the program's own name first. Plan and address are those that were
-    /// given; without `--connections` the server does not end. Numbers are spelled as in scripts.
+    /// Reads a command line, the program's own name first. Numbers are encoded as in scripts; an
+    /// option that is not given has 0 or false.
     ///
-    /// clap's error where the words ask for none, or for help, which names the first option whose number is none that it takes;
-    /// its kind is `OutOfMemory` where a growth was refused.
+    /// clap's error where the words are wrong, naming the first option whose number is out of
+    /// bounds, or where they ask for help or the version. Its kind is `OutOfMemory` where a growth
+    /// was refused.
     pub fn read(alloc: Global, words: &'a [&'a str]) -> Result<Self, Error>
         ensures { IfOk result IsServable }
     {

@@ -1,4 +1,4 @@
--- What is stored stands for the same past while settled entries are folded into its state.
+-- The stored form represents the same past while settled entries are applied to its state.
 use Rattle.std.proofs.Common.{◌≡◌, ◌≤◌, ℕ, ◌+◌, ◌-◌, List, [], length, take, drop, sym, ap, ◌∙◌, arith}
 use Rattle.craq_commands.specs.declared.entry.Entry.{Entry}
 use Rattle.craq_commands.specs.declared.state.State.{State}
@@ -8,21 +8,21 @@ use Rattle.craq_compaction.specs.Compacted.{compacted_in, HoldsCommitted}
 use Rattle.craq_compaction.proofs.Pasts.{compacted_acknowledge, compacted_length}
 use Rattle.craq_list.specs.Stored.{stored}
 
--- a past whose base is its acknowledged position
+-- a past whose base is its commit index
 abbrev past_at : ℕ → State → List Entry → Past
 past_at n s es = record { base = n; base_state = s; entries = es; acknowledged = n }
 
 same_count : (base n : ℕ) → n ≡ (base + n) - base
 same_count base n = omega arith
 
--- the first entries are folded into the state
+-- a prefix of the entries is applied to the state
 pub folded_many : (base acknowledged n : ℕ) (s : State) (es : List Entry) → base + n ≤ acknowledged → n ≤ length es
     → compacted_in (stored (base + n) (after_entries s (take n es)) (drop n es) acknowledged) ≡ compacted_in (stored base s es acknowledged)
 folded_many base acknowledged n s es a b =
     ap (λ (k : ℕ). compacted_in (stored (base + n) (after_entries s (take k es)) (drop k es) acknowledged)) (same_count base n)
     ∙ compacted_acknowledge (stored base s es (base + n)) acknowledged (record { based = omega arith; within = omega (arith, b) }) a
 
--- once more entries are settled, and those up to some position are folded into the state
+-- more entries are settled, and those up to some position are applied to the state
 pub folded_up_to : (h : Past) (position base : ℕ) (s : State) (es : List Entry) → HoldsCommitted h → HoldsCommitted (acknowledged_in (compacted_in h) position)
     → h.base ≤ base → base ≤ position → s ≡ after_entries h.base_state (take (base - h.base) h.entries) → es ≡ drop (base - h.base) h.entries
     → compacted_in (stored base s es position) ≡ compacted_in (acknowledged_in (compacted_in h) position)
@@ -40,14 +40,14 @@ folded_up_to h position base s es w next low high e f =
 nothing_left : (n : ℕ) (s : State) → past_at n (after_entries s (take (n - n) [])) (drop (n - n) []) ≡ past_at n s []
 nothing_left n s = let none : n - n ≡ 0 = omega arith in ap (λ (k : ℕ). past_at n (after_entries s (take k [])) (drop k [])) none
 
--- a state alone
+-- a state without entries
 pub installed_is : (n : ℕ) (s t : State) → t ≡ s → compacted_in (stored n t [] n) ≡ installed_in n s
 installed_is n s t e = nothing_left n t ∙ ap (λ (x : State). past_at n x []) e
 
 pub holds : (base acknowledged : ℕ) (s : State) (es : List Entry) → base ≤ acknowledged → acknowledged ≤ base + length es → HoldsCommitted (stored base s es acknowledged)
 holds base acknowledged s es a b = record { based = a; within = b }
 
--- where all settled entries are folded, what is stored is the past that it stands for
+-- if all settled entries are applied, the stored form is the past that it represents
 pub all_folded : (base n : ℕ) (s : State) (es : List Entry) → base ≡ n → stored base s es n ≡ compacted_in (stored base s es n)
 all_folded base n s es e =
     let none : n - base ≡ 0 = omega arith in

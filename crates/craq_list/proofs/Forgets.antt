@@ -1,4 +1,4 @@
--- What is remembered of nodes that differ in settled entries alone is the same.
+-- Nodes that differ only in settled entries have the same remembered part.
 use Rattle.std.proofs.Common.{◌≡◌, true, ℕ, List, sym, ap, ◌∙◌}
 use Rattle.craq_commands.specs.declared.entry.Entry.{Entry}
 use Rattle.craq_commands.specs.declared.state.State.{State}

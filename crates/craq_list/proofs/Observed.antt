@@ -1,4 +1,4 @@
--- What is read of what is stored, by the past that it stands for.
+-- Look-ups in the stored form agree with the past that it represents.
 use Rattle.std.proofs.Common.{◌≡◌, ℕ, zero, suc, ◌+◌, ◌-◌, List, [], ◌∷◌, length, take, drop, refl, sym, ap, ◌∙◌, arith}
 use Rattle.std.proofs.lemmas.List.{take-append-drop}
 use Rattle.craq_commands.specs.declared.entry.Entry.{Entry}
@@ -14,11 +14,11 @@ use Rattle.craq_plain.specs.Slots.{Slots, is_new_in, reply_at, said_in, slots_af
 use Rattle.craq_plain.proofs.Scans.{last_of_values}
 use Rattle.craq_plain.proofs.Windows.{said_after, new_later, slots_further}
 
--- the newest version of an object
+-- an object's newest version
 pub newest_told : (h : Past) (key : List ℕ) (o : ℕ × List ℕ) → o ≡ object_of (after_entries h.base_state h.entries).objects key → o ≡ object_of (newest_in (compacted_in h)).objects key
 newest_told h key o e = e ∙ sym (ap (λ (s : State). object_of s.objects key) (compacted_newest h))
 
--- its clean version
+-- an object's clean version
 pub clean_told : (h : Past) (key : List ℕ) (o : ℕ × List ℕ) (es : List Entry) → o ≡ object_of h.base_state.objects key → es ≡ take (h.acknowledged - h.base) h.entries
     → last_value o (values_after es key) ≡ object_of (clean_in (compacted_in h)).objects key
 clean_told h key o es e f =
@@ -34,7 +34,7 @@ nothing n = omega arith
 later_told : (h : Past) → drop (h.acknowledged - h.base) h.entries ≡ entries_in (compacted_in h) h.acknowledged
 later_told h = sym (ap (λ (n : ℕ). drop n (drop (h.acknowledged - h.base) h.entries)) (nothing h.acknowledged))
 
--- its newest version within a bound
+-- an object's newest version within a bound
 pub within_told : (h : Past) (key : List ℕ) (bound : ℕ) (o : ℕ × List ℕ) (es : List Entry) → o ≡ object_of (clean_in (compacted_in h)).objects key → es ≡ drop (h.acknowledged - h.base) h.entries
     → newest_within bound o (values_after es key) ≡ object_within_in (compacted_in h) key bound
 within_told h key bound o es e f =
@@ -46,7 +46,7 @@ none_before zero es none = refl
 none_before (suc n) [] none = refl
 none_before (suc n) (e ∷ es) none = cc
 
--- the same, where no entry that is held is settled
+-- an object's newest version within a bound, if no held entry is settled
 pub all_within_told : (h : Past) (key : List ℕ) (bound : ℕ) → take (h.acknowledged - h.base) h.entries ≡ []
     → newest_within bound (object_of h.base_state.objects key) (values_after h.entries key) ≡ object_within_in (compacted_in h) key bound
 all_within_told h key bound none =
@@ -66,7 +66,7 @@ slots_told s n client first w es settled later xs ys window front rest at before
     ∙ ap (λ (l : List Entry). slots_after client (length w) l (slots_from 0 w)) (take-append-drop n es)
     ∙ ap (λ (x : Window). slots_after client (length x) es (slots_from 0 x)) window
 
--- what is said of a client's number
+-- the status of a client's request number
 pub said_told : (h : Past) (client n : ℕ) (w : Window) (es : List Entry) (xs : Slots) → w ≡ window_of h.base_state client → es ≡ h.entries
     → xs ≡ slots_after client (length (window_of h.base_state client)) h.entries (slots_from 0 (window_of h.base_state client)) → said_in (reply_at w es) xs n ≡ said (newest_in (compacted_in h)) client n
 said_told h client n w es xs e f g =
@@ -76,7 +76,7 @@ said_told h client n w es xs e f g =
     ∙ said_after h.base_state h.entries client n
     ∙ sym (ap (λ (s : State). said s client n) (compacted_newest h))
 
--- whether it is new after further entries
+-- the test for a new request number after later entries
 pub new_told : (h : Past) (later : List Entry) (client n first : ℕ) (w : Window) (es : List Entry) (xs ys : Slots) → w ≡ window_of h.base_state client → es ≡ h.entries → first ≡ length w + length es
     → xs ≡ slots_after client (length (window_of h.base_state client)) h.entries (slots_from 0 (window_of h.base_state client)) → ys ≡ slots_after client first later xs → is_new_in ys n ≡ is_new_to (after_entries (newest_in (compacted_in h)) later) client n
 new_told h later client n first w es xs ys e f at before after =
@@ -89,7 +89,7 @@ new_told h later client n first w es xs ys e f at before after =
     ∙ new_later h.base_state h.entries later client n
     ∙ sym (ap (λ (s : State). is_new_to (after_entries s later) client n) (compacted_newest h))
 
--- the version of an object after further entries
+-- an object's version after later entries
 pub version_told : (h : Past) (later : List Entry) (key : List ℕ) (o : ℕ × List ℕ) → o ≡ object_of (newest_in (compacted_in h)).objects key
     → (last_value o (values_after later key)).0 ≡ version_of (after_entries (newest_in (compacted_in h)) later).objects key
 version_told h later key o e =

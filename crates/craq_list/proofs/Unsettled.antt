@@ -1,10 +1,10 @@
--- What is told of clients' entries among those that are not settled, once more of them come or the first ones are settled.
+-- The index of clients' unsettled entries, after more are appended or the first ones are settled.
 use Rattle.std.proofs.Common.{◌≡◌, ◌≤◌, ℕ, ◌+◌, ◌-◌, min, List, ◌++◌, length, take, drop, sym, ap, ◌∙◌, subst, arith, length-drop, length-append}
 use Rattle.std.proofs.lemmas.List.{length-take, take-append-le, drop-append-le, drop-drop}
 use Rattle.craq_commands.specs.declared.entry.Entry.{Entry}
 use Rattle.craq_unsettled.specs.Indexed.{Indexed, Tells, positions_of}
 
--- what is told stays true where entries come after them
+-- the index stays true when entries follow
 told_further : (x : Indexed) (es more : List Entry) → Tells x es → Tells x (es ++ more)
 told_further x es more t =
     let low = t.from in
@@ -17,7 +17,7 @@ told_further x es more t =
       positions = λ client. t.positions client ∙ ap (positions_of client x.from) (sym (take-append-le (x.to - x.from) es more within));
     }
 
--- what is told once entries are appended
+-- the index after entries are appended
 pub told_appended : (x y : Indexed) (base acknowledged base' : ℕ) (es more es' later : List Entry) → x.from ≡ acknowledged → base ≤ acknowledged → acknowledged ≤ base + length es → Tells x (drop (acknowledged - base) es)
     → base' ≡ base → es' ≡ es ++ more → later ≡ drop (x.to - base') es'
     → ((entries : List Entry) → Tells x entries → later ≡ drop (x.to - x.from) entries → Tells y entries) → Tells y (drop (acknowledged - base') es')
@@ -31,7 +31,7 @@ told_appended x y base acknowledged base' es more es' later begin a b t same all
     (subst (λ (l : List Entry). Tells x l) (sym left) (told_further x (drop m es) more t))
     (rest ∙ ap (λ (k : ℕ). drop k es') (sym sum) ∙ sym (drop-drop (x.to - x.from) (acknowledged - base') es'))
 
--- what is told once the first of them are settled, and entries up to some position are folded
+-- the index after the first entries are settled, and entries up to some position are applied
 pub told_settled : (x y : Indexed) (base acknowledged position base' : ℕ) (es first es' : List Entry) → base ≤ acknowledged → acknowledged ≤ position → position ≤ base + length es → base ≤ base' → base' ≤ position
     → es' ≡ drop (base' - base) es → Tells x (drop (acknowledged - base) es) → first ≡ take (position - acknowledged) (drop (acknowledged - base) es)
     → ((entries : List Entry) → Tells x entries → length first ≤ length entries → first ≡ take (length first) entries → Tells y (drop (length first) entries)) → Tells y (drop (position - base') es')

@@ -1,9 +1,9 @@
--- Nodes that differ in what is forgotten.
+-- Nodes that differ only in what compaction forgets.
 use Rattle.std.specs.Prelude.{◌≡◌}
 use Rattle.craq_model.specs.Past.{clean_in, entries_in}
 use Rattle.craq_model.specs.Plain.{Plain}
 
--- nodes that differ at most in settled entries, and have the same clean state
+-- the nodes differ at most in settled entries, and have the same clean state
 pub record DiffersInSettled (p q : Plain) : Type 0 where
   pub rest : record p { past = q.past } ≡ q
   pub acknowledged : p.past.acknowledged ≡ q.past.acknowledged

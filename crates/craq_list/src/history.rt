@@ -1,4 +1,5 @@
-//! `ListHistory`: a `History` over a held past and an index of clients' entries; `ListCore` is a node over it.
+//! `ListHistory`: a `History` over a compacted past and an index of clients' entries. `ListCore` is
+//! a node over it.
 ghost use Rattle.std.specs.Prelude.{◌≡◌, ◌+◌, ◌-◌, ◌≤◌, true, length, take, drop};
 ghost use Rattle.arrayvec.specs.ArrayVec.{array_vec_len};
 ghost use Rattle.craq_commands.specs.Objects.{object_of, version_of};
@@ -23,12 +24,13 @@ use craq_settled::{HeldPast, Seen};
 use craq_unsettled::ClientIndex;
 use std::alloc::{AllocError, Global};
 
-/// A past that forgets settled entries. It keeps the state after the first so many entries, and the entries after
-/// them. Settled entries are folded into the state at once; where memory is refused for that, later, and nothing
-/// that is seen differs.
+/// A compacting past: the state after a prefix of the entries, and the entries after it. Settled
+/// entries are applied to the state at once, or later if out of memory, without any visible
+/// difference.
 ///
-/// What it is asked of an object takes a look-up or two, and a look at few of the entries that are not settled; what it is
-/// asked of a client, one look-up and a look at each of them.
+/// A look-up of an object costs one or two searches and a scan of the few entries that are not
+/// indexed. A look-up of a client costs one search and a scan of the unsettled entries of that
+/// client.
 #[derive(Drop)]
 pub struct ListHistory {
     held: HeldPast,
@@ -41,7 +43,7 @@ pub struct ListHistory {
     ghost told: { Tells clients (drop (acknowledged - held.base) held.entries) },
 }
 
-/// The entries after one position, up to another.
+/// Returns the entries after one position, up to another.
 fn between(held: &HeldPast, from: Seq, to: Seq) -> &[Entry]
     requires held { held.now.base ≤ from }
     requires rising { from ≤ to }
@@ -54,28 +56,30 @@ fn between(held: &HeldPast, from: Seq, to: Seq) -> &[Entry]
 }
 
 impl ListHistory {
-    /// How many entries are known by the state after them alone. No entry at or below this position is in memory.
+    /// Returns the number of entries that only the state represents. No entry at or below this
+    /// position is in memory.
     pub fn base(&self) -> Seq
         ensures { result ≡ (⟦<ListHistory as History>⟧.in_memory self.now).base }
     {
         self.held.base()
     }
 
-    /// How many entries are in memory: those after the base.
+    /// Returns the number of entries in memory: those after the base.
     pub fn entries_held(&self) -> usize
         ensures { result ≡ length (⟦<ListHistory as History>⟧.in_memory self.now).entries }
     {
         self.entries().len()
     }
 
-    /// The entries after the state.
+    /// Returns the entries after the state.
     fn entries(&self) -> &[Entry]
         ensures { result.now ≡ self.now.held.entries }
     {
         self.held.from(self.held.base())
     }
 
-    /// The entries that are settled and not folded into the state yet. Mostly there are none.
+    /// Returns the entries that are settled and not yet applied to the state. Usually there are
+    /// none.
     fn settled(&self) -> &[Entry]
         ensures { result.now ≡ take (self.now.acknowledged - self.now.held.base) self.now.held.entries }
     {
@@ -83,7 +87,7 @@ impl ListHistory {
         &self.entries()[..count]
     }
 
-    /// The entries that are not settled.
+    /// Returns the entries that are not settled.
     fn unsettled(&self) -> &[Entry]
         ensures entries { result.now ≡ drop (self.now.acknowledged - self.now.held.base) self.now.held.entries }
         ensures in_row { AreInRow (self.now.acknowledged + 1) result.now }
@@ -91,8 +95,8 @@ impl ListHistory {
         self.held.from(self.acknowledged)
     }
 
-    /// The clean version of an object, with its value, of which this one is found in the state: mostly it is that one, since
-    /// all settled entries are folded.
+    /// Returns an object's clean version and value, given those found in the state. Usually these
+    /// are the same, because all settled entries are applied.
     fn settled_past<'a>(
         &'a self,
         version: Version,
@@ -110,7 +114,7 @@ impl ListHistory {
         object_past(version, value, self.settled(), key)
     }
 
-    /// The version of an object after all entries and these further ones.
+    /// Returns an object's version after all entries and these later ones.
     fn version_later(&self, later: &[Entry], key: &Key) -> Version
         ensures { result ≡ version_of (after_entries (newest_in (⟦<ListHistory as History>⟧.past self.now)) later.now).objects key.now }
     {
@@ -118,7 +122,7 @@ impl ListHistory {
         object_past(newest, bytes, later, key).0
     }
 
-    /// The numbers that are kept for a client after all entries, and where their replies stand, where this is kept for it in the state.
+    /// Returns the slots of a client's window after all entries, given its window in the state.
     fn slots(&self, window: &[Kept], client: ClientId) -> Slots
         requires window { window.now ≡ window_of self.now.held.state client }
         requires short { length window.now ≤ 8 }
@@ -133,7 +137,8 @@ impl ListHistory {
         slots
     }
 
-    /// Whether a client's number is new after all entries and these further ones.
+    /// Returns true exactly if a client's request number is new after all entries and these later
+    /// ones.
     fn is_new_later(&self, later: &[Entry], client: ClientId, number: RequestNo) -> bool
         ensures { result ≡ is_new_to (after_entries (newest_in (⟦<ListHistory as History>⟧.past self.now)) later.now) client number }
     {
@@ -144,7 +149,7 @@ impl ListHistory {
         is_new(slots.as_slice(), number)
     }
 
-    /// Whether an entry fits the state after all entries and these earlier ones.
+    /// Returns true exactly if an entry fits the state after all entries and these earlier ones.
     #[tactic(auto, unfolding(craq_model::specs::Deliveries::is_applicable))]
     fn is_next(&self, earlier: &[Entry], entry: &Entry) -> bool
         ensures { result ≡ is_applicable (after_entries (newest_in (⟦<ListHistory as History>⟧.past self.now)) earlier.now) entry.now }

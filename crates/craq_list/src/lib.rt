@@ -1,5 +1,5 @@
-//! The past of a node that forgets settled entries: the state after them, in maps, and the entries that are not
-//! settled; `craqd`, `craq_lab` and `craq_embedding` run nodes over it. Code that runs in the program.
+//! A compacting past: the state after the settled entries, in maps, and the unsettled entries.
+//! Runs in the program: `craqd`, `craq_lab` and `craq_embedding` run nodes over it.
 #![tactic(auto)]
 
 ghost use Rattle.craq_model.specs.Plain.{Plain};
@@ -11,11 +11,11 @@ mod history;
 use craq_node::{Core, NodeCore};
 pub use history::ListHistory;
 
-/// A node that forgets settled entries.
+/// A node over the compacting past.
 pub type ListCore = NodeCore<ListHistory>;
 
-/// A core that forgets settled entries represents, with a node, each sound node that differs from it in settled
-/// entries alone and has the same clean state. It does nothing.
+/// States that a compacting core represents, with a node, each sound node that differs from it only
+/// in settled entries and has the same clean state. Does nothing.
 pub fn settled_entries_are_forgotten(core: &ListCore)
     ensures { (p q : Plain) → ⟦<ListCore as Core>⟧.represents core.now p → IsSound q → DiffersInSettled p q → ⟦<ListCore as Core>⟧.represents core.now q }
 {

@@ -1,4 +1,4 @@
--- Who joins is a node.
+-- A node that joins is not the master.
 use Rattle.std.proofs.Common.{◌≡◌, ◌≤◌, ℕ, Result, Ok, Err, refl, arith}
 use Rattle.craq_names.specs.declared.refusal.Refusal.{Refusal}
 use Rattle.craq_epochs.specs.Mastered.{Mastered, joined}
@@ -21,7 +21,7 @@ by_stamp : (c new : Celled Mastered BookEvent) (id pass : ℕ) (s : Result ℕ R
 by_stamp c new id pass (Ok stamp) h = by_join c new id pass stamp (joined c.inside id) refl h
 by_stamp c new id pass (Err x) h = absurd (cc)
 
--- a master that took a step at an event took it at one of a node
+-- an event at which a master took a step names a node
 pub names_node : (old new : Celled Mastered BookEvent) (event : BookEvent) (pass : ℕ) → cell_step book_step old event (book_stamp event) pass ≡ Ok new → NamesNode event
 unfolding cell_step
 names_node old new (Join id) pass h = by_stamp old new id pass (next_stamp old.stamp pass 0) h

@@ -1,4 +1,4 @@
--- A step of a cell leaves how it was opened, and is its last.
+-- A step of a cell keeps its opening, and is its last.
 use Rattle.std.proofs.Common.{◌≡◌, ℕ, Option, Some, None, Result, Ok, Err, refl, sym, ap, ◌∙◌}
 use Rattle.std.specs.Option.{IsSome, option_map}
 use Rattle.craq_names.specs.declared.refusal.Refusal.{Refusal}
@@ -39,7 +39,7 @@ names_cell R old new event pass receipt kept takes =
     let t = takes kept.named.0 kept.named.1 in
     ap (λ (x : Receipt). x.node) t.1.1 ∙ ap (λ (o : Opening). o.name.node) (same_opening _ (with_inside old kept.named.0) (with_inside new t.0) event _ pass t.1.0)
 
--- nor does a step of a master
+-- the same for a step of a master
 pub names_book : (old new : Celled Mastered BookEvent) (event : BookEvent) (pass : ℕ) (receipt : Receipt) → (cell_step book_step old event (book_stamp event) pass ≡ Ok new) × (receipt ≡ receipt_of new)
     → receipt.node ≡ old.opening.name.node
 names_book old new event pass receipt takes =
@@ -72,12 +72,12 @@ cell_has_last R old new event pass receipt kept takes none =
 pub book_has_last : (old new : Celled Mastered BookEvent) (event : BookEvent) (pass : ℕ) (receipt : Receipt) → (cell_step book_step old event (book_stamp event) pass ≡ Ok new) × (receipt ≡ receipt_of new) → new.last ≡ None → ⊥
 book_has_last old new event pass receipt takes none = has_last book_step old new event (book_stamp event) pass takes.0 none
 
--- a lent value is there where the value is
+-- a borrowed value exists if the value does
 pub some_lent : {S T : Type 0} (f : S → T) (lent : Option S) (o : Option T) → option_map f lent ≡ o → (o ≡ None → ⊥) → IsSome lent
 some_lent f None o e some = absurd (some (sym e))
 some_lent f (Some x) o e some = refl
 
--- so a node's cell lends it
+-- so a node's cell lends its last step
 pub cell_lends_last : {C S : Type 0} (R : C → Plain → Type 0) (old new lender : Celled C Event) (event : Event) (pass : ℕ) (receipt : Receipt) (f : S → Step) (lent : Option S) → IsKept R old
     → ((p : Plain) → R old.inside p → TakesEvent R new (with_inside old p) event pass (Ok receipt)) → lender ≡ new → option_map f lent ≡ lender.last → IsSome lent
 cell_lends_last {C} R old new lender event pass receipt f lent kept takes same e =

@@ -1,4 +1,4 @@
--- What a move adds to the messages that were sent.
+-- The messages that a move appends to those that were sent.
 use Rattle.std.proofs.Common.{◌≡◌, List, [], Option, Result, Ok, Err, sym, ◌∙◌}
 use Rattle.std.proofs.lemmas.List.{append-nil}
 use Rattle.craq_names.specs.declared.refusal.Refusal.{Refusal}

@@ -1,4 +1,4 @@
--- What a step of a cell sent.
+-- The messages that a step of a cell sent.
 use Rattle.std.specs.Prelude.{◌≡◌, ◌≤◌, ⊤, List, ◌++◌, Option, Some, None, Result, Ok, Err}
 use Rattle.craq_names.specs.declared.refusal.Refusal.{Refusal}
 use Rattle.craq_names.specs.declared.refusal.Refusal.TheVariants as refusals
@@ -19,15 +19,15 @@ abbrev pub receipt_in : Result CellStep Refusal → Result Receipt Refusal
 receipt_in (Ok taken) = Ok taken.receipt
 receipt_in (Err e) = Err e
 
--- the messages that were sent before and after a move: all those of the step that was taken besides; none more where no cell took
--- it or it was refused; and for want of memory perhaps some more
+-- the messages sent before and after a move: those of the step in addition; no more if no cell took
+-- it or it was refused; and perhaps some more when out of memory
 abbrev pub HasSent : List LinkMessage → List LinkMessage → Result (Option CellStep) Refusal → Type 0
 HasSent old new (Ok (Some taken)) = new ≡ old ++ sent_of taken
 HasSent old new (Ok None) = new ≡ old
 HasSent old new (Err refusals.Memory) = (more : List LinkMessage) × (new ≡ old ++ more)
 HasSent old new (Err refusal) = new ≡ old
 
--- who joins is a node, and not the master, which is 0
+-- a node that joins is not the master, which is 0
 abbrev pub NamesNode : BookEvent → Type 0
 NamesNode (Join id) = 1 ≤ id
 NamesNode (Remove stopped stop) = ⊤

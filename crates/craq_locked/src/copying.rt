@@ -1,11 +1,12 @@
-//! A step as a value of its own: what a lock has cannot be lent once the lock is free; called by `stepping`.
+//! Copies of steps, since the content of a lock cannot be borrowed once the lock is free; used by
+//! `stepping`.
 ghost use Rattle.std.specs.Prelude.{◌≡◌, IfOk};
 
 use craq_model::{Out, Step};
 use craq_names::{Copied, Items};
 use std::alloc::{AllocError, Global};
 
-/// The out as a value of its own.
+/// Copies an output.
 fn out_copy(alloc: Global, out: &Out) -> Result<Out, AllocError>
     ensures { IfOk result (λ copy. copy ≡ out.now) }
 {
@@ -21,7 +22,7 @@ fn out_copy(alloc: Global, out: &Out) -> Result<Out, AllocError>
     })
 }
 
-/// The outs in memory of their own, in order.
+/// Copies the outputs, in order.
 fn outs_copy(alloc: Global, outs: &[Out]) -> Result<Vec<Out>, AllocError>
     ensures { IfOk result (λ copies. copies.items ≡ outs.now) }
 {
@@ -32,7 +33,7 @@ fn outs_copy(alloc: Global, outs: &[Out]) -> Result<Vec<Out>, AllocError>
     Ok(copies)
 }
 
-/// The step as a value of its own.
+/// Copies a step. Fails only when out of memory.
 pub fn copy_of(alloc: Global, step: &Step) -> Result<Step, AllocError>
     ensures { IfOk result (λ copy. copy ≡ step.now) }
 {

@@ -1,6 +1,5 @@
-//! A chain of locked cells, for `craq_play` and tests, apart from `craq_workers` since it has no threads and no links:
-//! each node's desk and the master's cell under a lock of its own, and the messages that they
-//! sent. Code that runs in the program.
+//! A chain of locked cells: nodes' desks and the master's cell, each with a lock, and messages.
+//! Runs in the program, in `craq_play`, and in tests; has no threads and no links.
 #![tactic(auto)]
 
 mod copying;

@@ -1,4 +1,4 @@
-//! `LockedChain`: the cells of a chain, each under its lock; for `craq_play`.
+//! `LockedChain`: the cells of a chain, each under its lock; used by `craq_play`.
 ghost use Rattle.std.specs.Prelude.{◌≡◌, ◌≤◌, ◌⊎◌, ◌↔◌, ◌++◌, ◌∷◌, [], Err, IfErr, IfOk, IfSome, None, Ok, OnErr, OnOk};
 ghost use Rattle.std.specs.Option.{option_copied};
 ghost use Rattle.craq_model.specs.Members.{IsMembership};
@@ -17,12 +17,13 @@ use std::alloc::{AllocError, Global};
 use std::marker::Model;
 use std::sync::{Mutex, Wait};
 
-/// A chain whose nodes and master are cells, each under a lock of its own: a step is taken under the lock of the one cell
-/// that takes it. It keeps the messages that its cells sent, by number, and the receipts of its nodes' stops.
+/// A chain whose nodes and master are cells, each under its own lock: a step is taken under the
+/// lock of its one cell. Keeps the messages that its cells sent, by number, and the receipts of its
+/// nodes' stops.
 ///
-/// A contract sees the ids of its nodes with their seats, and the messages that were sent. A lock tells a proof nothing of
-/// what it holds, so no contract here says which cell took a step: whoever needs to know compares the step with one that is
-/// known.
+/// A contract sees the ids of its nodes with their seats, and the messages that were sent. A lock
+/// tells a proof nothing of its content, so no contract here says which cell took a step. A caller
+/// that needs to know compares the step with a known one.
 #[derive(Drop)]
 pub struct LockedChain<C: Core> {
     chain: ChainId,
@@ -43,8 +44,8 @@ impl<C: Core> Model for LockedChain<C> {
     ghost view = { λ c. record { chain = c.chain; seats = c.seats.items; sent = c.posted } };
 }
 
-/// A node before its first step, in a cell that is opened as `Cell::open` has it. It fails for want of memory alone
-/// (`Memory`).
+/// Makes a node before its first step, in a cell opened as `Cell::open` does. Fails only when out
+/// of memory (`Memory`).
 fn seat_of<C: Core>(
     alloc: Global,
     name: NodeName,
@@ -59,7 +60,8 @@ fn seat_of<C: Core>(
     Ok(Seat::new(alloc, Desk::new(alloc, cell)))
 }
 
-/// The members of a first membership, at stamp 0, each with its seat. They fail for want of memory alone (`Memory`).
+/// Makes the members of a first membership, at stamp 0, each with its seat. Fails only when out of
+/// memory (`Memory`).
 fn opening_seats<C: Core>(
     alloc: Global,
     chain: ChainId,
@@ -79,7 +81,7 @@ fn opening_seats<C: Core>(
     Ok(seats)
 }
 
-/// The node of this id with its seat, where there is one. It takes no memory.
+/// Returns the node of this id with its seat, if there is one. Never allocates.
 fn seat_among<C: Core>(seats: &[(NodeId, Seat<C>)], id: NodeId) -> Option<&(NodeId, Seat<C>)>
     ensures { option_copied result ≡ seated_at seats.now id }
 {
@@ -87,11 +89,11 @@ fn seat_among<C: Core>(seats: &[(NodeId, Seat<C>)], id: NodeId) -> Option<&(Node
 }
 
 impl<C: Core> LockedChain<C> {
-    /// A chain of these members, head first, before any move: the master's cell and theirs, at stamp 0, with journals or
-    /// without.
+    /// Opens a chain of these members, head first, before any move: the master's cell and theirs,
+    /// at stamp 0, with or without journals.
     ///
-    /// `BadConfig` exactly where they are no membership: 1 to 8 ids from 1, none twice. `Memory` where a growth was
-    /// refused, and they are one.
+    /// `BadConfig` exactly if they are no membership (1 to 8 ids from 1, none twice). `Memory` if
+    /// they are one and an allocation failed.
     pub fn open(
         alloc: Global,
         chain: ChainId,
@@ -115,29 +117,33 @@ impl<C: Core> LockedChain<C> {
         })
     }
 
-    /// The master's cell, under its lock: the one lock of a book that the chain has. It takes no memory.
+    /// Returns the master's cell, under its lock: the only lock of a master in the chain. Never
+    /// allocates.
     pub fn book(&self) -> &Mutex<BookCell> {
         &self.book
     }
 
-    /// The node of this id with its seat, where the chain ever had one. It takes no memory.
+    /// Returns the node of this id with its seat, if the chain ever had one. Never allocates.
     pub fn seat(&self, id: NodeId) -> Option<&(NodeId, Seat<C>)>
         ensures { option_copied result ≡ seated_at self.now.seats id }
     {
         seat_among(self.seats.as_slice(), id)
     }
 
-    /// One move, taken on the cell of the node or of the master that it concerns, under that one lock, with this pass: the
-    /// step and its receipt, or none where no cell can take the move. Those are a message that was not sent, a node that
-    /// the chain never had, and the removal of one that runs. The messages of the step, and no others, are sent with it.
+    /// Takes one move on the cell of its node or of the master, under that one lock, with this
+    /// pass. Returns the step and its receipt, or `None` if no cell can take the move: its message
+    /// was not sent, the chain never had its node, or it removes a running node. Sends exactly the
+    /// messages of the step.
     ///
-    /// A delivered message is the one that the sending cell's `numbered` gave; a removal shows the receipt of the node's
-    /// switch and that of the step in which it stopped. A node that joins has a cell from then on, opened at the stamp of
-    /// the join. The receipts of the calls that the step answers are added to `calls`.
+    /// A delivered message is the one that `numbered` gave for the sending cell. A removal shows
+    /// the receipt of the node's switch and that of the step in which it stopped. A node that joins
+    /// has a cell from then on, opened at the stamp of the join. The receipts of the calls that the
+    /// step answers are added to `calls`.
     ///
-    /// Refused as the cell refuses it, with nothing changed; as `WrongNode`, likewise, where another node's cell stands
-    /// behind the lock; or as `Memory`, after which the step may have been taken: then the numbers of later messages are
-    /// not those of a chain that took it, and no further move is to be taken. What was sent stays in any case.
+    /// Refused as the cell refuses it, with nothing changed; as `WrongNode`, with nothing changed,
+    /// if another node's cell is behind the lock; or as `Memory`. After `Memory` the step may have
+    /// been taken: the numbers of later messages are then not those of a chain that took it, and no
+    /// further move may be taken. Messages that were sent stay sent in any case.
     pub fn take<R: Wait>(
         &mut self,
         rt: &R,
@@ -170,7 +176,7 @@ impl<C: Core> LockedChain<C> {
         }
     }
 
-    /// A step of the node of this id, under its lock. None where the chain never had it.
+    /// Takes a step of the node of this id, under its lock. `None` if the chain never had it.
     fn at_node<R: Wait>(
         &mut self,
         rt: &R,
@@ -201,7 +207,7 @@ impl<C: Core> LockedChain<C> {
         Ok(Some(taken))
     }
 
-    /// A step of the master, under its lock.
+    /// Takes a step of the master, under its lock.
     fn at_book<R: Wait>(
         &mut self,
         rt: &R,
@@ -224,7 +230,7 @@ impl<C: Core> LockedChain<C> {
         Ok(taken)
     }
 
-    /// The message of this number arrives at its receiver. None where it was not sent.
+    /// Delivers the message of this number to its receiver. `None` if it was not sent.
     fn deliver<R: Wait>(
         &mut self,
         rt: &R,
@@ -257,7 +263,8 @@ impl<C: Core> LockedChain<C> {
         Ok(())
     }
 
-    /// The node of this id halts, and the receipt of the step is kept. None where the chain never had it.
+    /// Stops the node of this id and keeps the receipt of the step. `None` if the chain never had
+    /// it.
     fn stop<R: Wait>(
         &mut self,
         rt: &R,
@@ -284,8 +291,8 @@ impl<C: Core> LockedChain<C> {
         }
     }
 
-    /// The removal of a node that has stopped, with the receipt of its switch and that of its stop. None where the node
-    /// runs, or the chain never had it.
+    /// Returns the removal of a stopped node, with the receipt of its switch and that of its stop.
+    /// `None` if the node runs, or the chain never had it.
     fn removal_of<R: Wait>(&self, rt: &R, id: NodeId) -> Option<BookEvent> {
         let (_, seat) = self.seat(id)?;
         let stopped = seat.lock(rt).desk.cell().switch().receipt()?;
@@ -296,7 +303,8 @@ impl<C: Core> LockedChain<C> {
         })
     }
 
-    /// The master takes a stopped node out. None where the node runs, or the chain never had it.
+    /// Removes a stopped node from the membership. `None` if the node runs, or the chain never had
+    /// it.
     fn remove<R: Wait>(
         &mut self,
         rt: &R,
@@ -318,8 +326,8 @@ impl<C: Core> LockedChain<C> {
         }
     }
 
-    /// A node that the master's step of this receipt joined gets the last seat, its cell opened at the stamp of the step. It
-    /// fails for want of memory alone (`Memory`).
+    /// Adds the seat of a node that the master's step of this receipt joined, as the last; opens
+    /// its cell at the stamp of the step. Fails only when out of memory (`Memory`).
     fn add_seat(&mut self, alloc: Global, id: NodeId, joined: &Receipt) -> Result<(), Refusal>
         requires { 1 ≤ id }
         ensures ids { OnOk result (ids_of self.new ≡ ids_of self.old ++ id ∷ []) }
@@ -337,7 +345,7 @@ impl<C: Core> LockedChain<C> {
         Ok(())
     }
 
-    /// The master adds a node, whose cell is opened at the stamp of the join.
+    /// Adds a node to the membership, and opens its cell at the stamp of the join.
     fn join<R: Wait>(
         &mut self,
         rt: &R,

@@ -9,7 +9,8 @@ use craq_model::LinkMessage;
 use std::alloc::{AllocError, Global};
 use std::marker::Model;
 
-/// The messages that were sent, in the order of sending; all can be encoded. A contract sees their list.
+/// The messages that were sent, in the order of sending; each has an encoding. A contract sees
+/// their list.
 #[derive(Drop)]
 pub struct Posted {
     messages: Vec<LinkMessage>,
@@ -29,7 +30,7 @@ impl Model for Posted {
 }
 
 impl Posted {
-    /// No messages yet.
+    /// Makes an empty list. Never allocates.
     pub fn new(alloc: Global) -> Self
         ensures { result ≡ [] }
     {
@@ -38,7 +39,7 @@ impl Posted {
         }
     }
 
-    /// Adds messages after the last.
+    /// Appends messages. Fails only when out of memory; the list is then unchanged.
     pub fn add(&mut self, messages: Vec<LinkMessage>) -> Result<(), AllocError>
         requires { AllByRecursion IsSpelled messages.items }
         ensures ok { OnOk result (self.new ≡ self.old ++ messages.items) }
@@ -48,7 +49,8 @@ impl Posted {
         self.messages.append(&mut messages)
     }
 
-    /// The message of this number, counted from 1, where so many were sent. It takes no memory.
+    /// Returns the message of this number, counted from 1; `None` if it was not sent. Never
+    /// allocates.
     pub fn message(&self, number: u64) -> Option<&LinkMessage>
         ensures value { option_copied result ≡ message_at self.now number }
         ensures spelled { IfSome (option_copied result) IsSpelled }

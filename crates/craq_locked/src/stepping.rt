@@ -1,4 +1,4 @@
-//! One step of a cell whose lock is held, and its messages; called by `LockedChain::take`.
+//! One step of a cell whose lock is held, and its messages; used by `LockedChain::take`.
 ghost use Rattle.std.specs.Prelude.{◌≡◌, ◌++◌, ◌⊎◌, Err, IfOk, OnErr, OnOk, Some};
 ghost use Rattle.craq_model.specs.Plain.{Plain};
 ghost use Rattle.craq_node.specs.Represented.{CanArrive};
@@ -24,14 +24,15 @@ pub struct CellStep {
     pub step: Step,
 }
 
-/// A cell keeps what its type says. It does nothing.
+/// States that a cell keeps the invariants of its type. Does nothing.
 fn keeps_type<C: Core>(desk: &Desk<C>)
     ensures { IsKept C.represents desk.now.cell }
 {
     let _ = desk.cell().journal();
 }
 
-/// Adds the messages of a step, each named by the step's receipt, to those that were sent. Without memory nothing is added.
+/// Appends the messages of a step, each named by the step's receipt, to those that were sent. Adds
+/// nothing when out of memory.
 fn post_messages(
     alloc: Global,
     step: &Step,
@@ -46,8 +47,8 @@ fn post_messages(
     posted.add(messages)
 }
 
-/// Adds the messages of a step, each named by the step's receipt, to those that were sent, and gives the step back, in memory
-/// of its own. Without memory nothing is added.
+/// Appends the messages of a step, each named by the step's receipt, to those that were sent, and
+/// returns a copy of the step. Adds nothing when out of memory.
 fn post(
     alloc: Global,
     step: &Step,
@@ -73,11 +74,11 @@ fn post(
     }
 }
 
-/// One step of a node at its desk: its messages are added to those that were sent, and the receipts of the calls that it
-/// answers to the others.
+/// Takes one step of a node at its desk. Appends its messages to those that were sent, and the
+/// receipts of the calls that it answers to `calls`.
 ///
-/// Refused as the desk refuses it, with nothing changed, or for want of memory: then the step may have been taken, and
-/// its messages and call receipts be lost.
+/// Refused as the desk refuses it, with nothing changed, or when out of memory: then the step may
+/// have been taken, and its messages and call receipts may be lost.
 pub fn step_node<C: Core>(
     alloc: Global,
     desk: &mut Desk<C>,
@@ -106,7 +107,9 @@ pub fn step_node<C: Core>(
     }
 }
 
-/// One step of the master at its cell: its messages are added to those that were sent. Refused as `step_node` is.
+/// Takes one step of the master at its cell, and appends its messages to those that were sent.
+/// Refused as the cell refuses it, with nothing changed, or when out of memory: then the step may
+/// have been taken, and its messages may be lost.
 pub fn step_book(
     alloc: Global,
     book: &mut BookCell,

@@ -4,11 +4,11 @@ use Rattle.craq_commands.specs.declared.entry.Entry.{Entry}
 use Rattle.craq_node_invariant.specs.Sound.{AreInRow}
 
 pub record Suffixed : Type 0 where
-  pub base : ℕ  -- how many entries stand before them
+  pub base : ℕ  -- the number of entries before these
   pub entries : List Entry
-  pub room : ℕ  -- how many more take no memory
+  pub room : ℕ  -- the number of further entries that need no allocation
 
--- how many entries the history has
+-- the number of entries of the history
 abbrev pub length_of : Suffixed → ℕ
 length_of s = s.base + length s.entries
 
@@ -16,17 +16,17 @@ length_of s = s.base + length s.entries
 abbrev pub entries_after : Suffixed → ℕ → List Entry
 entries_after s position = drop (position - s.base) s.entries
 
--- the entry is the first of some; what is left stands after it
+-- the entry is the first, and the rest follows it
 pub record IsFirstOf (e : Entry) (s left : Suffixed) : Type 0 where
   pub entries : s.entries ≡ e ∷ left.entries
   pub base : left.base ≡ s.base + 1
 
--- entries from the first that is stored on; so many of them are let go already, and the others come in a row
+-- stored entries, consecutive from the first; the first `settled` are dropped already
 pub record IsStored (start settled : ℕ) (entries : List Entry) : Type 0 where
   pub within : settled ≤ length entries
   pub numbered : start + length entries < 2 ^ 64
   pub in_row : AreInRow (start + settled + 1) (drop settled entries)
 
--- at most half of the entries that are stored are let go already
+-- at most half of the stored entries are dropped already
 abbrev pub IsTrimmed : ℕ → List Entry → Type 0
 IsTrimmed settled entries = settled + settled ≤ length entries

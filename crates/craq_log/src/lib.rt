@@ -1,5 +1,5 @@
-//! The entries of a node after a base position of its history; `craq_settled` holds them so.
-//! Code that runs in the program.
+//! The entries of a node's history after a base position, as `craq_settled` stores them.
+//! Runs in the program.
 #![tactic(auto)]
 
 mod suffix;

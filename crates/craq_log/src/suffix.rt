@@ -1,4 +1,4 @@
-//! `Suffix`: the entries of a history after a base position; for histories that forget.
+//! `Suffix`: the entries of a history after a base position, for compacting histories.
 ghost use Rattle.std.specs.Prelude.{◌≡◌, ◌+◌, ◌-◌, ◌<◌, ◌≤◌, ◌^◌, [], ◌∷◌, ◌++◌, drop, length, vec_len, vec_capacity, IsOk, OnOk, OnErr, MatchOption};
 ghost use Rattle.craq_node_invariant.specs.Sound.{AreInRow};
 ghost use Rattle.craq_log.specs.Suffixed.{length_of, entries_after, IsFirstOf, IsStored, IsTrimmed};
@@ -9,11 +9,12 @@ use std::alloc::{AllocError, Global};
 use std::marker::Model;
 use std::mem;
 
-/// The entries of a history after a base position, one after another.
+/// The consecutive entries of a history after a base position.
 ///
-/// What is acknowledged is let go (a node remembers what it forwarded until it is acknowledged: the list of
-/// sent updates of the OSDI 2004 paper). Letting go costs on average what the entries let go have cost,
-/// however many stay: entries that are settled stay in place until at least half of all are.
+/// Acknowledged entries are dropped. A node remembers what it forwarded until it is acknowledged:
+/// the list of sent updates of the OSDI 2004 paper. Dropping costs amortized constant time per
+/// dropped entry, however many stay: settled entries stay stored until they are at least half of
+/// all.
 #[derive(Drop)]
 pub struct Suffix {
     start: u64,
@@ -37,7 +38,7 @@ impl Model for Suffix {
 }
 
 impl Suffix {
-    /// No entries, after this position. It takes no memory.
+    /// Returns no entries, after this position. Allocates nothing.
     pub fn new(alloc: Global, base: Seq) -> Self
         ensures base { result.base ≡ base }
         ensures entries { result.entries ≡ [] }
@@ -49,22 +50,22 @@ impl Suffix {
         }
     }
 
-    /// How many entries of the history stand before these.
+    /// Returns the base position: the number of entries of the history before these.
     pub fn base(&self) -> Seq
         ensures { result ≡ self.now.base }
     {
         Seq::new(self.start + self.settled as u64)
     }
 
-    /// How many entries the history has: the base, and these.
+    /// Returns the length of the history: the base and these entries.
     pub fn len(&self) -> Seq
         ensures { result ≡ length_of self.now }
     {
         Seq::new(self.start + self.entries.len() as u64)
     }
 
-    /// Makes room for this many more entries, whose `append` then takes no memory. The entries stay in
-    /// either case.
+    /// Reserves room for this many more entries, whose `append` then allocates nothing. Fails only
+    /// when out of memory; the entries are unchanged in either case.
     pub fn reserve(&mut self, additional: usize) -> Result<(), AllocError>
         ensures base { self.new.base ≡ self.old.base }
         ensures entries { self.new.entries ≡ self.old.entries }
@@ -75,8 +76,8 @@ impl Suffix {
         self.entries.reserve(additional)
     }
 
-    /// One more entry, at the next position. If memory is refused, the entries stay as they were; it is refused only where
-    /// there is no room.
+    /// Appends one entry, at the next position. Fails only when out of memory, and only if no room
+    /// is reserved; the entries are unchanged on error.
     pub fn append(&mut self, entry: Entry) -> Result<(), AllocError>
         requires { entry.position ≡ length_of self.old + 1 }
         ensures base { self.new.base ≡ self.old.base }
@@ -91,7 +92,8 @@ impl Suffix {
         Ok(())
     }
 
-    /// The entries that come next, all of them. Where memory is refused the entries stay.
+    /// Appends the entries that come next, all of them. Fails only when out of memory; the entries
+    /// are unchanged on error.
     pub fn append_all(&mut self, entries: Items<Entry>) -> Result<(), AllocError>
         requires fits { length_of self.old + length entries < 2 ^ 64 }
         requires in_row { AreInRow (length_of self.old + 1) entries }
@@ -104,7 +106,8 @@ impl Suffix {
         Ok(())
     }
 
-    /// Takes the first entry out, where there is one; its position is then the base. It takes no memory.
+    /// Removes and returns the first entry, `None` if there is none; its position becomes the base.
+    /// Allocates nothing.
     pub fn take_first(&mut self, alloc: Global) -> Option<Entry>
         ensures { MatchOption result ((self.old.entries ≡ []) × (self.new ≡ self.old)) (λ e. IsFirstOf e self.old self.new) }
     {
@@ -117,7 +120,7 @@ impl Suffix {
         Some(first)
     }
 
-    /// Lets go the entries up to this position, which becomes the base. It takes no memory.
+    /// Drops the entries up to this position, which becomes the base. Allocates nothing.
     pub fn acknowledge(&mut self, position: Seq)
         requires held { self.old.base ≤ position }
         requires known { position ≤ length_of self.old }
@@ -129,7 +132,7 @@ impl Suffix {
         trim(&mut self.start, &mut self.entries, &mut self.settled);
     }
 
-    /// The entries after a position, one after another. It takes no memory.
+    /// Returns the entries after a position, in order. Allocates nothing.
     pub fn from(&self, position: Seq) -> &[Entry]
         requires held { self.now.base ≤ position }
         requires known { position ≤ length_of self.now }
@@ -141,7 +144,7 @@ impl Suffix {
     }
 }
 
-/// Takes an entry out of its place, where one without writes stays until it is let go.
+/// Moves an entry out of its slot. A placeholder without writes stays there until it is dropped.
 fn taken_out(alloc: Global, entry: &mut Entry) -> Entry
     ensures { result ≡ entry.old }
 {
@@ -157,7 +160,7 @@ fn taken_out(alloc: Global, entry: &mut Entry) -> Entry
     mem::replace(entry, empty)
 }
 
-/// Lets the settled entries go where they are at least half of all. What is seen stays.
+/// Drops the settled entries if they are at least half of all. The visible entries are unchanged.
 fn trim(start: &mut u64, entries: &mut Vec<Entry>, settled: &mut usize)
     requires { IsStored start.old settled.old entries.old.items }
     ensures base { start.new + settled.new ≡ start.old + settled.old }
@@ -173,7 +176,7 @@ fn trim(start: &mut u64, entries: &mut Vec<Entry>, settled: &mut usize)
     }
 }
 
-/// Drops the first of the entries, this many. The vector keeps its memory.
+/// Drops the first `count` entries. The vector keeps its capacity.
 fn let_go(entries: &mut Vec<Entry>, count: usize)
     requires { count ≤ vec_len entries.old }
     ensures items { entries.new.items ≡ drop count entries.old.items }

@@ -28,11 +28,11 @@ use Rattle.craq_merge.proofs.Senders.{message_from}
 
 -- ---- the move
 
--- to whom messages go
+-- the receivers of messages
 abbrev pub receivers_of : List LinkMessage → List ℕ
 receivers_of ms = map (λ (m : LinkMessage). m.receiver) ms
 
--- a message of those that were sent does what the delivered one does
+-- a message that was sent has the effect of the delivered one
 abbrev pub StandsFor : Chain → List Line → Plain → LinkMessage → Type 0
 StandsFor c lines p m =
     (n : LinkMessage) × (message_at c.messages (number_among lines m) ≡ Some n) × (node_step p (events.Deliver n) ≡ node_step p (events.Deliver m))
@@ -69,7 +69,7 @@ places lines c id p q (events.Deliver m) step at h f =
 places lines c id p q events.Tick step at h f = refl
 places lines c id p q events.Stop step at h f = refl
 
--- what was delivered was sent
+-- a delivered message was sent
 stands_for : (chain : ℕ) (members : List ℕ) (lines done rest : List Line) (l : Line) (c : Chain) (p : Plain) (m : LinkMessage) → lines ≡ done ++ l ∷ rest → AreSound members lines → IsReached chain members done (l ∷ rest) c → IsIn lines l → l.event ≡ AtNode (events.Deliver m) → StandsFor c lines p m
 stands_for chain members lines done rest l c p m e sound r i is =
     let s = sound.arrivals l m i is in
@@ -81,7 +81,7 @@ stands_for chain members lines done rest l c p m e sound r i is =
     let at : message_at (all_sent done) (number_among (done ++ l ∷ rest) m) ≡ Some n = number_names done (l ∷ rest) s.line m n (subst AreRising e sound.order) there s.node s.at t.1 in
     (n, rw (r.sent, e) at, sym (unnamed p receipt m.index n from) ∙ ap (λ x. node_step p (events.Deliver x)) t.2)
 
--- ---- what it changes
+-- ---- the changes of the move
 
 same_node : (o : Option Plain) (p q : Plain) → o ≡ Some p → o ≡ Some q → p ≡ q
 same_node o p q h k = cc
@@ -124,7 +124,7 @@ changes chain members done rest c id r p q last rs old z at h ls replay =
 
 -- ---- the whole
 
--- the line is a move that is taken, and leads to a chain like this
+-- the line is a move that is taken, and leads to a chain for which the same holds
 pub record IsNext (chain : ℕ) (members : List ℕ) (lines done : List Line) (l : Line) (rest : List Line) (c : Chain) : Type 0 where
   pub next : Chain
   pub step : chain_step c (move_among lines l.node l.event) ≡ Ok (next, l.step)
@@ -145,7 +145,7 @@ taken chain members lines done rest l c x e sound r m at d =
 pub line_in : (lines done rest : List Line) (l : Line) → lines ≡ done ++ l ∷ rest → IsIn lines l
 line_in lines done rest l e = subst (λ ls. IsIn ls l) (sym e) (in_right done (l ∷ rest) l (inl refl))
 
--- the node of a line is there
+-- the node of a line exists
 is_known : (chain : ℕ) (members : List ℕ) (lines done rest : List Line) (l : Line) (c : Chain) → lines ≡ done ++ l ∷ rest → AreSound members lines → IsReached chain members done (l ∷ rest) c → l.node ≢ 0 → IsThere c.nodes l.node
 is_known chain members lines done rest l c e sound r z =
     elim (sound.joined l (line_in lines done rest l e) z) [

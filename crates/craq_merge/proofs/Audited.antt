@@ -1,4 +1,4 @@
--- What an audit that answers a run has found.
+-- The findings of an audit that returns a run.
 use Rattle.std.proofs.Common.{◌≡◌, List, sym, subst}
 use Rattle.std.specs.List.{AllByRecursion}
 use Rattle.craq_model.specs.declared.ask.Event.{Event}

@@ -45,7 +45,7 @@ has_place j lines n r m i k =
 one_more : (k : ℕ) → 1 + k ≡ suc k
 one_more k = omega arith
 
--- the ask
+-- the request
 abbrev asked_of : ℕ → ℕ → Option ℕ → Ask → Asked
 asked_of move node ticket ask = record { move = move; node = node; ticket = ticket; ask = ask }
 
@@ -60,7 +60,7 @@ ask_seen chain j lines g m rs r call among there p event ticket =
     ask_named lines o.first o.last id p.place call.ticket rs r call.ask (rising lines m.order) (node_journal chain j lines g m (id, rs) among) o.replay there p.at event ticket
     (subst (IsIn (asks_from 1 (map (taken_among lines) lines))) (same_asked (1 + p.place) (suc p.place) id id r.step.ticket (Some call.ticket) call.ask (one_more p.place) refl ticket) a)
 
--- the answer
+-- the reply
 abbrev answered_of : ℕ → ℕ → ℕ → Answer → Answered
 answered_of move node ticket answer = record { move = move; node = node; ticket = ticket; answer = answer }
 

@@ -1,4 +1,4 @@
--- How often an id stands in a list.
+-- The number of occurrences of an id in a list.
 use Rattle.std.proofs.Common.{◌≡◌, ◌≤◌, ℕ, ◌+◌, ◌==◌, false, if◌then◌else◌, List, [], ◌∷◌, ◌++◌, refl, arith, inl, inr}
 use Rattle.std.specs.Prelude.{nat_eq, IsPermutation}
 use Rattle.std.specs.List.{AllByRecursion, IsDistinct, sum_by}
@@ -16,7 +16,7 @@ count id xs = sum_by (once id) xs
 pub count_cons : (id x : ℕ) (xs : List ℕ) → count id (x ∷ xs) ≡ once id x + count id xs
 count_cons id x xs = sum_by-cons (once id) x xs
 
--- an order makes no difference
+-- a permutation keeps the count
 pub count_same : (id : ℕ) (xs ys : List ℕ) → IsPermutation xs ys → count id ys ≡ count id xs
 count_same id xs ys p = sum_by-IsPermutation (once id) xs ys p
 

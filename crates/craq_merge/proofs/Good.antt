@@ -1,4 +1,4 @@
--- Journals whose merge is a run, and what their lines need.
+-- Journals whose merge is a run, and the conditions of their lines.
 use Rattle.std.proofs.Common.{◌≡◌, ◌≢◌, ◌<◌, ◌≤◌, ◌⊎◌, ℕ, true, List, [], ◌∷◌, length, Ok, sym, ap, subst, arith, ◌∙◌, inl, inr}
 use Rattle.craq_names.specs.Limits.{greatest}
 use Rattle.craq_names.specs.declared.name.NodeName.{NodeName}
@@ -68,19 +68,19 @@ pub above_pass : (own pass borne stamp : ℕ) → next_stamp own pass borne ≡ 
 unfolding next_stamp
 above_pass own pass borne stamp h = grind arith
 
--- a record is above what its event bears
+-- a record's stamp is above its event's
 pub records_above : {E : Type 0} (bears : E → ℕ) (first last : ℕ) (rs : List (Record E)) (r : Record E) → AreStamped bears first rs last → IsIn rs r → bears r.event < r.stamp
 records_above bears first last [] r h i = absurd i
 records_above bears first last (x ∷ rs) r h (inl e) = subst (λ y. bears y.event < y.stamp) e (above_borne first x.pass (bears x.event) x.stamp h.0)
 records_above bears first last (x ∷ rs) r h (inr i) = records_above bears x.stamp last rs r h.1 i
 
--- and above the pass that was shown
+-- and above its pass
 pub records_above_pass : {E : Type 0} (bears : E → ℕ) (first last : ℕ) (rs : List (Record E)) (r : Record E) → AreStamped bears first rs last → IsIn rs r → r.pass < r.stamp
 records_above_pass bears first last [] r h i = absurd i
 records_above_pass bears first last (x ∷ rs) r h (inl e) = subst (λ y. y.pass < y.stamp) e (above_pass first x.pass (bears x.event) x.stamp h.0)
 records_above_pass bears first last (x ∷ rs) r h (inr i) = records_above_pass bears x.stamp last rs r h.1 i
 
--- ---- what each line needs
+-- ---- the conditions of each line
 
 other_kind : (x : Happening) (e : Event) (b : BookEvent) → AtNode e ≡ x → x ≡ AtMaster b → ⊥
 other_kind x e b h k = cc

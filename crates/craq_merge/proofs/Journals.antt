@@ -18,7 +18,7 @@ Kept = ℕ × List (Record Event)
 abbrev pub lines_of : Kept → List Line
 lines_of n = map (node_line n.0) n.1
 
--- ---- what is among the lines
+-- ---- the elements of the lines
 
 pub in_flat : {X Y : Type 0} (f : X → List Y) (xs : List X) (x : X) (y : Y) → IsIn xs x → IsIn (f x) y → IsIn (flat_map f xs) y
 in_flat f [] x y i k = absurd i
@@ -33,7 +33,7 @@ of_flat f (x ∷ xs) y i =
       | inr k ↦ (let t = of_flat f xs y k in (t.0, inr t.1, t.2))
     ]
 
--- a line is of the book or of a node
+-- a line is of the master or of a node
 pub record OfBook (j : Journals) (l : Line) : Type 0 where
   pub entry : Record BookEvent
   pub there : IsIn j.book entry
@@ -63,7 +63,7 @@ book_in j r i = in_left (map book_line j.book) (flat_map lines_of j.nodes) (book
 pub node_in : (j : Journals) (n : Kept) (r : Record Event) → IsIn j.nodes n → IsIn n.1 r → IsIn (all_lines j) (node_line n.0 r)
 node_in j n r i k = in_right (map book_line j.book) (flat_map lines_of j.nodes) (node_line n.0 r) (in_flat lines_of j.nodes n (node_line n.0 r) i (in_map (node_line n.0) n.1 r k))
 
--- ---- journals rise
+-- ---- journals ascend
 
 pub above_first : {E : Type 0} (first last : ℕ) (rs : List (Record E)) (r : Record E) → RisesTo first rs last → IsIn rs r → first < r.stamp
 above_first first last [] r h i = absurd i
@@ -153,7 +153,7 @@ no_lines j lines id m z none =
     ])
     (λ x i. absurd i)
 
--- ---- there is one merge at most
+-- ---- there is at most one merge
 
 pub one_merge : (j : Journals) (xs ys : List Line) → IsMerge j xs → IsMerge j ys → xs ≡ ys
 one_merge j xs ys m n =

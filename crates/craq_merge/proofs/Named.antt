@@ -1,4 +1,4 @@
--- The ask of a call is the one that its node and ticket name in the run.
+-- The request of a call is the one with its node and ticket in the run.
 use Rattle.std.proofs.Common.{◌≡◌, ◌<◌, ◌≤◌, ◌⊎◌, ℕ, suc, ◌+◌, ◌==◌, ◌&&◌, Bool, true, false, List, [], ◌∷◌, map, Option, Some, None, refl, sym, ap, subst, arith, ◌∙◌, inl, inr}
 use Rattle.std.specs.Prelude.{slice_get, find}
 use Rattle.craq_model.specs.declared.ask.Ask.{Ask}
@@ -47,9 +47,9 @@ one_ticket p last (x ∷ rs) r s k (q, h, rest) (inr a) (inl b) e f =
     let g = c.1 in absurd (omega (arith, g, d))
 one_ticket p last (x ∷ rs) r s k (q, h, rest) (inr a) (inr b) e f = one_ticket q last rs r s k rest a b e f
 
--- ---- asks of a run
+-- ---- requests of a run
 
--- what is found
+-- the item found
 pub record IsFound {X : Type 0} (test : X → Bool) (xs : List X) : Type 0 where
   pub which : X
   pub found : find test xs ≡ Some which
@@ -65,7 +65,7 @@ pub finds : {X : Type 0} (test : X → Bool) (xs : List X) (x : X) → IsIn xs x
 finds test [] x i t = absurd i
 finds test (y ∷ xs) x i t = found_by test xs x y (test y) refl t i (λ k. finds test xs x k t)
 
--- an ask that is seen is of a line
+-- a request that is seen is of a line
 pub record IsAskOf (rest : List Line) (number : ℕ) (x : Asked) : Type 0 where
   pub place : ℕ
   pub line : Line
@@ -121,7 +121,7 @@ asked_of move node ticket ask = record { move = move; node = node; ticket = tick
 same_asked : (a b m n : ℕ) (s t : Option ℕ) (x y : Ask) → a ≡ b → m ≡ n → s ≡ t → x ≡ y → asked_of a m s x ≡ asked_of b n t y
 same_asked a b m n s t x y e f g h = rw (e, f, g, h) refl
 
--- an ask that is seen with the ticket of a record is the record's
+-- a request that is seen with the ticket of a record is the record's
 is_record : (lines : List Line) (p last : Plain) (id place ticket : ℕ) (rs : List (Record Event)) (r : Record Event) (ask : Ask) (x : Asked) (k : ℕ) (l : Line) (other : Ask) → AreRising lines → lines_at id lines ≡ map (node_line id) rs → Replays node_step p rs last → IsIn rs r → slice_get lines place ≡ Some (node_line id r) → r.event ≡ events.Ask ask → r.step.ticket ≡ Some ticket → slice_get lines k ≡ Some l → l.event ≡ AtNode (events.Ask other) → x ≡ asked_of (1 + k) l.node l.step.ticket other → x.node ≡ id → x.ticket ≡ Some ticket → x ≡ asked_of (suc place) id (Some ticket) ask
 is_record lines p last id place ticket rs r ask x k l other up own replay there at event tick here asks is of with =
     let node : l.node ≡ id = ap (λ (y : Asked). y.node) (sym is) ∙ of in
@@ -141,7 +141,7 @@ found_named lines p last id place ticket rs r ask f t up own replay there at eve
     let so = named_so f.which id ticket f.passes in
     f.found ∙ ap Some (is_record lines p last id place ticket rs r ask f.which t.place t.line t.ask up own replay there at event tick t.at t.event t.is so.0 so.1)
 
--- the first ask with the node and the ticket is the one of this record
+-- the first request with the node and the ticket is the one of this record
 pub ask_named : (lines : List Line) (p last : Plain) (id place ticket : ℕ) (rs : List (Record Event)) (r : Record Event) (ask : Ask) → AreRising lines → lines_at id lines ≡ map (node_line id) rs → Replays node_step p rs last → IsIn rs r → slice_get lines place ≡ Some (node_line id r) → r.event ≡ events.Ask ask → r.step.ticket ≡ Some ticket → IsIn (asks_from 1 (map (taken_among lines) lines)) (asked_of (suc place) id (Some ticket) ask) → ask_with (asks_from 1 (map (taken_among lines) lines)) id ticket ≡ Some (asked_of (suc place) id (Some ticket) ask)
 ask_named lines p last id place ticket rs r ask up own replay there at event tick seen =
     let asks : List Asked = asks_from 1 (map (taken_among lines) lines) in

@@ -1,11 +1,11 @@
--- Lists of lines in order: what is in them, and that it alone makes them.
+-- Lists of lines in order: their elements determine them.
 use Rattle.std.proofs.Common.{◌≡◌, ◌≢◌, ◌<◌, ◌≤◌, ◌⊎◌, ℕ, zero, suc, ◌==◌, List, [], ◌∷◌, ◌++◌, map, length, refl, sym, ap, subst, arith, ◌∙◌, inl, inr}
 use Rattle.std.specs.Prelude.{⊤, filter, Contains, slice_get, Some}
 use Rattle.std.specs.List.{AllByRecursion}
 use Rattle.std.proofs.lemmas.Bool.{cond_both, eqb-true}
 use Rattle.craq_seat.specs.Merge.{Line, IsBefore, AreInOrder}
 
--- ---- what is in a list
+-- ---- the elements of a list
 
 abbrev pub IsIn : {X : Type 0} → List X → X → Type 0
 IsIn {X} [] x = ⊥
@@ -80,7 +80,7 @@ pub no_later : (a b : Line) → IsBefore a b → a.stamp ≤ b.stamp
 no_later a b (inl h) = omega (arith, h)
 no_later a b (inr h) = let s = h.0 in omega (arith, s)
 
--- each line stands before all that follow
+-- each line precedes all that follow
 abbrev pub AreRising : List Line → Type 0
 AreRising [] = ⊤
 AreRising (a ∷ ls) = AllByRecursion (IsBefore a) ls × AreRising ls
@@ -92,7 +92,7 @@ rising (a ∷ b ∷ ls) h =
     let r = rising (b ∷ ls) h.1 in
     ((h.0, all_by (IsBefore a) ls (λ x i. before_both a b x h.0 (all_in (IsBefore b) ls x r.0 i))), r)
 
--- lists that rise and have the same lines are the same
+-- ascending lists with the same lines are equal
 heads : (x y : Line) (xs ys : List Line) → AreRising (x ∷ xs) → AreRising (y ∷ ys) → (y ≡ x) ⊎ IsIn ys x → (x ≡ y) ⊎ IsIn xs y → x ≡ y
 heads x y xs ys r s (inl e) g = sym e
 heads x y xs ys r s (inr i) (inl e) = e

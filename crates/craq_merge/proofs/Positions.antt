@@ -1,4 +1,4 @@
--- Answers that a pass covers stand no later in the list of committed updates.
+-- A reply that a pass covers comes no later in the list of committed updates.
 use Rattle.std.proofs.Common.{◌≡◌, ◌<◌, ◌≤◌, ℕ, zero, suc, ◌+◌, ◌-◌, List, [], ◌∷◌, map, length, Option, Some, refl, ap, subst, arith}
 use Rattle.std.specs.Prelude.{slice_get}
 use Rattle.craq_runs.specs.declared.explanation.Explanation.{Explanation}
@@ -26,7 +26,7 @@ grown_to s e i k g le few =
     let h = grown s e i (k - i) g (omega (arith, le, few)) in
     subst (λ x. committed_after e i ≤ committed_after e x) n h
 
--- the moves are as many as the lines
+-- there are as many moves as lines
 as_many : (all lines : List Line) → length (map (taken_among all) lines) ≡ length lines
 as_many all [] = refl
 as_many all (l ∷ lines) = ap suc (as_many all lines)

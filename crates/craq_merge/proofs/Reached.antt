@@ -1,4 +1,4 @@
--- What holds of a chain after some lines of a merge, and that the next line keeps it.
+-- The invariant of a chain after some lines of a merge; the next line preserves it.
 use Rattle.std.proofs.Common.{◌≡◌, ◌≢◌, ◌<◌, ◌≤◌, ◌⊎◌, ℕ, suc, ◌+◌, true, false, List, [], ◌∷◌, ◌++◌, map, length, Option, Some, None, refl, ap, subst, arith, ◌∙◌, inl, inr, length-append, append-nil}
 use Rattle.std.specs.Prelude.{slice_get}
 use Rattle.craq_names.specs.Limits.{greatest}
@@ -25,7 +25,7 @@ use Rattle.craq_merge.proofs.Numbers.{all_sent, all_sent-append}
 use Rattle.craq_merge.proofs.Nodes.{counted}
 use Rattle.craq_seat.specs.Numbered.{AreFrom}
 
--- ---- what is known of the lines
+-- ---- the conditions of the lines
 
 -- a message's sending
 pub record Sending (lines : List Line) (stamp : ℕ) (m : LinkMessage) : Type 0 where
@@ -49,7 +49,7 @@ IsStopOf id l = (l.node ≡ id) × (l.event ≡ AtNode events.Stop)
 abbrev pub IsJoinOf : ℕ → Line → Type 0
 IsJoinOf id l = l.event ≡ AtMaster (books.Join id)
 
--- the lines are in order, and what each line needs stands before it
+-- the lines are in order, and the line that a line needs precedes it
 pub record AreSound (members : List ℕ) (lines : List Line) : Type 0 where
   pub order : AreRising lines
   pub arrivals : (l : Line) (m : LinkMessage) → IsIn lines l → l.event ≡ AtNode (events.Deliver m) → Sending lines l.stamp m
@@ -58,7 +58,7 @@ pub record AreSound (members : List ℕ) (lines : List Line) : Type 0 where
   pub few : length lines ≤ greatest
   pub few_sent : length (all_sent lines) ≤ greatest
 
--- an earlier line was taken already
+-- an earlier line was already taken
 pub is_done : (lines done rest : List Line) (l s : Line) → lines ≡ done ++ l ∷ rest → AreRising lines → IsIn lines s → s.stamp < l.stamp → IsIn done s
 is_done lines done rest l s e r i less =
     of_parts done (subst AreRising e r) (in_either done (l ∷ rest) s (subst (λ ls. IsIn ls s) e i))
@@ -72,7 +72,7 @@ is_done lines done rest l s e r i less =
     of_parts ds r (inr (inl same)) = let f : l.stamp ≡ s.stamp = ap (λ (x : Line). x.stamp) same in absurd (omega (arith, f, less))
     of_parts ds r (inr (inr i)) = let f = no_later l s (all_in (IsBefore l) rest s (later ds r).0 i) in absurd (omega (arith, f, less))
 
--- ---- what holds of the chain
+-- ---- the invariant of the chain
 
 abbrev pub IsThere : List Plain → ℕ → Type 0
 IsThere ps id = (p : Plain) × (node_at ps id ≡ Some p)
@@ -87,7 +87,7 @@ pub record MasterGoes (m : Mastered) (ls : List Line) : Type 0 where
   pub lines : ls ≡ map book_line records
   pub replay : Replays book_step m records last
 
--- the node that is there, or will join
+-- the node that exists, or will join
 abbrev pub IsNow : ℕ → ℕ → Option Plain → Plain → Type 0
 IsNow chain id o p = (o ≡ Some p) ⊎ ((o ≡ None) × (p ≡ opening_joined (record { chain = chain; node = id })))
 
@@ -112,7 +112,7 @@ pub record IsReached (chain : ℕ) (members : List ℕ) (done rest : List Line) 
   pub stops : (l : Line) → IsIn done l → l.event ≡ AtNode events.Stop → IsStopped c.nodes l.node
   pub from : (l : Line) → IsIn done l → AreFrom l.node l.step.outs
 
--- what a line changes
+-- the changes that a line makes
 pub record IsChanged (chain : ℕ) (l : Line) (rest : List Line) (c x : Chain) : Type 0 where
   pub chained : x.chain ≡ c.chain
   pub master : MasterGoes (master_of x) (lines_at 0 rest)
@@ -130,7 +130,7 @@ last_in P done l f here s i =
       | inr k ↦ elim k [ inl e ↦ subst P e here | inr n ↦ absurd n ]
     ]
 
--- one line more
+-- one more line
 pub reached_more : (chain : ℕ) (members : List ℕ) (done rest : List Line) (l : Line) (c x : Chain) → IsReached chain members done (l ∷ rest) c → IsChanged chain l rest c x → IsReached chain members (done ++ l ∷ []) rest (counted c x l.step)
 reached_more chain members done rest l c x r d =
     record {

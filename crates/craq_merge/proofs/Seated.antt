@@ -51,7 +51,7 @@ member_in (m ∷ members) id (inr i) = grind (arith, member_in members id i)
 named_by : (n : NodeName) (chain id : ℕ) → n.chain ≡ chain → n.node ≡ id → n ≡ record { chain = chain; node = id }
 named_by n chain id e f = rw (← e, ← f) refl
 
--- how the node of a cell was opened
+-- the opening of a cell's node
 opened_first : (book : Celled Mastered BookEvent) (o : Opening) (j : Journals) (id : ℕ) → IsBook book → j.members ≡ members_of book.opening.config → o.name.chain ≡ book.opening.name.chain → id ≡ o.name.node → IsOpenedFirst book o → IsFirst book.opening.name.chain j.members id (opening_of o.name o.config)
 opened_first book o j id b members chain own (among, config, stamp) =
     let ms : List ℕ = members_of book.opening.config in

@@ -1,4 +1,4 @@
--- What is seen of the run that the lines of a merge are.
+-- The requests and replies seen in the run of a merge.
 use Rattle.std.proofs.Common.{◌≡◌, ◌<◌, ◌≤◌, ℕ, zero, suc, ◌+◌, List, [], ◌∷◌, ◌++◌, map, Some, refl, sym, ap, subst, arith, ◌∙◌, inl, inr, append_assoc, append-nil}
 use Rattle.std.proofs.lemmas.List.{map-append}
 use Rattle.std.specs.Prelude.{slice_get}
@@ -26,7 +26,7 @@ place_of [] x i = absurd i
 place_of (y ∷ xs) x (inl e) = (0, ap Some e)
 place_of (y ∷ xs) x (inr i) = let t = place_of xs x i in (suc t.0, t.1)
 
--- a line further on comes later
+-- a line of a higher index is later
 pub later_line : (lines : List Line) (i k : ℕ) (a b : Line) → AreRising lines → slice_get lines i ≡ Some a → slice_get lines k ≡ Some b → i < k → IsBefore a b
 later_line [] i k a b r h g less = cc
 later_line (l ∷ lines) i zero a b r h g less = absurd (omega (arith, less))
@@ -38,7 +38,7 @@ later_line (l ∷ lines) (suc i) (suc k) a b r h g less = later_line lines i k a
 same_place : {X : Type 0} (xs : List X) (k : ℕ) (a b : X) → slice_get xs k ≡ Some a → slice_get xs k ≡ Some b → a ≡ b
 same_place xs k a b h g = cc
 
--- a line of a lower stamp stands before
+-- a line of a lower stamp is earlier
 pub before_by_stamp : (lines : List Line) (i k : ℕ) (a b : Line) → AreRising lines → slice_get lines i ≡ Some a → slice_get lines k ≡ Some b → a.stamp < b.stamp → i < k
 before_by_stamp lines i k a b r h g less = grind (arith, not_after, less)
   where
@@ -52,7 +52,7 @@ before_by_stamp lines i k a b r h g less = grind (arith, not_after, less)
         by_order : (k < i → ⊥) → (k ≡ i → ⊥) → k ≤ i → ⊥
         by_order f g le = grind (arith, f, g, le)
 
--- ---- asks
+-- ---- requests
 
 pub asked_at : (lines rest : List Line) (number k : ℕ) (l : Line) (ask : Ask) → slice_get rest k ≡ Some l → l.event ≡ AtNode (events.Ask ask) → IsIn (asks_from number (map (taken_among lines) rest)) (record { move = number + k; node = l.node; ticket = l.step.ticket; ask = ask })
 unfolding asks_from
@@ -81,7 +81,7 @@ answer_in number node (outs.Answer t a ∷ os) ticket answer (inl e) =
     inl (rw (s, u) refl)
 answer_in number node (outs.Answer t a ∷ os) ticket answer (inr i) = inr (answer_in number node os ticket answer i)
 
--- the receivers after one line more
+-- the receivers after one more line
 receivers_more : (done : List Line) (l : Line) → AreFrom l.node l.step.outs → receivers_of (all_sent (done ++ l ∷ [])) ≡ receivers_of (all_sent done) ++ receivers_in l.step.outs
 receivers_more done l a =
     ap receivers_of (all_sent-append done (l ∷ []) ∙ ap (λ ms. all_sent done ++ ms) (append-nil (sent_in l.step.outs)))

@@ -1,4 +1,4 @@
--- Sorted lines of kept journals are their merge: no two have one node and stamp.
+-- Sorted lines of kept journals are their merge: no two have the same node and stamp.
 use Rattle.std.proofs.Common.{◌≡◌, ◌≢◌, ◌≤◌, ℕ, ◌+◌, ◌==◌, ◌&&◌, if◌then◌else◌, List, [], ◌∷◌, ◌++◌, map, refl, sym, ap, arith, ◌∙◌, inl, inr}
 use Rattle.std.specs.Prelude.{flat_map, IsPermutation}
 use Rattle.std.specs.List.{sum_by}
@@ -22,7 +22,7 @@ use Rattle.craq_merge.proofs.Orders.{AreRising, IsIn, all_in, of_map}
 use Rattle.craq_merge.proofs.Seated.{good}
 use Rattle.craq_merge.proofs.Start.{own_counts, own_zero}
 
--- how many lines have this node and stamp
+-- the number of lines with this node and stamp
 abbrev one : ℕ → ℕ → Line → ℕ
 one node stamp l = if (l.node == node) && (l.stamp == stamp) then 1 else 0
 

@@ -1,4 +1,4 @@
--- The opening chain, before the lines of a merge; and that they are a run.
+-- The opening chain, before the lines of a merge; and the lines are a run.
 use Rattle.std.proofs.Common.{◌≡◌, ◌≢◌, ◌≤◌, ℕ, true, false, List, [], ◌∷◌, map, length, Option, Some, None, refl, sym, ap, subst, arith, ◌∙◌, inl, inr}
 use Rattle.craq_names.specs.Limits.{greatest}
 use Rattle.craq_model.specs.Members.{is_member}

@@ -1,4 +1,4 @@
--- A step that accepts an ask gives it the next ticket.
+-- A step that accepts a request gives it the next ticket.
 use Rattle.std.proofs.Common.{◌≡◌, ◌<◌, ◌≤◌, ℕ, true, Option, Some, None, List, [], ◌∷◌, Result, Ok, Err, subst, arith}
 use Rattle.std.specs.Prelude.{⊤}
 use Rattle.craq_names.specs.declared.refusal.Refusal.{Refusal}

@@ -1,4 +1,4 @@
--- A merge of asks that are of their types is a run of such moves.
+-- A merge of requests that are of their types is a run of such moves.
 use Rattle.std.proofs.Common.{ℕ, List, [], ◌∷◌, map, refl, subst, inl, inr}
 use Rattle.std.specs.List.{AllByRecursion}
 use Rattle.craq_model.specs.declared.ask.Event.{Event}

@@ -1,4 +1,4 @@
--- The ids that a master used: none is 0, none twice, and one that joins is new.
+-- The ids that a master used: none is 0, none occurs twice, and one that joins is new.
 use Rattle.std.proofs.Common.{◌≡◌, ◌≢◌, ◌≤◌, ℕ, false, List, [], ◌∷◌, ◌++◌, Result, Ok, refl, sym, ap, subst, arith, ◌∙◌, inl, inr}
 use Rattle.craq_names.specs.declared.refusal.Refusal.{Refusal}
 use Rattle.craq_model.specs.declared.step.Step.{Step}
@@ -19,7 +19,7 @@ pub new_id : (m n : Mastered) (id : ℕ) → joined m id ≡ Ok n → (id ≢ 0)
 unfolding joined
 new_id m n id h = (λ e. grind (arith, h, e), grind (arith, h))
 
--- what is used is used once
+-- each id is used once
 pub record AreUsed (used : List ℕ) : Type 0 where
   pub some : count 0 used ≡ 0
   pub once : (id : ℕ) → count id used ≤ 1

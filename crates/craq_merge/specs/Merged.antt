@@ -22,7 +22,7 @@ pub record AreSeated {C : Type 0} (represents : C → Plain → Type 0) (book : 
   pub chain : AreOfChain book cells j
   pub sent : AllByRecursion (λ (n : ℕ × List (Record Event)). AllByRecursion (HasSender j) n.1) j.nodes
 
--- there are numbers for all these steps and for all that they sent
+-- there are numbers for all these steps and for all their messages
 pub record CanBeNumbered (lines : List Line) : Type 0 where
   pub moves : length lines ≤ greatest
   pub messages : length (flat_map (λ (l : Line). sent_in l.step.outs) lines) ≤ greatest

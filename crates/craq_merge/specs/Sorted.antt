@@ -1,8 +1,8 @@
--- Lines in an order in which none may be moved forward.
+-- Sorted lines.
 use Rattle.std.specs.Prelude.{⊤, List, [], ◌∷◌}
 use Rattle.craq_seat.specs.Merge.{IsBefore, Line}
 
--- no line comes before the one that it follows
+-- no line precedes the one before it
 abbrev pub AreSorted : List Line → Type 0
 AreSorted [] = ⊤
 AreSorted (a ∷ []) = ⊤

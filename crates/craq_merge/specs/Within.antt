@@ -1,4 +1,4 @@
--- Where the calls of clients stand in a merge.
+-- The calls of clients in a merge.
 use Rattle.std.specs.Prelude.{◌≡◌, ◌<◌, ◌≤◌, ℕ, zero, suc, ⊤, List, Option, Some, None, slice_get, Contains}
 use Rattle.std.specs.List.{AllByRecursion}
 use Rattle.craq_model.specs.declared.ask.Event.{Event}
@@ -11,13 +11,14 @@ use Rattle.craq_seat.specs.declared.journal.Record.{Record}
 use Rattle.craq_seat.specs.Calls.{Called}
 use Rattle.craq_seat.specs.Merge.{Journals, Line}
 
--- each transaction that was asked is within the limits of its type
+-- a requested transaction is within the limits of its type
 abbrev pub IsEventOfType : Event → Type 0
 IsEventOfType (events.Ask ask) = IsAskOfType ask
 IsEventOfType (events.Deliver m) = ⊤
 IsEventOfType events.Tick = ⊤
 IsEventOfType events.Stop = ⊤
 
+-- each requested transaction in these journals is within the limits of its type
 abbrev pub AreAsksOfType : Journals → Type 0
 AreAsksOfType j =
     AllByRecursion (λ (n : ℕ × List (Record Event)). AllByRecursion (λ (r : Record Event). IsEventOfType r.event) n.1) j.nodes
@@ -31,14 +32,16 @@ line_at lines (suc i) = slice_get lines i
 abbrev pub IsMoveOf : List Line → Receipt → ℕ → Type 0
 IsMoveOf lines receipt move = (l : Line) × (line_at lines move ≡ Some l) × (l.node ≡ receipt.node) × (l.stamp ≡ receipt.stamp)
 
--- what is seen of a call, asked and answered by the moves of these numbers
+-- a call as clients see it, requested and answered by the moves of these numbers
 abbrev pub ask_of_call : Called → ℕ → Asked
 ask_of_call c move = record { move = move; node = c.call.asked.node; ticket = Some c.call.ticket; ask = c.call.ask }
 
+-- a call's reply as clients see it, given by the move of this number
 abbrev pub answer_of_call : Called → ℕ → Answered
 answer_of_call c move = record { move = move; node = c.call.asked.node; ticket = c.call.ticket; answer = c.answer }
 
--- a call is an ask and its answer in the run that these lines are, and its ask stands after each step that its pass covers
+-- a call is a request and its reply in the run of these lines, and its request follows each step
+-- that its pass covers
 pub record IsWithin (lines : List Line) (run : Run) (c : Called) : Type 0 where
   pub asked : ℕ  -- the number of the move
   pub answered : ℕ

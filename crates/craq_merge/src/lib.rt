@@ -1,10 +1,9 @@
-//! The journals of a chain's cells are a run: all their steps, by stamp and, under one stamp, by node; `craq_audit`
-//! stands on it. A crate apart from the audit since it has laws alone.
-//! Laws: functions without bodies, whose contracts are the theorems.
+//! Proves that the journals of a chain's cells are a run: their steps by stamp, then by node.
+//! States laws for `craq_audit`: functions without bodies, whose contracts are the theorems.
 //!
-//! Each contract is a law of journals, or of the cells that keep them (`AreSeated`): a chain's master and one node for
-//! each id that ever was a member, opened as it became one; each removal names the step in which its node stopped, and
-//! each message that arrived was sent.
+//! Each contract is a law of journals, or of the cells that keep them (`AreSeated`): a chain's
+//! master and one node for each id that ever was a member, opened as it became one. Each removal
+//! names the step in which its node stopped, and each message that arrived was sent.
 #![tactic(auto)]
 
 ghost use Rattle.std.specs.Prelude.{◌≡◌, ◌<◌, ◌≤◌, ℕ, ◌==◌, List, map, filter, Contains, IsPermutation};
@@ -34,8 +33,8 @@ ghost use Rattle.craq_merge.specs.Within.{AreAsksOfType, IsWithin, answer_of_cal
 
 use craq_node::Core;
 
-/// A step's stamp is above the pass that was shown and above what its event bears: a message the stamp of its sending, a
-/// removal that of the stop.
+/// States that a step's stamp is above the pass of its event and above the event's stamp: that of
+/// the sending for a message, that of the stop for a removal.
 pub fn stamps_exceed_causes()
     ensures nodes { (first last : ℕ) (rs : List (Record Event)) (r : Record Event) → AreStamped event_stamp first rs last → Contains rs r
         → (r.pass < r.stamp) × (event_stamp r.event < r.stamp) }
@@ -43,18 +42,20 @@ pub fn stamps_exceed_causes()
         → (r.pass < r.stamp) × (book_stamp r.event < r.stamp) }
 {}
 
-/// Journals have one merge at most.
+/// States that journals have at most one merge.
 pub fn one_merge()
     ensures { (j : Journals) (xs ys : List Line) → IsMerge j xs → IsMerge j ys → xs ≡ ys }
 {}
 
-/// All lines of these journals, sorted by stamp and then by node, are their merge: no two have one stamp and node.
+/// States that all lines of these journals, sorted by stamp and then by node, are their merge: no
+/// two have the same stamp and node.
 pub fn sorted_lines_are_the_merge<C: Core>()
     ensures { (book : Celled Mastered BookEvent) (cells : List (Celled C Event)) (j : Journals) (lines : List Line)
         → AreSeated C.represents book cells j → IsPermutation (all_lines j) lines → AreSorted lines → IsMerge j lines }
 {}
 
-/// The lines of a node in a merge are its journal, and those of node 0 are the master's.
+/// States that the lines of a node in a merge are its journal, and those of node 0 are the
+/// master's.
 pub fn merge_keeps_journals<C: Core>()
     ensures nodes { (book : Celled Mastered BookEvent) (cells : List (Celled C Event)) (j : Journals) (lines : List Line) (id : ℕ) (rs : List (Record Event))
         → AreSeated C.represents book cells j → IsMerge j lines → Contains j.nodes (id, rs)
@@ -64,8 +65,8 @@ pub fn merge_keeps_journals<C: Core>()
         → filter (λ (l : Line). l.node == 0) lines ≡ map book_line j.book }
 {}
 
-/// The merge of a chain's journals is a run of that chain, if there are numbers for its moves and messages; and a run of
-/// values that the types allow, if the transactions that were asked are.
+/// States that the merge of a chain's journals is a run of that chain, if there are numbers for its
+/// moves and messages; and a run of values that the types allow, if its requests are.
 pub fn merge_is_a_run<C: Core>()
     ensures run { (book : Celled Mastered BookEvent) (cells : List (Celled C Event)) (j : Journals) (lines : List Line)
         → AreSeated C.represents book cells j → IsMerge j lines → CanBeNumbered lines
@@ -75,16 +76,16 @@ pub fn merge_is_a_run<C: Core>()
         → IsTypedRunOf book.opening.name.chain (run_of j.members lines) }
 {}
 
-/// Each call whose ask and answer stand in its node's journal is an ask and its answer in that run, and the ask stands after
-/// each step that the call's pass covers.
+/// States that each call whose request and reply are in its node's journal is a request and its
+/// reply in that run. The request follows each step that the call's pass covers.
 pub fn calls_are_in_the_run<C: Core>()
     ensures { (book : Celled Mastered BookEvent) (cells : List (Celled C Event)) (j : Journals) (lines : List Line) (call : Called)
         → AreSeated C.represents book cells j → IsMerge j lines → CanBeNumbered lines → IsHeld j call
         → IsWithin lines (run_of j.members lines) call }
 {}
 
-/// What an audit may answer as the run of kept cells (`IsMergedRun`) is a run of their chain, and each call receipt that it was
-/// given stands in it.
+/// States that the run of kept cells that an audit may return (`IsMergedRun`) is a run of their
+/// chain, and has each call receipt that the audit was given.
 pub fn audited_runs_hold<C: Core>()
     ensures { (book : Celled Mastered BookEvent) (cells : List (Celled C Event)) (j : Journals) (receipts : List Called) (run : Run)
         → IsBook book → AllByRecursion (λ (c : Celled C Event). IsKept C.represents c) cells → AreKept book cells j → AreOfChain book cells j
@@ -92,14 +93,14 @@ pub fn audited_runs_hold<C: Core>()
         → IsRunOf book.opening.name.chain run × AllByRecursion (λ (c : Called). IsWithin m.merge.0 run c) receipts }
 {}
 
-/// A call that shows a pass which covers an earlier answer is asked after that answer.
+/// States that a call whose pass covers an earlier reply is requested after that reply.
 pub fn passes_order_calls()
     ensures { (lines : List Line) (run : Run) (earlier later : Called) (first : IsWithin lines run earlier) (second : IsWithin lines run later)
         → earlier.answered.stamp ≤ later.call.pass → first.answered < second.asked }
 {}
 
-/// In an explanation whose list only grows, the place of an answer is not below that of an earlier answer which the call's
-/// pass covers.
+/// States that in an explanation whose list only grows, the place of a reply is not below that of
+/// an earlier reply which the call's pass covers.
 pub fn later_answers_are_no_older()
     ensures { (members : List ℕ) (lines : List Line) (e : Explanation) (earlier later : Called) (p q : Place)
         (first : IsWithin lines (run_of members lines) earlier) (second : IsWithin lines (run_of members lines) later)

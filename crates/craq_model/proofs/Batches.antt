@@ -1,4 +1,4 @@
--- Entries that one message carries.
+-- The entries of one message.
 use Rattle.std.proofs.Common.{◌≡◌, ℕ, suc, ◌-◌, List, [], ◌∷◌, length, Some, refl, ap, subst, arith}
 use Rattle.std.specs.Prelude.{slice_get}
 use Rattle.craq_commands.specs.declared.entry.Entry.{Entry}

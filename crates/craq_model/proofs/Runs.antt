@@ -9,7 +9,7 @@ use Rattle.craq_model.specs.declared.message.Body.{Body}
 use Rattle.craq_model.specs.declared.message.Body.TheVariants as bodies
 use Rattle.craq_model.specs.Sends.{runs_of, run_body, entry_bodies}
 
--- a map over a range that begins one later
+-- a map over a range that is shifted by one
 map_later : {A : Type 0} (f g : ℕ → A) → ((i : ℕ) → f (i + 1) ≡ g i) → (a n : ℕ) → map f (range_with_len (a + 1) n) ≡ map g (range_with_len a n)
 map_later f g same a zero = refl
 map_later f g same a (suc n) = λ i. same a i ∷ map_later f g same (a + 1) n i
@@ -24,7 +24,7 @@ take_front : {A : Type 0} (xs ys : List A) → take (length xs) (xs ++ ys) ≡ x
 take_front [] ys = refl
 take_front (x ∷ xs) ys = ap (λ l. x ∷ l) (take_front xs ys)
 
--- 16 entries, and more after them
+-- 16 entries followed by more: the first run is full
 pub full_run : (xs ys : List Entry) → length xs ≡ 16 → runs_of (xs ++ ys) ≡ xs ∷ runs_of ys
 unfolding runs_of
 full_run xs ys h =
@@ -36,7 +36,7 @@ full_run xs ys h =
     ap (λ n. map (λ i. take 16 (drop (16 * i) all)) (range_with_len 0 n)) count
     ∙ (λ j. first j ∷ map_later (λ i. take 16 (drop (16 * i) all)) (λ i. take 16 (drop (16 * i) ys)) later 0 (chunk_count (length ys) 16) j)
 
--- up to 16 entries
+-- 1 to 16 entries are one run
 pub last_run : (xs : List Entry) → 1 ≤ length xs → length xs ≤ 16 → runs_of xs ≡ xs ∷ []
 unfolding runs_of
 last_run xs some few =

@@ -1,4 +1,4 @@
--- What a node does on an ask.
+-- A node's step on a request.
 use Rattle.std.specs.Prelude.{ℕ, ◌+◌, ◌==◌, nat_le, Bool, not, ◌||◌, if◌then◌else◌, List, [], ◌∷◌, ◌++◌, map, length, Option, Some, None, Result, Ok, Err}
 use Rattle.craq_names.specs.Limits.{greatest, waiting_limit}
 use Rattle.craq_names.specs.declared.name.ObjectId.{ObjectId}
@@ -25,23 +25,23 @@ use Rattle.craq_model.specs.Plain.{Plain, id_of, successor, is_first, is_last, l
 use Rattle.craq_model.specs.Sends.{send, send_all, to_neighbour, entry_bodies}
 use Rattle.craq_model.specs.Settle.{Turn, read_answer}
 
--- an accepted ask, which takes the next ticket
+-- the request is accepted and takes the next ticket
 abbrev pub accepted_turn : Plain → List Out → Turn
 accepted_turn p outs = (record p { last_ticket = p.last_ticket + 1 }, record { ticket = Some (p.last_ticket + 1); outs = outs; ignored = None })
 
--- the ask is answered in this step
+-- the request is accepted and gets its reply in this step
 abbrev pub answered_turn : Plain → Answer → List Out → Turn
 answered_turn p answer sends = accepted_turn p (outs.Answer (p.last_ticket + 1) answer ∷ sends)
 
--- no more asks can wait
+-- no more requests can wait
 unfoldable pub is_full : Plain → Bool
 is_full p = nat_le waiting_limit (length p.waiting_updates + length p.waiting_reads)
 
--- a write with its version, which is the next one
+-- the write with the object's next version
 abbrev pub versioned_write : Objects → List ℕ × List ℕ → Write
 versioned_write m w = record { key = w.0; version = version_of m w.0 + 1; value = w.1 }
 
--- the entry of a new update and its outcome
+-- the entry of a new update with its outcome
 abbrev pub entry_of : Plain → Update → Outcome → Entry
 entry_of p u outcome =
     record {
@@ -58,11 +58,11 @@ entry_of p u outcome =
 abbrev pub with_entry : Plain → Entry → Plain
 with_entry p e = with_entries p (e ∷ [])
 
--- a node that is last in its membership commits its whole history
+-- a node that is last in its membership commits all its entries
 abbrev pub committed_if_last : Plain → Plain
 committed_if_last p = if is_last p then acknowledging p (length_of p) else p
 
--- the reply is known, and due once the history up to a position is committed
+-- the reply is known, and is sent once the history is committed up to a position
 unfoldable pub reply_turn : Plain → ℕ → Reply → List Out → Result Turn Refusal
 reply_turn p position reply sends =
     if nat_le position p.past.acknowledged then Ok (answered_turn p (answers.Update reply) sends)
@@ -74,21 +74,21 @@ abbrev pub new_update_turn : Plain → Entry → Result Turn Refusal
 new_update_turn p e =
     reply_turn (committed_if_last (with_entry p e)) e.position e.reply (to_neighbour (successor p) (λ to. send_all p to (entry_bodies (e ∷ []))))
 
--- an update at the head: it was asked before and has its reply, or it is new
+-- an update at the head: a repeated one gets its reply, a new one makes an entry
 unfoldable pub update_turn : Plain → Update → Option Reply → Result Turn Refusal
 update_turn p u (Some reply) = reply_turn (committed_if_last p) (position_of p u.client) reply []
 update_turn p u None =
     if length_of p == greatest || some_used_up (newest p).objects (objects_named u.command) then Err refusals.Exhausted
     else new_update_turn p (entry_of p u (eval (newest p).objects u.command))
 
--- a read of a dirty object waits for the last member's word
+-- a read of a dirty object waits for the tail's version
 unfoldable pub waiting_read_turn : Plain → List ℕ → Result Turn Refusal
 waiting_read_turn p key =
     if is_full p then Err refusals.PendingFull
     else Ok (accepted_turn (record p { waiting_reads = p.waiting_reads ++ (record { ticket = p.last_ticket + 1; key = key }) ∷ [] })
     (send p (last_of p.members) (bodies.Query (p.last_ticket + 1) key) ∷ []))
 
--- an object is clean where its newest version is the clean one
+-- an object is clean if its newest version is the committed one
 abbrev pub is_clean : Plain → List ℕ → Bool
 is_clean p key = (newest_object p key).0 == (clean_object p key).0
 
@@ -98,12 +98,12 @@ read_turn p Eventual key = Ok (answered_turn p (read_answer (newest_object p key
 read_turn p (Bounded k) key = Ok (answered_turn p (read_answer (object_within p key ((clean_object p key).0 + k))) [])
 read_turn p Strong key = if is_clean p key then Ok (answered_turn p (read_answer (newest_object p key)) []) else waiting_read_turn p key
 
--- the objects that an ask names
+-- the objects that a request names
 abbrev pub asked_objects : Ask → List ObjectId
 asked_objects (asks.Update u) = objects_named u.command
 asked_objects (asks.Read mode object) = object ∷ []
 
--- an ask of this chain, while tickets are left
+-- a request to this chain, while tickets are left
 abbrev pub accepted_ask_turn : Plain → Ask → Result Turn Refusal
 accepted_ask_turn p (asks.Update u) =
     if not (is_first p) then Err (refusals.NotHead (first_of p.members))
@@ -113,7 +113,7 @@ accepted_ask_turn p (asks.Read mode object) =
     if p.last_ticket == greatest then Err refusals.Exhausted
     else read_turn p mode object.key
 
--- an ask at a running node
+-- a request to a running node
 unfoldable pub ask_turn : Plain → Ask → Result Turn Refusal
 ask_turn p ask =
     if not p.ready then Err refusals.NotReady

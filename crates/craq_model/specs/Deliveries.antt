@@ -1,4 +1,4 @@
--- What a node does with a message.
+-- A node's step on a message.
 use Rattle.std.specs.Prelude.{ℕ, ◌+◌, ◌==◌, nat_le, nat_lt, max, Bool, true, not, ◌&&◌, ◌||◌, if◌then◌else◌, List, [], ◌∷◌, ◌++◌, map, filter, find, is_some, Option, Some, None}
 use Rattle.std.specs.List.{list_all}
 use Rattle.craq_commands.specs.declared.entry.Entry.{Entry}
@@ -30,7 +30,7 @@ config_turn p epoch members =
     else if not (is_member members (id_of p)) then turn_ignoring p NotNeighbour
     else settling_turn (record p { epoch = epoch; members = members; floor = None; gathering = None })
 
--- each write is of the next version, and the number is new
+-- each write has the object's next version, and the request number is new
 unfoldable pub is_applicable : State → Entry → Bool
 is_applicable s e = list_all (λ (w : Write). w.version == version_of s.objects w.key + 1) e.writes && is_new_to s e.client e.number
 
@@ -39,22 +39,22 @@ abbrev pub are_applicable : State → List Entry → Bool
 are_applicable s [] = true
 are_applicable s (e ∷ es) = is_applicable s e && are_applicable (after_entry s e) es
 
--- a ready tail commits the entries that it took, and another node passes them on
+-- a ready tail commits the entries that it took; another node forwards them
 unfoldable pub forwarding_turn : Plain → List Entry → Turn
 forwarding_turn p es =
     if is_tail p
     then turn_with (acknowledging p (length_of p)) (to_neighbour (predecessor p) (λ to. send p to (bodies.Ack (length_of p)) ∷ []))
     else turn_with p (to_neighbour (successor p) (λ to. send_all p to (entry_bodies es)))
 
--- a node that has taken entries
+-- a node took entries: it forwards them if it is ready, or may become ready
 abbrev pub taken_entries_turn : Plain → List Entry → Turn
 taken_entries_turn p es = if p.ready then forwarding_turn p es else readiness_turn p
 
--- entries that follow the node's, all of them or none
+-- entries that follow the node's: it takes all of them or none
 abbrev pub appending_turn : Plain → List Entry → Turn
 appending_turn p es = if are_applicable (newest p) es then taken_entries_turn (with_entries p es) es else turn_ignoring p TooFar
 
--- the positions of the first and the last of some entries, 0 where there is none
+-- the positions of the first and the last entry, 0 if there is none
 abbrev pub first_position : List Entry → ℕ
 first_position [] = 0
 first_position (e ∷ es) = e.position
@@ -68,7 +68,7 @@ final_position (e ∷ f ∷ es) = final_position (f ∷ es)
 unfoldable pub entries_above : ℕ → List Entry → List Entry
 entries_above position es = filter (λ (e : Entry). nat_lt position e.position) es
 
--- entries in a row: those that the node has already are left out
+-- consecutive entries: those that the node already holds are left out
 unfoldable pub entries_turn : Plain → ℕ → List Entry → Turn
 entries_turn p sender es =
     if not (is_id (predecessor p) sender) then turn_ignoring p NotNeighbour
@@ -76,14 +76,14 @@ entries_turn p sender es =
     else if nat_lt (length_of p + 1) (first_position es) then turn_ignoring p OutOfOrder
     else appending_turn p (entries_above (length_of p) es)
 
--- the updates that wait for no more than a position, and the others
+-- the updates that wait for at most this position, and the others
 unfoldable pub due_updates : ℕ → List WaitingUpdate → List WaitingUpdate
 due_updates position us = filter (λ (u : WaitingUpdate). nat_le u.position position) us
 
 unfoldable pub later_updates : ℕ → List WaitingUpdate → List WaitingUpdate
 later_updates position us = filter (λ (u : WaitingUpdate). nat_lt position u.position) us
 
--- the entries up to a position are committed
+-- the history is committed up to a position
 unfoldable pub acknowledgement_turn : Plain → ℕ → Turn
 acknowledgement_turn p position =
     turn_with (record (acknowledging p position) { waiting_updates = later_updates position p.waiting_updates })
@@ -103,14 +103,14 @@ query_turn p sender ticket key =
     else if not (is_tail p) then turn_ignoring p NotReadyHere
     else turn_with p (send p sender (bodies.VersionIs ticket (newest_object p key).0) ∷ [])
 
--- the read of a ticket, among those that wait
+-- the waiting read of a ticket
 unfoldable pub read_with : ℕ → List WaitingRead → Option WaitingRead
 read_with ticket rs = find (λ (r : WaitingRead). r.ticket == ticket) rs
 
 unfoldable pub reads_without : ℕ → List WaitingRead → List WaitingRead
 reads_without ticket rs = filter (λ (r : WaitingRead). not (r.ticket == ticket)) rs
 
--- the version that answers a read: the committed one, or a later one that is clean by now
+-- the version that a read returns: the tail's, or a later one that is clean by now
 abbrev pub answering_version : Plain → List ℕ → ℕ → ℕ
 answering_version p key version = max version (clean_object p key).0
 
@@ -127,7 +127,7 @@ version_turn p sender ticket version =
     if not (sender == last_of p.members) then turn_ignoring p NotNeighbour
     else told_version_turn p version (read_with ticket p.waiting_reads)
 
--- what an unready successor with so many entries lacks
+-- the messages that an unready successor with this many entries still needs
 unfoldable pub fill_bodies : Plain → ℕ → List Body
 fill_bodies p count =
     (if nat_lt count p.past.acknowledged then copy_bodies p.past.acknowledged (clean p) else [])
@@ -149,12 +149,12 @@ copy_turn p sender position state =
     else if p.ready || nat_le position (length_of p) then turn_ignoring p AlreadyHave
     else readiness_turn (with_copy p position state)
 
--- a state of which no part is missing is taken; else the node goes on gathering
+-- a complete state is installed; otherwise the node goes on gathering
 abbrev pub gathered_turn : Plain → Gathering → Turn
 gathered_turn p g =
     if is_whole g then readiness_turn (with_copy p g.position (joined_state g.parts)) else turn_with (record p { gathering = Some g }) []
 
--- a part of the state that a node gathers
+-- a part of the state that the node gathers
 abbrev pub gathering_turn : Plain → Gathering → StatePart → Turn
 gathering_turn p g part =
     if not (part.count == g.count) then turn_ignoring p TooFar
@@ -162,7 +162,7 @@ gathering_turn p g part =
     else if not (is_in_order g part) then turn_ignoring p TooFar
     else gathered_turn p (with_part g part)
 
--- the node's own history, or the state that it gathers, goes further than the part
+-- the node's history, or the state that it gathers, is beyond the part
 abbrev pub is_outdated : Plain → StatePart → Bool
 is_outdated p part = nat_le part.position (length_of p) || nat_lt part.position (gathered_position p.gathering)
 
@@ -178,11 +178,11 @@ floor_turn p sender count =
     else if p.ready then turn_ignoring p AlreadyHave
     else readiness_turn (record p { floor = Some count })
 
--- any message but a membership must be of the node's epoch
+-- a message other than a membership must have the node's epoch
 abbrev pub turn_in_epoch : Plain → LinkMessage → Turn → Turn
 turn_in_epoch p m turn = if m.epoch == p.epoch then turn else turn_ignoring p OtherEpoch
 
--- what a message does, by its kind
+-- the step on a message, by its kind
 abbrev pub body_turn : Plain → LinkMessage → Body → Turn
 body_turn p m (bodies.Config members) = config_turn p m.epoch members
 body_turn p m (bodies.Entry e) = turn_in_epoch p m (entries_turn p m.sender (e ∷ []))
@@ -195,6 +195,6 @@ body_turn p m (bodies.Copy position state) = turn_in_epoch p m (copy_turn p m.se
 body_turn p m (bodies.Part part) = turn_in_epoch p m (part_turn p m.sender part)
 body_turn p m (bodies.Floor count) = turn_in_epoch p m (floor_turn p m.sender count)
 
--- a message that arrives
+-- the step on a message
 abbrev pub delivery_turn : Plain → LinkMessage → Turn
 delivery_turn p m = body_turn p m m.body

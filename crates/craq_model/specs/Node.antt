@@ -21,14 +21,14 @@ use Rattle.craq_model.specs.Deliveries.{delivery_turn}
 abbrev pub is_for : Plain → LinkMessage → Bool
 is_for p m = (m.chain == p.name.chain) && (m.receiver == id_of p)
 
--- what happens at a running node
+-- the step on an event at a running node
 abbrev pub event_turn : Plain → Event → Result Turn Refusal
 event_turn p (Ask ask) = ask_turn p ask
 event_turn p (Deliver m) = if is_for p m then Ok (delivery_turn p m) else Err refusals.WrongNode
 event_turn p Tick = Ok (turn_with p (tick_sends p))
 event_turn p Stop = Ok (turn_with (record p { running = false }) [])
 
--- a state is sent with counts that a message can hold
+-- the state's counts fit in a message
 abbrev pub counts_fit : Body → Bool
 counts_fit (Copy position state) = nat_le (length state.objects) greatest_count && nat_le (length state.kept) greatest_count
 counts_fit (Part part) = nat_le part.count greatest_count
@@ -42,15 +42,15 @@ abbrev pub is_send : Out → Bool
 is_send (Send to m) = true
 is_send (Answer ticket answer) = false
 
--- the sends have indexes, from 0, and the counts in them fit
+-- the sends can be numbered from 0, and their counts fit in a message
 unfoldable pub outs_fit : List Out → Bool
 outs_fit outs = nat_le (count_by is_send outs) (greatest_count + 1) && list_all out_fits outs
 
--- a step whose outs do not fit is refused
+-- a step whose outs do not fit is refused with `Exhausted`
 abbrev pub within_counts : Result Turn Refusal → Result Turn Refusal
 within_counts (Ok t) = if outs_fit t.1.outs then Ok t else Err refusals.Exhausted
 within_counts (Err e) = Err e
 
--- one step of a node: the node after it and the step, or a refusal
+-- one step of a node: the node after it and its outputs, or a refusal
 unfoldable pub node_step : Plain → Event → Result Turn Refusal
 node_step p e = if p.running then within_counts (event_turn p e) else Err refusals.Stopped

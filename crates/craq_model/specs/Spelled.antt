@@ -1,4 +1,4 @@
--- Which messages can be spelled as bytes, beyond the ranges that their types have.
+-- The messages that have an encoding, beyond the ranges of their types.
 use Rattle.std.specs.Prelude.{◌≡◌, ◌<◌, ◌≤◌, ⊤, ℕ, ◌+◌, T, List, [], ◌∷◌, map, length}
 use Rattle.std.specs.List.{AllByRecursion, IsDistinct}
 use Rattle.std.specs.Ordering.{nat_cmp}
@@ -18,11 +18,11 @@ use Rattle.craq_model.specs.declared.message.StatePart.{StatePart}
 use Rattle.craq_model.specs.Members.{IsMembership}
 use Rattle.craq_model.specs.Parts.{item_count}
 
--- an object's version and value: an absent one has no bytes
+-- an object's version and value: an absent object has no bytes
 abbrev pub IsObjectRead : ℕ × List ℕ → Type 0
 IsObjectRead object = object.0 ≡ 0 → object.1 ≡ []
 
--- what is known of a reply to a client
+-- facts about any reply to a client
 abbrev pub IsReply : Reply → Type 0
 IsReply (Written version) = 1 ≤ version
 IsReply (Mismatch version) = ⊤
@@ -34,7 +34,7 @@ IsReply (Done objects) = (length objects ≤ item_limit) × AllByRecursion IsObj
 IsReply (CompareFailed place) = place < item_limit
 IsReply (Stale last) = ⊤
 
--- the reply of an update that was new
+-- facts about the reply to a new update
 abbrev pub IsNotStale : Reply → Type 0
 IsNotStale (Written version) = ⊤
 IsNotStale (Mismatch version) = ⊤
@@ -46,7 +46,7 @@ IsNotStale (Done objects) = ⊤
 IsNotStale (CompareFailed place) = ⊤
 IsNotStale (Stale last) = ⊥
 
--- an entry that can be spelled: no key is written twice
+-- an entry with an encoding: no key is written twice
 pub record IsSpelledEntry (e : Entry) : Type 0 where
   pub position : 1 ≤ e.position
   pub origin_node : 1 ≤ e.origin_node
@@ -57,14 +57,14 @@ pub record IsSpelledEntry (e : Entry) : Type 0 where
   pub versions : AllByRecursion (λ (w : Write). 1 ≤ w.version) e.writes
   pub once : IsDistinct same_bytes (map (λ (w : Write). w.key) e.writes)
 
--- what is kept for a client can be spelled: 1 to 8 replies, and the numbers rise
+-- a client's window with an encoding: 1 to 8 replies, by rising number
 pub record IsSpelledWindow (w : Window) : Type 0 where
   pub some : 1 ≤ length w
   pub few : length w ≤ window_limit
   pub replies : AllByRecursion (λ (k : Kept). IsReply k.1 × IsNotStale k.1) w
   pub numbers_rise : T (is_sorted nat_cmp w)
 
--- a state that can be spelled: keys and clients rise
+-- a state with an encoding: its keys and clients are strictly increasing
 pub record IsSpelledState (s : State) : Type 0 where
   pub few_objects : length s.objects ≤ greatest_count
   pub few_kept : length s.kept ≤ greatest_count
@@ -73,7 +73,7 @@ pub record IsSpelledState (s : State) : Type 0 where
   pub keys_rise : T (is_sorted key_cmp s.objects)
   pub clients_rise : T (is_sorted nat_cmp s.kept)
 
--- a part that can be spelled: 64 items, or 1 to 64 in the last of its state's parts
+-- a part with an encoding: 64 items, or 1 to 64 in the last part
 pub record IsSpelledPart (part : StatePart) : Type 0 where
   pub position : 1 ≤ part.position
   pub from : 1 ≤ part.number
@@ -84,20 +84,20 @@ pub record IsSpelledPart (part : StatePart) : Type 0 where
   pub whole : part.number < part.count → item_count part.state ≡ part_limit
   pub state : IsSpelledState part.state
 
--- each position is the next after the one before
+-- each position is one above the position before it
 abbrev pub IsConsecutive : List Entry → Type 0
 IsConsecutive [] = ⊤
 IsConsecutive (e ∷ []) = ⊤
 IsConsecutive (e ∷ f ∷ es) = (f.position ≡ e.position + 1) × IsConsecutive (f ∷ es)
 
--- a batch that can be spelled: 2 to 16 entries in a row
+-- a batch with an encoding: 2 to 16 consecutive entries
 pub record IsSpelledBatch (es : List Entry) : Type 0 where
   pub several : 2 ≤ length es
   pub few : length es ≤ batch_limit
   pub entries : AllByRecursion IsSpelledEntry es
   pub consecutive : IsConsecutive es
 
--- what a message says can be spelled
+-- the message's content has an encoding
 abbrev pub IsSpelledBody : Body → Type 0
 IsSpelledBody (bodies.Config members) = IsMembership members
 IsSpelledBody (bodies.Entry e) = IsSpelledEntry e
@@ -110,7 +110,7 @@ IsSpelledBody (bodies.Part part) = IsSpelledPart part
 IsSpelledBody (bodies.Batch es) = IsSpelledBatch es
 IsSpelledBody (bodies.Floor count) = ⊤
 
--- memberships are from the master, which is node 0, and all else from nodes
+-- memberships come from the master, node 0, and all other messages from nodes
 abbrev pub IsFromItsSender : ℕ → Body → Type 0
 IsFromItsSender sender (bodies.Config members) = sender ≡ 0
 IsFromItsSender sender (bodies.Entry e) = 1 ≤ sender
@@ -123,7 +123,7 @@ IsFromItsSender sender (bodies.Part part) = 1 ≤ sender
 IsFromItsSender sender (bodies.Batch es) = 1 ≤ sender
 IsFromItsSender sender (bodies.Floor count) = 1 ≤ sender
 
--- the message can be spelled
+-- the message has an encoding
 pub record IsSpelled (m : LinkMessage) : Type 0 where
   pub sender : IsFromItsSender m.sender m.body
   pub receiver : 1 ≤ m.receiver

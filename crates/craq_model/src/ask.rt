@@ -1,4 +1,4 @@
-//! `Ask`, `Answer` and `Event`: what a node is asked, what it answers, and what happens at it; a node's step takes an event.
+//! `Ask`, `Answer` and `Event`: requests, replies and the inputs of a node's step.
 ghost use Rattle.std.specs.Prelude.{◌≡◌};
 ghost use Rattle.craq_commands.specs.Evaluation.{chain_of_first};
 ghost use Rattle.craq_model.specs.Asks.{asked_objects};
@@ -8,17 +8,17 @@ use craq_commands::{ReadMode, Reply, Update};
 use craq_names::{ChainId, Copied, ObjectId, Same, Value, Version};
 use std::alloc::{AllocError, Global};
 
-/// What a client asks of a node.
+/// A client's request.
 #[derive(Debug, Drop)]
 pub enum Ask {
-    /// An update, asked of the head.
+    /// An update. The head accepts it.
     Update(Update),
-    /// A read of an object, asked of any node.
+    /// A read of an object. Any node accepts it.
     Read { mode: ReadMode, object: ObjectId },
 }
 
 impl Ask {
-    /// The chain that is asked: that of the first object.
+    /// Returns the chain that the request addresses: that of its first object.
     pub fn chain(&self) -> ChainId
         ensures { result ≡ chain_of_first (asked_objects self.now) }
     {
@@ -57,12 +57,12 @@ impl Same for Ask {
     }
 }
 
-/// What a node answers to an ask.
+/// A node's reply to a request.
 #[derive(Debug, Drop)]
 pub enum Answer {
     /// The reply to an update.
     Update(Reply),
-    /// The version and value that a read found.
+    /// The version and value that the read found.
     Read { version: Version, value: Value },
 }
 
@@ -94,16 +94,16 @@ impl Same for Answer {
     }
 }
 
-/// What happens at a node.
+/// An input of a node's step.
 #[derive(Debug, Drop)]
 pub enum Event {
-    /// A client asks.
+    /// A client's request arrives.
     Ask(Ask),
     /// A message arrives.
     Deliver(LinkMessage),
-    /// The node repeats what it has to send.
+    /// The timer fires: the node resends its pending messages.
     Tick,
-    /// The node halts for good.
+    /// The node stops and stays stopped.
     Stop,
 }
 

@@ -1,8 +1,9 @@
-//! `Config`: a membership with its epoch; the master in `craq_epochs` makes it, and nodes are told it.
+//! `Config`: a membership with its epoch. The master in `craq_epochs` makes it and sends it to
+//! nodes.
 use craq_names::{Copied, Epoch, Items, NodeId, Same};
 use std::alloc::{AllocError, Global};
 
-/// A membership of a chain: its members, head first, and its number. The first has epoch 1.
+/// A membership of a chain: its members, head first, and its epoch. The first has epoch 1.
 #[derive(Debug, Drop)]
 pub struct Config {
     pub epoch: Epoch,

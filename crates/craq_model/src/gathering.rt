@@ -1,13 +1,14 @@
-//! `Gathering`: the parts of a state that a node which is not ready holds; `Node` of `craq_history` keeps it.
+//! `Gathering`: the parts of a state that a joining node has received so far. `Node` of
+//! `craq_history` holds it.
 use craq_commands::State;
 use craq_names::{Items, Seq};
 
-/// The parts that a node which is not ready holds of the state after a position.
+/// The received parts of the state after a position, at a node that is not ready.
 #[derive(Debug, Drop)]
 pub struct Gathering {
     pub position: Seq,
-    /// How many parts the state has.
+    /// The number of parts of the state.
     pub count: u32,
-    /// The parts held, by rising number.
+    /// The received parts, sorted by number.
     pub parts: Items<(u32, State)>,
 }

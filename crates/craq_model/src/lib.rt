@@ -1,5 +1,5 @@
-//! The types of a node's events, messages and steps; apart from the node, since `craq_wire` and `craq_check` use them without it.
-//! Definitions: `specs/` defines a node's step (`node_step`). Of the code only copies and tests of equality run.
+//! The types of a node's events, messages and steps; `craq_wire` and `craq_check` need no node.
+//! Definitions: `specs/` defines a node's step, `node_step`; of the code only copies and tests run.
 #![tactic(auto)]
 
 mod ask;

@@ -1,26 +1,27 @@
-//! `LinkMessage`, a message between nodes, with its `Body`; `craq_history` makes them, and `craq_wire` has them as bytes.
+//! `LinkMessage`, a message between nodes, with its `Body`. `craq_history` makes messages, and
+//! `craq_wire` encodes them.
 use craq_commands::{Entry, State};
 use craq_names::{ChainId, Copied, Epoch, Items, Key, NodeId, Same, Seq, Stamp, Ticket, Version};
 use std::alloc::{AllocError, Global};
 
-/// How many entries a batch has at most.
+/// The maximum number of entries in a batch.
 pub const BATCH_LIMIT: usize = 16;
 
-/// How many items of a state one message has at most.
+/// The maximum number of items of a state in one message.
 pub const PART_LIMIT: usize = 64;
 
 /// The greatest index or count in a message.
 pub const GREATEST_COUNT: usize = u32::MAX as usize;
 
-/// One part of a state that has more items than one message takes. Its items are its objects by rising
-/// key, then its kept replies by rising client.
+/// One part of a state that has more items than fit in one message. A state's items are its
+/// objects, sorted by key, then its kept replies, sorted by client.
 #[derive(Debug, Drop)]
 pub struct StatePart {
-    /// The position after which the state is.
+    /// The position after which the state is taken.
     pub position: Seq,
     /// The part's number, from 1.
     pub number: u32,
-    /// How many parts the state has, at least 2.
+    /// The number of parts of the state, at least 2.
     pub count: u32,
     /// The objects and kept replies of this part.
     pub state: State,
@@ -46,28 +47,28 @@ impl Same for StatePart {
     }
 }
 
-/// What a message says.
+/// The content of a message.
 #[derive(Debug, Drop)]
 pub enum Body {
-    /// The membership of the message's epoch, head first. The master sends it.
+    /// The membership of the message's epoch, head first. Only the master sends it.
     Config { members: Items<NodeId> },
     /// An entry of the sender's history.
     Entry(Entry),
-    /// Entries of the sender's history in a row: 2 to 16.
+    /// Consecutive entries of the sender's history: 2 to 16.
     Batch(Items<Entry>),
     /// All entries up to the position are committed.
     Ack(Seq),
-    /// Which version of the object is committed?
+    /// Asks which version of the object is committed.
     Query { ticket: Ticket, key: Key },
-    /// The committed version of the object that was asked about under this ticket.
+    /// Replies to `Query` of this ticket: the object's committed version.
     VersionIs { ticket: Ticket, version: Version },
-    /// The sender is not ready, and has this many entries.
+    /// The sender is not ready and holds this many entries.
     Blank(Seq),
     /// The state after a position.
     Copy { position: Seq, state: State },
     /// A part of the state after a position.
     Part(StatePart),
-    /// The sender is ready, and has this many entries.
+    /// The sender is ready and holds this many entries.
     Floor(Seq),
 }
 
@@ -135,9 +136,8 @@ impl Same for Body {
     }
 }
 
-/// A message between nodes of a chain, named by its sender, stamp and index among the sends of
-/// the sender's step. Inside a step the stamp is 1 and the index 0: the cell that took the step
-/// sets them.
+/// A message between nodes of a chain. Sender, stamp and index among the sends of the sender's step
+/// name it. Inside a step the stamp is 1 and the index 0: the journaled node (`Cell`) sets both.
 #[derive(Debug, Drop)]
 pub struct LinkMessage {
     pub chain: ChainId,

@@ -1,27 +1,29 @@
-//! `Step`: what a node did at an event, with its outs and the reasons to ignore a message; `craq_node` gives it back.
+//! `Step`: the effects of an event at a node: its outs, or the reason why a message was ignored.
+//! `craq_node` returns it.
 use crate::{Answer, LinkMessage};
 use craq_names::{Items, NodeId, Same, Ticket};
 
-/// Why a message is ignored.
+/// The reason why a message was ignored.
 #[derive(Clone, Copy, Debug, PartialEq, Eq)]
 pub enum Why {
-    /// It bears another epoch than the node's, or is a membership that is not newer.
+    /// The message has another epoch than the node, or is a membership that is not newer.
     OtherEpoch,
-    /// It is not from the neighbour that sends such a message, or is a membership without the node.
+    /// The message is not from the neighbour that sends this kind, or is a membership without the
+    /// node.
     NotNeighbour,
-    /// An entry further on than the next.
+    /// The entry is beyond the next position.
     OutOfOrder,
-    /// Something that the node has already.
+    /// The node already holds the content.
     AlreadyHave,
-    /// A question or acknowledgement to a node that is not ready, or not the tail.
+    /// A query or acknowledgement reached a node that is not ready, or not the tail.
     NotReadyHere,
-    /// The answer to a question that nobody waits for.
+    /// No read waits for this reply to a query.
     UnknownTicket,
-    /// It speaks of more than the node holds, or does not fit what it holds.
+    /// The message refers beyond the node's history, or conflicts with it.
     TooFar,
 }
 
-/// What a node sends or answers.
+/// An output of a step: a message to send, or a reply.
 #[derive(Debug, Drop)]
 pub enum Out {
     Send { to: NodeId, message: LinkMessage },
@@ -50,8 +52,8 @@ impl Same for Out {
     }
 }
 
-/// What a node did: the ticket of an accepted ask, its outs in order, and why a message was
-/// ignored.
+/// The effects of an event: the ticket of an accepted request, the outs in order, and why a message
+/// was ignored.
 #[derive(Debug, Drop)]
 pub struct Step {
     pub ticket: Option<Ticket>,

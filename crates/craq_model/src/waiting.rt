@@ -1,9 +1,10 @@
-//! The asks that wait at a node: updates for their entry to be committed, reads for the tail's word; `Node` holds them.
+//! The requests that wait at a node: updates for the commit of their entry, reads for the tail's
+//! version. `Node` holds them.
 use craq_commands::Reply;
 use craq_names::{Key, Seq, Ticket};
 
-/// An update that was asked and is not answered yet: its reply is given once the history up to its
-/// position is committed.
+/// An update without a reply so far. It gets the reply once the history is committed up to the
+/// position.
 #[derive(Debug, Drop)]
 pub struct WaitingUpdate {
     pub ticket: Ticket,
@@ -11,7 +12,7 @@ pub struct WaitingUpdate {
     pub reply: Reply,
 }
 
-/// A strong read that waits for the tail's word.
+/// A strong read that waits for the tail's version.
 #[derive(Debug, Drop)]
 pub struct WaitingRead {
     pub ticket: Ticket,

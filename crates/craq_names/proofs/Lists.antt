@@ -1,4 +1,4 @@
--- Facts of each element of a list.
+-- Facts about properties of every element of a list.
 use Rattle.std.proofs.Common.{ℕ, zero, suc, Bool, List, [], ◌∷◌, ◌++◌, map, filter, take, drop}
 use Rattle.std.proofs.lemmas.Bool.{cond_both}
 use Rattle.std.specs.List.{AllByRecursion}

@@ -1,4 +1,4 @@
--- Two numbers in their order, and as a map compares them.
+-- Comparison of two numbers: trichotomy, and the comparison that maps use.
 use Rattle.std.proofs.Common.{◌≡◌, ◌<◌, ◌⊎◌, ℕ, true, T, refl, inl, inr, arith}
 use Rattle.std.proofs.lemmas.Bool.Decides.{nat_tests}
 use Rattle.std.specs.Ordering.{nat_cmp, eq_by_cmp, is_lt}

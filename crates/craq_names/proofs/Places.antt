@@ -1,4 +1,4 @@
--- What stands in places by rising key, of which some are empty.
+-- The filled slots of a list sorted by key.
 use Rattle.std.proofs.Common.{◌≡◌, Bool, true, false, cond, List, [], ◌∷◌, Option, Some, None, refl, sym, ◌∙◌, ap, subst}
 use Rattle.std.specs.Prelude.{◌&&◌}
 use lib.Dec.{T}
@@ -45,7 +45,7 @@ reversed_eq Equal = refl
 reversed_eq Greater = refl
 
 module _ {K V X : Type 0} (R : K → K → Ordering) (f : V → Option X) where
-  -- what stands in the places is above what they are above
+  -- a lower bound of the slots' keys bounds the filled slots' keys
   below_filled : (k : K) (es : List (K × V)) → T (below_all R k es) → T (below_all R k (filled f es))
   below_filled k [] h = tt
   below_filled k (e ∷ es) h =
@@ -72,7 +72,7 @@ module _ {K V X : Type 0} (R : K → K → Ordering) (f : V → Option X) where
         | Some x ↦ (h.0, all_filled P es h.1)
       ]
 
-  -- the keys of what stands in the places rise
+  -- the keys of the filled slots are strictly increasing
   pub keys_filled : (es : List (K × V)) → IsStrictlySortedBy R (keys_of es) → IsStrictlySortedBy R (keys_of (filled f es))
   unfolding IsStrictlySortedBy
   keys_filled [] h = tt
@@ -86,7 +86,7 @@ module _ {K V X : Type 0} (R : K → K → Ordering) (f : V → Option X) where
   below_all_of k [] h = tt
   below_all_of k (e ∷ es) h = both _ _ (subst (λ r. T (is_lt r)) (sym h.0) tt) (below_all_of k es h.1)
 
-  -- a map's keys rise
+  -- strictly increasing keys pass the test `is_sorted`
   pub is_sorted_of : (es : List (K × V)) → IsStrictlySortedBy R (keys_of es) → T (is_sorted R es)
   unfolding IsStrictlySortedBy
   is_sorted_of [] h = tt
@@ -99,7 +99,7 @@ module _ {K V X : Type 0} (R : K → K → Ordering) (f : V → Option X) where
         let above : R q e.0 ≡ Less = o.congr q k e.0 t ∙ less _ (first _ _ h) in
         ap (λ r. cond (is_eq r) (Some e.1) (find R q es)) above ∙ below_tied k q es t (second _ _ h)
 
-    -- what is found in the places
+    -- looking up a key in the filled slots gives the content of the key's slot
     pub find_filled : (q : K) (es : List (K × V)) → T (is_sorted R es) → find R q (filled f es) ≡ option_and_then f (find R q es)
     find_filled q [] h = refl
     find_filled q (e ∷ es) h =
@@ -122,7 +122,7 @@ module _ {K V X : Type 0} (R : K → K → Ordering) (f : V → Option X) where
     is_eq_back k q = ap is_eq (o.antisymm q k) ∙ reversed_eq (R k q)
 
     module _ (exact : (x y : K) → R x y ≡ Equal → x ≡ y) where
-      -- the places once something stands at a key
+      -- a slot gets content: the filled slots gain that entry
       pub filled_put : (es gs : List (K × V)) (k : K) (v : V) (x : X) → f v ≡ Some x → IsStrictlySortedBy R (keys_of es) → IsStrictlySortedBy R (keys_of gs) → ((q : K) → find R q gs ≡ cond (is_at (R k) q) (Some v) (find R q es)) → filled f gs ≡ put R k x (filled f es)
       filled_put es gs k v x has was is at =
           let es_rise = is_sorted_of es was in
@@ -131,7 +131,7 @@ module _ {K V X : Type 0} (R : K → K → Ordering) (f : V → Option X) where
           same_entries R o exact (filled f gs) (put R k x (filled f es)) (is_sorted_filled gs gs_rise) (is_sorted-put R o k x (filled f es) (is_sorted_filled es es_rise))
           (λ q. find_filled q gs gs_rise ∙ ap (option_and_then f) (at q) ∙ split q (is_at (R k) q) ∙ ap (λ b. cond b (Some x) (find R q (filled f es))) (sym (is_eq_back k q)) ∙ sym (find-put R o q k x (filled f es)))
 
-      -- the places once one more is there for a key, or is changed, and nothing else stands in it
+      -- a slot is added or changed with the content its key had: the filled slots are unchanged
       pub filled_same : (es gs : List (K × V)) (k : K) (v : V) → f v ≡ option_and_then f (find R k es) → IsStrictlySortedBy R (keys_of es) → IsStrictlySortedBy R (keys_of gs) → ((q : K) → find R q gs ≡ cond (is_at (R k) q) (Some v) (find R q es)) → filled f gs ≡ filled f es
       filled_same es gs k v same was is at =
           let es_rise = is_sorted_of es was in

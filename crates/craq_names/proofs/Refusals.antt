@@ -1,11 +1,11 @@
--- A refusal is known by its number and its detail.
+-- Number and detail together determine a refusal.
 use Rattle.std.proofs.Common.{◌≡◌, ℕ, refl, sym, ◌∙◌}
 use Rattle.std.specs.Prelude.{◌==◌, if◌then◌else◌}
 use Rattle.craq_names.specs.Refused.{number_of, detail_of}
 use Rattle.craq_names.specs.declared.refusal.Refusal.{Refusal}
 use Rattle.craq_names.specs.declared.refusal.Refusal.TheVariants.{BadKey, ValueTooLong, TooManyItems, EmptyTransaction, DuplicateKey, BadNumber, UnknownChain, TwoChains, NotHead, NotReady, Stopped, PendingFull, Exhausted, Memory, BadFrame, FrameTooLong, NotMember, NotStopped, UsedId, ChainFull, LastNode, UnknownMessage, WrongNode, JournalOff, BadScript, BadConfig, Closed, Io}
 
--- the refusal of a number and a detail
+-- the refusal with this number and detail
 abbrev refusal_of : ℕ → ℕ → Refusal
 refusal_of n d =
     if n == 1 then BadKey

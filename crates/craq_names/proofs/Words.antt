@@ -1,4 +1,4 @@
--- Bytes compare as the numbers that words of 8 of them spell, the greatest byte first.
+-- Byte strings compare as the big-endian numbers of their words of 8 bytes.
 use Rattle.std.proofs.Common.{◌≡◌, ◌≢◌, ◌≤◌, ◌<◌, ◌+◌, ◌*◌, ◌∙◌, ℕ, List, [], ◌∷◌, ◌++◌, append-nil, length, take, drop, get_or, zero, suc, take-append-drop, length-take-le, inl, inr, refl, sym, ap, arith, rules}
 use Rattle.std.specs.Int.{w64, from_be_bytes}
 use Rattle.std.specs.List.{AllByRecursion}
@@ -10,11 +10,11 @@ use Rattle.craq_names.specs.Words.{first_word}
 use Rattle.std.proofs.lemmas.Bool.{cases_lt}
 use Rattle.std.proofs.lemmas.Grind.{common_steps}
 
--- each is a byte
+-- each number is a byte
 abbrev pub AreBytes : List ℕ → Type 0
 AreBytes bs = AllByRecursion (λ (b : ℕ). b < 256) bs
 
--- the number that bytes spell after another
+-- the number that `a` followed by these bytes encodes, big-endian
 abbrev spelled : ℕ → List ℕ → ℕ
 spelled a [] = a
 spelled a (b ∷ bs) = spelled (a * 256 + b) bs
@@ -36,7 +36,7 @@ is_greater x y h = first_of (search rules, grind (arith, common_steps))
 is_equal : (x y : ℕ) → x ≡ y → nat_cmp x y ≡ Equal
 is_equal x y h = first_of (search rules, grind (arith, common_steps))
 
--- ---- parts of lists of bytes
+-- ---- parts of byte lists
 
 pub each_byte : (xs : List ℕ) → ((i : ℕ) → get_or xs i 0 < 256) → AreBytes xs
 each_byte [] h = tt
@@ -54,7 +54,7 @@ back (suc n) (x ∷ xs) h = back n xs h.1
 
 -- ---- words
 
--- words that spell different numbers decide as these do
+-- words with different numbers decide the comparison
 decide : (us vs xs ys : List ℕ) (a : ℕ) → length us ≡ length vs → AreBytes us → AreBytes vs → spelled a us ≢ spelled a vs → slice_cmp nat_cmp (us ++ xs) (vs ++ ys) ≡ nat_cmp (spelled a us) (spelled a vs)
 decide [] [] xs ys a l s t n = absurd (n refl)
 decide [] (v ∷ vs) xs ys a l s t n = absurd (omega arith)
@@ -76,7 +76,7 @@ decide (u ∷ us) (v ∷ vs) xs ys a l s t n =
       ]
     ]
 
--- words that spell the same number leave it to what is behind them
+-- words with equal numbers leave the comparison to the rest
 leave : (us vs xs ys : List ℕ) (a : ℕ) → length us ≡ length vs → AreBytes us → AreBytes vs → spelled a us ≡ spelled a vs → slice_cmp nat_cmp (us ++ xs) (vs ++ ys) ≡ slice_cmp nat_cmp xs ys
 leave [] [] xs ys a l s t e = refl
 leave [] (v ∷ vs) xs ys a l s t e = absurd (omega arith)
@@ -97,7 +97,7 @@ leave (u ∷ us) (v ∷ vs) xs ys a l s t e =
       ]
     ]
 
--- what 8 bytes are as a word
+-- 8 bytes as a word are the number that they encode
 word_of : (bs : List ℕ) → length bs ≡ 8 → from_be_bytes w64 bs ≡ spelled 0 bs
 word_of [] l = absurd (omega arith)
 word_of (a ∷ []) l = absurd (omega arith)
@@ -131,7 +131,7 @@ word_leaves xs ys us vs n m bx by isu isv lx ly isn ism same =
 
 -- ---- first words
 
--- so many first bytes, and zeros where there are no more
+-- the first n bytes, padded with zeros
 abbrev padded : ℕ → List ℕ → List ℕ
 padded zero bs = []
 padded (suc n) [] = 0 ∷ padded n []
@@ -147,7 +147,7 @@ bytes_padded zero bs h = tt
 bytes_padded (suc n) [] h = (omega arith, bytes_padded n [] h)
 bytes_padded (suc n) (b ∷ bs) h = (h.0, bytes_padded n bs h.1)
 
--- no bytes stand before some
+-- no bytes compare below nonzero padded bytes
 zeros_below : (n : ℕ) (bs : List ℕ) → (padded n [] ≡ padded n bs → ⊥) → slice_cmp nat_cmp (padded n []) (padded n bs) ≡ Less
 zeros_below zero bs d = absurd (d refl)
 zeros_below (suc n) [] d = absurd (d refl)
@@ -172,7 +172,7 @@ zeros_above (suc n) (b ∷ bs) d =
           ∙ zeros_above n bs (λ e. d (λ i. same i ∷ e i))
     ]
 
--- bytes compare as they do with zeros behind them, where these differ
+-- byte strings compare as their padded prefixes, if these differ
 pads : (n : ℕ) (bs cs : List ℕ) → (padded n bs ≡ padded n cs → ⊥) → slice_cmp nat_cmp bs cs ≡ slice_cmp nat_cmp (padded n bs) (padded n cs)
 pads zero bs cs d = absurd (d refl)
 pads (suc n) [] [] d = absurd (d refl)

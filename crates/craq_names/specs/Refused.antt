@@ -1,4 +1,4 @@
--- Refusals by their numbers, and what each tells beside it.
+-- Refusals: their numbers and details.
 use Rattle.std.specs.Prelude.{ℕ}
 use Rattle.craq_names.specs.declared.refusal.Refusal.{Refusal}
 use Rattle.craq_names.specs.declared.refusal.Refusal.TheVariants.{BadKey, ValueTooLong, TooManyItems, EmptyTransaction, DuplicateKey, BadNumber, UnknownChain, TwoChains, NotHead, NotReady, Stopped, PendingFull, Exhausted, Memory, BadFrame, FrameTooLong, NotMember, NotStopped, UsedId, ChainFull, LastNode, UnknownMessage, WrongNode, JournalOff, BadScript, BadConfig, Closed, Io}
@@ -34,7 +34,7 @@ number_of BadConfig = 26
 number_of Closed = 27
 number_of Io = 28
 
--- the head that an update should have gone to, or the line of a script; else nothing
+-- the head that the update should have gone to, or the line of the script; else 0
 abbrev pub detail_of : Refusal → ℕ
 detail_of (NotHead head) = head
 detail_of (BadScript line) = line

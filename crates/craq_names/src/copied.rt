@@ -1,13 +1,14 @@
-//! `Copied`: values of which an equal one can be made, which stands by itself. It stands here since types of
-//! `craq_commands`, `craq_model` and `craq_runs` implement it too.
+//! `Copied`: values that can be duplicated. It is defined here because types of `craq_commands`,
+//! `craq_model` and `craq_runs` implement it too.
 ghost use Rattle.std.specs.Prelude.{◌≡◌, IfOk};
 
 use crate::{ClientId, Items, Key, NodeId, ObjectId, RequestNo, Value, Version};
 use std::alloc::{AllocError, Global};
 
-/// A value of which an equal one can be made, which stands by itself: they share at most what never changes.
+/// A value that can be duplicated. The copy is independent of the original: they share at most
+/// immutable data.
 pub trait Copied: Drop {
-    /// An equal value. It fails for want of memory alone.
+    /// Returns an equal value. Fails only when out of memory.
     fn copied(&self, alloc: Global) -> Result<Self, AllocError>
         ensures { IfOk result (λ c. c ≡ self.now) };
 }
@@ -69,7 +70,7 @@ impl<T: Copied> Copied for Items<T> {
     }
 }
 
-/// Copies of these items, in order.
+/// Copies the items, in order. Fails only when out of memory.
 pub fn copies_of<T: Copied>(alloc: Global, items: &[T]) -> Result<Vec<T>, AllocError>
     ensures { IfOk result (λ copies. copies.items ≡ items.now) }
 {

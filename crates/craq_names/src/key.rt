@@ -1,4 +1,5 @@
-//! `Key` and `Value`: bytes within their limits, by their types; commands, pasts and messages hold them.
+//! `Key` and `Value`: byte strings whose types enforce their length limits. Commands, histories and
+//! messages hold them.
 ghost use Rattle.std.specs.Prelude.{◌≡◌, ◌<◌, ◌≤◌, ◌⊎◌, ◌↔◌, ℕ, List, [], length, nat_eq, refl, Err, Some, IfOk, IfErr};
 ghost use Rattle.std.specs.Ordering.{nat_cmp};
 ghost use Rattle.std.specs.Cmp.{partial_equiv_from_equiv};
@@ -13,8 +14,8 @@ use std::cmp::Ordering;
 use std::marker::Model;
 use std::sync::ArcSlice;
 
-/// The key of an object: 1 to 128 bytes. Keys stand in the order of their bytes. With the bytes a key has their first
-/// word, since mostly it tells two keys apart.
+/// The key of an object: 1 to 128 bytes, ordered lexicographically. The first 8 bytes are cached as
+/// one number, because they usually decide a comparison.
 #[derive(Debug, Drop)]
 pub struct Key {
     first: u64,
@@ -30,10 +31,11 @@ impl Model for Key {
 }
 
 impl Key {
-    /// The most bytes of a key.
+    /// The maximum length of a key, in bytes.
     pub const MAX: usize = 128;
 
-    /// A key of these bytes. `BadKey` exactly where there are none, or more than 128.
+    /// Makes a key of these bytes. Returns `BadKey` exactly if there are none or more than 128;
+    /// otherwise fails only when out of memory (`Memory`).
     pub fn new(alloc: Global, bytes: &[u8]) -> Result<Self, Refusal>
         ensures key { IfOk result (λ k. k ≡ bytes.now) }
         ensures bad { (result ≡ Err Refusal.BadKey) ↔ ((length bytes.now ≡ 0) ⊎ (128 < length bytes.now)) }
@@ -48,7 +50,7 @@ impl Key {
         })
     }
 
-    /// The key's bytes.
+    /// Returns the key's bytes.
     pub fn as_slice(&self) -> &[u8]
         ensures value { result.now ≡ self.now }
         ensures some { 1 ≤ length self.now }
@@ -57,7 +59,7 @@ impl Key {
         self.bytes.as_slice()
     }
 
-    /// The same key, in memory of its own.
+    /// Copies the key into memory of its own. Fails only when out of memory.
     pub(crate) fn copy_of(alloc: Global, key: &Key) -> Result<Self, AllocError>
         ensures { IfOk result (λ k. k ≡ key.now) }
     {
@@ -117,7 +119,7 @@ impl Ord for Key {
     }
 }
 
-/// The value of an object: 0 to 4,096 bytes. They never change, so its copies share them.
+/// The value of an object: 0 to 4,096 bytes. Values are immutable, so copies share their bytes.
 #[derive(Debug, Drop)]
 pub struct Value {
     bytes: ArcSlice<u8>,
@@ -132,10 +134,11 @@ impl Model for Value {
 }
 
 impl Value {
-    /// The most bytes of a value.
+    /// The maximum length of a value, in bytes.
     pub const MAX: usize = 4096;
 
-    /// A value of these bytes. `ValueTooLong` exactly where there are more than 4,096.
+    /// Makes a value of these bytes. Returns `ValueTooLong` exactly if there are more than 4,096;
+    /// otherwise fails only when out of memory (`Memory`).
     pub fn new(alloc: Global, bytes: &[u8]) -> Result<Self, Refusal>
         ensures value { IfOk result (λ v. v ≡ bytes.now) }
         ensures bad { (result ≡ Err Refusal.ValueTooLong) ↔ (4096 < length bytes.now) }
@@ -147,7 +150,7 @@ impl Value {
         Ok(Value::of(Vec::from_slice(alloc, bytes)?)?)
     }
 
-    /// The value's bytes.
+    /// Returns the value's bytes.
     pub fn as_slice(&self) -> &[u8]
         ensures value { result.now ≡ self.now }
         ensures short { length self.now ≤ 4096 }
@@ -155,7 +158,8 @@ impl Value {
         self.bytes.as_slice()
     }
 
-    /// These bytes, of which the caller knows that there are at most 4,096. It fails for want of memory alone.
+    /// Makes a value of bytes that the caller knows to be at most 4,096. Fails only when out of
+    /// memory.
     pub fn of(bytes: Vec<u8>) -> Result<Self, AllocError>
         requires { length bytes.items ≤ 4096 }
         ensures { IfOk result (λ v. v ≡ bytes.items) }
@@ -165,7 +169,8 @@ impl Value {
         })
     }
 
-    /// The same value, which shares its bytes. It fails only where more copies share them than can be counted.
+    /// Returns a value that shares these bytes. Fails only if the reference count is at its
+    /// maximum.
     pub(crate) fn copy_of(value: &Value) -> Result<Self, AllocError>
         ensures { IfOk result (λ v. v ≡ value.now) }
     {

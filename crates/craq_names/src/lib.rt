@@ -1,6 +1,5 @@
-//! Keys, values, ids, numbers and refusals, each in its range by its type; the lowest crate, on which all but `craq_protocol`
-//! stand.
-//! Code that runs in the program; `specs/` defines limits, maps and the numbers of refusals.
+//! Keys, values, ids, numbers, refusals, checked by type; below every crate but `craq_protocol`.
+//! Runs in the program; `specs/` defines limits, maps and refusal numbers.
 #![tactic(auto)]
 
 mod copied;

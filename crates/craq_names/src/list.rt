@@ -1,4 +1,5 @@
-//! `Items`: a vector that a contract sees as the plain list of its items; messages, steps and states hold their lists so.
+//! `Items`: a vector that contracts see as the plain list of its items. Messages, steps and states
+//! hold their lists this way.
 ghost use Rattle.std.specs.Prelude.{◌≡◌, ◌↔◌, [], ◌∷◌, ◌++◌, List, length, IsTrue, IfOk, OnOk, OnErr};
 ghost use Rattle.std.specs.FinMap.Entries.{put};
 
@@ -6,7 +7,7 @@ use crate::put_at;
 use std::alloc::{AllocError, Global};
 use std::marker::Model;
 
-/// A vector that a contract sees as the plain list of its items.
+/// A vector that contracts see as the plain list of its items.
 #[derive(Debug, Drop)]
 pub struct Items<T> {
     items: Vec<T>,
@@ -19,7 +20,7 @@ impl<T> Model for Items<T> {
 }
 
 impl<T> Items<T> {
-    /// No items. It takes no memory.
+    /// Returns an empty list. Allocates nothing.
     pub fn new(alloc: Global) -> Self
         ensures { result ≡ [] }
     {
@@ -28,42 +29,42 @@ impl<T> Items<T> {
         }
     }
 
-    /// The items of a vector, in order.
+    /// Wraps a vector; the order is kept.
     pub fn of(items: Vec<T>) -> Self
         ensures { result ≡ items.items }
     {
         Items { items }
     }
 
-    /// The items as a vector, in order.
+    /// Returns the items as a vector, in order.
     pub fn into_vec(self) -> Vec<T>
         ensures { result.items ≡ self }
     {
         self.items
     }
 
-    /// The items, lent as a slice.
+    /// Borrows the items as a slice.
     pub fn as_slice(&self) -> &[T]
         ensures { result.now ≡ self.now }
     {
         self.items.as_slice()
     }
 
-    /// How many items there are.
+    /// Returns the number of items.
     pub fn len(&self) -> usize
         ensures { result ≡ length self.now }
     {
         self.items.len()
     }
 
-    /// Whether there is no item.
+    /// Returns true exactly if there are no items.
     pub fn is_empty(&self) -> bool
         ensures { IsTrue result ↔ (self.now ≡ []) }
     {
         self.items.is_empty()
     }
 
-    /// One more item at the end. Where memory is refused the items stay.
+    /// Appends one item. Fails only when out of memory; the list is unchanged on error.
     pub fn push(&mut self, item: T) -> Result<(), AllocError>
     where
         T: Drop,
@@ -76,8 +77,8 @@ impl<T> Items<T> {
 }
 
 impl<K: Ord + Drop, V: Drop> Items<(K, V)> {
-    /// Puts a value at its key into items by rising key, in place of the one that is there. Where memory
-    /// is refused the items stay.
+    /// Inserts a value at its key into items sorted by key, or replaces the value that is there.
+    /// Fails only when out of memory; the list is unchanged on error.
     pub fn put(&mut self, key: K, value: V) -> Result<(), AllocError>
         ensures ok { OnOk result (self.new ≡ put K.cmp key value self.old) }
         ensures err { OnErr result (self.new ≡ self.old) }

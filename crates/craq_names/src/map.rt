@@ -1,12 +1,13 @@
-//! A list of pairs by rising key as a map: where it is put into; called by `list`, `craq_commands` and `craq_plain`.
+//! Insertion into a list of pairs sorted by key, used as a map. `list`, `craq_commands` and
+//! `craq_plain` call it.
 ghost use Rattle.std.specs.Prelude.{◌≡◌, ◌≤◌, OnOk, OnErr, vec_len, vec_capacity};
 ghost use Rattle.std.specs.FinMap.Entries.{put};
 
 use std::alloc::AllocError;
 use std::cmp::Ordering;
 
-/// Puts a value at its key into a list by rising key, in place of the one that is there. If memory is refused, the list stays
-/// as it was; it is refused only where there is no room for one more.
+/// Inserts a value at its key into a list sorted by key, or replaces the value that is there. Fails
+/// only when out of memory, and only if the list is at capacity; the list is unchanged on error.
 pub fn put_at<K: Ord + Drop, V: Drop>(
     items: &mut Vec<(K, V)>,
     key: K,

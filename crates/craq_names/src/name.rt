@@ -1,4 +1,5 @@
-//! `NodeName` and `ObjectId`: a node, or an object, with its chain; nodes hold the first, commands and asks the second.
+//! `NodeName` and `ObjectId`: a node, or an object, together with its chain. Nodes hold the first;
+//! commands and requests hold the second.
 use crate::{ChainId, Key, NodeId};
 
 /// A node of a chain.

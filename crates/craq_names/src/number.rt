@@ -1,12 +1,12 @@
-//! The numbers of the store: versions, positions, epochs, ids, tickets, stamps, passes; each a type of its own, so that none
-//! is taken for another.
+//! The numbers of the store: versions, positions, epochs, ids, tickets, stamps and passes. Each has
+//! its own type, so that none is mistaken for another.
 ghost use Rattle.std.specs.Prelude.{◌≡◌, ◌+◌, ◌-◌, ◌^◌, ℕ, ◌≤◌, ◌↔◌, max, Err, IfOk, IfErr};
 
 use crate::Refusal;
 use std::fmt;
 use std::marker::Model;
 
-/// How often an object was written: 0 where it never was, else from 1.
+/// The number of times an object was written: 0 if it is absent.
 #[derive(Clone, Copy, Debug, PartialEq, Eq, PartialOrd, Ord)]
 pub struct Version {
     version: u64,
@@ -21,14 +21,14 @@ impl Model for Version {
 }
 
 impl Version {
-    /// This number as a value of the type.
+    /// Returns the number as a version.
     pub const fn new(version: u64) -> Self
         ensures { result ≡ version }
     {
         Version { version }
     }
 
-    /// The number.
+    /// Returns the number.
     pub const fn get(self) -> u64
         ensures { result ≡ self }
     {
@@ -43,7 +43,7 @@ impl fmt::Display for Version {
     }
 }
 
-/// A position in a history, from 1; as a length, how many entries a history has.
+/// A position in a history, counted from 1. As a length: the number of entries of a history.
 #[derive(Clone, Copy, Debug, PartialEq, Eq, PartialOrd, Ord)]
 pub struct Seq {
     position: u64,
@@ -58,14 +58,14 @@ impl Model for Seq {
 }
 
 impl Seq {
-    /// This number as a value of the type.
+    /// Returns the number as a position.
     pub const fn new(position: u64) -> Self
         ensures { result ≡ position }
     {
         Seq { position }
     }
 
-    /// The number.
+    /// Returns the number.
     pub const fn get(self) -> u64
         ensures { result ≡ self }
     {
@@ -80,7 +80,7 @@ impl fmt::Display for Seq {
     }
 }
 
-/// The number of a membership, from 1; 0 where a node knows none yet.
+/// The number of a membership, from 1. It is 0 at a node that knows no membership yet.
 #[derive(Clone, Copy, Debug, PartialEq, Eq, PartialOrd, Ord)]
 pub struct Epoch {
     epoch: u64,
@@ -95,14 +95,14 @@ impl Model for Epoch {
 }
 
 impl Epoch {
-    /// This number as a value of the type.
+    /// Returns the number as an epoch.
     pub const fn new(epoch: u64) -> Self
         ensures { result ≡ epoch }
     {
         Epoch { epoch }
     }
 
-    /// The number.
+    /// Returns the number.
     pub const fn get(self) -> u64
         ensures { result ≡ self }
     {
@@ -117,7 +117,7 @@ impl fmt::Display for Epoch {
     }
 }
 
-/// The id of a node of a chain, from 1; 0 is the chain's master.
+/// The id of a node of a chain, from 1. Id 0 is the chain's master.
 #[derive(Clone, Copy, Debug, PartialEq, Eq, PartialOrd, Ord)]
 pub struct NodeId {
     id: u32,
@@ -132,14 +132,14 @@ impl Model for NodeId {
 }
 
 impl NodeId {
-    /// This number as a value of the type.
+    /// Returns the number as a node id.
     pub const fn new(id: u32) -> Self
         ensures { result ≡ id }
     {
         NodeId { id }
     }
 
-    /// The number.
+    /// Returns the number.
     pub const fn get(self) -> u32
         ensures { result ≡ self }
     {
@@ -169,14 +169,14 @@ impl Model for ChainId {
 }
 
 impl ChainId {
-    /// This number as a value of the type.
+    /// Returns the number as a chain id.
     pub const fn new(id: u16) -> Self
         ensures { result ≡ id }
     {
         ChainId { id }
     }
 
-    /// The number.
+    /// Returns the number.
     pub const fn get(self) -> u16
         ensures { result ≡ self }
     {
@@ -191,7 +191,7 @@ impl fmt::Display for ChainId {
     }
 }
 
-/// The id of a client, which the store takes on trust.
+/// The id of a client. The store trusts it: clients are not authenticated.
 #[derive(Clone, Copy, Debug, PartialEq, Eq, PartialOrd, Ord)]
 pub struct ClientId {
     id: u64,
@@ -206,14 +206,14 @@ impl Model for ClientId {
 }
 
 impl ClientId {
-    /// This number as a value of the type.
+    /// Returns the number as a client id.
     pub const fn new(id: u64) -> Self
         ensures { result ≡ id }
     {
         ClientId { id }
     }
 
-    /// The number.
+    /// Returns the number.
     pub const fn get(self) -> u64
         ensures { result ≡ self }
     {
@@ -228,7 +228,7 @@ impl fmt::Display for ClientId {
     }
 }
 
-/// The number of an accepted ask at its node, from 1.
+/// The number of an accepted request at its node, from 1.
 #[derive(Clone, Copy, Debug, PartialEq, Eq, PartialOrd, Ord)]
 pub struct Ticket {
     ticket: u64,
@@ -243,14 +243,14 @@ impl Model for Ticket {
 }
 
 impl Ticket {
-    /// This number as a value of the type.
+    /// Returns the number as a ticket.
     pub const fn new(ticket: u64) -> Self
         ensures { result ≡ ticket }
     {
         Ticket { ticket }
     }
 
-    /// The number.
+    /// Returns the number.
     pub const fn get(self) -> u64
         ensures { result ≡ self }
     {
@@ -265,7 +265,7 @@ impl fmt::Display for Ticket {
     }
 }
 
-/// The number of a step in a logical clock: it rises from each step to every step that it may have caused.
+/// A logical timestamp of a step. It rises from each step to every step that it may have caused.
 #[derive(Clone, Copy, Debug, PartialEq, Eq, PartialOrd, Ord)]
 pub struct Stamp {
     stamp: u64,
@@ -280,14 +280,14 @@ impl Model for Stamp {
 }
 
 impl Stamp {
-    /// This number as a value of the type.
+    /// Returns the number as a stamp.
     pub const fn new(stamp: u64) -> Self
         ensures { result ≡ stamp }
     {
         Stamp { stamp }
     }
 
-    /// The number.
+    /// Returns the number.
     pub const fn get(self) -> u64
         ensures { result ≡ self }
     {
@@ -302,7 +302,7 @@ impl fmt::Display for Stamp {
     }
 }
 
-/// The number of an update among those of its client in one chain, from 1.
+/// A request number: the number of an update among its client's updates in one chain, from 1.
 #[derive(Clone, Copy, Debug, PartialEq, Eq, PartialOrd, Ord)]
 pub struct RequestNo {
     number: u64,
@@ -319,7 +319,7 @@ impl Model for RequestNo {
 }
 
 impl RequestNo {
-    /// This number, from 1. `BadNumber` exactly where it is 0.
+    /// Makes a request number. Returns `BadNumber` exactly if it is 0.
     pub fn new(number: u64) -> Result<Self, Refusal>
         ensures ok { IfOk result (λ n. n ≡ number) }
         ensures bad { (result ≡ Err Refusal.BadNumber) ↔ (number ≡ 0) }
@@ -331,7 +331,7 @@ impl RequestNo {
         Ok(RequestNo { number })
     }
 
-    /// The number.
+    /// Returns the number, at least 1.
     pub const fn get(self) -> u64
         ensures number { result ≡ self }
         ensures some { 1 ≤ result }
@@ -339,7 +339,8 @@ impl RequestNo {
         self.number
     }
 
-    /// The next number. `Exhausted` exactly where this is the greatest, 2^64 - 1.
+    /// Returns the next request number. Returns `Exhausted` exactly if this is the greatest, 2^64 -
+    /// 1.
     pub fn next(self) -> Result<Self, Refusal>
         ensures ok { IfOk result (λ n. n ≡ self + 1) }
         ensures last { (result ≡ Err Refusal.Exhausted) ↔ (self ≡ 2 ^ 64 - 1) }
@@ -359,7 +360,8 @@ impl fmt::Display for RequestNo {
     }
 }
 
-/// The largest stamp that its owner has seen: what it shows to see nothing older.
+/// A session token: the largest stamp that its owner has seen. A request that shows it gets nothing
+/// older.
 #[derive(Clone, Copy, Debug, PartialEq, Eq, PartialOrd, Ord)]
 pub struct Pass {
     stamp: u64,
@@ -374,21 +376,21 @@ impl Model for Pass {
 }
 
 impl Pass {
-    /// The pass of one who has seen nothing.
+    /// Returns the pass of an owner that has seen nothing: stamp 0.
     pub const fn start() -> Self
         ensures { result ≡ 0 }
     {
         Pass { stamp: 0 }
     }
 
-    /// The pass of one who has seen the step of this stamp.
+    /// Returns the pass of an owner that has seen the step of this stamp.
     pub const fn of(stamp: Stamp) -> Self
         ensures { result ≡ stamp }
     {
         Pass { stamp: stamp.get() }
     }
 
-    /// The pass of one who has seen what both have: the larger of the two.
+    /// Combines two passes: returns the larger.
     pub fn join(self, other: Pass) -> Self
         ensures { result ≡ max self other }
     {
@@ -397,7 +399,7 @@ impl Pass {
         }
     }
 
-    /// The largest stamp seen.
+    /// Returns the largest stamp seen.
     pub const fn stamp(self) -> Stamp
         ensures { result ≡ self }
     {

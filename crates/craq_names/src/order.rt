@@ -1,5 +1,5 @@
-//! Comparing bytes: by their first word where it is known, by words of 8 as long as there are so many, then one by one.
-//! `Key` alone calls it.
+//! Comparison of byte strings: by their cached first word, then by words of 8 bytes, then byte by
+//! byte. Only `Key` calls it.
 ghost use Rattle.std.specs.Prelude.{◌≡◌, get_or, nat_eq};
 ghost use Rattle.std.specs.Ordering.{nat_cmp};
 ghost use Rattle.std.specs.Cmp.Lexicographic.{pointwise, slice_cmp};
@@ -7,8 +7,7 @@ ghost use Rattle.craq_names.specs.Words.{first_word};
 
 use std::cmp::Ordering;
 
-/// The order of two lists of bytes, told byte by byte: the first bytes that differ decide, or else the shorter list stands
-/// first.
+/// Compares two byte strings lexicographically, one byte at a time. A proper prefix orders first.
 fn order_by_byte(bytes: &[u8], others: &[u8]) -> Ordering
     ensures { result ≡ slice_cmp nat_cmp bytes.now others.now }
 {
@@ -28,8 +27,8 @@ fn order_by_byte(bytes: &[u8], others: &[u8]) -> Ordering
     }
 }
 
-/// The order of two lists of bytes: their first bytes that differ decide, or else the shorter one stands first. As long as
-/// both have 8 bytes left, these are compared as one number.
+/// Compares two byte strings lexicographically; a proper prefix orders first. While both have 8
+/// bytes left, it compares these as one number.
 fn order_of(bytes: &[u8], others: &[u8]) -> Ordering
     ensures { result ≡ slice_cmp nat_cmp bytes.now others.now }
 {
@@ -50,7 +49,7 @@ fn order_of(bytes: &[u8], others: &[u8]) -> Ordering
     order_by_byte(left, right)
 }
 
-/// The byte at a place, 0 where there is none.
+/// Returns the byte at an index, 0 if there is none.
 fn byte_at(bytes: &[u8], place: usize) -> u8
     ensures { result ≡ get_or bytes.now place 0 }
 {
@@ -60,7 +59,7 @@ fn byte_at(bytes: &[u8], place: usize) -> u8
     }
 }
 
-/// The first 8 bytes as one number, the greatest first; where there are fewer, zeros follow them.
+/// Returns the first 8 bytes as a big-endian number. Fewer bytes are padded with zeros at the end.
 pub(crate) fn first_word(bytes: &[u8]) -> u64
     ensures { result ≡ first_word bytes.now }
 {
@@ -76,7 +75,7 @@ pub(crate) fn first_word(bytes: &[u8]) -> u64
     ])
 }
 
-/// The order of two lists of bytes whose first words are known: these decide where they differ.
+/// Compares two byte strings whose first words are known. The first words decide if they differ.
 pub(crate) fn order_by_word(first: u64, bytes: &[u8], other: u64, others: &[u8]) -> Ordering
     requires left { first ≡ first_word bytes.now }
     requires right { other ≡ first_word others.now }
@@ -88,7 +87,7 @@ pub(crate) fn order_by_word(first: u64, bytes: &[u8], other: u64, others: &[u8])
     order_of(bytes, others)
 }
 
-/// Whether two lists of bytes are as long, with the same byte at each place.
+/// Returns true exactly if the two byte strings are equal: the same length and the same bytes.
 pub(crate) fn are_equal(bytes: &[u8], others: &[u8]) -> bool
     ensures { result ≡ pointwise nat_eq bytes.now others.now }
 {

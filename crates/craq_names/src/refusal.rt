@@ -1,4 +1,5 @@
-//! `Refusal`: why a call was refused, with the number and the detail that clients are told; nodes and masters refuse with it.
+//! `Refusal`: why a call was refused, with the number and the detail that clients receive. Nodes
+//! and masters return it.
 ghost use Rattle.std.specs.Prelude.{◌≡◌};
 ghost use Rattle.craq_names.specs.declared.refusal.Refusal.TheVariants.{Memory};
 
@@ -6,93 +7,95 @@ use crate::NodeId;
 use std::alloc::{AllocError, AllocFailed};
 use thiserror::Error;
 
-/// Why a call was refused. After a refusal the value that was called is unchanged,
-/// except where a call says otherwise.
+/// Why a call was refused. After a refusal the receiver is unchanged, unless the call's docstring
+/// says otherwise.
 #[derive(Clone, Copy, Debug, PartialEq, Eq, Error)]
 pub enum Refusal {
-    /// A key of 0 or of more than 128 bytes.
+    /// The key has no bytes, or more than 128.
     #[error("a key has 1 to 128 bytes")]
     BadKey,
-    /// A value of more than 4,096 bytes.
+    /// The value has more than 4,096 bytes.
     #[error("a value has at most 4096 bytes")]
     ValueTooLong,
-    /// A list of a transaction of more than 16 items.
+    /// A list of the transaction has more than 16 items.
     #[error("each list of a transaction has at most 16 items")]
     TooManyItems,
-    /// A transaction whose three lists are all empty.
+    /// All three lists of the transaction are empty.
     #[error("a transaction compares, reads or writes at least one object")]
     EmptyTransaction,
-    /// An object that stands twice in one list of a transaction.
+    /// An object occurs twice in one list of the transaction.
     #[error("an object stands twice in one list of the transaction")]
     DuplicateKey,
-    /// Request number 0.
+    /// The request number is 0.
     #[error("request numbers begin at 1")]
     BadNumber,
-    /// No such chain.
+    /// There is no such chain.
     #[error("there is no such chain")]
     UnknownChain,
-    /// The objects of the ask are not all of the one chain that is asked.
+    /// The objects of the request are not all in the chain that it addresses.
     #[error("the objects are not all of the chain that was asked")]
     TwoChains,
-    /// An update at a node that is not first in its membership; names the first.
+    /// The update reached a node that is not the head; carries the head's id.
     #[error("updates go to the head of the chain, node {0}")]
     NotHead(NodeId),
-    /// An ask at a node that is not ready: it joined, and does not hold the chain's history yet.
+    /// The node is not ready: it joined, and does not hold the chain's history yet.
     #[error("the node does not hold the chain's history yet")]
     NotReady,
-    /// Anything at a stopped node.
+    /// The node is stopped; it refuses every request.
     #[error("the node is stopped")]
     Stopped,
-    /// The ask would have to wait, and 1,024 asks wait at the node. Of a connection: as many are open as the server takes.
+    /// The request would have to wait, and 1,024 requests already wait at the node. For a
+    /// connection: the server has as many open connections as it accepts.
     #[error("too many asks wait at the node: 1024")]
     PendingFull,
-    /// A counter stands at its greatest number. Of a server also: the pass is too far above the largest that it told.
+    /// A counter is at its greatest value. From a server also: the pass is too far above the
+    /// largest stamp that the server returned.
     #[error("a counter has no next number, or the pass is too far above the largest told")]
     Exhausted,
-    /// A growth was refused.
+    /// Out of memory.
     #[error("out of memory")]
     Memory,
-    /// The bytes spell no message.
+    /// The bytes encode no message.
     #[error("the bytes spell no message")]
     BadFrame,
-    /// A frame's length is above 1,048,576 bytes.
+    /// The frame's length is above 1,048,576 bytes.
     #[error("a frame has at most 1048576 bytes")]
     FrameTooLong,
-    /// The removal of a node that is no member.
+    /// The node to remove is not a member.
     #[error("the node is not a member of the chain")]
     NotMember,
-    /// The removal of a member that runs.
+    /// The member to remove is not stopped.
     #[error("a member is stopped before it is removed")]
     NotStopped,
-    /// A join under an id that was a member before, or under 0.
+    /// The id to join was a member before, or is 0.
     #[error("the node id was used in this chain before")]
     UsedId,
-    /// A join to a chain of 8 members.
+    /// The chain to join already has 8 members.
     #[error("a chain has at most 8 members")]
     ChainFull,
-    /// The removal of the only member.
+    /// The node to remove is the only member.
     #[error("the only member of a chain stays")]
     LastNode,
-    /// The delivery of a message that was not sent.
+    /// The message to deliver was not sent.
     #[error("there is no such message")]
     UnknownMessage,
-    /// No such node in the chain, or a message for another node.
+    /// The chain has no such node, or the message is for another node.
     #[error("the chain has no such node, or the message is for another")]
     WrongNode,
-    /// An audit of a store that keeps no journals.
+    /// An audit was requested of a store that keeps no journals.
     #[error("the store keeps no journals")]
     JournalOff,
-    /// The first line of a script that is outside its grammar, counted from 1.
+    /// A line of the script is outside its grammar; carries the first such line, counted from 1.
     #[error("line {0} of the script cannot be read")]
     BadScript(u64),
-    /// A plan or a list of members that cannot be.
+    /// The configuration or the list of members is not allowed.
     #[error("the plan or the list of members is not allowed")]
     BadConfig,
-    /// The input ended early, or who would have answered is gone, as when a store closes: an update may have been done.
-    /// Of a receipt: it is of another call.
+    /// The input ended early, or the component that would have replied is gone, as when a store
+    /// closes: the update may have been done. For a receipt: it belongs to another call.
     #[error("the connection was closed")]
     Closed,
-    /// The stream or the listener failed.
+    /// Reading from or writing to the stream or the listener failed.
     #[error("reading or writing failed")]
     Io,
 }
@@ -100,7 +103,7 @@ pub enum Refusal {
 impl Refusal {
     ghost use Rattle.craq_names.specs.Refused.{number_of, detail_of};
 
-    /// The refusal's number, from 1 to 28, in the order of the variants.
+    /// Returns the refusal's number, 1 to 28, in the order of the variants.
     pub fn number(self) -> u8
         ensures { result ≡ number_of self }
     {
@@ -136,7 +139,7 @@ impl Refusal {
         }
     }
 
-    /// What the refusal tells beside its number: the head's id for `NotHead`, the line for
+    /// Returns the detail sent beside the number: the head's id for `NotHead`, the line for
     /// `BadScript`, else 0.
     pub fn detail(self) -> u64
         ensures { result ≡ detail_of self }

@@ -1,14 +1,14 @@
-//! `Same`: a test that is true exactly where two values are equal. It stands here since types of `craq_commands` and
+//! `Same`: an exact test of equality. It is defined here because types of `craq_commands` and
 //! `craq_model` implement it too; `craq_audit` and `craq_calls` call it.
 ghost use Rattle.std.specs.Prelude.{◌≡◌, ◌↔◌, IsTrue};
 
 use crate::{ClientId, Items, Key, NodeId, ObjectId, Refusal, RequestNo, Value, Version};
 
-/// A value that can be told from each other value of its type.
+/// A value with an exact test of equality.
 ///
-/// In generic code `==` promises no more than an equivalence. This test is exact.
+/// In generic code `==` promises only an equivalence relation; `is_same` decides equality.
 pub trait Same {
-    /// Whether the two are one value.
+    /// Returns true exactly if the two values are equal.
     fn is_same(&self, other: &Self) -> bool
         ensures { IsTrue result ↔ (self.now ≡ other.now) };
 }
@@ -84,7 +84,8 @@ impl<T: Same> Same for Items<T> {
     }
 }
 
-/// Whether the two lists are one: as long, and the same item at each place.
+/// Returns true exactly if the two lists are equal: the same length and the same item at each
+/// index.
 pub fn are_same<T: Same>(items: &[T], others: &[T]) -> bool
     ensures { IsTrue result ↔ (items.now ≡ others.now) }
 {

@@ -1,4 +1,4 @@
--- A step keeps the node's invariant, and all that it sends can be encoded as bytes.
+-- A step keeps the node's invariant, and all its sends have an encoding.
 use Rattle.std.proofs.Common.{◌≡◌, ◌≤◌, true, false, Ok, Err, [], refl, sym, ap, ◌∙◌, subst}
 use Rattle.std.proofs.Math.Bool.{or-false}
 use Rattle.std.specs.Prelude.{Bool, Result, IfOk, ◌==◌}
@@ -27,7 +27,7 @@ use Rattle.craq_node_invariant.proofs.Openings.{member_is_sound, joined_is_sound
 use Rattle.craq_node_invariant.proofs.Steps.{turn_is_sound}
 use Rattle.craq_node.specs.Represented.{Gives, IsFirstWith, LeadsToSound}
 
--- a turn of whose node this much is remembered
+-- a transition whose remembered part is this node and step
 pub taken : (forgets : Bool) (r : Result Turn Refusal) (n : Plain) (s : Step) → remembered_turn forgets r ≡ Ok (n, s) → (q : Plain) × (r ≡ Ok (q, s)) × (remembered forgets q ≡ n)
 taken forgets (Ok t) n s e =
     let same : (remembered forgets t.0, t.1) ≡ (n, s) = ap (turn_in t) e in
@@ -46,7 +46,7 @@ said_spelled forgets p q e (Ok s) given h a =
     (turn_is_sound p t.0 e s h a t.1).1
 said_spelled forgets p q e (Err refusal) given h a = tt
 
--- a turn whose counts fit leads to a sound node
+-- a transition whose counts fit leads to a node that satisfies the invariant
 sound_turn : (p q : Plain) (e : Event) (s : Step) → IsSound p → IsSpelledEvent e → event_turn p e ≡ Ok (q, s) → outs_fit s.outs ≡ true → IsSound q
 sound_turn p q e s h a is fits =
     let turn : Result Turn Refusal = Ok (q, s) in
@@ -59,20 +59,20 @@ ask_leads p ask wanted h a is = record { sound = λ q s e fits. sound_turn p q (
 pub delivery_leads : (p : Plain) (m : LinkMessage) (turn : Turn) → IsSound p → IsSpelled m → is_for p m ≡ true → delivery_turn p m ≡ turn → LeadsToSound (Ok turn)
 delivery_leads p m turn h a here is = record { sound = λ q s e fits. sound_turn p q (events.Deliver m) s h a (rw here (ap (λ (t : Turn). Ok t) is ∙ e)) fits }
 
--- the same of a heeded message other than a membership: it is of the node's epoch
+-- so does a current message other than a membership: it has the node's epoch
 pub in_epoch_leads : (p : Plain) (m : LinkMessage) (turn : Turn) → IsSound p → IsSpelled m → is_for p m ≡ true → is_heeded p m ≡ true → tells_membership m.body ≡ false → delivery_turn p m ≡ turn_in_epoch p m turn → LeadsToSound (Ok turn)
 in_epoch_leads p m turn h a here heeded tells is =
     let same : (m.epoch == p.epoch) ≡ true = rw tells at heeded in
     delivery_leads p m turn h a here (is ∙ rw same refl)
 
--- a change that is planned of a turn leads where the turn does
+-- a change planned for a transition leads to the node of the transition
 pub planned_sound : (p : Plain) (c : Change) (s : Step) (wanted : Result Turn Refusal) → LeadsToSound wanted → wanted ≡ Ok (changed p c, s) → outs_fit s.outs ≡ true → IsSound (changed p c)
 planned_sound p c s wanted leads is fits = leads.sound (changed p c) s is fits
 
 pub turn_sound : (p : Plain) (c : Change) (s : Step) (turn : Turn) → LeadsToSound (Ok turn) → turn ≡ (changed p c, s) → outs_fit s.outs ≡ true → IsSound (changed p c)
 turn_sound p c s turn leads is fits = leads.sound (changed p c) s (ap (λ (t : Turn). Ok t) is) fits
 
--- a change of nothing leaves a sound node
+-- the empty change keeps the invariant
 pub still_sound : (p : Plain) (c : Change) → c ≡ no_change → IsSound p → IsSound (changed p c)
 still_sound p c is s =
     let same : changed p no_change ≡ p = ap (λ (b : Bool). record p { ready = b }) (or-false p.ready) in

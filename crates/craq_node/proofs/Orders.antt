@@ -1,4 +1,4 @@
--- What a sound node gathers, and what can be spelled, is in order.
+-- The parts that a sound node gathers are sorted, and so is a state with an encoding.
 use Rattle.std.proofs.Common.{◌≡◌, ℕ, List, [], ◌∷◌, Option, None, Some}
 use Rattle.std.specs.Prelude.{T}
 use Rattle.std.specs.List.{AllByRecursion, flat_map}
@@ -18,7 +18,7 @@ use Rattle.craq_node_invariant.specs.Sound.{IsSoundIfAny}
 use Rattle.craq_node_invariant.proofs.Sorted.{rising_parts}
 use Rattle.craq_write.specs.Gathered.{IsInOrder, IsOrdered}
 
--- each part of a state in order is in order
+-- each part of a sorted state is sorted
 each_in_order : (parts : List (ℕ × State)) → T (is_sorted key_cmp (flat_map (λ (held : ℕ × State). held.1.objects) parts)) → T (is_sorted nat_cmp (flat_map (λ (held : ℕ × State). held.1.kept) parts)) → AllByRecursion (λ (held : ℕ × State). IsInOrder held.1) parts
 each_in_order [] a b = tt
 each_in_order (h ∷ hs) a b =

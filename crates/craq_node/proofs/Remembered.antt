@@ -1,4 +1,4 @@
--- A core is seen as what it remembers of each node that it represents.
+-- A core is seen as the remembered part of each node that it represents.
 use Rattle.std.proofs.Common.{◌≡◌, true, false, cond, [], None, Some, Ok, Err, inl, inr, refl, sym, ap, ◌∙◌, subst}
 use Rattle.std.specs.Prelude.{Bool, Result, IsOk, IsSome}
 use Rattle.craq_names.specs.declared.refusal.Refusal.{Refusal}
@@ -24,7 +24,7 @@ use Rattle.craq_node.specs.Represented.{Answers, Gives, IsFree, IsRemembered, un
 use Rattle.craq_node.proofs.Kept.{taken}
 use Rattle.craq_node.proofs.Stops.{nothing_fits}
 
--- ---- what is remembered
+-- ---- the remembered part
 
 remembered_twice : (forgets : Bool) (p : Plain) → remembered forgets (remembered forgets p) ≡ remembered forgets p
 remembered_twice true p = ap (λ (h : Past). record p { past = h }) (compacted_twice p.past)
@@ -42,7 +42,7 @@ of_ok : (forgets : Bool) (r : Result Turn Refusal) → IsOk r → IsOk (remember
 of_ok forgets (Ok t) h = refl
 of_ok forgets (Err y) h = h
 
--- ---- a change that is made
+-- ---- applying a change
 
 pub made_given : (forgets : Bool) (old new : Plain) (c : Change) (s : Step) → outs_fit s.outs ≡ true → new ≡ remembered forgets (changed old c) → Gives forgets old new (Ok s) (Ok (changed old c, s))
 made_given forgets old new c s fits e =
@@ -50,14 +50,14 @@ made_given forgets old new c s fits e =
     let fitting : within_counts turn ≡ turn = rw fits refl in
     ap (λ (r : Result Turn Refusal). remembered_turn forgets r) fitting ∙ ap (λ (q : Plain). Ok (q, s)) (sym e)
 
--- a message that is ignored leaves a node that is as it is remembered
+-- an ignored message leaves the remembered part unchanged
 pub ignored_gives : (forgets : Bool) (p : Plain) (m : LinkMessage) (s : Step) → remembered forgets p ≡ p → is_for p m ≡ true → delivery_turn p m ≡ turn_ignoring p OtherEpoch → s ≡ record { ticket = None; outs = []; ignored = Some OtherEpoch } → Gives forgets p p (Ok s) (event_turn p (Deliver m))
 ignored_gives forgets p m s same here is said =
     let turn : Result Turn Refusal = Ok (turn_ignoring p OtherEpoch) in
     let fitting : within_counts turn ≡ turn = rw (nothing_fits [] refl) refl in
     rw (here, is, said) (ap (λ (r : Result Turn Refusal). remembered_turn forgets r) fitting ∙ ap (λ (q : Plain). Ok (q, (turn_ignoring p OtherEpoch).1)) same)
 
--- ---- a step of what is seen
+-- ---- a step of the seen node
 
 seen_turn : (forgets : Bool) (p c : Plain) (e : Event) → IsRemembered forgets p c → remembered_turn forgets (event_turn p e) ≡ remembered_turn forgets (event_turn c e)
 seen_turn forgets p c e h = sym (turn_remembered forgets p e h.sound) ∙ ap (λ (x : Plain). remembered_turn forgets (event_turn x e)) h.same
@@ -74,7 +74,7 @@ seen_uncounted forgets p c e h =
     ] in
     by p.running ∙ ap (λ (b : Bool). remembered_turn forgets (cond b (event_turn c e) (Err refusals.Stopped))) runs
 
--- the step that a core took as it is seen is that of each node that it represents
+-- the core's step, as seen, is a step of each node that it represents
 pub seen_answers : (forgets : Bool) (p c n : Plain) (e : Event) (r : Result Step Refusal) → IsRemembered forgets p c → IsSpelledEvent e → Answers (λ q. remembered forgets q ≡ n) c e r → Answers (λ q. IsRemembered forgets q n) p e r
 seen_answers forgets p c n e (Ok s) h a given =
     let t = taken forgets (node_step p e) n s (seen_step forgets p c e h ∙ ap (λ (x : Result Turn Refusal). remembered_turn forgets x) given.1 ∙ ap (λ (q : Plain). Ok (q, s)) given.2) in
@@ -89,7 +89,7 @@ seen_answers forgets p c n e (Err x) h a given =
       kept,
     )
 
--- ---- what needs no memory, and the switch
+-- ---- events without allocation, and the switch
 
 free_remembered : (forgets : Bool) (p : Plain) (e : Event) → IsSound p → IsFree p e → IsFree (remembered forgets p) e
 free_remembered forgets p (Deliver m) s f =

@@ -1,4 +1,4 @@
--- A running node that is stopped.
+-- Stopping a running node.
 use Rattle.std.proofs.Common.{◌≡◌, true, false, Bool, List, [], None, Ok, Err, inl, inr, refl, sym, ap, ◌∙◌}
 use Rattle.craq_model.specs.declared.ask.Event.{Event}
 use Rattle.craq_model.specs.declared.ask.Event.TheVariants.{Ask, Deliver, Tick, Stop}
@@ -13,7 +13,7 @@ use Rattle.craq_model.specs.Settle.{Turn}
 use Rattle.craq_node.specs.Represented.{Gives, IsFree}
 use Rattle.craq_write.specs.Sent.{LacksOrOutgrows}
 
--- what needs no memory is admitted
+-- an event that allocates nothing is admitted
 pub free_is_admitted : (p : Plain) (e : Event) (x : Refusal) → IsFree p e → ¬ (uncounted_step p e ≡ Err x)
 free_is_admitted p (Deliver m) x f refused =
     let taken : uncounted_step p (Deliver m) ≡ Ok (delivery_turn p m) = rw (f.0, f.1) refl in
@@ -32,7 +32,7 @@ pub nothing_fits : (os : List Out) → os ≡ [] → outs_fit os ≡ true
 unfolding outs_fit
 nothing_fits os e = rw e refl
 
--- a turn that is refused: memory ran out, or what would be sent cannot be counted
+-- the transition is refused: out of memory, or its sends cannot be counted
 pub turn_refused : (forgets : Bool) (p q : Plain) (turn : Turn) (e : Refusal) → LacksOrOutgrows turn e → q ≡ p → Gives forgets p q (Err e) (Ok turn)
 turn_refused forgets p q turn e (inl lacks) same = (inl (lacks, refl), same)
 turn_refused forgets p q turn e (inr grown) same = rw grown.1 (inr (ap Err (sym grown.0)), same)

@@ -1,4 +1,4 @@
--- The plain nodes that a core stands for, and what its step answers.
+-- The plain nodes that a core represents, and the result of its step.
 use Rattle.std.specs.Prelude.{◌≡◌, ◌≤◌, ⊤, true, Bool, IsSome, IsOk, Option, None, Some, Result, Ok, Err}
 use Rattle.craq_names.specs.Order.{RefusesWhere}
 use Rattle.craq_names.specs.declared.name.NodeName.{NodeName}
@@ -20,27 +20,27 @@ use Rattle.craq_node_invariant.specs.Sound.{IsSound}
 pub use Rattle.craq_admission.specs.Admitted.{uncounted_step}
 use Rattle.craq_compaction.specs.Compacted.{remembered, remembered_turn}
 
--- the plain node of a node that runs or has stopped
+-- the plain node of a node that runs or is stopped
 abbrev pub plain_at : {H : Type 0} → (H → Past) → Node H → Bool → Plain
 plain_at past n running = record (plain_of past n) { running = running }
 
--- a node before its first step: a member of the first membership, or one that joins later
+-- a node before its first step: an opening member, or one that joins later
 abbrev pub opening_of : NodeName → Option Config → Plain
 opening_of name (Some config) = opening_member name config.members
 opening_of name None = opening_joined name
 
--- a first membership, with the node in it
+-- a first membership that contains the node
 pub record IsFirstWith (name : NodeName) (config : Config) : Type 0 where
   pub epoch : config.epoch ≡ 1
   pub members : IsMembership config.members
   pub own : is_member config.members name.node ≡ true
 
--- the node has an id of its own, and is in the membership that it is opened with
+-- the node's id is not 0, and the node is in the membership that it opens with
 abbrev pub CanOpen : NodeName → Option Config → Type 0
 CanOpen name (Some config) = (1 ≤ name.node) × IsFirstWith name config
 CanOpen name None = 1 ≤ name.node
 
--- a delivered message can be spelled
+-- a delivered message has an encoding
 abbrev pub CanArrive : Event → Type 0
 CanArrive (Deliver m) = IsSpelled m
 CanArrive (Ask ask) = ⊤
@@ -54,24 +54,24 @@ IsFree p (Ask ask) = ⊥
 IsFree p Tick = ⊥
 IsFree p Stop = p.running ≡ true
 
--- a node was seen as one plain node and is seen as another: it took this turn, within its counts, and is seen as what
--- it remembers of it; or it is as it was, and was refused as the turn was, or for its counts, or for want of memory
--- where there was a turn
+-- the remembered part takes this transition, within its counts; or it is unchanged and refused: as
+-- the transition is, with `Exhausted` for its counts, or with `Memory` instead of a transition
 abbrev pub Gives : Bool → Plain → Plain → Result Step Refusal → Result Turn Refusal → Type 0
 Gives forgets old new (Ok step) turn = remembered_turn forgets (within_counts turn) ≡ Ok (new, step)
 Gives forgets old new (Err e) turn = RefusesWhere (IsOk turn) e (within_counts turn) × (new ≡ old)
 
--- where there is a turn whose sends fit messages, the node that it leads to is sound
+-- if the wanted result is a transition whose sends fit into messages, its node satisfies the
+-- invariant
 pub record LeadsToSound (wanted : Result Turn Refusal) : Type 0 where
   pub sound : (q : Plain) (s : Step) → wanted ≡ Ok (q, s) → outs_fit s.outs ≡ true → IsSound q
 
--- a plain node of which a node remembers what it is seen as
+-- a sound plain node of which the seen node is the remembered part
 pub record IsRemembered (forgets : Bool) (p seen : Plain) : Type 0 where
   pub sound : IsSound p
   pub same : remembered forgets p ≡ seen
 
--- a core that stood for a plain node, and stands for those of `now`, took its step at an event; or it was refused as
--- the node is, or for want of memory, where no refusal but that of counts is wanted
+-- the result of a core's step: the step of the represented node, which `now` represents; or its
+-- refusal, or `Memory` if no refusal other than that of counts applies
 abbrev pub Answers : (Plain → Type 0) → Plain → Event → Result Step Refusal → Type 0
 Answers now old event (Ok step) = (new : Plain) × (node_step old event ≡ Ok (new, step)) × now new
 Answers now old event (Err e) = RefusesWhere (IsOk (uncounted_step old event)) e (node_step old event) × now old

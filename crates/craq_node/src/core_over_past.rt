@@ -1,5 +1,6 @@
-//! `NodeCore`: the one core that is here, over any `History`. It admits an event, has a rule plan it, and makes the change.
-//! `craq_list`, `craq_play` and `craq_explain` name it with a past of theirs.
+//! `NodeCore`: the `Core` of this crate, over any `History`. It admits an event, lets a rule plan a
+//! change, and applies the change. `craq_list`, `craq_play` and `craq_explain` instantiate it with
+//! their pasts.
 ghost use Rattle.std.specs.Prelude.{◌≡◌, ◌≢◌, true, IfOk, IsOk, IsSome};
 ghost use Rattle.craq_model.specs.Deliveries.{delivery_turn};
 ghost use Rattle.craq_model.specs.Plain.{Plain, opening_member};
@@ -33,7 +34,8 @@ pub struct NodeCore<H: History> {
     ghost own_switch: { switch.name ≡ node.name },
 }
 
-/// Does nothing. It tells the prover that what is asked can be encoded, since a transaction keeps its limits.
+/// Does nothing. It tells the prover that the requested event has an encoding, since a transaction
+/// is within its limits.
 fn keep_limits(event: &Event)
     requires { CanArrive event.now }
     ensures { IsSpelledEvent event.now }
@@ -45,8 +47,9 @@ fn keep_limits(event: &Event)
     }
 }
 
-/// A message for this node, at a running node. Any but a membership has to be of the node's epoch (`OtherEpoch`). Refused for
-/// want of memory (`Memory`), and where what is sent has more parts than 32 bits count (`Exhausted`).
+/// Delivers a message for this node, at a running node. A message other than a membership must have
+/// the node's epoch; otherwise it is ignored (`OtherEpoch`). Fails with `Memory` when out of
+/// memory, and with `Exhausted` if a sent state has more parts than 32 bits count.
 fn hear<H: History>(
     alloc: Global,
     node: &mut Node<H>,
@@ -65,7 +68,7 @@ fn hear<H: History>(
     heed(alloc, node, message)
 }
 
-/// A tick: what the node repeats is sent.
+/// Handles a tick: sends what the node repeats.
 #[tactic(auto, using(crate::proofs::Kept::still_sound), unfolding(craq_model::specs::Sends::tick_sends))]
 fn tick<H: History>(alloc: Global, node: &mut Node<H>) -> Result<Step, Refusal>
     requires sound { IsSound (plain_of H.past node.old) }
@@ -77,7 +80,8 @@ fn tick<H: History>(alloc: Global, node: &mut Node<H>) -> Result<Step, Refusal>
     made(alloc, node, Change::none(), done(outs))
 }
 
-/// Meets an admitted event, other than a stop, at a running node: its rule plans the change, which is then made.
+/// Dispatches an admitted event, other than a stop, at a running node: its rule plans the change,
+/// which is then applied.
 fn meet<H: History>(alloc: Global, node: &mut Node<H>, event: Event) -> Result<Step, Refusal>
     requires sound { IsSound (plain_of H.past node.old) }
     requires arrives { CanArrive event }
@@ -96,7 +100,8 @@ fn meet<H: History>(alloc: Global, node: &mut Node<H>, event: Event) -> Result<S
     }
 }
 
-/// Meets an event as `meet` does. The node is sound afterwards, and each out of the step can be encoded.
+/// Handles an event as `meet` does. The node's invariant holds afterwards, and each out of the step
+/// has an encoding.
 #[tactic(auto, using(crate::proofs::Kept::sound_after, crate::proofs::Kept::said_spelled))]
 fn happen<H: History>(alloc: Global, node: &mut Node<H>, event: Event) -> Result<Step, Refusal>
     requires sound { IsSound (plain_of H.past node.old) }
@@ -114,7 +119,8 @@ fn happen<H: History>(alloc: Global, node: &mut Node<H>, event: Event) -> Result
 }
 
 impl<H: History> NodeCore<H> {
-    /// The node that is seen, but for whether it runs: what is remembered of it. It takes no memory.
+    /// Returns the node's state, except whether it runs: the part of the represented node that it
+    /// remembers. Allocates nothing.
     #[tactic(auto, using(crate::proofs::Remembered::seen_node))]
     pub fn node(&self) -> &Node<H>
         ensures { (p : Plain) → ⟦<NodeCore<H> as Core>⟧.represents self.now p → plain_of H.past result.now ≡ remembered H.forgets (record p { running = true }) }
@@ -122,7 +128,7 @@ impl<H: History> NodeCore<H> {
         &self.node
     }
 
-    /// The node before its first step.
+    /// Makes the node before its first step.
     #[tactic(auto, using(crate::proofs::Remembered::opening_seen))]
     fn unmoved(
         alloc: Global,
@@ -152,7 +158,7 @@ impl<H: History> NodeCore<H> {
         }
     }
 
-    /// Takes an admitted event, a stop or another.
+    /// Handles an admitted event, a stop or another.
     #[tactic(auto, unfolding(craq_model::specs::Node::node_step))]
     fn take_admitted(&mut self, alloc: Global, event: Event) -> Result<Step, Refusal>
         requires runs { self.old.switch.running ≡ true }
@@ -171,8 +177,8 @@ impl<H: History> NodeCore<H> {
         happen(alloc, &mut self.node, event)
     }
 
-    /// One step. An event that is not admitted is let go before it is refused: a drop on the way out would have to be
-    /// proved for each kind of event.
+    /// Handles one event. An event that is not admitted is dropped before the refusal is returned;
+    /// a drop on the way out would need a proof for each kind of event.
     #[tactic(auto, unfolding(craq_model::specs::Node::node_step), using(crate::proofs::Stops::free_is_admitted))]
     fn take(&mut self, alloc: Global, event: Event) -> Result<Step, Refusal>
         requires arrives { CanArrive event }

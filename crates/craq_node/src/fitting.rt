@@ -1,10 +1,11 @@
-//! Whether the counts in what a step sends fit into messages; asked by `core_over_past` before a change is made.
+//! Tests whether the counts in a step's sends fit into messages. `core_over_past` calls this before
+//! it applies a change.
 ghost use Rattle.std.specs.Prelude.{◌≡◌};
 ghost use Rattle.craq_model.specs.Node.{outs_fit, counts_fit};
 
 use craq_model::{Body, GREATEST_COUNT, Out};
 
-/// Whether the counts in what a message says can be spelled.
+/// Returns true exactly if the counts in a message's content can be encoded.
 fn has_fitting_counts(body: &Body) -> bool
     ensures { result ≡ counts_fit body.now }
 {
@@ -17,7 +18,8 @@ fn has_fitting_counts(body: &Body) -> bool
     }
 }
 
-/// Whether each out can be sent: the sends have indexes, from 0, and the counts in them fit.
+/// Returns true exactly if each out can be sent: the sends can be numbered from 0, and their counts
+/// fit.
 #[tactic(auto, unfolding(craq_model::specs::Node::outs_fit))]
 pub(crate) fn are_fitting(outs: &[Out]) -> bool
     ensures { result ≡ outs_fit outs.now }

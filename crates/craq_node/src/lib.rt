@@ -1,6 +1,5 @@
-//! The whole step of a node: the trait `Core`, and `NodeCore`, which meets it over any `History`; chains, seats and workers
-//! run nodes by it.
-//! Code that runs in the program.
+//! A node's whole step: the trait `Core`, and `NodeCore`, which implements it over any `History`.
+//! Runs in the program: chains, seats and workers run nodes by it.
 #![tactic(auto)]
 
 mod core_over_past;

@@ -1,5 +1,6 @@
-//! What a running node does on an ask or a message: the rule of it plans a change, which is then made; called by
-//! `core_over_past`. Each rule has a function of its own, since a function pays at entry for all that it may hold.
+//! A running node's handling of a request or a message: its rule plans a change, which is then
+//! applied. `core_over_past` calls this. Each rule has its own function, because a function pays at
+//! entry for all the space that it may need.
 ghost use Rattle.std.specs.Prelude.{◌≡◌, ◌≤◌, ◌<◌, ◌-◌, ◌^◌, ◌∷◌, [], true, false, IsOk, IsSome, Ok};
 ghost use Rattle.craq_commands.specs.SingleCopy.{said};
 ghost use Rattle.craq_model.specs.Asks.{ask_turn, read_turn, update_turn};
@@ -28,7 +29,7 @@ use craq_write::{
 };
 use std::alloc::Global;
 
-/// Makes a change that was planned, unless the sends do not fit messages.
+/// Applies a planned change, unless its sends do not fit into messages (`Exhausted`).
 #[tactic(auto, using(crate::proofs::Stops::nothing_fits, crate::proofs::Remembered::made_given))]
 pub(crate) fn made<H: History>(
     alloc: Global,
@@ -49,7 +50,7 @@ pub(crate) fn made<H: History>(
     Ok(step)
 }
 
-/// An update that is asked and admitted.
+/// Handles an admitted update.
 fn take_update<H: History>(
     alloc: Global,
     node: &mut Node<H>,
@@ -66,7 +67,7 @@ fn take_update<H: History>(
     }
 }
 
-/// A read that is asked and admitted.
+/// Handles an admitted read.
 fn take_read<H: History>(
     alloc: Global,
     node: &mut Node<H>,
@@ -84,7 +85,7 @@ fn take_read<H: History>(
     }
 }
 
-/// An ask that is admitted: the refusals left are those of the update or of the read.
+/// Handles an admitted request. The remaining errors are those of the update or of the read.
 pub(crate) fn take_ask<H: History>(
     alloc: Global,
     node: &mut Node<H>,
@@ -102,7 +103,7 @@ pub(crate) fn take_ask<H: History>(
     }
 }
 
-/// A membership of a later epoch.
+/// Handles a membership of a later epoch.
 fn take_membership<H: History>(
     alloc: Global,
     node: &mut Node<H>,
@@ -120,7 +121,7 @@ fn take_membership<H: History>(
     }
 }
 
-/// An entry of the predecessor.
+/// Handles an entry from the predecessor.
 fn take_entry<H: History>(
     alloc: Global,
     node: &mut Node<H>,
@@ -140,7 +141,7 @@ fn take_entry<H: History>(
     }
 }
 
-/// Entries in a row of the predecessor.
+/// Handles consecutive entries from the predecessor.
 fn take_entries<H: History>(
     alloc: Global,
     node: &mut Node<H>,
@@ -161,7 +162,7 @@ fn take_entries<H: History>(
     }
 }
 
-/// An acknowledgement of the successor.
+/// Handles an acknowledgement from the successor.
 fn take_ack<H: History>(
     alloc: Global,
     node: &mut Node<H>,
@@ -179,7 +180,7 @@ fn take_ack<H: History>(
     }
 }
 
-/// The question of another member.
+/// Handles a version query from another member.
 fn take_query<H: History>(
     alloc: Global,
     node: &mut Node<H>,
@@ -198,7 +199,7 @@ fn take_query<H: History>(
     }
 }
 
-/// The last member's word on a version.
+/// Handles a committed version from the last member.
 fn take_version<H: History>(
     alloc: Global,
     node: &mut Node<H>,
@@ -217,7 +218,7 @@ fn take_version<H: History>(
     }
 }
 
-/// A state of the predecessor.
+/// Handles a state from the predecessor.
 fn take_copy<H: History>(
     alloc: Global,
     node: &mut Node<H>,
@@ -237,7 +238,7 @@ fn take_copy<H: History>(
     }
 }
 
-/// A part of a state of the predecessor.
+/// Handles a part of a state from the predecessor.
 fn take_part<H: History>(
     alloc: Global,
     node: &mut Node<H>,
@@ -258,7 +259,7 @@ fn take_part<H: History>(
     }
 }
 
-/// A floor of the predecessor.
+/// Handles a floor from the predecessor.
 fn take_floor<H: History>(
     alloc: Global,
     node: &mut Node<H>,
@@ -277,8 +278,8 @@ fn take_floor<H: History>(
     }
 }
 
-/// What an unready successor says that it has. Refused for want of memory (`Memory`), and where what is sent has more
-/// parts than 32 bits count (`Exhausted`).
+/// Handles the entry count of an unready successor. Fails with `Memory` when out of memory, and
+/// with `Exhausted` if a sent state has more parts than 32 bits count.
 #[tactic(auto, using(crate::proofs::Stops::turn_refused))]
 fn take_blank<H: History>(
     alloc: Global,
@@ -297,7 +298,7 @@ fn take_blank<H: History>(
     }
 }
 
-/// A message for this node that is heeded: of the node's epoch, or a membership.
+/// Handles a current message for this node: one of the node's epoch, or a membership.
 #[tactic(auto, using(crate::proofs::Orders::ordered, crate::proofs::Orders::part_ordered, crate::proofs::Orders::batch_in_row))]
 pub(crate) fn heed<H: History>(
     alloc: Global,

@@ -1,4 +1,4 @@
--- A sound node hears that entries are committed.
+-- A sound node receives an acknowledgement.
 use Rattle.std.proofs.Common.{◌≡◌, ◌≤◌, ◌<◌, ℕ, nat_le, nat_lt, true, not, cond, [], ◌∷◌, map, arith}
 use Rattle.std.proofs.lemmas.Bool.{cond_both, not-false, leb-false, ltb-false}
 use Rattle.craq_names.proofs.Lists.{all_append, all_filter}

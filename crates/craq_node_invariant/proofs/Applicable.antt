@@ -1,4 +1,4 @@
--- Entries that are applicable, each after those before it.
+-- Applicable entries, each after those before it.
 use Rattle.std.proofs.Common.{◌≡◌, ℕ, zero, suc, ◌+◌, ◌==◌, true, false, not, Bool, ◌&&◌, cond, List, [], ◌∷◌, ◌++◌, map, take, drop, Option, Some, None, is_some, refl, ap, ◌∙◌}
 use Rattle.std.specs.List.{list_all}
 use Rattle.std.proofs.lemmas.Bool.{and_parts, eq-eqb}
@@ -26,7 +26,7 @@ applicable_append s (x ∷ xs) ys a b =
     let parts = and_parts (is_applicable s x) (are_applicable (after_entry s x) xs) a in
     both (is_applicable s x) (are_applicable (after_entry s x) (xs ++ ys)) parts.0 (applicable_append (after_entry s x) xs ys parts.1 b)
 
--- the later ones after the earlier ones
+-- the later entries are applicable after the earlier ones
 pub applicable_rest : (s : State) (xs ys : List Entry) → are_applicable s (xs ++ ys) ≡ true → are_applicable (after_entries s xs) ys ≡ true
 applicable_rest s [] ys a = a
 applicable_rest s (x ∷ xs) ys a = applicable_rest (after_entry s x) xs ys (and_parts (is_applicable s x) (are_applicable (after_entry s x) (xs ++ ys)) a).1
@@ -47,7 +47,7 @@ new_in : (w : Window) (number : ℕ) → said_of w number ≡ None → is_new w 
 unfolding said_of is_new
 new_in w number e = unsaid (is_stale w number) (at_number w number) (Stale (largest w)) e
 
--- a number under which nothing was said is new
+-- a request number without a reply is new
 pub unsaid_is_new : (s : State) (client number : ℕ) → said s client number ≡ None → is_new_to s client number ≡ true
 unsaid_is_new s client number e = new_in (window_of s client) number e
 

@@ -1,4 +1,4 @@
--- A sound node takes an ask.
+-- A sound node handles a request.
 use Rattle.std.proofs.Common.{◌≡◌, ◌≤◌, ℕ, ◌+◌, ◌==◌, true, not, Bool, cond, List, [], ◌∷◌, ◌++◌, Result, Ok, Err, arith}
 use Rattle.std.proofs.lemmas.Bool.{cond_both, not-false}
 use Rattle.craq_names.specs.Limits.{greatest}
@@ -73,7 +73,7 @@ read_is p Strong key s ready =
     (λ e. answered_is p (read_answer (newest_object p key)) s (newest_read p key s))
     (λ e. waiting_is p key s ready)
 
--- ---- asks
+-- ---- requests
 
 accepted_ask_is : (p : Plain) (ask : Ask) → IsSound p → p.ready ≡ true → IsSpelledAsk ask → all_of_chain p.name.chain (asked_objects ask) ≡ true → IsSoundIfTaken (accepted_ask_turn p ask)
 accepted_ask_is p (asks.Update u) s ready c h =

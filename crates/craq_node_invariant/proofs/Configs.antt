@@ -1,4 +1,4 @@
--- A sound node takes a membership that can be spelled.
+-- A sound node adopts a membership that has an encoding.
 use Rattle.std.proofs.Common.{◌≤◌, ℕ, nat_le, not, cond, List, None, arith}
 use Rattle.std.proofs.lemmas.Bool.{cond_both}
 use Rattle.craq_names.specs.Limits.{greatest_count}

@@ -1,4 +1,4 @@
--- A sound node fills its successor, or is filled itself.
+-- A sound node sends its successor a state and entries, or receives them itself.
 use Rattle.std.proofs.Common.{◌≤◌, ℕ, nat_le, nat_lt, max, not, Bool, ◌==◌, ◌||◌, cond, List, [], Option, Some, None, is_some, refl, arith}
 use Rattle.std.proofs.lemmas.Bool.{cond_both, ltb-true, not-false}
 use Rattle.std.specs.List.{AllByRecursion}

@@ -1,4 +1,4 @@
--- A sound node takes entries that can be spelled.
+-- A sound node takes entries that have an encoding.
 use Rattle.std.proofs.Common.{◌≡◌, ℕ, ◌+◌, nat_le, nat_lt, true, not, cond, List, [], ◌∷◌, length, subst, arith, length-append}
 use Rattle.std.proofs.lemmas.Bool.{cond_both, ltb-false}
 use Rattle.std.specs.List.{AllByRecursion}
@@ -25,7 +25,7 @@ AreSpelledEntries es = AllByRecursion IsSpelledEntry es
 next_place : (base count : ℕ) → base + count + 1 ≡ base + 1 + count
 next_place base count = omega arith
 
--- the node with the entries that follow its own
+-- the node with entries appended that follow its own
 pub with_entries_is : (p : Plain) (es : List Entry) → IsSound p → AreSpelledEntries es → AreInRow (length_of p + 1) es → are_applicable (newest p) es ≡ true → IsSound (with_entries p es)
 unfolding newest
 with_entries_is p es s h r f = record {
@@ -47,7 +47,7 @@ with_entries_is p es s h r f = record {
   tickets = s.tickets;
 }
 
--- entries in a row go to the successor
+-- consecutive entries are sent to the successor
 pub entries_sent : (p : Plain) (es : List Entry) (n : ℕ) → IsSound p → Speaks p → AreSpelledEntries es → AreInRow n es → AreSpelledIfFitting (to_neighbour (successor p) (λ to. send_all p to (entry_bodies es)))
 entries_sent p es n s w h r =
     neighbour_sent (successor p) (λ to. send_all p to (entry_bodies es)) (successor_is p.members (id_of p) s.ids)

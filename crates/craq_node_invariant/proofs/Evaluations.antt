@@ -1,4 +1,4 @@
--- What a command comes to: a reply that is not stale, and few writes of different keys.
+-- The outcome of a command: a reply other than `Stale`, and a few writes of different keys.
 use Rattle.std.proofs.Common.{◌≡◌, ◌<◌, ◌≤◌, ℕ, ◌+◌, ◌-◌, ◌==◌, suc, nat_lt, Bool, true, false, ◌&&◌, List, [], ◌∷◌, ◌++◌, Option, Some, None, MatchOption, map, length, sym, subst, ap, ◌∙◌, arith}
 use Rattle.std.proofs.lemmas.Bool.{cond_both, and_parts, eqb-true, eq-eqb}
 use Rattle.std.proofs.lemmas.List.{length-map}
@@ -67,7 +67,7 @@ decreased_is key by version (Some n) =
 
 -- ---- transactions
 
--- the place of a difference is one of the compares
+-- the index of a difference is that of one of the compares
 difference_within : (m : Objects) (i : ℕ) (cs : List (ObjectId × ℕ)) → MatchOption (first_difference m i cs) ⊤ (λ (k : ℕ). k < i + length cs)
 unfolding first_difference
 difference_within m i [] = tt
@@ -78,13 +78,13 @@ difference_within m i (c ∷ cs) =
     (λ e. let P : ℕ → Type 0 = λ n. Within n (first_difference m (i + 1) cs) in subst P more (difference_within m (i + 1) cs))
     (λ e. omega arith)
 
--- objects of one chain differ by their keys
+-- different objects of one chain have different keys
 keys_differ : (chain : ℕ) (o q : ObjectId) → (o.chain == chain) ≡ true → (q.chain == chain) ≡ true → same_object o q ≡ false → same_bytes o.key q.key ≡ false
 keys_differ chain o q a b h =
     let c : o.chain ≡ q.chain = eqb-true o.chain chain a ∙ sym (eqb-true q.chain chain b) in
     ap (λ t. t && same_bytes o.key q.key) (sym (eq-eqb o.chain q.chain c)) ∙ h
 
--- the keys that are written
+-- the keys of these writes
 abbrev keys_written : List (ObjectId × List ℕ) → List (List ℕ)
 keys_written ws = map (λ (w : List ℕ × List ℕ). w.0) (map (λ (w : ObjectId × List ℕ). (w.0.key, w.1)) ws)
 

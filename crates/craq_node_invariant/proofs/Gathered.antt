@@ -1,4 +1,4 @@
--- Parts of a state that come in order make a state in order.
+-- Parts of a state that are in order make a sorted state.
 use Rattle.std.proofs.Common.{◌≡◌, ◌<◌, ◌≤◌, ℕ, Bool, true, false, ◌&&◌, T, cond, List, [], ◌∷◌, ◌++◌, Some, is_some, refl, sym, ap, subst, ◌∙◌, inl, inr, arith}
 use Rattle.std.proofs.lemmas.Bool.{and_parts, cond-true, cond-false, lt-ltb}
 use Rattle.std.proofs.lemmas.Bool.Decides.{nat_tests}
@@ -21,7 +21,7 @@ use Rattle.craq_model.specs.Spelled.{IsSpelledWindow}
 use Rattle.craq_node_invariant.specs.Sound.{IsSoundState, IsSoundGathering}
 use Rattle.craq_node_invariant.proofs.Sorted.{first, second, all_split, AreBelow, IsRising, rising_append, rising_parts}
 
--- the parts held, by number
+-- the held parts, by number
 abbrev Held : Type 0
 Held = List (ℕ × State)
 
@@ -64,7 +64,7 @@ module _ {K X : Type 0} (cmp : K → K → Ordering) (items : State → List (K 
         | Greater ↦ all_append P (items h.1) (flat (put_number hs n s)) parts.0 (all_put P hs n s a parts.1)
       ]
 
-  -- a part's items come after those of lower parts, and before those of higher ones
+  -- a part's items come after those of lower parts and before those of higher ones
   abbrev pub InOrder : ℕ → State → Held → Type 0
   InOrder n s hs = AllByRecursion (λ (h : ℕ × State). (h.0 < n → AreBelow cmp (items h.1) (items s)) × (n < h.0 → AreBelow cmp (items s) (items h.1))) hs
 
@@ -106,7 +106,7 @@ module _ {K X : Type 0} (cmp : K → K → Ordering) (items : State → List (K 
       ] in
       by (by_order_of n h.0)
 
--- ---- what a test of order says
+-- ---- consequences of a test of order
 
 holds : (b : Bool) → b ≡ true → T b
 holds true t = tt

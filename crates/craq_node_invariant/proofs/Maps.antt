@@ -1,4 +1,4 @@
--- What stands in a map is as each of its values is.
+-- A property of each value of a map holds for look-ups.
 use Rattle.std.proofs.Common.{List, [], ◌∷◌, Option, Some, MatchOption}
 use Rattle.std.proofs.lemmas.Bool.{cond_both}
 use Rattle.std.specs.Prelude.{⊤}
@@ -8,7 +8,7 @@ use Rattle.std.specs.declared.cmp.Ordering.{Ordering}
 use Rattle.std.specs.declared.cmp.Ordering.TheVariants.{Less, Equal, Greater}
 use Rattle.std.specs.FinMap.Entries.{by_order, find, put}
 
--- what is found at a key is as each value is
+-- the value found at a key has the property of all values
 pub found_is : {K X : Type 0} (R : K → K → Ordering) (Q : X → Type 0) (q : K) (es : List (K × X)) → AllByRecursion (λ (e : K × X). Q e.1) es → MatchOption (find R q es) ⊤ Q
 found_is R Q q [] a = tt
 found_is {K} {X} R Q q (e ∷ es) a =

@@ -5,7 +5,7 @@ use Rattle.std.specs.Prelude.{⊤}
 use Rattle.std.specs.List.{AllByRecursion}
 use Rattle.craq_model.specs.Members.{last_of, successor_in, predecessor_in}
 
--- ids of nodes, and not the master's
+-- ids of nodes, none of them the master's
 abbrev pub AreIds : List ℕ → Type 0
 AreIds ms = AllByRecursion (λ (id : ℕ). 1 ≤ id) ms
 

@@ -1,4 +1,4 @@
--- Each version of an object that a node holds may be told to a reader.
+-- Each version of an object that a node holds may be returned to a reader.
 use Rattle.std.proofs.Common.{◌≤◌, ℕ, ◌-◌, List, [], ◌∷◌, nat_le}
 use Rattle.std.proofs.lemmas.Bool.{cond_both}
 use Rattle.std.specs.List.{AllByRecursion}

@@ -1,4 +1,4 @@
--- A node is sound before its first step.
+-- A node satisfies the invariant before its first step.
 use Rattle.std.proofs.Common.{◌≤◌, ℕ, List, refl, arith}
 use Rattle.craq_names.specs.Limits.{greatest_count}
 use Rattle.craq_names.specs.declared.name.NodeName.{NodeName}

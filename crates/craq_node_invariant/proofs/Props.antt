@@ -1,4 +1,4 @@
--- Soundness is a fact: it has one proof at most. A node's type keeps it, which asks for that.
+-- The invariant has at most one proof, as the type invariant of a node requires.
 use Rattle.std.proofs.Common.{◌≡◌, ◌≤◌, ℕ, ◌+◌, true, false, T, List, [], ◌∷◌, length, map, Option, Some, None}
 use Rattle.std.specs.List.{AllByRecursion, IsDistinct}
 use Rattle.std.specs.Ordering.{nat_cmp}

@@ -1,4 +1,4 @@
--- A sound node answers a question about a version, or learns a version.
+-- A sound node replies to a version query, or learns a version.
 use Rattle.std.proofs.Common.{◌≤◌, ℕ, ◌==◌, nat_lt, not, ◌||◌, cond, List, [], ◌∷◌, Option, Some, None, ap}
 use Rattle.std.proofs.lemmas.Bool.{cond_both}
 use Rattle.craq_names.proofs.Lists.{all_filter}

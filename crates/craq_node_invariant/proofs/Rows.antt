@@ -1,4 +1,4 @@
--- Entries in a row.
+-- Consecutive entries.
 use Rattle.std.proofs.Common.{◌≡◌, ◌≤◌, ◌<◌, ℕ, zero, suc, ◌+◌, nat_lt, true, List, [], ◌∷◌, ◌++◌, length, take, drop, refl, sym, ap, subst, ◌∙◌, arith}
 use Rattle.std.proofs.lemmas.Bool.{cond_both, cond-true, ltb-true, ltb-false, lt-ltb}
 use Rattle.craq_commands.specs.declared.entry.Entry.{Entry}
@@ -43,7 +43,7 @@ all_above n m (e ∷ es) h a =
     let here : nat_lt n e.position ≡ true = lt-ltb n e.position (omega (arith, h, a.0)) in
     cond-true (nat_lt n e.position) (e ∷ entries_above n es) (entries_above n es) here ∙ ap (λ (l : List Entry). e ∷ l) (all_above n (m + 1) es (omega (arith, h)) a.1)
 
--- the entries above a length, among some in a row that begin right after it or before
+-- the entries above a length, of consecutive ones that start right after it or earlier
 pub above_in_row : (n : ℕ) (es : List Entry) → IsConsecutive es → first_position es ≤ n + 1 → AreInRow (n + 1) (entries_above n es)
 unfolding entries_above
 above_in_row n [] c h = tt

@@ -1,4 +1,4 @@
--- What a sound node sends can be spelled, if the counts in it fit.
+-- The sends of a sound node have an encoding if their counts fit.
 use Rattle.std.proofs.Common.{◌≡◌, ◌≤◌, ◌<◌, ℕ, ◌+◌, ◌-◌, ◌*◌, ◌==◌, nat_le, true, cond, min, take, drop, ap, ◌∙◌, length-drop, List, [], ◌∷◌, ◌++◌, Option, Some, None, map, length, refl, arith}
 use Rattle.std.proofs.lemmas.Bool.{cond_both, and_parts, leb-true, leb-false, eqb-false}
 use Rattle.std.specs.List.{AllByRecursion}
@@ -23,14 +23,14 @@ use Rattle.craq_node_invariant.proofs.Rows.{row_take, row_drop, row_consecutive}
 use Rattle.craq_node_invariant.proofs.Shares.{all_range, parts_are}
 use Rattle.craq_node_invariant.proofs.Neighbours.{IsIdIfAny, successor_is, predecessor_is, last_is}
 
--- what is said can be spelled if its counts fit
+-- the out has an encoding if its counts fit
 abbrev pub IsSpelledIfFitting : Out → Type 0
 IsSpelledIfFitting o = out_fits o ≡ true → IsSpelledOut o
 
 abbrev pub AreSpelledIfFitting : List Out → Type 0
 AreSpelledIfFitting os = AllByRecursion IsSpelledIfFitting os
 
--- a node may say this, if its counts fit
+-- a node may send this if its counts fit
 abbrev pub IsSayable : Body → Type 0
 IsSayable (bodies.Config members) = ⊥
 IsSayable (bodies.Entry e) = IsSpelledEntry e
@@ -79,7 +79,7 @@ pub neighbour_sent : (o : Option ℕ) (sends : ℕ → List Out) → IsIdIfAny o
 neighbour_sent None sends a f = tt
 neighbour_sent (Some to) sends a f = f to a
 
--- a run of up to 16 entries in a row
+-- a run of up to 16 consecutive entries
 run_sayable : (n : ℕ) (es : List Entry) → 1 ≤ length es → length es ≤ 16 → AllByRecursion IsSpelledEntry es → AreInRow n es → IsSayable (run_body es)
 run_sayable n [] some few a r = absurd (omega (arith, some))
 run_sayable n (e ∷ []) some few a r = a.0
@@ -88,7 +88,7 @@ run_sayable n (e ∷ f ∷ es) some few a r = record { several = omega arith; fe
 run_begins : (n i : ℕ) → i < 0 + chunk_count n 16 → 16 * i < n
 run_begins n i h = omega (arith, h)
 
--- entries in a row, in runs
+-- consecutive entries, in runs
 pub entries_sayable : (n : ℕ) (es : List Entry) → AllByRecursion IsSpelledEntry es → AreInRow n es → AllByRecursion IsSayable (entry_bodies es)
 unfolding entry_bodies runs_of
 entries_sayable n es a r =

@@ -1,4 +1,4 @@
--- A sound node that settles in a membership, or becomes ready, is sound.
+-- A sound node that adopts a membership, or becomes ready, stays sound.
 use Rattle.std.proofs.Common.{◌≤◌, true, not, ◌&&◌, nat_lt, nat_le, None, List, [], ◌∷◌, ◌++◌, map, refl, arith}
 use Rattle.std.proofs.lemmas.Bool.{cond_both}
 use Rattle.std.specs.List.{AllByRecursion}
@@ -15,14 +15,14 @@ use Rattle.craq_node_invariant.specs.Sound.{IsSound, IsSpelledAnswer}
 use Rattle.craq_node_invariant.proofs.Objects.{newest_read}
 use Rattle.craq_node_invariant.proofs.Sends.{IsSpelledIfFitting, AreSpelledIfFitting, tick_sent}
 
--- a turn to a sound node that says what can be spelled, if its counts fit
+-- a transition to a sound node, whose outs have an encoding if their counts fit
 abbrev pub IsSoundTurn : Turn → Type 0
 IsSoundTurn t = IsSound t.0 × AreSpelledIfFitting t.1.outs
 
 pub ignoring : (p : Plain) (why : Why) → IsSound p → IsSoundTurn (turn_ignoring p why)
 ignoring p why s = (s, tt)
 
--- ---- answers
+-- ---- replies
 
 abbrev pub AreGiven : List Given → Type 0
 AreGiven gs = AllByRecursion (λ (g : Given). IsSpelledAnswer g.1) gs
@@ -125,7 +125,7 @@ ready_is p s h = record {
   tickets = s.tickets;
 }
 
--- the node without what it gathers
+-- the node without its gathered parts
 pub dropped_is : (p : Plain) → IsSound p → IsSound (record p { gathering = None })
 dropped_is p s = record {
   own = s.own;

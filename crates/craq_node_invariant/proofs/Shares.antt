@@ -1,4 +1,4 @@
--- A sound state is cut into parts that can be spelled.
+-- A sound state is cut into parts that have an encoding.
 use Rattle.std.proofs.Common.{◌≡◌, ◌≤◌, ◌<◌, ℕ, zero, suc, ◌+◌, ◌-◌, ◌*◌, min, List, map, length, take, drop, ap, ◌∙◌, arith, length-drop}
 use Rattle.std.proofs.lemmas.List.{length-take}
 use Rattle.std.specs.List.{AllByRecursion, range_with_len}
@@ -13,7 +13,7 @@ use Rattle.craq_model.specs.Spelled.{IsSpelledPart, IsSpelledWindow}
 use Rattle.craq_node_invariant.specs.Sound.{IsSoundState}
 use Rattle.craq_node_invariant.proofs.Sorted.{rising_drop, rising_take}
 
--- what holds of each number of a range holds of all that is made of them
+-- a property of the items made from each number of a range holds for all of them
 pub all_range : {A : Type 0} (P : A → Type 0) (f : ℕ → A) (a n : ℕ) → ((i : ℕ) → a ≤ i → i < a + n → P (f i)) → AllByRecursion P (map f (range_with_len a n))
 all_range P f a zero h = tt
 all_range P f a (suc n) h = (h a (omega arith) (omega arith), all_range P f (a + 1) n (λ i l u. h i (omega (arith, l)) (omega (arith, u))))
@@ -42,7 +42,7 @@ items_in_share s a b h =
 from_before : (i : ℕ) → 64 * (i - 1) ≤ 64 * i
 from_before i = omega arith
 
--- so many items begin before the last part
+-- the number of items before the last part
 begun : (n i : ℕ) → 64 < n → 1 ≤ i → i < 1 + chunk_count n 64 → 64 * (i - 1) < n
 begun n i many some last = omega (arith, many, some, last)
 

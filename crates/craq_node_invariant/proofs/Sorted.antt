@@ -1,4 +1,4 @@
--- Entries of maps by rising key: parts of them, and one list of them after another.
+-- Lists sorted by key: their parts and their concatenations.
 use Rattle.std.proofs.Common.{ℕ, zero, suc, Bool, true, false, ◌&&◌, T, List, [], ◌∷◌, ◌++◌, take, drop}
 use Rattle.std.specs.List.{AllByRecursion}
 use Rattle.std.specs.Ordering.{is_lt}
@@ -23,11 +23,11 @@ all_split P [] ys a = (tt, a)
 all_split P (x ∷ xs) ys a = let rest = all_split P xs ys a.1 in ((a.0, rest.0), rest.1)
 
 module _ {K X : Type 0} (cmp : K → K → Ordering) where
-  -- the key comes before those of all entries
+  -- the key is below those of all entries
   abbrev pub IsBelow : K → List (K × X) → Type 0
   IsBelow k es = AllByRecursion (λ (e : K × X). T (is_lt (cmp k e.0))) es
 
-  -- each key of the first entries comes before those of the others
+  -- each key of the first entries is below those of the others
   abbrev pub AreBelow : List (K × X) → List (K × X) → Type 0
   AreBelow xs ys = AllByRecursion (λ (x : K × X). IsBelow x.0 ys) xs
 

@@ -1,4 +1,4 @@
--- A message that can be spelled can be so under another stamp and index.
+-- A message with an encoding has one under another stamp and index.
 use Rattle.std.proofs.Common.{◌≤◌, ℕ}
 use Rattle.craq_model.specs.declared.message.LinkMessage.{LinkMessage}
 use Rattle.craq_model.specs.Spelled.{IsSpelled}

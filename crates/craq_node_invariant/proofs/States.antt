@@ -1,4 +1,4 @@
--- The states at a node are sound.
+-- The states of a node are sound.
 use Rattle.std.proofs.Common.{◌≤◌, ℕ, ◌-◌, length, T, List, [], ◌∷◌, Option, Some, None, MatchOption, unwrap_or, take, refl, arith}
 use Rattle.std.specs.Prelude.{⊤}
 use Rattle.std.specs.List.{AllByRecursion}
@@ -21,7 +21,7 @@ use Rattle.craq_model.specs.Spelled.{IsObjectRead, IsReply, IsNotStale, IsSpelle
 use Rattle.craq_node_invariant.specs.Sound.{IsSoundState, IsSound}
 use Rattle.craq_node_invariant.proofs.Maps.{found_is, put_is}
 
--- each object that is there was written
+-- each object in the list was written
 abbrev pub AreWritten : Objects → Type 0
 AreWritten m = AllByRecursion (λ (o : List ℕ × (ℕ × List ℕ)). 1 ≤ o.1.0) m
 
@@ -31,13 +31,13 @@ IsWritten x = 1 ≤ x.0
 abbrev IsKeptWell : Kept → Type 0
 IsKeptWell k = IsReply k.1 × IsNotStale k.1
 
--- what a window that may be empty keeps
+-- the facts about a window, which may be empty
 pub record IsWindow (w : Window) : Type 0 where
   pub few : length w ≤ 8
   pub replies : AllByRecursion IsKeptWell w
   pub numbers_rise : T (is_sorted nat_cmp w)
 
--- what is read of an object that was written is no absent object
+-- an object that was written is not absent
 pub written_read : (o : ℕ × List ℕ) → 1 ≤ o.0 → IsObjectRead o
 written_read o h = λ e. absurd (omega (arith, h, e))
 

@@ -1,4 +1,4 @@
--- Each step keeps a node sound, and what it says can be spelled.
+-- Each step keeps a node sound, and its outs have an encoding.
 use Rattle.std.proofs.Common.{◌≡◌, ◌≤◌, ◌==◌, nat_le, true, false, ◌+◌, cond, List, [], ◌∷◌, count_by, Result, Ok, Err, subst, arith}
 use Rattle.std.proofs.lemmas.Bool.{cond_both, and_parts, eqb-true}
 use Rattle.std.specs.List.{list_all}
@@ -32,7 +32,7 @@ use Rattle.craq_node_invariant.proofs.Updates.{IsSoundIfTaken}
 
 -- ---- messages
 
--- a message of the node's epoch: so the node is in a membership
+-- a message of the node's epoch: the node has a membership
 in_epoch : (p : Plain) (m : LinkMessage) (turn : Turn) → IsSound p → 1 ≤ m.epoch → (Speaks p → IsSoundTurn turn) → IsSoundTurn (turn_in_epoch p m turn)
 in_epoch p m turn s h f =
     cond_both (m.epoch == p.epoch) turn (turn_ignoring p OtherEpoch) (λ (t : Turn). IsSoundTurn t)
@@ -93,7 +93,7 @@ all_spelled [] f a = tt
 all_spelled (o ∷ os) f a =
     let parts : (out_fits o ≡ true) × (list_all out_fits os ≡ true) = and_parts (out_fits o) (list_all out_fits os) f in (a.0 parts.0, all_spelled os parts.1 a.1)
 
--- a turn that is taken is sound
+-- an accepted transition is sound
 abbrev IsSpelledIfTaken : Result Turn Refusal → Type 0
 IsSpelledIfTaken (Ok t) = IsSound t.0 × AreSpelled t.1.outs
 IsSpelledIfTaken (Err e) = Unit {0}

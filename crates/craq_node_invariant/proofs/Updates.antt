@@ -1,4 +1,4 @@
--- A sound head takes an update whose transaction is within the limits.
+-- A sound head handles an update whose transaction is within its limits.
 use Rattle.std.proofs.Common.{◌≡◌, ◌≤◌, ℕ, ◌+◌, ◌==◌, nat_le, true, ◌||◌, cond, List, [], ◌∷◌, ◌++◌, Option, Some, None, MatchOption, map, length, Result, Ok, Err, refl, ap, sym, subst, arith}
 use Rattle.std.proofs.lemmas.Bool.{cond_both}
 use Rattle.std.proofs.lemmas.List.{length-map}
@@ -38,7 +38,7 @@ use Rattle.craq_node_invariant.proofs.Sends.{AreSpelledIfFitting}
 use Rattle.craq_node_invariant.proofs.Settling.{IsSoundTurn, committed_is}
 use Rattle.craq_node_invariant.proofs.States.{newest_is, replies_are}
 
--- an ask that is taken makes a sound turn
+-- an accepted request makes a sound transition
 abbrev pub IsSoundIfTaken : Result Turn Refusal → Type 0
 IsSoundIfTaken (Ok t) = IsSoundTurn t
 IsSoundIfTaken (Err e) = Unit {0}
@@ -98,7 +98,7 @@ reply_is p position reply sends s r h a =
     (λ b. tt)
     (λ b. accepted_is q sends (waits p u s r h) a))
 
--- the same at a node that commits first if it is last
+-- a reply at a node that commits first if it is last
 replies_after : (p : Plain) (position : ℕ) (reply : Reply) (sends : List Out) → IsSound p → p.ready ≡ true → IsReply reply → AreSpelledIfFitting sends
     → IsSoundIfTaken (reply_turn (committed_if_last p) position reply sends)
 replies_after p position reply sends s r h a =
@@ -139,7 +139,7 @@ said_of_is w number h =
 pub said_is : (p : Plain) (client number : ℕ) → IsSound p → MatchOption (said (newest p) client number) ⊤ IsReply
 said_is p client number s = said_of_is (window_of (newest p) client) number (replies_are (newest p) client (newest_is p s))
 
--- ---- the turn
+-- ---- the transition
 
 pub update_is : (p : Plain) (u : Update) (o : Option Reply) → IsSound p → p.ready ≡ true → IsSpelledCommand u.command → all_of_chain p.name.chain (objects_named u.command) ≡ true
     → MatchOption o ⊤ IsReply → (o ≡ None → is_new_to (newest p) u.client u.number ≡ true) → IsSoundIfTaken (update_turn p u o)

@@ -1,5 +1,5 @@
-//! Audits of cells: those whose journals merge into one run, with its explanation, and those that no run fits; run by `main`,
-//! and for `refused`.
+//! Tests audits of journaled nodes: journals that merge into one run, with its linearization
+//! witness, and journals that fit no run. Run by `main`, and used by `refused`.
 use crate::cells::{deliver_at, opened, take_all};
 use crate::moves::print_explanation;
 use craq_audit::{Audit, audit};
@@ -14,8 +14,8 @@ use craq_world::explain_run;
 use std::alloc::{AllocError, Global};
 use std::sync::{MutexGuard, Wait};
 
-/// The cells of a chain of these members, with journals or without, and scripts on them, each with the stamp of the pass that
-/// its moves show.
+/// The nodes of a chain of these members, with or without journals, and scripts that are played on
+/// them, each with the stamp of its moves' pass.
 #[derive(Clone, Copy)]
 struct Played {
     members: &'static [u32],
@@ -23,18 +23,18 @@ struct Played {
     moves: &'static [(u64, &'static str)],
 }
 
-/// What happens besides, on the last chain.
+/// An extra event on the last chain.
 #[derive(Clone, Copy)]
 enum Besides {
     Nothing,
-    /// The removal of node 2, with a receipt of this stamp as that of its stop.
+    /// Removes node 2, with a receipt of this stamp as the receipt of its stop.
     Removal(u64),
-    /// The arrival at its receiver of the message that these bytes spell.
+    /// Delivers the message that these bytes encode to its receiver.
     Arrival(&'static [u8]),
 }
 
-/// Chains, the receipts of whose answered calls are shown one after another; and the cells that are audited with the book of
-/// the last of them, each as its chain's place and the node's id.
+/// Chains, whose call receipts are presented together, and the nodes to audit with the last chain's
+/// book. A node is given by the index of its chain and its id.
 #[derive(Clone, Copy)]
 pub struct Case {
     pub fact: &'static str,
@@ -43,7 +43,8 @@ pub struct Case {
     cells: &'static [(usize, u32)],
 }
 
-/// A put on three nodes that is delivered to its answer, and a read at node 2; each move shows the pass of the one before.
+/// A put on three nodes, delivered until its reply, and a read at node 2; each move has the pass of
+/// the move before.
 const PUT_AND_READ: Played = Played {
     members: &[1, 2, 3],
     journal: true,
@@ -84,31 +85,31 @@ const ACK: &[u8] = &[
     0, 0, 0, 0, 0, 0, 0, 1,
 ];
 
-/// The same of stamp 2.
+/// The acknowledgement `ACK` with stamp 2.
 const ACK_OF_STAMP_2: &[u8] = &[
     2, 3, 0, 0, 0, 0, 0, 3, 0, 0, 0, 2, 0, 0, 0, 0, 0, 0, 0, 2, 0, 0, 0, 0, 0, 0, 0, 0, 0, 0, 0, 1,
     0, 0, 0, 0, 0, 0, 0, 1,
 ];
 
-/// The same of stamp 4.
+/// The acknowledgement `ACK` with stamp 4.
 const ACK_OF_STAMP_4: &[u8] = &[
     2, 3, 0, 0, 0, 0, 0, 3, 0, 0, 0, 2, 0, 0, 0, 0, 0, 0, 0, 4, 0, 0, 0, 0, 0, 0, 0, 0, 0, 0, 0, 1,
     0, 0, 0, 0, 0, 0, 0, 1,
 ];
 
-/// The same of index 1.
+/// The acknowledgement `ACK` with index 1.
 const ACK_OF_INDEX_1: &[u8] = &[
     2, 3, 0, 0, 0, 0, 0, 3, 0, 0, 0, 2, 0, 0, 0, 0, 0, 0, 0, 3, 0, 0, 0, 1, 0, 0, 0, 0, 0, 0, 0, 1,
     0, 0, 0, 0, 0, 0, 0, 1,
 ];
 
-/// The same of position 2.
+/// The acknowledgement `ACK` of position 2.
 const ACK_OF_POSITION_2: &[u8] = &[
     2, 3, 0, 0, 0, 0, 0, 3, 0, 0, 0, 2, 0, 0, 0, 0, 0, 0, 0, 3, 0, 0, 0, 0, 0, 0, 0, 0, 0, 0, 0, 1,
     0, 0, 0, 0, 0, 0, 0, 2,
 ];
 
-/// The cells of three nodes of the only chain, and of the second of two.
+/// The three nodes of the only chain, and those of the second of two chains.
 const THREE: &[(usize, u32)] = &[(0, 1), (0, 2), (0, 3)];
 
 const THREE_OF_LAST: &[(usize, u32)] = &[(1, 1), (1, 2), (1, 3)];
@@ -346,7 +347,7 @@ deliver 9",
     },
 ];
 
-/// Opens the cells of a chain and plays on them.
+/// Opens the nodes of a chain and plays on them.
 fn play<C: Core, R: AllocGlobal + Wait>(
     rt: &R,
     played: &Played,
@@ -361,12 +362,13 @@ fn play<C: Core, R: AllocGlobal + Wait>(
     }
 }
 
-/// The receipt of a stopped node.
+/// Returns the stop receipt of a stopped node.
 fn stopped_at<C: Core, R: Wait>(rt: &R, seat: &Seat<C>) -> Option<StopReceipt> {
     seat.lock(rt).desk.cell().switch().receipt()
 }
 
-/// The master removes node 2, with a receipt of this stamp as that of its stop. A node that runs stays.
+/// Removes node 2, with a receipt of this stamp as the receipt of its stop. Does nothing if the
+/// node runs.
 fn remove<C: Core, R: AllocGlobal + Wait>(
     rt: &R,
     cells: &LockedChain<C>,
@@ -391,7 +393,7 @@ fn remove<C: Core, R: AllocGlobal + Wait>(
     }
 }
 
-/// What happens besides on a chain of which this is a node.
+/// Applies the extra event to the chain of this node.
 fn happen<C: Core, R: AllocGlobal + Wait>(
     rt: &R,
     cells: &LockedChain<C>,
@@ -408,7 +410,7 @@ fn happen<C: Core, R: AllocGlobal + Wait>(
     }
 }
 
-/// The cells whose locks are held.
+/// Returns the journaled nodes whose locks are held.
 pub fn cells_in<'a, 'b, C: Core>(
     alloc: Global,
     held: &'a [MutexGuard<'b, Seated<C>>],
@@ -421,7 +423,7 @@ pub fn cells_in<'a, 'b, C: Core>(
     Ok(cells)
 }
 
-/// Prints what the audit of these cells and call receipts answers.
+/// Prints the result of the audit of these nodes and call receipts.
 fn print_audit<C: Core>(
     alloc: Global,
     book: &BookCell,
@@ -443,7 +445,7 @@ fn print_audit<C: Core>(
     }
 }
 
-/// Audits cells of these chains with the book of this one: all locks are held.
+/// Audits nodes of these chains with the last chain's book, while all their locks are held.
 fn audit_all<C: Core, R: AllocGlobal + Wait>(
     rt: &R,
     chains: &[LockedChain<C>],
@@ -466,7 +468,7 @@ fn audit_all<C: Core, R: AllocGlobal + Wait>(
     print_audit(alloc, &book, audited.as_slice(), calls, text)
 }
 
-/// Plays a case, and audits its cells.
+/// Plays a case, and audits its nodes.
 fn tell<C: Core, R: AllocGlobal + Wait>(
     rt: &R,
     case: &Case,
@@ -494,7 +496,7 @@ fn tell<C: Core, R: AllocGlobal + Wait>(
     Ok(())
 }
 
-/// What is printed of a case: the receipts of its steps, and the answer of the audit.
+/// Returns the output of a case: the receipts of its steps, and the result of the audit.
 pub fn told<C: Core, R: AllocGlobal + Wait>(rt: &R, case: &Case) -> Result<String, Refusal> {
     let alloc = rt.alloc();
     let mut text = String::new(alloc);

@@ -1,5 +1,5 @@
-//! Locked cells of a chain, and steps on them beside those of scripts: at the last stamp, and in two threads; run by `main`, and
-//! for `audits`, `spoiled` and `refused`.
+//! Tests the locked nodes of a chain beyond scripts: at the last stamp, and in two threads. Run by
+//! `main`, and used by `audits`, `spoiled` and `refused`.
 ghost use Rattle.craq_model.specs.Spelled.{IsSpelled};
 
 use crate::moves::{members, moves_of};
@@ -15,7 +15,7 @@ use std::sync::Wait;
 use std::thread;
 use std::thread::Threads;
 
-/// New locked cells of chain 0, with journals or without.
+/// Opens locked nodes of chain 0, with or without journals.
 pub fn opened<C: Core>(
     alloc: Global,
     ids: &[u32],
@@ -32,8 +32,8 @@ fn print_receipt(text: &mut String, receipt: Receipt) -> Result<(), AllocError> 
     writeln!(text, "{node}@{stamp}")
 }
 
-/// Takes the moves of scripts, each with the stamp of the pass that its moves show, and prints the receipts of the steps. The
-/// receipts of answered calls are added to the others.
+/// Takes the moves of scripts, each with the stamp of its moves' pass, and prints the receipts of
+/// the steps. Adds the receipts of answered calls to `calls`.
 pub fn take_all<C: Core, R: AllocGlobal + Wait>(
     rt: &R,
     cells: &mut LockedChain<C>,
@@ -53,7 +53,7 @@ pub fn take_all<C: Core, R: AllocGlobal + Wait>(
     Ok(())
 }
 
-/// The step of a node's cell in which this message arrives, which nobody sent.
+/// Delivers a message that no node sent, and returns the receipt of the step.
 pub fn deliver_at<C: Core, R: AllocGlobal + Wait>(
     rt: &R,
     seat: &Seat<C>,
@@ -82,8 +82,8 @@ fn stop_and_tick<C: Core>(
     Ok(())
 }
 
-/// What is printed of a node whose cell stands one below the last stamp: once stopped it is refused for want of a stamp, and
-/// not as stopped.
+/// Returns the output of a node one below the last stamp: once stopped, it is refused because
+/// stamps are used up, not as stopped.
 pub fn told_of_last_stamp<C: Core>(alloc: Global) -> Result<String, Refusal> {
     let mut text = String::new(alloc);
     let name = NodeName {
@@ -95,10 +95,10 @@ pub fn told_of_last_stamp<C: Core>(alloc: Global) -> Result<String, Refusal> {
     Ok(text)
 }
 
-/// How many steps each thread takes.
+/// The number of steps that each thread takes.
 const STEPS: u64 = 100;
 
-/// Ticks of a node, each under its lock: the stamp of the last.
+/// Ticks a node repeatedly, each time under its lock, and returns the stamp of the last tick.
 fn tick<R: Wait>(rt: &R, alloc: Global, seat: &Seat<ListCore>) -> Result<u64, Refusal> {
     let mut last = 0;
     for _ in 0..STEPS {
@@ -109,7 +109,7 @@ fn tick<R: Wait>(rt: &R, alloc: Global, seat: &Seat<ListCore>) -> Result<u64, Re
     Ok(last)
 }
 
-/// Prints the stamps of the last ticks of two threads that each tick a node of their own.
+/// Prints the stamps of the last ticks of two threads, each of which ticks a node of its own.
 fn tick_in_threads<R: AllocGlobal + Threads + Wait + Sync>(
     rt: &R,
     cells: &LockedChain<ListCore>,
@@ -127,7 +127,7 @@ fn tick_in_threads<R: AllocGlobal + Threads + Wait + Sync>(
     Ok(())
 }
 
-/// What is printed of new cells.
+/// Returns the output of two threads on new nodes.
 pub fn told_of_threads<R: AllocGlobal + Threads + Wait + Sync>(rt: &R) -> Result<String, Refusal> {
     let mut text = String::new(rt.alloc());
     let cells = opened(rt.alloc(), &[1, 2], true)?;

@@ -1,5 +1,5 @@
-//! Scripts on a chain, and explanations of what they do: those that the definitions choose and that hold, and spoiled
-//! ones, which do not; run by `main`.
+//! Tests scripts on a chain with linearization witnesses of their runs: the computed ones, other
+//! valid ones, and corrupted ones that `check` rejects. Run by `main`.
 use crate::moves::members;
 use craq_chain::ChainCore;
 use craq_check::check;
@@ -15,7 +15,7 @@ use craq_schedules::chain_after;
 use craq_world::explain_run;
 use std::alloc::{AllocError, Global};
 
-/// A script on a chain of so many nodes, and an explanation of what it does, as JSON.
+/// A script on a chain of `nodes` nodes, and a linearization witness of its run, as JSON.
 #[derive(Clone, Copy)]
 pub struct Case {
     pub fact: &'static str,
@@ -31,7 +31,7 @@ tas 1 1 2 k 0 b
 read 1 strong k
 ";
 
-/// On two nodes: a put, its entry, and its acknowledgement, which answers.
+/// On two nodes: a put, its entry, and its acknowledgement, which yields the reply.
 const ONE_PUT: &str = "put 1 1 1 k a
 deliver 1
 deliver 2
@@ -240,7 +240,7 @@ read 2 strong k
     },
 ];
 
-/// The explanation of this text. A text that is none is refused as `BadFrame`.
+/// Reads the linearization witness from this text. `BadFrame` if the text is not one.
 fn explanation(alloc: Global, text: &str) -> Result<Explanation, Refusal> {
     match explanation_of(alloc, text.as_bytes()) {
         Ok(given) => Ok(given),
@@ -248,19 +248,19 @@ fn explanation(alloc: Global, text: &str) -> Result<Explanation, Refusal> {
     }
 }
 
-/// Whether the explanation of this text holds of a run.
+/// Returns true if `check` accepts the linearization witness in this text for a run.
 fn holds(alloc: Global, run: &Run, text: &str) -> Result<bool, Refusal> {
     let given = explanation(alloc, text)?;
     Ok(check(alloc, run, &given)?)
 }
 
-/// Whether an explanation is spelled so.
+/// Returns true if a linearization witness is encoded as this text.
 fn is_spelled(alloc: Global, explanation: &Explanation, text: &str) -> Result<bool, AllocError> {
     Ok(explanation_text(alloc, explanation)?.as_str() == text)
 }
 
-/// Prints whether an explanation holds of a chain; whether it is the one that the definitions choose, for whoever knows the
-/// run's chain and for whoever does not; and how many messages the chain sent.
+/// Prints whether a linearization witness holds for a chain; whether it is the computed one, with
+/// and without the run's chain given; and how many messages the chain sent.
 fn print_verdict<C: Core>(
     alloc: Global,
     chain: &ChainCore<C>,
@@ -277,7 +277,7 @@ fn print_verdict<C: Core>(
     Ok(())
 }
 
-/// Plays the script of a case: what there is to say of its explanation.
+/// Plays the script of a case, and returns the verdict on its linearization witness.
 pub fn told<C: Core>(alloc: Global, case: &Case) -> Result<String, Refusal> {
     let mut text = String::new(alloc);
     let nodes = case.nodes.max(1).min(8);
@@ -286,7 +286,7 @@ pub fn told<C: Core>(alloc: Global, case: &Case) -> Result<String, Refusal> {
     Ok(text)
 }
 
-/// The step of a read that gives this value of an object that was never put.
+/// Returns the step of a read that returns this value of an object that was never put.
 fn reading(alloc: Global, value: &[u8]) -> Result<Step, Refusal> {
     let value = Value::new(alloc, value)?;
     let version = Version::new(0);
@@ -301,7 +301,7 @@ fn reading(alloc: Global, value: &[u8]) -> Result<Step, Refusal> {
     })
 }
 
-/// A strong read at node 1.
+/// Returns a strong read at node 1.
 fn strong_read(alloc: Global) -> Result<Move, Refusal> {
     let key = Key::new(alloc, b"k")?;
     let chain = ChainId::new(0);
@@ -315,7 +315,7 @@ fn strong_read(alloc: Global) -> Result<Move, Refusal> {
     })
 }
 
-/// That read, which gives this value of an object that was never put.
+/// Returns that read as a taken move that returns this value of an object that was never put.
 fn read_giving(alloc: Global, value: &[u8]) -> Result<Taken, Refusal> {
     let step = reading(alloc, value)?;
     match strong_read(alloc) {
@@ -327,7 +327,7 @@ fn read_giving(alloc: Global, value: &[u8]) -> Result<Taken, Refusal> {
     }
 }
 
-/// The run of this one move.
+/// Returns the run of this single move.
 fn one_read(alloc: Global, value: &[u8]) -> Result<Run, Refusal> {
     let mut moves = Items::new(alloc);
     moves.push(read_giving(alloc, value)?)?;
@@ -335,10 +335,10 @@ fn one_read(alloc: Global, value: &[u8]) -> Result<Run, Refusal> {
     Ok(Run { members, moves })
 }
 
-/// An explanation of one strong read.
+/// A linearization witness of one strong read.
 const ONE_READ: &str = r#"{"asks":[],"lens":[0],"places":[[1,1,0]]}"#;
 
-/// Prints whether that holds of a read that gives this value.
+/// Prints whether that witness holds for a read that returns this value.
 fn print_read(alloc: Global, value: &[u8], text: &mut String) -> Result<(), Refusal> {
     let run = one_read(alloc, value)?;
     let holds = holds(alloc, &run, ONE_READ)?;
@@ -346,7 +346,8 @@ fn print_read(alloc: Global, value: &[u8], text: &mut String) -> Result<(), Refu
     Ok(())
 }
 
-/// What is printed of a read that gives the value of an object that was never put, and of one that gives another value.
+/// Returns the output for two reads of an object that was never put: with its value, and with
+/// another value.
 pub fn told_of_values(alloc: Global) -> Result<String, Refusal> {
     let mut text = String::new(alloc);
     print_read(alloc, b"", &mut text)?;

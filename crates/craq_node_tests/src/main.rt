@@ -1,9 +1,12 @@
-//! Facts of nodes, of chains with what explains their runs, of worlds, and of locked cells: each public call that may run
-//! out of memory is made with ample memory. Random scripts on both cores, in which messages arrive that nobody sent. Each
-//! fact is printed with what was seen of it. In the end a script that is played by calls which may be refused memory
-//! (`refused`), here with ample memory; by words a script is played so, and nothing else is done.
-//! Run by `./test` and `tools/quick/run`, which compare what it prints without words with the file `stdout`; with words by
-//! `./hostile`, and by `./test` after the gate.
+//! Tests nodes, chains with linearization witnesses of their runs, worlds and locked nodes: makes
+//! each public call that may run out of memory, with enough memory. Random scripts run on both
+//! cores, in which corrupted messages arrive. Each fact is printed with what was observed.
+//!
+//! At the end a script is played by calls that may run out of memory (`refused`), here with enough
+//! memory. With words on the command line only such a script is played.
+//!
+//! `./test` and `tools/quick/run` compare the output without words with the file `stdout`.
+//! `./hostile`, and `./test` after CI, run it with words.
 #![tactic(auto)]
 
 mod audits;
@@ -24,7 +27,7 @@ use std::sync::Wait;
 use std::thread::Threads;
 use std::{env, io};
 
-/// Tells a fact and the lines of what was seen of it, all on one line.
+/// Prints a fact and the observed lines, all on one line.
 fn tell_lines<R: Print>(rt: &R, fact: &str, seen: &str) -> io::Result<()> {
     print!(rt; "{fact}:")?;
     for line in seen.lines() {
@@ -33,7 +36,7 @@ fn tell_lines<R: Print>(rt: &R, fact: &str, seen: &str) -> io::Result<()> {
     println!(rt; "")
 }
 
-/// Tells a fact and what was seen of it.
+/// Prints a fact and what was observed.
 fn tell<R: Print>(rt: &R, fact: &str, seen: &Result<String, Refusal>) -> io::Result<()> {
     match seen {
         Ok(text) => tell_lines(rt, fact, text.as_str()),
@@ -41,7 +44,7 @@ fn tell<R: Print>(rt: &R, fact: &str, seen: &Result<String, Refusal>) -> io::Res
     }
 }
 
-/// Tells of nodes, chains and worlds over a core.
+/// Prints the facts of nodes, chains and worlds over a core.
 fn tell_core<C: Core, R: AllocGlobal + Print>(rt: &R) -> io::Result<()> {
     let alloc = rt.alloc();
     for case in &nodes::CASES {
@@ -65,7 +68,7 @@ fn tell_core<C: Core, R: AllocGlobal + Print>(rt: &R) -> io::Result<()> {
     )
 }
 
-/// Tells what a lone node that forgets settled entries has in memory after many puts.
+/// Prints what a lone node with a compacting history holds in memory after many puts.
 fn tell_forgetting<R: AllocGlobal + Print>(rt: &R) -> io::Result<()> {
     let puts = nodes::PUTS;
     print!(rt; "after {puts} puts a lone node forgot those that are settled: ")?;
@@ -75,7 +78,7 @@ fn tell_forgetting<R: AllocGlobal + Print>(rt: &R) -> io::Result<()> {
     }
 }
 
-/// Tells of cells, and of audits of them.
+/// Prints the facts of locked nodes, and of audits of them.
 fn tell_cells<R: AllocGlobal + Print + Threads + Wait + Sync>(rt: &R) -> io::Result<()> {
     tell(
         rt,
@@ -93,7 +96,7 @@ fn tell_cells<R: AllocGlobal + Print + Threads + Wait + Sync>(rt: &R) -> io::Res
     Ok(())
 }
 
-/// Tells whether both cores take the same steps where messages arrive that nobody sent.
+/// Prints whether both cores take the same steps when corrupted messages arrive.
 fn tell_spoiled<R: AllocGlobal + Files + Print + Wait>(rt: &R) -> io::Result<()> {
     for case in &spoiled::CASES {
         tell(rt, case.file, &spoiled::told(rt, case))?;
@@ -101,7 +104,7 @@ fn tell_spoiled<R: AllocGlobal + Files + Print + Wait>(rt: &R) -> io::Result<()>
     Ok(())
 }
 
-/// Tells all facts, and plays a script by calls.
+/// Prints all facts, and plays a script by calls.
 fn tell_all<R>(rt: R, host: HostRuntime) -> io::Result<()>
 where
     R: AllocGlobal + Files + Print + Threads + Wait + Copy + Send + Sync + 'static,
@@ -128,7 +131,7 @@ where
     )
 }
 
-/// The words that the program is given, its own name among them.
+/// Returns the words of the command line, the program's own name included.
 fn words_of(rt: HostRuntime) -> io::Result<Vec<String>> {
     let mut words = Vec::new(rt.alloc());
     for word in env::args(&rt)? {

@@ -1,11 +1,12 @@
-//! Moves, told as the lines of a script, and how explanations are printed; for all other modules but `main` and `refused`.
+//! Reads moves from script lines, and prints linearization witnesses; for all other modules except
+//! `main` and `refused`.
 use craq_names::{ChainId, Items, NodeId, Refusal};
 use craq_play::{Script, explanation_text, move_of, read_of, update_of};
 use craq_runs::{Explanation, Move};
 use craq_script::Line;
 use std::alloc::{AllocError, Global};
 
-/// A list of members.
+/// Returns a list of members.
 pub fn members(alloc: Global, ids: &[u32]) -> Result<Items<NodeId>, AllocError> {
     let mut list = Vec::new(alloc);
     for id in ids {
@@ -14,7 +15,7 @@ pub fn members(alloc: Global, ids: &[u32]) -> Result<Items<NodeId>, AllocError> 
     Ok(Items::of(list))
 }
 
-/// The move that a line asks for, of whichever chain its object is, or none for `explain`.
+/// Returns the move of a line, for an object of any chain; `None` for `explain`.
 fn chosen_by(alloc: Global, line: &Line) -> Result<Option<Move>, Refusal> {
     match line {
         Line::Update { update } => {
@@ -30,7 +31,7 @@ fn chosen_by(alloc: Global, line: &Line) -> Result<Option<Move>, Refusal> {
     }
 }
 
-/// The moves that a script asks for.
+/// Returns the moves of a script.
 pub fn moves_of(alloc: Global, text: &str) -> Result<Vec<Move>, Refusal> {
     let script = Script::read(alloc, text.as_bytes())?;
     let mut moves = Vec::new(alloc);
@@ -42,7 +43,7 @@ pub fn moves_of(alloc: Global, text: &str) -> Result<Vec<Move>, Refusal> {
     Ok(moves)
 }
 
-/// Prints an explanation, on a line.
+/// Prints a linearization witness as one line.
 pub fn print_explanation(
     alloc: Global,
     explanation: &Explanation,

@@ -1,5 +1,5 @@
-//! What nodes do, one by one: each case is a node, what happens there, and what it then sends, answers, ignores or refuses; run
-//! by `main`.
+//! Tests single nodes: each case is a node, its events, and what it then sends, replies, ignores or
+//! refuses. Run by `main`.
 ghost use Rattle.std.specs.Prelude.{◌≤◌, IfOk};
 ghost use Rattle.craq_node.specs.Represented.{CanArrive};
 
@@ -17,8 +17,8 @@ use craq_runs::Move;
 use craq_wire::decode;
 use std::alloc::{AllocError, Global};
 
-/// A node of a chain of these members, or one that joins where there are none; the script of what is asked of it, of its ticks
-/// and its stops; and the messages that arrive then, as a link carries them.
+/// A node of a chain with these members, or a joining node if there are none; the script of its
+/// requests, ticks and stops; and the encoded messages that arrive then.
 #[derive(Clone, Copy)]
 pub struct Case {
     pub fact: &'static str,
@@ -36,31 +36,31 @@ const ACK: &[u8] = &[
     0, 0, 0, 0, 0, 0, 0, 1,
 ];
 
-/// The same in epoch 2.
+/// The acknowledgement `ACK` in epoch 2.
 const ACK_OF_EPOCH_2: &[u8] = &[
     2, 3, 0, 0, 0, 0, 0, 2, 0, 0, 0, 1, 0, 0, 0, 0, 0, 0, 0, 1, 0, 0, 0, 0, 0, 0, 0, 0, 0, 0, 0, 2,
     0, 0, 0, 0, 0, 0, 0, 1,
 ];
 
-/// The same from node 3.
+/// The acknowledgement `ACK` from node 3.
 const ACK_OF_NODE_3: &[u8] = &[
     2, 3, 0, 0, 0, 0, 0, 3, 0, 0, 0, 1, 0, 0, 0, 0, 0, 0, 0, 1, 0, 0, 0, 0, 0, 0, 0, 0, 0, 0, 0, 1,
     0, 0, 0, 0, 0, 0, 0, 1,
 ];
 
-/// The same of position 2.
+/// The acknowledgement `ACK` of position 2.
 const ACK_OF_POSITION_2: &[u8] = &[
     2, 3, 0, 0, 0, 0, 0, 2, 0, 0, 0, 1, 0, 0, 0, 0, 0, 0, 0, 1, 0, 0, 0, 0, 0, 0, 0, 0, 0, 0, 0, 1,
     0, 0, 0, 0, 0, 0, 0, 2,
 ];
 
-/// The same from node 3 to node 2.
+/// The acknowledgement `ACK` from node 3 to node 2.
 const ACK_TO_NODE_2: &[u8] = &[
     2, 3, 0, 0, 0, 0, 0, 3, 0, 0, 0, 2, 0, 0, 0, 0, 0, 0, 0, 1, 0, 0, 0, 0, 0, 0, 0, 0, 0, 0, 0, 1,
     0, 0, 0, 0, 0, 0, 0, 1,
 ];
 
-/// The entry of a put of `a` on `k` from node 1 to node 2, but that it writes version 2.
+/// The entry of a put of `a` on `k` from node 1 to node 2, with version 2 instead of 1.
 const ENTRY_OF_VERSION_2: &[u8] = &[
     2, 2, 0, 0, 0, 0, 0, 1, 0, 0, 0, 2, 0, 0, 0, 0, 0, 0, 0, 1, 0, 0, 0, 0, 0, 0, 0, 0, 0, 0, 0, 1,
     0, 0, 0, 0, 0, 0, 0, 1, 0, 0, 0, 1, 0, 0, 0, 0, 0, 0, 0, 1, 0, 0, 0, 0, 0, 0, 0, 1, 0, 0, 0, 0,
@@ -126,7 +126,7 @@ pub static CASES: [Case; 8] = [
     },
 ];
 
-/// The node of this name in a chain of these members.
+/// Opens the node of this name in a chain of these members.
 fn member<C: Core>(alloc: Global, members: &[NodeId], name: NodeName) -> Result<C, Refusal>
     requires { 1 ≤ name.node }
 {
@@ -138,7 +138,7 @@ fn member<C: Core>(alloc: Global, members: &[NodeId], name: NodeName) -> Result<
     C::open(alloc, name, Some(config))
 }
 
-/// The node of a case.
+/// Opens the node of a case.
 fn node_of<C: Core>(alloc: Global, case: &Case) -> Result<C, Refusal> {
     let name = NodeName {
         chain: ChainId::new(0),
@@ -151,7 +151,7 @@ fn node_of<C: Core>(alloc: Global, case: &Case) -> Result<C, Refusal> {
     member(alloc, members.as_slice(), name)
 }
 
-/// What happens at a node by a move: an ask, a stop, or else a tick.
+/// Returns the event of a move at a node: a request, a stop, or otherwise a tick.
 fn event_of(chosen: Move) -> Event
     ensures { CanArrive result }
 {
@@ -162,7 +162,7 @@ fn event_of(chosen: Move) -> Event
     }
 }
 
-/// The arrival of the message that these bytes spell.
+/// Returns the arrival of the message that these bytes encode.
 fn arrival(alloc: Global, bytes: &[u8]) -> Result<Event, Refusal>
     ensures { IfOk result CanArrive }
 {
@@ -170,7 +170,7 @@ fn arrival(alloc: Global, bytes: &[u8]) -> Result<Event, Refusal>
     Ok(Event::Deliver(message))
 }
 
-/// Takes a step and prints what it did, or its refusal.
+/// Takes a step and prints its output, or its refusal.
 fn take<C: Core>(
     alloc: Global,
     node: &mut C,
@@ -203,7 +203,7 @@ fn take_all<C: Core>(
     Ok(())
 }
 
-/// What is printed of the steps of a case.
+/// Returns the output of the steps of a case.
 pub fn told<C: Core>(alloc: Global, case: &Case) -> Result<String, Refusal> {
     let mut text = String::new(alloc);
     let mut node: C = node_of(alloc, case)?;
@@ -211,10 +211,10 @@ pub fn told<C: Core>(alloc: Global, case: &Case) -> Result<String, Refusal> {
     Ok(text)
 }
 
-/// How many puts a node that forgets settled entries takes here.
+/// The number of puts that a node with a compacting history takes here.
 pub const PUTS: u64 = 10_000;
 
-/// A put of `a` on `k` by client 1 under this number.
+/// Returns a put of `a` on `k` by client 1 with this request number.
 fn put(alloc: Global, number: u64) -> Result<Event, Refusal>
     ensures { IfOk result CanArrive }
 {
@@ -230,7 +230,8 @@ fn put(alloc: Global, number: u64) -> Result<Event, Refusal>
     })))
 }
 
-/// What a lone node that forgets settled entries has in memory after its puts: its base, and how many entries.
+/// Returns what a lone node with a compacting history holds in memory after its puts: its base, and
+/// the number of entries.
 pub fn after_puts(alloc: Global) -> Result<(Seq, usize), Refusal> {
     let name = NodeName {
         chain: ChainId::new(0),

@@ -1,7 +1,9 @@
-//! A script that is played by calls of the library, each of which may run out of memory: what is asked for is a way to play it,
-//! or `all`, a kind of nodes, how many there are, and the file of the script. It prints what the calls answer, and marks the
-//! beginning and the end of each of them on standard error, for a library that is loaded before the program and refuses them
-//! memory. A call that is refused memory is made once more. Called by `main`.
+//! Plays a script by library calls, each of which may run out of memory; called by `main`.
+//!
+//! The command line gives a mode or `all`, a kind of nodes, their number, and the script's file.
+//! The results of the calls are printed. The beginning and the end of each call are marked on
+//! standard error, for a library loaded before the program that makes allocations within them fail.
+//! A call that runs out of memory is made once more.
 mod audits;
 mod connections;
 mod messages;
@@ -22,7 +24,7 @@ use std::{fs, io};
 use teller::Teller;
 use ways::WAYS;
 
-/// Plays a script on nodes of this kind, in the way of this word, or in all.
+/// Plays a script on nodes of this kind, in the mode of this word, or in all modes.
 fn play_on<R>(rt: R, teller: Teller, word: &str, kind: &str, row: &Row) -> Result<(), Refusal>
 where
     R: Threads + Wait + Copy + Send + 'static,
@@ -39,7 +41,8 @@ where
     Ok(())
 }
 
-/// Plays the script of a file in the way of this word, or in all, on so many nodes of this kind.
+/// Plays the script of a file on `nodes` nodes of this kind, in the mode of this word, or in all
+/// modes.
 pub fn play<R>(
     rt: R,
     host: HostRuntime,
@@ -66,7 +69,7 @@ where
     }
 }
 
-/// Plays a script as the words say that the program is given, its own name before them.
+/// Plays a script as the command line's words say; the first word is the program's own name.
 pub fn play_asked<R>(rt: R, host: HostRuntime, words: &[String]) -> io::Result<()>
 where
     R: Threads + Wait + Copy + Send + 'static,

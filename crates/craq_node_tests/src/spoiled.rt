@@ -1,5 +1,5 @@
-//! Scripts on chains of both cores, messages that nobody sent arriving after each move: each core has to take the same steps;
-//! run by `main`.
+//! Tests that both cores take the same steps if corrupted messages arrive after each move of a
+//! script; run by `main`.
 ghost use Rattle.std.specs.Prelude.{◌<◌, ◌≤◌};
 ghost use Rattle.craq_model.specs.Spelled.{IsSpelled};
 
@@ -28,7 +28,8 @@ pub struct Case {
     members: &'static [u32],
 }
 
-/// Scripts that were drawn by lot; those of one node write so many objects that a state is sent in parts.
+/// Randomly generated scripts. Those of one node write so many objects that a state is sent in
+/// parts.
 pub static CASES: [Case; 4] = [
     Case {
         file: "random-1.script",
@@ -51,22 +52,22 @@ pub static CASES: [Case; 4] = [
 /// The greatest id of a node.
 const MOST_NODES: u32 = 8;
 
-/// How often a message of each cell arrives after a move.
+/// The number of times after a move that a message of each node arrives corrupted.
 const TIMES: u32 = 2;
 
-/// How many of its steps back a node sent a message that arrives again.
+/// The number of a node's last steps from which a message is chosen.
 const LATELY: usize = 12;
 
-/// What became of a move or of a message that nobody sent: the receipt of the step, none where no cell could take it, or the
-/// refusal.
+/// The outcome of a move or a corrupted message: the receipt of the step, `None` if no node could
+/// take it, or the refusal.
 type Taken = Result<Option<Receipt>, Refusal>;
 
-/// What became of a move, without the step itself.
+/// Returns the outcome of a move, without the step itself.
 fn receipt_in(done: Result<Option<CellStep>, Refusal>) -> Taken {
     Ok(done?.map(|taken| taken.receipt))
 }
 
-/// A number below the bound, by lot.
+/// Draws a random number below the bound.
 fn below(dice: &mut Pcg32, bound: u32) -> u32
     ensures { 1 ≤ bound → result < bound }
 {
@@ -74,13 +75,13 @@ fn below(dice: &mut Pcg32, bound: u32) -> u32
     if bound == 0 { 0 } else { word % bound }
 }
 
-/// A place in a list of so many items, by lot.
+/// Draws a random index into a list of `count` items.
 fn place_in(dice: &mut Pcg32, count: usize) -> usize {
     let word = dice.next_word() as usize;
     if count == 0 { 0 } else { word % count }
 }
 
-/// A message that was sent in one of the last steps, by lot, if there is one.
+/// Returns a random message sent in one of the last steps, if there is one.
 fn sent_lately<'a, E>(dice: &mut Pcg32, steps: &'a [Record<E>]) -> Option<&'a LinkMessage> {
     let back = place_in(dice, LATELY).saturating_add(1);
     let record = steps.get(steps.len().checked_sub(back)?)?;
@@ -91,7 +92,7 @@ fn sent_lately<'a, E>(dice: &mut Pcg32, steps: &'a [Record<E>]) -> Option<&'a Li
     }
 }
 
-/// The place of the first byte that is not 0, from this place on; 0 where there is none.
+/// Returns the index of the first nonzero byte from `from` on, or 0 if there is none.
 fn next_filled(bytes: &[u8], from: usize) -> usize {
     for (at, byte) in bytes.iter().enumerate() {
         if at >= from && *byte != 0 {
@@ -101,7 +102,7 @@ fn next_filled(bytes: &[u8], from: usize) -> usize {
     0
 }
 
-/// A byte that is not 0 is changed, the first from a place on that is drawn by lot.
+/// Changes the first nonzero byte from a random index on.
 fn spoil(dice: &mut Pcg32, bytes: &mut [u8]) {
     let from = place_in(dice, bytes.len());
     let by = match below(dice, 4) {
@@ -116,7 +117,8 @@ fn spoil(dice: &mut Pcg32, bytes: &mut [u8]) {
     }
 }
 
-/// The bytes of a message that was sent lately, one of them changed; none where there is no such message.
+/// Returns the bytes of a message that was sent lately, with one byte changed; no bytes if there is
+/// no such message.
 fn spoiled<E>(alloc: Global, dice: &mut Pcg32, steps: &[Record<E>]) -> Result<Vec<u8>, AllocError> {
     let mut bytes = Vec::new(alloc);
     if let Some(message) = sent_lately(dice, steps) {
@@ -128,7 +130,8 @@ fn spoiled<E>(alloc: Global, dice: &mut Pcg32, steps: &[Record<E>]) -> Result<Ve
     Ok(bytes)
 }
 
-/// The same of a message of the cell of this id, 0 the master.
+/// Returns the corrupted bytes of a message sent lately by the node of this id, or by the master
+/// for 0.
 fn spoiled_of<C: Core, R: AllocGlobal + Wait>(
     rt: &R,
     cells: &LockedChain<C>,
@@ -149,7 +152,8 @@ fn spoiled_of<C: Core, R: AllocGlobal + Wait>(
     }
 }
 
-/// A message arrives that nobody sent, at its receiver or at another node, if there is one: what becomes of it.
+/// Delivers a corrupted message to its receiver, or at random to another node, and returns the
+/// outcome.
 fn deliver<C: Core, R: AllocGlobal + Wait>(
     rt: &R,
     cells: &LockedChain<C>,
@@ -170,7 +174,7 @@ fn deliver<C: Core, R: AllocGlobal + Wait>(
     Ok(Some(receipt))
 }
 
-/// Messages of each cell arrive that still are messages with a byte changed. What becomes of them is kept.
+/// Delivers corrupted messages of each node that still decode, and keeps the outcomes.
 fn deliver_spoiled<C: Core, R: AllocGlobal + Wait>(
     rt: &R,
     cells: &LockedChain<C>,
@@ -186,8 +190,8 @@ fn deliver_spoiled<C: Core, R: AllocGlobal + Wait>(
     Ok(())
 }
 
-/// Takes the moves, messages that nobody sent arriving after each, and keeps what becomes of them: how many calls were
-/// answered.
+/// Takes the moves, delivers corrupted messages after each, and keeps the outcomes. Returns the
+/// number of answered calls.
 fn play<C: Core, R: AllocGlobal + Wait>(
     rt: &R,
     cells: &mut LockedChain<C>,
@@ -204,7 +208,7 @@ fn play<C: Core, R: AllocGlobal + Wait>(
     Ok(calls.len())
 }
 
-/// Whether the same steps stand in two journals, under the same stamps.
+/// Returns true if the two journals hold the same steps with the same stamps.
 fn are_same<E>(one: &[Record<E>], other: &[Record<E>]) -> bool {
     for (mine, theirs) in one.iter().zip(other) {
         if mine.stamp != theirs.stamp || !mine.step.is_same(&theirs.step) {
@@ -214,7 +218,7 @@ fn are_same<E>(one: &[Record<E>], other: &[Record<E>]) -> bool {
     one.len() == other.len()
 }
 
-/// Whether the nodes of this id took the same steps, or there is none in both chains.
+/// Returns true if the nodes of this id took the same steps, or neither chain has one.
 fn agree_at<P: Core, L: Core, R: Wait>(
     rt: &R,
     plain: &LockedChain<P>,
@@ -231,7 +235,7 @@ fn agree_at<P: Core, L: Core, R: Wait>(
     }
 }
 
-/// Whether the cells of two chains took the same steps.
+/// Returns true if the nodes of the two chains took the same steps.
 fn agree<P: Core, L: Core, R: Wait>(rt: &R, plain: &LockedChain<P>, list: &LockedChain<L>) -> bool {
     for id in 1..MOST_NODES + 1 {
         if !agree_at(rt, plain, list, NodeId::new(id)) {
@@ -244,7 +248,7 @@ fn agree<P: Core, L: Core, R: Wait>(rt: &R, plain: &LockedChain<P>, list: &Locke
     )
 }
 
-/// The reasons for which nodes ignored messages in these steps come after others, unless they are among them.
+/// Adds the reasons for which nodes ignored messages in these steps, without duplicates.
 fn add_reasons<E>(steps: &[Record<E>], reasons: &mut Vec<Why>) -> Result<(), AllocError> {
     for record in steps {
         if let Some(why) = record.step.ignored {
@@ -276,8 +280,8 @@ fn print_reasons<C: Core, R: AllocGlobal + Wait>(
     Ok(())
 }
 
-/// Prints whether both chains do the same by these moves, how many moves there were, and how many with messages, and for which reasons
-/// messages were ignored.
+/// Prints whether both chains do the same with these moves; the number of moves, alone and with
+/// corrupted messages; and the reasons for which messages were ignored.
 fn play_both<P: Core, L: Core, R: AllocGlobal + Wait>(
     rt: &R,
     plain: &mut LockedChain<P>,
@@ -294,7 +298,7 @@ fn play_both<P: Core, L: Core, R: AllocGlobal + Wait>(
     print_reasons(rt, list, text)
 }
 
-/// The same of new chains and the moves of a script.
+/// Plays a script's moves on two new chains, and prints what `play_both` does.
 fn play_new<P: Core, L: Core, R: AllocGlobal + Wait>(
     rt: &R,
     members: &[u32],
@@ -308,7 +312,7 @@ fn play_new<P: Core, L: Core, R: AllocGlobal + Wait>(
     Ok(())
 }
 
-/// What is printed of a case.
+/// Returns the output of a case.
 pub fn told<R: AllocGlobal + Files + Wait>(rt: &R, case: &Case) -> Result<String, Refusal> {
     let mut text = String::new(rt.alloc());
     let script = fs::read_to_string(rt, case.file).map_err(|_| Refusal::Memory)?;

@@ -1,4 +1,4 @@
-//! Worlds of two chains, over any core; run by `main`, and for `refused`.
+//! Tests worlds of two chains, over any core; run by `main`, and used by `refused`.
 use crate::moves::{members, moves_of, print_explanation};
 use craq_names::{ChainId, Refusal};
 use craq_node::Core;
@@ -10,7 +10,8 @@ use std::alloc::{AllocError, Global};
 /// A move: its chain, and its line of a script.
 type Line = (u16, &'static str);
 
-/// Moves of two chains of two nodes, the chain of them that is looked at, and moves by which it has to come to the same.
+/// Moves of two chains of two nodes; the chain to observe; and other moves that must lead to the
+/// same observation.
 #[derive(Clone, Copy)]
 pub struct Scene {
     pub fact: &'static str,
@@ -19,8 +20,8 @@ pub struct Scene {
     chain: u16,
 }
 
-/// A put that reaches the tail twice and is acknowledged, a read, ticks, and then node 2 stops, is removed, and node 3
-/// joins; of chain 0.
+/// Moves of chain 0: a put that reaches the tail twice and is acknowledged, a read, ticks; then
+/// node 2 stops and is removed, and node 3 joins.
 const IN_CHAIN_0: &[Line] = &[
     (0, "put 1 1 1 k a"),
     (0, "deliver 1"),
@@ -36,7 +37,7 @@ const IN_CHAIN_0: &[Line] = &[
     (0, "deliver 6"),
 ];
 
-/// The same of chain 1.
+/// The moves of `IN_CHAIN_0`, for chain 1.
 const IN_CHAIN_1: &[Line] = &[
     (1, "put 1 1 1 1/k a"),
     (1, "deliver 1"),
@@ -52,7 +53,7 @@ const IN_CHAIN_1: &[Line] = &[
     (1, "deliver 6"),
 ];
 
-/// Both, in turn.
+/// The moves of both chains, interleaved.
 const IN_BOTH: &[Line] = &[
     (0, "put 1 1 1 k a"),
     (1, "put 1 1 1 1/k a"),
@@ -136,7 +137,7 @@ pub static SCENES: [Scene; 6] = [
     },
 ];
 
-/// A world of chains, of so many equal lists of members.
+/// Opens a world of `count` chains with equal lists of members.
 pub fn opened<C: Core>(alloc: Global, count: usize, ids: &[u32]) -> Result<World<C>, Refusal> {
     let mut lists = Vec::new(alloc);
     for _ in 0..count {
@@ -145,7 +146,7 @@ pub fn opened<C: Core>(alloc: Global, count: usize, ids: &[u32]) -> Result<World
     World::open(alloc, lists.as_slice())
 }
 
-/// The move of each line, with its chain.
+/// Returns the move of each line, with its chain.
 fn listed(alloc: Global, lines: &[Line]) -> Result<Vec<(ChainId, Move)>, Refusal> {
     let mut list = Vec::new(alloc);
     for (chain, line) in lines {
@@ -164,7 +165,7 @@ fn print_result(text: &mut String, taken: &Result<u64, Refusal>) -> Result<(), A
     }
 }
 
-/// Takes moves, one after another, and prints what became of each.
+/// Takes moves, one after another, and prints each outcome.
 fn take_all<C: Core>(
     alloc: Global,
     world: &mut World<C>,
@@ -177,7 +178,8 @@ fn take_all<C: Core>(
     Ok(())
 }
 
-/// What a chain comes to: what became of the moves, the chain's run, and its explanation.
+/// The observation of a chain: the outcomes of the moves, the chain's run, and its linearization
+/// witness.
 #[derive(Drop)]
 struct Seen {
     results: String,
@@ -185,7 +187,8 @@ struct Seen {
     explanation: String,
 }
 
-/// Looks at the run of a chain, and at its explanation, or at what the world answers that has no such chain.
+/// Observes the run of a chain and its linearization witness, or the refusal if the world has no
+/// such chain.
 fn look<C: Core>(
     alloc: Global,
     world: &World<C>,
@@ -203,7 +206,7 @@ fn look<C: Core>(
     }
 }
 
-/// Takes these moves in a new world, and looks at a chain.
+/// Takes these moves in a new world, and observes a chain.
 fn come_to<C: Core>(
     alloc: Global,
     lines: &[Line],
@@ -216,7 +219,7 @@ fn come_to<C: Core>(
     Ok(())
 }
 
-/// What a chain comes to in a new world by these moves.
+/// Returns the observation of a chain after these moves in a new world.
 fn come_to_by<C: Core>(alloc: Global, lines: &[Line], chain: ChainId) -> Result<Seen, Refusal> {
     let mut seen = Seen {
         results: String::new(alloc),
@@ -227,7 +230,7 @@ fn come_to_by<C: Core>(alloc: Global, lines: &[Line], chain: ChainId) -> Result<
     Ok(seen)
 }
 
-/// Prints what a chain came to, and whether it came to the same as another.
+/// Prints the observation of a chain, and whether it equals another.
 fn print_seen(text: &mut String, one: &Seen, other: &Seen) -> Result<(), AllocError> {
     let is_same = one.run == other.run && one.explanation == other.explanation;
     text.push_str(one.results.as_str())?;
@@ -235,7 +238,7 @@ fn print_seen(text: &mut String, one: &Seen, other: &Seen) -> Result<(), AllocEr
     writeln!(text, "the same {is_same}")
 }
 
-/// What is printed of a scene, and whether the chain comes to the same by the other moves.
+/// Returns the output of a scene, and whether the other moves lead to the same observation.
 pub fn told<C: Core>(alloc: Global, scene: &Scene) -> Result<String, Refusal> {
     let mut text = String::new(alloc);
     let chain = ChainId::new(scene.chain);
@@ -245,7 +248,7 @@ pub fn told<C: Core>(alloc: Global, scene: &Scene) -> Result<String, Refusal> {
     Ok(text)
 }
 
-/// Moves of a list, two of them refused.
+/// Moves of a list, two of which are refused.
 const LISTED: &[Line] = &[
     (0, "tick 0"),
     (0, "deliver 9"),
@@ -254,7 +257,7 @@ const LISTED: &[Line] = &[
     (0, "deliver 1"),
 ];
 
-/// Takes the listed moves by one call, and prints what became of each.
+/// Takes the moves of `LISTED` by one call, and prints each outcome.
 fn run_listed<C: Core>(
     alloc: Global,
     world: &mut World<C>,
@@ -268,7 +271,7 @@ fn run_listed<C: Core>(
     Ok(())
 }
 
-/// What becomes of the listed moves.
+/// Returns the outcomes of the moves of `LISTED`.
 pub fn told_of_list<C: Core>(alloc: Global) -> Result<String, Refusal> {
     let mut text = String::new(alloc);
     let mut world: World<C> = opened(alloc, 2, &[1, 2])?;
@@ -289,7 +292,7 @@ static MEMBERSHIPS: [(usize, &[u32]); 9] = [
     (2, &[9, 8, 7, 6, 5, 4, 3, 2, 1]),
 ];
 
-/// Whether a world has each of these counts of lists.
+/// Returns for each of these counts of lists that a world was opened, or the refusal.
 pub fn told_of_counts<C: Core>(alloc: Global) -> Result<String, Refusal> {
     let mut text = String::new(alloc);
     for (count, ids) in &MEMBERSHIPS {

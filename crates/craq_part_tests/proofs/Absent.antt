@@ -1,4 +1,4 @@
--- No absent object has its versions used up.
+-- No absent object has used up its versions.
 use Rattle.std.proofs.Common.{◌≡◌, false, List, [], ◌∷◌, refl}
 use Rattle.craq_names.specs.declared.name.ObjectId.{ObjectId}
 use Rattle.craq_commands.specs.Objects.{object_of}

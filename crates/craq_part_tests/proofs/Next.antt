@@ -1,4 +1,4 @@
--- An entry of one write, which gives its object the next version.
+-- An entry of one write that gives its object the next version.
 use Rattle.std.proofs.Common.{◌≡◌, ℕ, ◌+◌, Bool, true, false, cond, List, [], ◌∷◌, ◌++◌, refl, sym, subst, ◌∙◌, ap}
 use Rattle.craq_names.specs.Maps.{same_bytes}
 use Rattle.craq_commands.specs.declared.entry.Entry.{Entry}

@@ -1,4 +1,4 @@
-//! Commands by their table, transactions and copies; run by `main`.
+//! Tests commands against their table, transactions and copies; run by `main`.
 ghost use Rattle.std.specs.Prelude.{[]};
 
 use crate::say;
@@ -10,7 +10,7 @@ use craq_names::{
 use std::alloc::Global;
 use std::io;
 
-/// A chain in which nothing was written.
+/// A chain in which no object was ever written.
 #[derive(Drop)]
 struct Unwritten;
 
@@ -40,7 +40,7 @@ static COMMANDS: [&str; 7] = [
     "decrement",
 ];
 
-/// A command on the object `n`, by its name.
+/// Returns a command on the object `n`, by its name.
 fn command(alloc: Global, name: &str) -> Result<Command, Refusal> {
     let object = object(alloc, b"n")?;
     let value = Value::new(alloc, b"a")?;
@@ -63,25 +63,25 @@ fn command(alloc: Global, name: &str) -> Result<Command, Refusal> {
     })
 }
 
-/// What a command writes where nothing was written, and its reply.
+/// Evaluates a command on the empty chain: its writes and its reply.
 #[tactic(auto, using(crate::proofs::Absent::none_used_up))]
 fn outcome(alloc: Global, command: &Command) -> Result<(Writes, Reply), Refusal> {
     Ok(evaluate(alloc, &Unwritten, command)?)
 }
 
-/// What the command of this name writes where nothing was written, and its reply.
+/// Evaluates the command of this name on the empty chain: its writes and its reply.
 fn outcome_of(alloc: Global, name: &str) -> Result<(Writes, Reply), Refusal> {
     outcome(alloc, &command(alloc, name)?)
 }
 
-/// A list of the one item.
+/// Returns a list of one item.
 fn list_of<T: Drop>(alloc: Global, item: T) -> Result<Items<T>, Refusal> {
     let mut items = Items::new(alloc);
     items.push(item)?;
     Ok(items)
 }
 
-/// A transaction that writes `a` where it is absent, and reads it.
+/// Returns a transaction that writes `a` if it is absent, and reads it.
 fn mini(alloc: Global) -> Result<Mini, Refusal> {
     let compares = list_of(alloc, (object(alloc, b"a")?, Version::new(0)))?;
     let reads = list_of(alloc, object(alloc, b"a")?)?;
@@ -89,18 +89,18 @@ fn mini(alloc: Global) -> Result<Mini, Refusal> {
     Mini::new(compares, reads, writes)
 }
 
-/// A copy of what was made.
+/// Copies a value, or passes on its refusal.
 fn copy_of<T: Copied>(alloc: Global, made: Result<T, Refusal>) -> Result<T, Refusal> {
     Ok(made?.copied(alloc)?)
 }
 
-/// What a copy of the transaction writes where nothing was written, and its reply.
+/// Evaluates a copy of the transaction on the empty chain: its writes and its reply.
 fn outcome_of_mini(alloc: Global) -> Result<(Writes, Reply), Refusal> {
     let mini = copy_of(alloc, mini(alloc))?;
     outcome(alloc, &Command::Mini(mini))
 }
 
-/// The objects of these keys of one byte.
+/// Returns the objects of these one-byte keys.
 fn objects(alloc: Global, keys: &[u8]) -> Result<Items<ObjectId>, Refusal> {
     let mut objects = Items::new(alloc);
     for key in keys {
@@ -109,7 +109,7 @@ fn objects(alloc: Global, keys: &[u8]) -> Result<Items<ObjectId>, Refusal> {
     Ok(objects)
 }
 
-/// How many objects a transaction reads that is to read these.
+/// Returns the number of reads in a transaction that is asked to read these keys.
 fn count_of_reads(alloc: Global, keys: &[u8]) -> Result<usize, Refusal> {
     let reads = objects(alloc, keys)?;
     let mini = Mini::new(Items::new(alloc), reads, Items::new(alloc))?;
@@ -125,7 +125,7 @@ static READS: [&[u8]; 5] = [
     b"aaaaaaaaaaaaaaaaa",
 ];
 
-/// An entry that writes `k`.
+/// Returns an entry that writes `k`.
 fn entry(alloc: Global) -> Result<Entry, Refusal> {
     let number = RequestNo::new(6)?;
     let write = Write {
@@ -144,7 +144,7 @@ fn entry(alloc: Global) -> Result<Entry, Refusal> {
     })
 }
 
-/// An update that appends.
+/// Returns an update that appends.
 fn update(alloc: Global) -> Result<Update, Refusal> {
     let number = RequestNo::new(6)?;
     Ok(Update {
@@ -154,7 +154,8 @@ fn update(alloc: Global) -> Result<Update, Refusal> {
     })
 }
 
-/// Commands by their table, transactions, and copies of an entry and of an update.
+/// Prints the results of commands by their table, of transactions, and of copies of an entry and an
+/// update.
 pub(crate) fn run<R: AllocGlobal + Print>(rt: &R) -> io::Result<()> {
     for name in &COMMANDS {
         say(rt, *name, outcome_of(rt.alloc(), *name))?;

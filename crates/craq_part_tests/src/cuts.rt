@@ -1,4 +1,4 @@
-//! Connections that are cut, changed or failing at each place; run by `main`.
+//! Tests connections that are cut, changed or fail at each byte or call; run by `main`.
 ghost use Rattle.std.specs.Prelude.{◌≤◌, length};
 
 use crate::rows::{Row, Served, serve_row};
@@ -8,8 +8,8 @@ use craq_names::Refusal;
 use std::alloc::Global;
 use std::io;
 
-/// A connection on which the put comes twice, one byte at a time, whose read of this number fails and on which so many
-/// bytes are taken.
+/// Serves a connection on which the put comes twice, one byte at a time. The read number `fails_at`
+/// fails, and at most `room` bytes are written.
 fn two_puts(alloc: Global, fails_at: u64, room: usize) -> io::Result<Served> {
     let mut sent = Vec::new(alloc);
     sent.extend_from_slice(&PUT)?;
@@ -23,7 +23,7 @@ fn two_puts(alloc: Global, fails_at: u64, room: usize) -> io::Result<Served> {
     Ok(serve_row(alloc, &row))
 }
 
-/// Whether the bytes are the first bytes of the put's reply, written twice.
+/// Returns true if the bytes are a prefix of the put's reply, written twice.
 fn begins_replies(bytes: &[u8]) -> bool {
     let second = bytes.len().saturating_sub(WRITTEN.len());
     let first = bytes.len().min(WRITTEN.len());
@@ -32,7 +32,7 @@ fn begins_replies(bytes: &[u8]) -> bool {
         && bytes[first..] == WRITTEN[..second]
 }
 
-/// Whether a put that is cut after so many bytes is answered that the connection is closed, and nothing is written.
+/// Returns true if a put that is cut after `len` bytes ends with `Closed`, and nothing is written.
 fn is_closed_after(alloc: Global, len: usize) -> bool
     requires { len ≤ 42 }
 {
@@ -46,7 +46,7 @@ fn is_closed_after(alloc: Global, len: usize) -> bool
     served.answer == Err(Refusal::Closed) && served.written.is_empty() && served.asked == 0
 }
 
-/// Whether each cut put is answered so.
+/// Returns true if every cut put ends with `Closed`.
 fn are_cuts_closed(alloc: Global) -> bool {
     for len in 1..42 {
         if !is_closed_after(alloc, len) {
@@ -56,7 +56,7 @@ fn are_cuts_closed(alloc: Global) -> bool {
     true
 }
 
-/// Whether the payload is written as it was read; none where it spells nothing.
+/// Returns true if the payload is encoded again as the same bytes; `None` if it does not decode.
 fn is_written_again(alloc: Global, payload: &[u8]) -> Option<bool> {
     match Payload::decode(alloc, payload) {
         Ok(decoded) => match decoded.encode(alloc) {
@@ -67,7 +67,8 @@ fn is_written_again(alloc: Global, payload: &[u8]) -> Option<bool> {
     }
 }
 
-/// Whether a frame is answered by the door exactly where its payload spells something, and else by the refusal.
+/// Returns true if a frame reaches the request handler exactly if its payload decodes, and is
+/// refused otherwise.
 fn is_answered(alloc: Global, frame: &[u8]) -> bool
     requires { 4 ≤ length frame.now }
 {
@@ -86,7 +87,7 @@ fn is_answered(alloc: Global, frame: &[u8]) -> bool
         }
 }
 
-/// Whether each put with one byte of its payload changed is answered so.
+/// Returns true if each put with one byte of its payload changed passes `is_answered`.
 fn are_changes_answered(alloc: Global) -> bool {
     for place in 4..PUT.len() {
         for byte in 0..=255u8 {
@@ -100,7 +101,8 @@ fn are_changes_answered(alloc: Global) -> bool {
     true
 }
 
-/// Whether exactly so many bytes are written for two puts where no more are taken, and the failure is told.
+/// Returns true if exactly `room` bytes are written for two puts when no more fit, and the failure
+/// is reported.
 fn is_short_write(alloc: Global, room: usize) -> io::Result<bool> {
     let served = two_puts(alloc, 0, room)?;
     Ok(
@@ -111,7 +113,7 @@ fn is_short_write(alloc: Global, room: usize) -> io::Result<bool> {
     )
 }
 
-/// Whether each count of bytes that are taken is met so.
+/// Returns true if `is_short_write` passes for each number of bytes.
 fn are_short_writes(alloc: Global) -> io::Result<bool> {
     for room in 0..46 {
         if !is_short_write(alloc, room)? {
@@ -121,7 +123,7 @@ fn are_short_writes(alloc: Global) -> io::Result<bool> {
     Ok(true)
 }
 
-/// Whether the replies to whole frames alone are written where the read of this number fails.
+/// Returns true if only whole frames are answered when the read number `fails_at` fails.
 fn is_failed_read(alloc: Global, fails_at: u64) -> io::Result<bool> {
     let served = two_puts(alloc, fails_at, 1_000_000)?;
     let whole = if fails_at <= 42 { 0 } else { 1 };
@@ -134,7 +136,7 @@ fn is_failed_read(alloc: Global, fails_at: u64) -> io::Result<bool> {
     )
 }
 
-/// Whether each failing read is met so.
+/// Returns true if `is_failed_read` passes for each read.
 fn are_failed_reads(alloc: Global) -> io::Result<bool> {
     for fails_at in 1..85 {
         if !is_failed_read(alloc, fails_at)? {
@@ -144,7 +146,7 @@ fn are_failed_reads(alloc: Global) -> io::Result<bool> {
     Ok(true)
 }
 
-/// Connections that are cut, changed or failing, at each place.
+/// Prints the results for connections that are cut, changed or fail at each byte or call.
 pub(crate) fn run<R: AllocGlobal + Print>(rt: &R) -> io::Result<()> {
     let cuts = are_cuts_closed(rt.alloc());
     println!(rt; "cut puts are closed: {cuts}")?;

@@ -1,4 +1,4 @@
-//! The door that answers in these tests; for `rows`.
+//! Defines the request handler of these tests; for `rows`.
 ghost use Rattle.std.specs.Prelude.{⊤};
 ghost use Rattle.craq_front.specs.Door.{IsAllowed};
 
@@ -8,14 +8,15 @@ use craq_front::Door;
 use craq_names::{Pass, Refusal, Stamp, Value, Version};
 use std::alloc::Global;
 
-/// Answers each update that version 1 is written, and each read version 1 and `a`, with pass 9; counts what it was asked.
+/// Replies to each update that version 1 was written, and to each read version 1 and `a`, with pass
+/// 9. Counts its requests.
 #[derive(Drop)]
 pub(crate) struct Answers {
     pub(crate) alloc: Global,
     pub(crate) asked: u64,
 }
 
-/// Version 1 and `a`, with pass 9.
+/// Returns version 1 and `a`, with pass 9.
 fn value(alloc: Global) -> ClientReply
     ensures { IsAllowed result }
 {

@@ -1,4 +1,4 @@
-//! Entries in a suffix, into room that was made; run by `main`.
+//! Tests the entries of a suffix, with and without reserved room; run by `main`.
 ghost use Rattle.std.specs.Prelude.{◌≡◌, ◌≤◌, IfOk, IsTrue};
 ghost use Rattle.craq_log.specs.Suffixed.{length_of};
 
@@ -9,7 +9,7 @@ use craq_names::{ClientId, Items, NodeId, Refusal, RequestNo, Seq, Ticket, Versi
 use std::alloc::Global;
 use std::io;
 
-/// An entry at a position.
+/// Returns an entry at a position.
 fn entry(alloc: Global, position: u64) -> Result<Entry, Refusal>
     ensures { IfOk result (λ e. e.position ≡ position) }
 {
@@ -25,17 +25,17 @@ fn entry(alloc: Global, position: u64) -> Result<Entry, Refusal>
     })
 }
 
-/// What is asked of a suffix.
+/// A call on a suffix.
 #[derive(Clone, Copy)]
 enum Ask {
-    /// An entry at the next position.
+    /// Appends an entry at the next position.
     Append,
-    /// Entries at the next two positions.
+    /// Appends entries at the next two positions.
     AppendTwo,
     TakeFirst,
     Acknowledge(u64),
     Reserve(usize),
-    /// The entries after a position.
+    /// Returns the entries after a position.
     From(u64),
 }
 
@@ -64,7 +64,7 @@ fn take_first(alloc: Global, suffix: &mut Suffix) -> Option<Seq> {
     }
 }
 
-/// Whether the position is one that the suffix stands after or holds.
+/// Returns true if the position is the base of the suffix or a position that it holds.
 fn is_known(suffix: &Suffix, position: u64) -> bool
     ensures { IsTrue result → (suffix.now.base ≤ position) × (position ≤ length_of suffix.now) }
 {
@@ -138,7 +138,8 @@ static TAKEN: [Ask; 9] = [
     Ask::TakeFirst,
 ];
 
-/// Entries that go in and out of a suffix, into room that was made, and two at once and out one at a time.
+/// Prints the results of entries that go in and out of a suffix, with reserved room, and two in and
+/// one out at a time.
 pub(crate) fn run<R: AllocGlobal + Print>(rt: &R) -> io::Result<()> {
     ask_all(rt, 10, &IN_AND_OUT)?;
     ask_all(rt, 0, &RESERVED)?;

@@ -1,4 +1,5 @@
-//! Asking over memory: the reply, what is no reply, each cut; run by `main`.
+//! Tests a client's exchange over memory: the reply, bytes that are no reply, each cut; run by
+//! `main`.
 ghost use Rattle.std.specs.Prelude.{◌≤◌};
 
 use crate::fakes::{Duplex, Pieces, Room};
@@ -9,7 +10,7 @@ use craq_names::Refusal;
 use std::alloc::Global;
 use std::io;
 
-/// What asking did.
+/// The outcome of an exchange.
 #[derive(Debug, Drop)]
 struct Exchanged {
     answer: Result<ClientReply, Refusal>,
@@ -17,8 +18,8 @@ struct Exchanged {
     faults: u64,
 }
 
-/// Asks the put over a connection on which these bytes come, whose read of this number fails (0: none), and on which so
-/// many bytes are taken.
+/// Sends the put over a connection on which the bytes `came` arrive. The read number `fails_at`
+/// fails (0: none), and at most `room` bytes can be written.
 fn ask(alloc: Global, came: &[u8], fails_at: u64, room: usize) -> Result<Exchanged, Refusal> {
     let put = ClientMessage::decode(alloc, &PUT[4..])?;
     let mut stream = Stream::new(Duplex {
@@ -44,7 +45,7 @@ fn ask(alloc: Global, came: &[u8], fails_at: u64, room: usize) -> Result<Exchang
     })
 }
 
-/// Whether the put is sent and a reply that is cut after so many bytes is answered that the connection is closed.
+/// Returns true if the put is sent and a reply that is cut after `len` bytes ends with `Closed`.
 fn is_closed_after(alloc: Global, len: usize) -> Result<bool, Refusal>
     requires { len ≤ 23 }
 {
@@ -56,7 +57,7 @@ fn is_closed_after(alloc: Global, len: usize) -> Result<bool, Refusal>
     Ok(is_closed && exchanged.sent.as_slice() == PUT.as_slice() && exchanged.faults == 0)
 }
 
-/// Whether each cut reply is answered so.
+/// Returns true if every cut reply ends with `Closed`.
 fn are_cuts_closed(alloc: Global) -> Result<bool, Refusal> {
     for len in 0..23 {
         if !is_closed_after(alloc, len)? {
@@ -66,7 +67,7 @@ fn are_cuts_closed(alloc: Global) -> Result<bool, Refusal> {
     Ok(true)
 }
 
-/// Prints what asking the put did.
+/// Prints the outcome of sending the put.
 fn print_ask<R>(rt: &R, name: &str, came: &[u8], fails_at: u64, room: usize) -> io::Result<()>
 where
     R: AllocGlobal + Print,
@@ -75,7 +76,7 @@ where
     println!(rt; "{name}: {exchanged:?}")
 }
 
-/// Asking: the reply, what is no reply, and each cut.
+/// Prints the outcomes of exchanges: the reply, bytes that are no reply, and each cut.
 pub(crate) fn run<R: AllocGlobal + Print>(rt: &R) -> io::Result<()> {
     print_ask(rt, "a reply", &WRITTEN, 0, 100)?;
     print_ask(rt, "a refusal", &BAD_FRAME, 0, 100)?;

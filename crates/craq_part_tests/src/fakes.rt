@@ -1,8 +1,10 @@
-//! Readers and writers over memory that give pieces, end or fail where they are told to; for `rows` and `exchanges`.
+//! Provides readers and writers over memory that split, end or fail on purpose; for `rows` and
+//! `exchanges`.
 use std::io;
 use std::io::{Read, Write};
 
-/// A reader of bytes that come in pieces of a size, whose read of a number (from 1) fails.
+/// A reader that returns at most `size` bytes at once, and whose read number `fails_at` (from 1)
+/// fails.
 #[derive(Drop)]
 pub(crate) struct Pieces<'a> {
     pub(crate) rest: &'a [u8],
@@ -22,7 +24,7 @@ impl Read for Pieces<'_> {
     }
 }
 
-/// A writer with room for so many bytes, which then fails.
+/// A writer with room for `room` bytes, which then fails.
 #[derive(Drop)]
 pub(crate) struct Room {
     pub(crate) held: Vec<u8>,
@@ -47,7 +49,7 @@ impl Write for Room {
     }
 }
 
-/// Both ways of a connection.
+/// Both directions of a connection.
 #[derive(Drop)]
 pub(crate) struct Duplex<'a> {
     pub(crate) input: Pieces<'a>,

@@ -1,4 +1,4 @@
-//! Frames: their bytes, what is cut off, lengths above the limit; run by `main`.
+//! Tests frames: their bytes, decoding from parts, lengths above the limit; run by `main`.
 use crate::payloads::{NOT_HEAD, PUT, READ, VALUE, WRITTEN};
 use crate::say;
 use bytes::{Bytes, BytesMut};
@@ -8,7 +8,7 @@ use std::alloc::Global;
 use std::io;
 use tokio_util::codec::{Decoder, LengthDelimitedCodec};
 
-/// The frame of the payload.
+/// Returns the frame of the payload.
 fn frame_of(alloc: Global, payload: &[u8]) -> Result<Bytes, Refusal> {
     let mut buffer = BytesMut::new(alloc);
     buffer.extend_from_slice(payload)?;
@@ -17,7 +17,7 @@ fn frame_of(alloc: Global, payload: &[u8]) -> Result<Bytes, Refusal> {
     Ok(out.freeze()?)
 }
 
-/// Prints the frame of the payload, and what is cut off it.
+/// Prints the frame of the payload, and the payload decoded from it.
 fn print_frame<R: AllocGlobal + Print>(rt: &R, payload: &[u8]) -> io::Result<()> {
     match frame_of(rt.alloc(), payload) {
         Ok(frame) => {
@@ -29,7 +29,7 @@ fn print_frame<R: AllocGlobal + Print>(rt: &R, payload: &[u8]) -> io::Result<()>
     }
 }
 
-/// Prints what is cut off the buffer.
+/// Prints the next frame decoded from the buffer.
 fn print_cut<R>(rt: &R, codec: &mut LengthDelimitedCodec, buffer: &mut BytesMut) -> io::Result<()>
 where
     R: Print,
@@ -44,7 +44,7 @@ where
     }
 }
 
-/// Prints what is cut off after each part has come, and what is left.
+/// Prints the frames decoded after each part has arrived, and the bytes left.
 fn print_cuts<R: AllocGlobal + Print>(rt: &R, parts: &[&[u8]]) -> io::Result<()> {
     let mut codec = frame_codec();
     let mut buffer = BytesMut::new(rt.alloc());
@@ -57,7 +57,8 @@ fn print_cuts<R: AllocGlobal + Print>(rt: &R, parts: &[&[u8]]) -> io::Result<()>
     Ok(())
 }
 
-/// Frames: their bytes, what is cut off them, and lengths above the limit.
+/// Prints the bytes of frames, the payloads decoded from them, and the refusals of lengths above
+/// the limit.
 pub(crate) fn run<R: AllocGlobal + Print>(rt: &R) -> io::Result<()> {
     for payload in [
         PUT.as_slice(),

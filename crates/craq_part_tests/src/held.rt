@@ -1,4 +1,5 @@
-//! A held past after very many puts: what is settled is folded, and not held any more; run by `main`.
+//! Tests a compact state after a million puts: settled entries are applied and dropped; run by
+//! `main`.
 ghost use Rattle.std.specs.Prelude.{◌≡◌, ◌+◌, [], ◌∷◌, IfOk};
 ghost use Rattle.craq_commands.specs.Objects.{version_of};
 ghost use Rattle.craq_commands.specs.SingleCopy.{after_entries};
@@ -10,13 +11,13 @@ use craq_settled::HeldPast;
 use std::alloc::Global;
 use std::io;
 
-/// How many puts there are.
+/// The number of puts.
 const PUTS: u64 = 1_000_000;
 
-/// How many objects they write in turn.
+/// The number of objects, which the puts write one after another.
 const OBJECTS: u64 = 1_000;
 
-/// The write of one of the objects, which gives it its next version.
+/// Returns a write of one of the objects, with its next version.
 fn write(alloc: Global, held: &HeldPast, count: u64) -> Result<Write, Refusal>
     ensures { IfOk result (λ w. w.version ≡ version_of (after_entries held.now.state held.now.entries).objects w.key + 1) }
 {
@@ -33,7 +34,7 @@ fn write(alloc: Global, held: &HeldPast, count: u64) -> Result<Write, Refusal>
     })
 }
 
-/// The entry of a put at a position, after so many puts.
+/// Returns the entry of a put at a position, after `count` puts.
 fn entry(alloc: Global, position: u64, count: u64, write: Write) -> Result<Entry, Refusal>
     ensures position { IfOk result (λ e. e.position ≡ position) }
     ensures writes { IfOk result (λ e. e.writes ≡ write ∷ []) }
@@ -53,7 +54,7 @@ fn entry(alloc: Global, position: u64, count: u64, write: Write) -> Result<Entry
     })
 }
 
-/// The entry of one more put, at the next position.
+/// Returns the entry of one more put, at the next position.
 fn next_entry(alloc: Global, held: &HeldPast, position: u64) -> Result<Entry, Refusal>
     ensures position { IfOk result (λ e. e.position ≡ position) }
     ensures next { IfOk result (λ e. AreNextVersions (after_entries held.now.state held.now.entries) (e ∷ [])) }
@@ -63,7 +64,7 @@ fn next_entry(alloc: Global, held: &HeldPast, position: u64) -> Result<Entry, Re
     entry(alloc, position, count, write)
 }
 
-/// One more put, at the next position.
+/// Appends one more put, at the next position.
 fn append(alloc: Global, held: &mut HeldPast) -> Result<(), Refusal> {
     let Some(position) = held.len().get().checked_add(1) else {
         return Err(Refusal::Exhausted);
@@ -73,7 +74,7 @@ fn append(alloc: Global, held: &mut HeldPast) -> Result<(), Refusal> {
     Ok(held.append(Items::of(entries))?)
 }
 
-/// Puts that are settled at once.
+/// Appends puts, each of which is settled at once.
 fn settled_puts(alloc: Global, held: &mut HeldPast) -> Result<(), Refusal> {
     for _ in 0..PUTS {
         append(alloc, held)?;
@@ -83,7 +84,7 @@ fn settled_puts(alloc: Global, held: &mut HeldPast) -> Result<(), Refusal> {
     Ok(())
 }
 
-/// Puts that are not settled.
+/// Appends puts that are not settled.
 fn unsettled_puts(alloc: Global, held: &mut HeldPast) -> Result<(), Refusal> {
     for _ in 0..OBJECTS {
         append(alloc, held)?;
@@ -91,14 +92,14 @@ fn unsettled_puts(alloc: Global, held: &mut HeldPast) -> Result<(), Refusal> {
     Ok(())
 }
 
-/// How many entries are folded, and how many are held.
+/// Prints the number of entries applied, and the number held.
 fn print<R: Print>(rt: &R, held: &HeldPast) -> io::Result<()> {
     let base = held.base();
     let count = held.from(base).len();
     println!(rt; "base {base}, {count} entries held")
 }
 
-/// With ample memory what is settled is folded, and not held any more.
+/// Prints that with enough memory, settled entries are applied and no longer held.
 pub(crate) fn run<R: AllocGlobal + Print>(rt: &R) -> io::Result<()> {
     let mut held = HeldPast::new(rt.alloc());
     print(rt, &held)?;

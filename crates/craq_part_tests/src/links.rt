@@ -1,4 +1,4 @@
-//! Messages between nodes, one kind after another, their cuts and changed bytes; run by `main`.
+//! Tests messages between nodes, kind by kind, and their cut and changed bytes; run by `main`.
 use crate::say;
 use craq_names::Refusal;
 use craq_wire::{decode, encode, spelled};
@@ -26,19 +26,19 @@ const COPY: [u8; 100] = [
     0, 0, 0, 0, 0, 0, 1,
 ];
 
-/// The start of a copy that counts 2^32 - 1 objects, and ends there.
+/// The start of a copy that claims 2^32 - 1 objects, and ends there.
 const MANY_OBJECTS: [u8; 44] = [
     2, 7, 0, 0, 0, 0, 0, 1, 0, 0, 0, 2, 0, 0, 0, 0, 0, 0, 0, 5, 0, 0, 0, 0, 0, 0, 0, 0, 0, 0, 0, 1,
     0, 0, 0, 0, 0, 0, 0, 2, 255, 255, 255, 255,
 ];
 
-/// The start of a copy of no object that counts 2^32 - 1 clients, and ends there.
+/// The start of a copy of no object that claims 2^32 - 1 clients, and ends there.
 const MANY_REPLIES: [u8; 48] = [
     2, 7, 0, 0, 0, 0, 0, 1, 0, 0, 0, 2, 0, 0, 0, 0, 0, 0, 0, 5, 0, 0, 0, 0, 0, 0, 0, 0, 0, 0, 0, 1,
     0, 0, 0, 0, 0, 0, 0, 2, 0, 0, 0, 0, 255, 255, 255, 255,
 ];
 
-/// Whether what the bytes spell is written as these bytes.
+/// Returns true if the message that the bytes encode is encoded again as these bytes.
 pub(crate) fn is_written_again(alloc: Global, bytes: &[u8]) -> Result<bool, Refusal> {
     let message = decode(alloc, bytes)?;
     if !spelled(&message) {
@@ -47,19 +47,19 @@ pub(crate) fn is_written_again(alloc: Global, bytes: &[u8]) -> Result<bool, Refu
     Ok(encode(alloc, &message)?.as_slice() == bytes)
 }
 
-/// What is answered to bytes that are no message.
+/// Returns the refusal of bytes that are no message.
 fn refusal_of(alloc: Global, bytes: &[u8]) -> Option<Refusal> {
     decode(alloc, bytes).err()
 }
 
-/// Counts beyond the bytes. They are refused with no memory: a decoder that asked for room for what it
-/// counts would answer `Memory` where the first allocation fails.
+/// Prints the refusals of counts that exceed the bytes. They take no memory: a decoder that
+/// reserved room for the claimed count would return `Memory` when the first allocation fails.
 pub(crate) fn print_counts<R: AllocGlobal + Print>(rt: &R) -> io::Result<()> {
     say(rt, "many objects", refusal_of(rt.alloc(), &MANY_OBJECTS))?;
     say(rt, "many replies", refusal_of(rt.alloc(), &MANY_REPLIES))
 }
 
-/// Whether each message that is cut short is refused as no message.
+/// Returns true if each message that is cut short is refused as `BadFrame`.
 fn are_cuts_refused(alloc: Global) -> bool {
     for len in 0..ENTRY.len() {
         if refusal_of(alloc, &ENTRY[..len]) != Some(Refusal::BadFrame) {
@@ -69,14 +69,14 @@ fn are_cuts_refused(alloc: Global) -> bool {
     true
 }
 
-/// What is answered to the bytes and one more.
+/// Returns the refusal of the bytes followed by one more.
 fn refusal_of_longer(alloc: Global, bytes: &[u8]) -> Result<Option<Refusal>, AllocError> {
     let mut longer = bytes.to_vec(alloc)?;
     longer.push(0)?;
     Ok(refusal_of(alloc, longer.as_slice()))
 }
 
-/// What is answered to the bytes with one of them changed.
+/// Returns the refusal of the bytes with one of them changed.
 fn refusal_of_changed(
     alloc: Global,
     bytes: &[u8],
@@ -106,17 +106,18 @@ where
     Ok(())
 }
 
-/// The version 1, the kind 11, the sender 0, the receiver 0, the stamp 0, the epoch 0.
+/// Sets the version to 1, the kind to 11, the sender, receiver, stamp or epoch to 0.
 static HEADER_CHANGES: [(usize, u8); 6] = [(0, 1), (1, 11), (7, 0), (11, 0), (19, 0), (31, 0)];
 
-/// The position 0, the origin 0, the ticket 0, the number 0, a stale reply, the version 0.
+/// Sets the position, origin, ticket or number to 0, the reply to a stale one, the version to 0.
 static ENTRY_CHANGES: [(usize, u8); 6] = [(39, 0), (43, 0), (51, 0), (67, 0), (68, 9), (87, 0)];
 
-/// The second key is the first one, and then a lower one; the client has no reply, and then one more than
-/// there are; the number 0, a stale reply.
+/// Makes the second key equal to the first, then lower. Gives the client no reply, then one more
+/// than there are. Sets the number to 0, the reply to a stale one.
 static COPY_CHANGES: [(usize, u8); 6] = [(58, 97), (58, 96), (82, 0), (82, 2), (90, 0), (91, 9)];
 
-/// Messages of links: what is read, what is written again, and what is no message.
+/// Prints the results for link messages: those that decode, those encoded again, and those that are
+/// no message.
 pub(crate) fn run<R: AllocGlobal + Print>(rt: &R) -> io::Result<()> {
     say(rt, "acknowledgement", decode(rt.alloc(), &ACK))?;
     say(rt, "entry", decode(rt.alloc(), &ENTRY))?;

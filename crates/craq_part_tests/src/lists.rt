@@ -1,4 +1,5 @@
-//! Lists whose newest version is taken back, and of whose versions one is settled as another value; run by `main`.
+//! Tests version lists whose newest version is removed, and one of whose versions is settled as
+//! another value; run by `main`.
 ghost use Rattle.std.specs.Prelude.{◌≡◌, IsSome, IsTrue};
 ghost use Rattle.craq_names.specs.Maps.{at_number};
 ghost use Rattle.craq_versions.specs.Versions.{newest_of, CanPush, CanSettleAs, IsNext};
@@ -9,45 +10,45 @@ use craq_versions::VersionList;
 use std::alloc::Global;
 use std::io;
 
-/// What is asked of the versions of an object.
+/// A call on the versions of an object.
 #[derive(Clone, Copy)]
 enum Ask {
-    /// The oldest version, the clean one, and the values of all.
+    /// Returns the oldest version, the clean one, and the values of all.
     All,
     Push(u64, u8),
     Pop,
-    /// Makes this version the clean one, of this value.
+    /// Makes this version, with this value, the clean one.
     SettleAs(u64, u8),
 }
 
-/// Whether the version can be added.
+/// Returns true if the version can be added.
 fn can_push(list: &VersionList<Value>, version: u64) -> bool
     ensures { IsTrue result → CanPush list.now.versions version }
 {
-    match list.newest() {
+    match list.last() {
         None => version >= 1,
         Some((newest, _)) => version >= 1 && newest.get() == version - 1,
     }
 }
 
-/// Whether the version is held.
+/// Returns true if the version is held.
 fn holds(list: &VersionList<Value>, version: u64) -> bool
     ensures { IsTrue result → IsSome (at_number list.now.versions version) }
 {
     list.get(Version::new(version)).is_some()
 }
 
-/// Whether the version comes after the newest one.
+/// Returns true if the version comes right after the newest one.
 fn is_next(list: &VersionList<Value>, version: u64) -> bool
     ensures { IsTrue result → IsNext version (newest_of list.now.versions) }
 {
-    match list.newest() {
+    match list.last() {
         None => false,
         Some((newest, _)) => version >= 1 && newest.get() == version - 1,
     }
 }
 
-/// Whether the version can become the first, whatever is held of it.
+/// Returns true if the version can become the first, whether or not it is held.
 fn can_settle_as(list: &VersionList<Value>, version: u64) -> bool
     ensures { IsTrue result → CanSettleAs list.now.versions version }
 {
@@ -123,7 +124,7 @@ fn ask_all<R: AllocGlobal + Print>(rt: &R, asks: &[Ask]) -> io::Result<()> {
 
 static ABSENT: [Ask; 4] = [Ask::All, Ask::Pop, Ask::All, Ask::SettleAs(1, b's')];
 
-// The newest goes; once none is left any version can come.
+// Removes the newest version; once none is left any version can be added.
 static TAKEN_BACK: [Ask; 10] = [
     Ask::Push(1, b'a'),
     Ask::Push(2, b'b'),
@@ -137,7 +138,7 @@ static TAKEN_BACK: [Ask; 10] = [
     Ask::All,
 ];
 
-// Those before the settled one go, and its value is another; it can be taken back like any other.
+// Settles a version as another value: those before it go, and it can be removed like any other.
 static SETTLED: [Ask; 14] = [
     Ask::Push(4, b'a'),
     Ask::Push(5, b'b'),
@@ -155,7 +156,7 @@ static SETTLED: [Ask; 14] = [
     Ask::Pop,
 ];
 
-// Five versions wait, and are settled one by one.
+// Settles five pending versions one by one.
 static WAITING: [Ask; 14] = [
     Ask::Push(1, b'a'),
     Ask::Push(2, b'b'),
@@ -173,7 +174,7 @@ static WAITING: [Ask; 14] = [
     Ask::All,
 ];
 
-/// The versions of one object.
+/// Prints the results of calls on the versions of one object.
 pub(crate) fn run<R: AllocGlobal + Print>(rt: &R) -> io::Result<()> {
     ask_all(rt, &ABSENT)?;
     ask_all(rt, &TAKEN_BACK)?;

@@ -1,7 +1,11 @@
-//! Tests of parts over memory, with ample memory: names, commands, memberships, versions, entries, kept replies and held pasts;
-//! messages, payloads, frames and plans against bytes and texts from outside; and serving and asking. Prints what each call
-//! answers, what bytes are read as, whether they are written again as they were, and what a connection is sent.
-//! Run by `./test` and `tools/quick/run`, which compare what it prints with the file `stdout`.
+//! Tests parts over memory, with enough memory. Values: names, commands, memberships, versions,
+//! entries, kept replies and compact states. Bytes: messages, payloads, frames and chain
+//! configurations, against bytes and texts from outside this project. Connections: serving and
+//! exchanges.
+//!
+//! Prints the result of each call, the decoded form of bytes, and the bytes that a connection is
+//! sent. Also prints whether decoded bytes are encoded again as they were. `./test` and
+//! `tools/quick/run` compare the output with the file `stdout`.
 #![tactic(auto)]
 
 mod commands;
@@ -27,12 +31,12 @@ mod worked;
 use std::fmt::Debug;
 use std::io;
 
-/// Prints what was answered, after what was asked.
+/// Prints a call and its result.
 fn say<R: Print, T: Debug + Drop>(rt: &R, asked: &str, answer: T) -> io::Result<()> {
     println!(rt; "{asked}: {answer:?}")
 }
 
-/// What calls answer.
+/// Prints the results of calls on values.
 fn run_values<R: AllocGlobal + Print>(rt: &R) -> io::Result<()> {
     names::run(rt)?;
     commands::run(rt)?;
@@ -44,7 +48,7 @@ fn run_values<R: AllocGlobal + Print>(rt: &R) -> io::Result<()> {
     held::run(rt)
 }
 
-/// What bytes are read as.
+/// Prints the decoded forms of bytes.
 fn run_bytes<R: AllocGlobal + Print>(rt: &R) -> io::Result<()> {
     links::print_counts(rt)?;
     links::run(rt)?;
@@ -54,7 +58,8 @@ fn run_bytes<R: AllocGlobal + Print>(rt: &R) -> io::Result<()> {
     plans::run(rt)
 }
 
-/// Whole connections first, then each cut, each changed byte and each failing call.
+/// Prints the results of whole connections, then of each cut, each changed byte and each failing
+/// call.
 fn run_connections<R: AllocGlobal + Print>(rt: &R) -> io::Result<()> {
     rows::run(rt)?;
     cuts::run(rt)?;

@@ -1,4 +1,4 @@
-//! A switch, memberships, and masters whose members come and go; run by `main`.
+//! Tests a switch, memberships, and masters whose members come and go; run by `main`.
 use crate::say;
 use craq_epochs::{Master, Switch, is_membership};
 use craq_names::{ChainId, NodeId, NodeName, Refusal};
@@ -11,7 +11,7 @@ fn name(chain: u16, node: u32) -> NodeName {
     }
 }
 
-/// A switch that is stopped twice.
+/// Prints the results of stopping a switch twice.
 fn print_switch<R: Print>(rt: &R) -> io::Result<()> {
     let mut switch = Switch::on(name(7, 3));
     say(rt, "switch of", switch.name())?;
@@ -22,11 +22,11 @@ fn print_switch<R: Print>(rt: &R) -> io::Result<()> {
     say(rt, "receipt", switch.receipt())
 }
 
-/// What is asked of a master.
+/// A call on a master.
 #[derive(Clone, Copy, Debug)]
 enum Ask {
     Join(u32),
-    /// The node of a chain that has stopped.
+    /// Removes the stopped node of a chain.
     Remove(u16, u32),
 }
 
@@ -48,7 +48,7 @@ fn ask_all<R: Print>(rt: &R, mut master: Master, asks: &[Ask]) -> io::Result<()>
     Ok(())
 }
 
-/// A chain that is opened with these members, and then asked these.
+/// Opens a chain with these members, makes these calls, and prints the results.
 fn print_chain<R>(rt: &R, chain: u16, members: &[NodeId], asks: &[Ask]) -> io::Result<()>
 where
     R: AllocGlobal + Print,
@@ -59,7 +59,7 @@ where
     }
 }
 
-/// Whether these are a membership.
+/// Prints whether lists of ids are memberships.
 fn print_memberships<R: Print>(rt: &R) -> io::Result<()> {
     let eight = [1, 2, 3, 4, 5, 6, 7, 4_294_967_295].map(NodeId::new);
     let nine = [1, 2, 3, 4, 5, 6, 7, 8, 9].map(NodeId::new);
@@ -98,7 +98,8 @@ static JOINS: [Ask; 13] = [
     Ask::Join(10),
 ];
 
-/// A switch, lists that are memberships or none, and chains whose memberships follow one another.
+/// Prints the results for a switch, for lists that are memberships or not, and for chains whose
+/// memberships change.
 pub(crate) fn run<R: AllocGlobal + Print>(rt: &R) -> io::Result<()> {
     let one = [NodeId::new(1)];
     let two = [NodeId::new(1), NodeId::new(2)];

@@ -1,24 +1,24 @@
-//! Keys, values and numbers at their bounds, and texts of refusals; run by `main`.
+//! Tests keys, values and numbers at their bounds, and the texts of refusals; run by `main`.
 use crate::say;
 use craq_names::{Copied, Key, NodeId, Refusal, RequestNo, Value, Version, copies_of};
 use std::alloc::Global;
 use std::io;
 
-/// Whether a key of these bytes has them, and its copy too.
+/// Returns true if a key of these bytes and its copy hold them.
 fn key_again(alloc: Global, bytes: &[u8]) -> Result<bool, Refusal> {
     let key = Key::new(alloc, bytes)?;
     let copy = key.copied(alloc)?;
     Ok(key.as_slice() == bytes && copy.as_slice() == bytes)
 }
 
-/// Whether a value of these bytes has them, and its copy too.
+/// Returns true if a value of these bytes and its copy hold them.
 fn value_again(alloc: Global, bytes: &[u8]) -> Result<bool, Refusal> {
     let value = Value::new(alloc, bytes)?;
     let copy = value.copied(alloc)?;
     Ok(value.as_slice() == bytes && copy.as_slice() == bytes)
 }
 
-/// The request number after this one.
+/// Returns the request number after this one.
 fn next_number(number: u64) -> Result<u64, Refusal> {
     Ok(RequestNo::new(number)?.next()?.get())
 }
@@ -38,7 +38,8 @@ fn print_refusals<R: Print>(rt: &R) -> io::Result<()> {
     Ok(())
 }
 
-/// Keys, values and request numbers at their bounds, then texts of refusals and the copy of a list.
+/// Prints keys, values and request numbers at their bounds, then texts of refusals and the copy of
+/// a list.
 pub(crate) fn run<R: AllocGlobal + Print>(rt: &R) -> io::Result<()> {
     for count in [0, 1, 128, 129] {
         let letters = vec![in rt.alloc(); b'a'; count]?;

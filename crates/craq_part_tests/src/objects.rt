@@ -1,4 +1,4 @@
-//! The versions of one object in a list; run by `main`.
+//! Tests the versions of one object, and a table of objects; run by `main`.
 ghost use Rattle.std.specs.Prelude.{IsTrue};
 ghost use Rattle.craq_versions.specs.Versions.{CanPush, CanSettle};
 ghost use Rattle.craq_versions.specs.Tables.{held_at};
@@ -9,24 +9,24 @@ use craq_versions::{ObjectTable, VersionList};
 use std::alloc::Global;
 use std::io;
 
-/// Whether the version can be added.
+/// Returns true if the version can be added.
 fn can_push(list: &VersionList<Value>, version: u64) -> bool
     ensures { IsTrue result → CanPush list.now.versions version }
 {
-    match list.newest() {
+    match list.last() {
         None => version >= 1,
         Some((newest, _)) => version >= 1 && newest.get() == version - 1,
     }
 }
 
-/// Whether the version is held.
+/// Returns true if the version is held and is not 0.
 fn can_settle(list: &VersionList<Value>, version: u64) -> bool
     ensures { IsTrue result → CanSettle list.now.versions list.now.clean version }
 {
     version >= 1 && list.get(Version::new(version)).is_some()
 }
 
-/// What is asked of the versions of an object.
+/// A call on the versions of an object.
 #[derive(Clone, Copy)]
 enum Ask {
     Ends,
@@ -57,7 +57,7 @@ fn settle(list: &mut VersionList<Value>, version: u64) -> Result<(), Refusal> {
     Ok(())
 }
 
-/// The newest version with its value, and the clean one.
+/// Prints the newest version with its value, and the clean one.
 fn print_ends<R: Print>(rt: &R, list: &VersionList<Value>) -> io::Result<()> {
     let newest = list.newest();
     let clean = list.clean();
@@ -121,7 +121,7 @@ static RESERVED: [Ask; 4] = [
     Ask::Ends,
 ];
 
-/// Whether the version of the key can be added.
+/// Returns true if the version of the key can be added.
 fn can_push_at(table: &ObjectTable<Value>, key: &Key, version: u64) -> bool
     ensures { IsTrue result → CanPush (held_at table.now key.now).versions version }
 {
@@ -131,7 +131,7 @@ fn can_push_at(table: &ObjectTable<Value>, key: &Key, version: u64) -> bool
     }
 }
 
-/// Whether the version of the key is held.
+/// Returns true if the version of the key is held.
 fn can_settle_at(table: &ObjectTable<Value>, key: &Key, version: u64) -> bool
     ensures { IsTrue result → CanSettle (held_at table.now key.now).versions (held_at table.now key.now).clean version }
 {
@@ -141,12 +141,12 @@ fn can_settle_at(table: &ObjectTable<Value>, key: &Key, version: u64) -> bool
     }
 }
 
-/// What is asked of a table, of a key of one byte.
+/// A call on a table, for a one-byte key.
 #[derive(Clone, Copy)]
 enum TableAsk {
     List,
     ReserveKey,
-    /// Room for the key and for `b`.
+    /// Reserves room for the key and for `b`.
     Reserve,
     Push(u64, u8),
     Settle(u64),
@@ -208,7 +208,7 @@ fn print_keys<R: Print>(rt: &R, table: &ObjectTable<Value>) -> io::Result<()> {
     Ok(())
 }
 
-/// The versions of each key of a table.
+/// Prints the versions of each key of a table.
 fn print_objects<R: Print>(rt: &R, table: &ObjectTable<Value>) -> io::Result<()> {
     for (_, list) in table.iter() {
         print_ends(rt, list)?;
@@ -260,7 +260,8 @@ static TABLE_PUSHED: [(u8, TableAsk); 2] = [
     (b'a', TableAsk::Push(1, b'x')),
 ];
 
-/// The versions of one object, and those of a table of objects by rising key.
+/// Prints the results of calls on the versions of one object, and on a table of objects in
+/// ascending key order.
 pub(crate) fn run<R: AllocGlobal + Print>(rt: &R) -> io::Result<()> {
     ask_all(rt, &ABSENT)?;
     ask_all(rt, &SETTLED)?;

@@ -1,11 +1,12 @@
-//! What clients send and get, as worked bytes and with each byte changed; run by `main`.
+//! Tests the payloads of requests and replies, as worked bytes and with each byte changed; run by
+//! `main`.
 use crate::say;
 use craq_frames::{ClientMessage, ClientReply};
 use craq_names::Refusal;
 use std::alloc::Global;
 use std::io;
 
-/// A put of `a` on `k` of chain 0 at node 1, under pass 0, of client 1 and number 1.
+/// A put of `a` on `k` of chain 0 at node 1, with pass 0, of client 1 and number 1.
 pub(crate) const PUT: [u8; 38] = [
     1, 1, 0, 0, 0, 1, 0, 0, 0, 0, 0, 0, 0, 0, 0, 0, 0, 0, 0, 0, 0, 1, 0, 0, 0, 0, 0, 0, 0, 1, 1, 0,
     0, 1, 107, 0, 1, 97,
@@ -14,7 +15,7 @@ pub(crate) const PUT: [u8; 38] = [
 /// Its reply, version 1, with pass 9.
 pub(crate) const WRITTEN: [u8; 19] = [1, 1, 0, 0, 0, 0, 0, 0, 0, 9, 1, 0, 0, 0, 0, 0, 0, 0, 1];
 
-/// A strong read of `k` of chain 0 at node 3, under pass 9.
+/// A strong read of `k` of chain 0 at node 3, with pass 9.
 pub(crate) const READ: [u8; 19] = [1, 2, 0, 0, 0, 3, 0, 0, 0, 0, 0, 0, 0, 9, 1, 0, 0, 1, 107];
 
 /// Its reply, version 1 and `a`, with pass 9.
@@ -25,13 +26,13 @@ pub(crate) const VALUE: [u8; 21] = [
 /// The refusal of an update at a node that is not the head, which is node 1.
 pub(crate) const NOT_HEAD: [u8; 11] = [1, 3, 9, 0, 0, 0, 0, 0, 0, 0, 1];
 
-/// Whether the message that the payload spells is written as this payload.
+/// Returns true if the request that the payload encodes is encoded again as this payload.
 fn is_written_again(alloc: Global, bytes: &[u8]) -> Result<bool, Refusal> {
     let message = ClientMessage::decode(alloc, bytes)?;
     Ok(message.encode(alloc)?.as_slice() == bytes)
 }
 
-/// Whether the reply that the payload spells is written as this payload.
+/// Returns true if the reply that the payload encodes is encoded again as this payload.
 fn is_reply_written_again(alloc: Global, bytes: &[u8]) -> Result<bool, Refusal> {
     let reply = ClientReply::decode(alloc, bytes)?;
     if !reply.spelled() {
@@ -40,7 +41,8 @@ fn is_reply_written_again(alloc: Global, bytes: &[u8]) -> Result<bool, Refusal> 
     Ok(reply.encode(alloc)?.as_slice() == bytes)
 }
 
-/// Whether the bytes are no payload, or one that is written as it was read.
+/// Returns true if the bytes are refused as `BadFrame`, or decode and are encoded again as they
+/// were.
 fn is_sound(alloc: Global, bytes: &[u8]) -> bool {
     match is_written_again(alloc, bytes) {
         Ok(is_same) => is_same,
@@ -48,7 +50,8 @@ fn is_sound(alloc: Global, bytes: &[u8]) -> bool {
     }
 }
 
-/// Whether each put with one byte changed is no payload, or one that is written as it was read.
+/// Returns true if each put with one byte changed is refused as `BadFrame`, or decodes and is
+/// encoded again as it was.
 fn are_changes_sound(alloc: Global) -> bool {
     for place in 0..PUT.len() {
         for byte in 0..=255u8 {
@@ -62,7 +65,8 @@ fn are_changes_sound(alloc: Global) -> bool {
     true
 }
 
-/// Payloads of clients and servers: what is read, and what is written again.
+/// Prints the payloads of clients and servers: their decoded forms, and whether they are encoded
+/// again as they were.
 pub(crate) fn run<R: AllocGlobal + Print>(rt: &R) -> io::Result<()> {
     for payload in [PUT.as_slice(), READ.as_slice()] {
         say(rt, "message", ClientMessage::decode(rt.alloc(), payload))?;

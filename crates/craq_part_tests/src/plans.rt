@@ -1,4 +1,5 @@
-//! Texts that are plans and texts that are none, and the chain of an object; run by `main`.
+//! Tests texts that are chain configurations and texts that are not, and the chain of an object;
+//! run by `main`.
 use crate::say;
 use craq_commands::Mini;
 use craq_names::{ChainId, Items, Key, ObjectId, Refusal};
@@ -7,11 +8,11 @@ use std::alloc::{AllocError, Global};
 use std::fmt::Write;
 use std::io;
 
-/// A plan of two chains.
+/// A configuration of two chains.
 const TWO_CHAINS: &str =
     "[[chain]]\nname = \"a\"\nnodes = [1, 2, 3]\n[[chain]]\nnodes = [4]\nname = \"b-2\"\n";
 
-/// The object of this chain and key.
+/// Returns the object of this chain and key.
 fn object_of(alloc: Global, chain: u16, key: &[u8]) -> Result<ObjectId, Refusal> {
     Ok(ObjectId {
         chain: ChainId::new(chain),
@@ -25,7 +26,7 @@ fn print_place<R: Print>(rt: &R, plan: &Plan, object: &ObjectId) -> io::Result<(
     println!(rt; "place: {place:?}")
 }
 
-/// The plan of two chains, and an object of this chain.
+/// Returns the configuration of two chains, and an object of this chain.
 fn plan_and_object(alloc: Global, chain: u16) -> Result<(Plan, ObjectId), Refusal> {
     let plan = Plan::read(alloc, TWO_CHAINS)?;
     Ok((plan, object_of(alloc, chain, b"k")?))
@@ -38,7 +39,7 @@ fn print_place_in<R: AllocGlobal + Print>(rt: &R, chain: u16) -> io::Result<()> 
     }
 }
 
-/// A transaction that reads an object of each of these chains.
+/// Returns a transaction that reads an object of each of these chains.
 fn mini_of(alloc: Global, first: u16, second: u16) -> Result<Mini, Refusal> {
     let mut reads = Items::new(alloc);
     reads.push(object_of(alloc, first, b"a")?)?;
@@ -46,13 +47,14 @@ fn mini_of(alloc: Global, first: u16, second: u16) -> Result<Mini, Refusal> {
     Mini::new(Items::new(alloc), reads, Items::new(alloc))
 }
 
-/// The chain that a plan of two chains finds for reads of an object of each of these chains.
+/// Returns the chain that a configuration of two chains finds for reads of an object of each of
+/// these chains.
 fn chain_of_reads(alloc: Global, first: u16, second: u16) -> Result<ChainId, Refusal> {
     let mini = mini_of(alloc, first, second)?;
     Plan::read(alloc, TWO_CHAINS)?.one_chain(&mini)
 }
 
-/// What is answered to a text that stands for no plan.
+/// Returns the refusal of a text that is no configuration.
 fn refusal_of(alloc: Global, text: &str) -> Option<Refusal> {
     Plan::read(alloc, text).err()
 }
@@ -78,7 +80,7 @@ static TEXTS: [&str; 18] = [
     "[[chain]]\nname = \"a\"\n",
 ];
 
-/// A plan of so many chains.
+/// Returns the text of a configuration of `count` chains.
 fn chains(alloc: Global, count: u32) -> Result<String, AllocError> {
     let mut text = String::new(alloc);
     for chain in 0..count {
@@ -87,7 +89,8 @@ fn chains(alloc: Global, count: u32) -> Result<String, AllocError> {
     Ok(text)
 }
 
-/// Plans: where objects stand, the chain of a transaction, and texts that are no plan.
+/// Prints the results for configurations: the chain of an object, the chain of a transaction, and
+/// bad texts.
 pub(crate) fn run<R: AllocGlobal + Print>(rt: &R) -> io::Result<()> {
     print_place_in(rt, 1)?;
     print_place_in(rt, 2)?;

@@ -1,4 +1,4 @@
-//! Tables of kept replies; run by `main`.
+//! Tests tables of kept replies; run by `main`.
 use crate::say;
 use craq_commands::{Reply, Said};
 use craq_names::{ClientId, Copied, Refusal, RequestNo, Version};
@@ -6,14 +6,14 @@ use craq_replies::ReplyTable;
 use std::alloc::Global;
 use std::io;
 
-/// What is asked of a table of replies.
+/// A call on a table of replies.
 #[derive(Drop)]
 enum Ask {
-    /// A client's number.
+    /// Looks up a client's number.
     Look(u64, u64),
-    /// A client's number and its reply.
+    /// Keeps the reply to a client's number.
     Keep(u64, u64, Reply),
-    /// A client.
+    /// Reserves room for a client.
     Reserve(u64),
 }
 
@@ -71,8 +71,8 @@ fn ask_all<R: AllocGlobal + Print>(rt: &R, asks: &[Ask]) -> io::Result<()> {
     Ok(())
 }
 
-/// Tables of replies: those to the newest numbers of each client are kept, by rising client and rising
-/// number.
+/// Prints the results of calls on tables, which keep the replies to each client's newest numbers,
+/// by ascending client and ascending number.
 pub(crate) fn run<R: AllocGlobal + Print>(rt: &R) -> io::Result<()> {
     ask_all(
         rt,
@@ -109,7 +109,8 @@ pub(crate) fn run<R: AllocGlobal + Print>(rt: &R) -> io::Result<()> {
     fill_window(rt)
 }
 
-/// Nine replies to one client: eight are kept, and a number below them all is stale.
+/// Prints the results of keeping nine replies for one client: eight are kept, and a number below
+/// them all is stale.
 fn fill_window<R: AllocGlobal + Print>(rt: &R) -> io::Result<()> {
     ask_all(
         rt,

@@ -1,4 +1,4 @@
-//! Whole connections by their table; run by `main`.
+//! Tests whole connections by their table; run by `main`.
 use crate::door::Answers;
 use crate::fakes::{Pieces, Room};
 use crate::worked::{
@@ -9,20 +9,20 @@ use craq_names::Refusal;
 use std::alloc::Global;
 use std::io;
 
-/// A connection that is served.
+/// A connection to serve.
 #[derive(Clone, Copy)]
 pub(crate) struct Row<'a> {
-    /// What the client sends.
+    /// The bytes that the client sends.
     pub(crate) sent: &'a [u8],
-    /// So many bytes of it come at once.
+    /// The largest number of them that arrive at once.
     pub(crate) size: usize,
-    /// The read of this number fails; 0 where none does.
+    /// The number of the read that fails; 0 if none does.
     pub(crate) fails_at: u64,
-    /// The client takes so many bytes.
+    /// The number of bytes that the client accepts.
     pub(crate) room: usize,
 }
 
-/// What serving a connection did.
+/// The outcome of serving a connection.
 #[derive(Debug, Drop)]
 pub(crate) struct Served {
     pub(crate) answer: Result<u64, Refusal>,
@@ -58,7 +58,7 @@ pub(crate) fn serve_row(alloc: Global, row: &Row<'_>) -> Served {
     }
 }
 
-/// Prints what serving a client that sends this did, where it comes at once and all replies are taken.
+/// Prints the outcome for a client that sends these bytes at once and accepts all replies.
 fn print_row<R>(rt: &R, name: &str, sent: &[u8]) -> io::Result<()>
 where
     R: AllocGlobal + Print,
@@ -73,7 +73,7 @@ where
     println!(rt; "{name}: {served:?}")
 }
 
-/// Prints the same of two frames, one after the other.
+/// Prints the outcome for a client that sends two frames, one after the other.
 fn print_both<R>(rt: &R, name: &str, first: &[u8], second: &[u8]) -> io::Result<()>
 where
     R: AllocGlobal + Print,
@@ -84,7 +84,7 @@ where
     print_row(rt, name, sent.as_slice())
 }
 
-/// Rows of whole connections.
+/// Prints the outcomes of whole connections.
 pub(crate) fn run<R: AllocGlobal + Print>(rt: &R) -> io::Result<()> {
     print_row(rt, "nothing", &[])?;
     print_row(rt, "a put", &PUT)?;

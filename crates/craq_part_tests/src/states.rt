@@ -1,4 +1,4 @@
-//! Messages that carry states, parts and batches; run by `main`.
+//! Tests the messages that hold states, parts and batches; run by `main`.
 use crate::links::{ENTRY, is_written_again, print_changed};
 use crate::say;
 use craq_wire::decode;
@@ -12,12 +12,12 @@ const PART: [u8; 69] = [
     1, 97, 0, 0, 0, 0,
 ];
 
-/// What each message here begins with, from node 1 to node 2, with stamp 5, in epoch 1; the kind is 0.
+/// The header of each message here, from node 1 to node 2, with stamp 5, in epoch 1; the kind is 0.
 const HEADER: [u8; 32] = [
     2, 0, 0, 0, 0, 0, 0, 1, 0, 0, 0, 2, 0, 0, 0, 0, 0, 0, 0, 5, 0, 0, 0, 0, 0, 0, 0, 0, 0, 0, 0, 1,
 ];
 
-/// The start of a message of a kind.
+/// Returns the start of a message of a kind.
 fn start_of(alloc: Global, kind: u8) -> Result<Vec<u8>, AllocError> {
     let mut bytes = HEADER.to_vec(alloc)?;
     if let Some(place) = bytes.get_mut(1) {
@@ -26,12 +26,12 @@ fn start_of(alloc: Global, kind: u8) -> Result<Vec<u8>, AllocError> {
     Ok(bytes)
 }
 
-/// How many there are, in a byte.
+/// Returns the number of items as a byte, at most 255.
 fn count_of(items: &[u8]) -> u8 {
     items.len().min(255) as u8
 }
 
-/// A copy of no object, at position 2, with a reply to each of these numbers of client 7.
+/// Encodes a copy of no object, at position 2, with a reply to each of these numbers of client 7.
 fn copy_of(alloc: Global, numbers: &[u8]) -> Result<Vec<u8>, AllocError> {
     let mut bytes = start_of(alloc, 7)?;
     bytes.extend_from_slice(&[0, 0, 0, 0, 0, 0, 0, 2, 0, 0, 0, 0, 0, 0, 0, 1])?;
@@ -42,7 +42,7 @@ fn copy_of(alloc: Global, numbers: &[u8]) -> Result<Vec<u8>, AllocError> {
     Ok(bytes)
 }
 
-/// Entries in a row at these positions.
+/// Encodes a batch of entries at these positions.
 fn batch_of(alloc: Global, positions: &[u8]) -> Result<Vec<u8>, AllocError> {
     let mut bytes = start_of(alloc, 10)?;
     bytes.push(count_of(positions))?;
@@ -53,11 +53,11 @@ fn batch_of(alloc: Global, positions: &[u8]) -> Result<Vec<u8>, AllocError> {
     Ok(bytes)
 }
 
-/// A part of a state without kept replies: its number, how many parts there are, how many objects it has, and
-/// how far each key is above the one before it.
+/// A part of a state without kept replies: its number, the number of parts, the number of objects,
+/// and the step from each key to the next.
 type PartCase = (u8, u8, u8, u8);
 
-/// The part, of the state after position 65; the keys have one byte, and the values none.
+/// Encodes the part, of the state after position 65; keys have one byte, and values none.
 fn part_of(alloc: Global, case: PartCase) -> Result<Vec<u8>, AllocError> {
     let (number, count, objects, step) = case;
     let mut bytes = start_of(alloc, 9)?;
@@ -72,7 +72,7 @@ fn part_of(alloc: Global, case: PartCase) -> Result<Vec<u8>, AllocError> {
     Ok(bytes)
 }
 
-/// Windows: one and eight replies; none, nine, an equal number, a falling one.
+/// Windows of one and of eight replies; of none, of nine, with an equal number, with a falling one.
 static WINDOWS: [&[u8]; 6] = [
     &[9],
     &[1, 2, 4, 8, 16, 32, 64, 128],
@@ -82,7 +82,8 @@ static WINDOWS: [&[u8]; 6] = [
     &[3, 2],
 ];
 
-/// Batches: 2 and 16 entries; none, one, 17, a position that is skipped, falling and equal ones, 0.
+/// Batches of 2 and 16 entries; of none, one, 17; with a skipped position, falling ones, equal
+/// ones, 0.
 static BATCHES: [&[u8]; 9] = [
     &[4, 5],
     &[1, 2, 3, 4, 5, 6, 7, 8, 9, 10, 11, 12, 13, 14, 15, 16],
@@ -95,9 +96,9 @@ static BATCHES: [&[u8]; 9] = [
     &[0, 1],
 ];
 
-/// Parts: one that is not the last, and the last with 1 and with 64 objects; of one part alone, numbered 0,
-/// above their count, of 63 and of 65 objects that are not the last, of none and of 65 that are, with equal
-/// keys, with falling ones.
+/// Parts: one that is not the last, and the last with 1 and with 64 objects; the only one; numbered
+/// 0; above their count; not the last, with 63 and with 65 objects; the last, with none and with
+/// 65; with equal keys; with falling keys.
 static PARTS: [PartCase; 12] = [
     (1, 2, 64, 1),
     (2, 2, 1, 1),
@@ -141,10 +142,11 @@ fn print_parts<R: AllocGlobal + Print>(rt: &R) -> io::Result<()> {
     Ok(())
 }
 
-/// The position 0, and a stale reply in the second entry.
+/// Sets the position to 0, and the reply of the second entry to a stale one.
 static BATCH_CHANGES: [(usize, u8); 2] = [(40, 0), (128, 9)];
 
-/// Messages that carry states and batches: what is read and written again, and what is no message.
+/// Prints the results for messages that hold states and batches: their decoded forms, whether they
+/// are encoded again as they were, and the refusals.
 pub(crate) fn run<R: AllocGlobal + Print>(rt: &R) -> io::Result<()> {
     say(rt, "part", decode(rt.alloc(), &PART))?;
     print_windows(rt)?;

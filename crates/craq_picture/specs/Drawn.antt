@@ -1,4 +1,5 @@
--- The drawing of a run: where each move happens, and where each message was sent and taken.
+-- Defines the drawing of a run: where each move happens, and where each message was sent and
+-- received.
 use Rattle.std.specs.Prelude.{ℕ, zero, suc, ◌+◌, ◌==◌, Bool, false, if◌then◌else◌, List, [], ◌∷◌, ◌++◌, map, slice_index, length}
 use Rattle.craq_model.specs.declared.step.Out.{Out}
 use Rattle.craq_model.specs.declared.step.Out.TheVariants as outs
@@ -13,14 +14,14 @@ use Rattle.craq_picture.specs.declared.drawing.Arrow.{Arrow}
 use Rattle.craq_picture.specs.declared.drawing.Row.{Row}
 use Rattle.craq_picture.specs.declared.drawing.Sent.{Sent}
 
--- the messages among the outs of a row's move, after so many messages and so many outs
+-- the messages among the outputs of a row's move, after `earlier` messages and `place` outputs
 abbrev pub sends_in : ℕ → ℕ → ℕ → List Out → List Sent
 sends_in earlier row place [] = []
 sends_in earlier row place (outs.Send to m ∷ os) =
     record { number = earlier + 1; row = row; place = place; from = m.sender; to = m.receiver } ∷ sends_in (earlier + 1) row (place + 1) os
 sends_in earlier row place (outs.Answer ticket answer ∷ os) = sends_in earlier row (place + 1) os
 
--- the messages that moves send, of which the first is of this row, after so many messages
+-- the messages that moves send, the first of which is in this row, after `earlier` messages
 abbrev pub sends_from : ℕ → ℕ → List Taken → List Sent
 sends_from earlier row [] = []
 sends_from earlier row (t ∷ ts) =
@@ -35,7 +36,7 @@ delivers number (moves.Stop node) = false
 delivers number (moves.Remove node) = false
 delivers number (moves.Join node) = false
 
--- the arrivals of the message of a number by moves of which the first is of this row
+-- the arrivals of the message of a number, by moves the first of which is in this row
 abbrev pub arrivals_from : ℕ → ℕ → List Taken → List Arrival
 arrivals_from number row [] = []
 arrivals_from number row (t ∷ ts) =
@@ -51,11 +52,12 @@ arrow_of ts sent = record { sent = sent; arrivals = arrivals_from sent.number 1 
 abbrev pub arrows_of : List Taken → List Arrow
 arrows_of ts = map (arrow_of ts) (sends_from 0 1 ts)
 
--- whom messages were sent to
+-- the receiver of each message
 abbrev pub receivers_of : List Sent → List ℕ
 receivers_of = map (λ (sent : Sent). sent.to)
 
--- where moves happen, and how many updates are committed after each by the explanation's lengths, from this place of them on
+-- the node of each move, and the number of updates committed after it by the witness's lengths,
+-- from index `place` of them on
 abbrev pub rows_from : List ℕ → List ℕ → ℕ → List Taken → List Row
 rows_from receivers lens place [] = []
 rows_from receivers lens place (t ∷ ts) =

@@ -1,5 +1,5 @@
-//! The arrows: each message from where it was sent to each place where it was taken, or into the air; called by
-//! `painting`.
+//! Draws the arrows: each message from its sender to each of its arrivals, or into the air; called
+//! by `painting`.
 use crate::layout::{Layout, Point, first_out, sent_at};
 use crate::pen::{Side, draw_cross, draw_line, draw_text};
 use crate::{Arrival, Arrow, Sent};
@@ -8,10 +8,10 @@ use craq_play::{print_message, word_of};
 use craq_runs::Taken;
 use std::alloc::{AllocError, Global};
 
-/// How far a message that was lost goes down.
+/// The drop of a lost message's line, in picture units.
 const FALL: u64 = 6;
 
-/// A place beside another one, so far toward a third.
+/// Moves `x` by `by` toward `other`.
 fn beside(x: u64, other: u64, by: u64) -> u64 {
     if x < other {
         x.saturating_add(by)
@@ -20,17 +20,17 @@ fn beside(x: u64, other: u64, by: u64) -> u64 {
     }
 }
 
-/// The side of a place that is toward another one.
+/// Returns the side of `x` that faces `other`.
 fn side_toward(x: u64, other: u64) -> Side {
     if x < other { Side::Right } else { Side::Left }
 }
 
-/// The side of a place that is away from another one.
+/// Returns the side of `x` that faces away from `other`.
 fn side_away(x: u64, other: u64) -> Side {
     if x < other { Side::Left } else { Side::Right }
 }
 
-/// Draws a message's number and what it says, at its start.
+/// Draws a message's number and text at its start.
 fn draw_message(
     alloc: Global,
     svg: &mut String,
@@ -49,7 +49,8 @@ fn draw_message(
     draw_text(svg, "label", at, side_toward(start.x, end), words.as_str())
 }
 
-/// Draws a message's number where it was taken, and why it was ignored if it was, on the far side of the column.
+/// Draws a message's number where it was received, on the far side of the column. If it was
+/// ignored, adds the reason.
 fn draw_end(
     alloc: Global,
     svg: &mut String,
@@ -79,7 +80,7 @@ fn draw_end(
     }
 }
 
-/// Draws a message from its start to where it was taken.
+/// Draws a message from its start to where it was received.
 fn draw_arrival(
     alloc: Global,
     svg: &mut String,
@@ -105,7 +106,7 @@ fn draw_arrival(
     draw_line(svg, class, start, tip)
 }
 
-/// Draws the start of a message that was never taken.
+/// Draws the start of a message that was never received.
 fn draw_lost(svg: &mut String, start: Point, end: u64) -> Result<(), AllocError> {
     let far = start.x.max(end).saturating_sub(start.x.min(end));
     let tip = Point {
@@ -133,7 +134,7 @@ fn draw_lines(
     Ok(())
 }
 
-/// The move of a number, from 1.
+/// Returns the move of a number, counted from 1.
 fn move_at(moves: &[Taken], number: u64) -> Option<&Taken> {
     if number == 0 {
         return None;
@@ -141,7 +142,7 @@ fn move_at(moves: &[Taken], number: u64) -> Option<&Taken> {
     moves.get((number - 1) as usize)
 }
 
-/// Where a message starts.
+/// Returns the point where a message starts.
 fn start_of(layout: &Layout<'_>, sent: &Sent, taken: &Taken) -> Point {
     let first = first_out(&taken.chosen);
     Point {
@@ -150,7 +151,7 @@ fn start_of(layout: &Layout<'_>, sent: &Sent, taken: &Taken) -> Point {
     }
 }
 
-/// Draws what a message says, at its start.
+/// Draws a message's text at its start.
 fn draw_label(
     alloc: Global,
     svg: &mut String,
@@ -168,7 +169,7 @@ fn draw_label(
     }
 }
 
-/// What is drawn of all messages: the lines lie below the labels.
+/// A layer of the messages' drawing: the lines lie below the labels.
 #[derive(Clone, Copy)]
 pub(crate) enum Layer {
     Lines,

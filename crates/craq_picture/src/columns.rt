@@ -1,17 +1,18 @@
-//! The columns: the name of each node, and its line from where it joined to where it stopped; called by `painting`.
+//! Draws the columns: each node's name, and its line from its join to its stop; called by
+//! `painting`.
 use crate::layout::{Layout, Point};
 use crate::pen::{Side, draw_line, draw_text};
 use craq_names::NodeId;
 use craq_runs::{Move, Taken};
 use std::alloc::{AllocError, Global};
 
-/// Where the names of the columns stand.
+/// The height of the columns' names.
 const NAMES: u64 = 34;
 
-/// Where the lines of the nodes that were there from the start begin.
+/// The height where the lines of the opening nodes begin.
 const START: u64 = 42;
 
-/// Where the line of a node begins: at the move by which it joined, if it did.
+/// Returns the height where a node's line begins: at the move by which it joined, if it did.
 fn start_of(layout: &Layout<'_>, moves: &[Taken], node: NodeId) -> u64 {
     for (index, taken) in moves.iter().enumerate() {
         if let Move::Join(id) = &taken.chosen
@@ -23,7 +24,7 @@ fn start_of(layout: &Layout<'_>, moves: &[Taken], node: NodeId) -> u64 {
     START
 }
 
-/// Where the line of a node ends: at the move by which it stopped, if it did.
+/// Returns the height where a node's line ends: at the move by which it stopped, if it did.
 fn end_of(layout: &Layout<'_>, moves: &[Taken], node: NodeId) -> u64 {
     for (index, taken) in moves.iter().enumerate() {
         if let Move::Stop(id) = &taken.chosen
@@ -35,7 +36,7 @@ fn end_of(layout: &Layout<'_>, moves: &[Taken], node: NodeId) -> u64 {
     layout.bottom()
 }
 
-/// The name of a column.
+/// Returns the name of a column.
 fn name_of(alloc: Global, node: NodeId) -> Result<String, AllocError> {
     let mut name = String::new(alloc);
     let id = node.get();

@@ -1,4 +1,5 @@
-//! The drawing of a run as a value, before any text or place on paper; made in `painting`, and read by what is drawn.
+//! Computes the drawing of a run as a value, without text or coordinates; `painting` turns it into
+//! a picture.
 ghost use Rattle.std.specs.Prelude.{◌≡◌, ◌++◌, List, length, map, IfOk, OnOk};
 ghost use Rattle.std.specs.List.{sum_by};
 ghost use Rattle.craq_runs.specs.Chain.{sent_in};
@@ -17,22 +18,22 @@ pub struct Sent {
     pub number: u64,
     /// The number of the move that sent it, from 1.
     pub row: u64,
-    /// Its place among the outs of this move's step, from 0.
+    /// Its index among the outputs of that move's step, from 0.
     pub place: u64,
     pub from: NodeId,
     pub to: NodeId,
 }
 
-/// A message that was taken.
+/// An arrival of a message.
 #[derive(Clone, Copy)]
 pub struct Arrival {
     /// The number of the move that delivered it, from 1.
     pub row: u64,
-    /// Why it was ignored, if it was.
+    /// The reason that it was ignored, if it was.
     pub ignored: Option<Why>,
 }
 
-/// A message from where it was sent to each place where it was taken: nowhere, once or several times.
+/// A message and its arrivals: none, one or several.
 #[derive(Drop)]
 pub struct Arrow {
     pub sent: Sent,
@@ -44,7 +45,7 @@ pub struct Arrow {
 pub struct Row {
     /// The node at which it happened; 0 is the master.
     pub node: NodeId,
-    /// How many updates were committed after it.
+    /// The number of updates committed after it.
     pub committed: u64,
 }
 
@@ -59,7 +60,7 @@ pub struct Drawing {
     pub arrows: Items<Arrow>,
 }
 
-/// Adds what is sent among the outs of the step of a row.
+/// Adds the messages among the outputs of a row's step.
 fn add_sends(sends: &mut Vec<Sent>, row: u64, outs: &[Out]) -> Result<(), AllocError>
     ensures { OnOk result (sends.new.items ≡ sends.old.items ++ sends_in (length sends.old.items) row 0 outs.now) }
 {
@@ -78,7 +79,7 @@ fn add_sends(sends: &mut Vec<Sent>, row: u64, outs: &[Out]) -> Result<(), AllocE
     Ok(())
 }
 
-/// What the moves send, in order.
+/// Returns the messages that the moves send, in order.
 fn sends_of(alloc: Global, moves: &[Taken]) -> Result<Vec<Sent>, AllocError>
     ensures { IfOk result (λ sends. sends.items ≡ sends_from 0 1 moves.now) }
 {
@@ -89,7 +90,7 @@ fn sends_of(alloc: Global, moves: &[Taken]) -> Result<Vec<Sent>, AllocError>
     Ok(sends)
 }
 
-/// Each arrival of the message of this number.
+/// Returns the arrivals of the message of this number.
 fn arrivals_of(alloc: Global, moves: &[Taken], number: u64) -> Result<Items<Arrival>, AllocError>
     ensures { IfOk result (λ arrivals. arrivals ≡ arrivals_from number 1 moves.now) }
 {
@@ -107,7 +108,7 @@ fn arrivals_of(alloc: Global, moves: &[Taken], number: u64) -> Result<Items<Arri
     Ok(arrivals)
 }
 
-/// An arrow for each message that was sent.
+/// Returns an arrow for each message that was sent.
 fn arrows_of(alloc: Global, moves: &[Taken], sends: &[Sent]) -> Result<Items<Arrow>, AllocError>
     ensures { IfOk result (λ arrows. arrows ≡ map (arrow_of moves.now) sends.now) }
 {
@@ -122,14 +123,14 @@ fn arrows_of(alloc: Global, moves: &[Taken], sends: &[Sent]) -> Result<Items<Arr
     Ok(arrows)
 }
 
-/// Whom each message was sent to, in the order of sending.
+/// Returns the receiver of each message, in the order of sending.
 fn receivers_of(alloc: Global, sends: &[Sent]) -> Result<Vec<NodeId>, AllocError>
     ensures { IfOk result (λ receivers. receivers.items ≡ receivers_of sends.now) }
 {
     sends.iter().map(|sent| sent.to).collect(alloc)
 }
 
-/// A row for each move.
+/// Returns a row for each move.
 fn rows_of(
     alloc: Global,
     moves: &[Taken],
@@ -149,7 +150,7 @@ fn rows_of(
     Ok(rows)
 }
 
-/// The master, the opening members, and each node that joined.
+/// Returns the master, the opening members, and each node that joined.
 fn columns_of(alloc: Global, run: &Run) -> Result<Items<NodeId>, AllocError>
     ensures { IfOk result (λ columns. columns ≡ columns_of run.now) }
 {
@@ -182,11 +183,12 @@ fn add_joined(columns: &mut Items<NodeId>, moves: &[Taken]) -> Result<(), AllocE
     Ok(())
 }
 
-/// The drawing of a run: a column for the master and for each node, a row for each move with how many updates were
-/// committed after it by the explanation, and an arrow for each message that was sent, from the row that sent it to the rows
-/// that took it.
+/// Computes the drawing of a run: a column for the master and for each node, a row for each move,
+/// and an arrow for each message. An arrow goes from the row that sent the message to the rows that
+/// received it. Each row has the number of updates committed after it, by the linearization
+/// witness.
 ///
-/// It fails for want of memory alone. It looks at each move once for each message.
+/// Fails only when out of memory. Takes time proportional to moves times messages.
 #[tactic(auto, using(crate::proofs::Counts::each_message, crate::proofs::Counts::each_move))]
 pub fn drawing_of(
     alloc: Global,

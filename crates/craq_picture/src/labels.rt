@@ -1,11 +1,11 @@
-//! The words of a picture: what a move asks for, in short; called by `rows`.
+//! Prints the words of a picture: each move's request, in short; called by `rows`.
 use craq_commands::{Command, ReadMode};
 use craq_model::Ask;
 use craq_names::{Key, NodeId};
 use craq_runs::Move;
 use std::alloc::AllocError;
 
-/// Prints the bytes of a key that are letters, digits or signs; others as dots.
+/// Prints a key, with a dot for each byte that is not a graphic ASCII character.
 pub(crate) fn print_key(text: &mut String, key: &Key) -> Result<(), AllocError> {
     for byte in key.as_slice() {
         let shown = if byte.is_ascii_graphic() { *byte } else { b'.' };
@@ -37,7 +37,7 @@ fn print_command(text: &mut String, command: &Command) -> Result<(), AllocError>
     }
 }
 
-/// Prints how new a read's answer has to be.
+/// Prints the mode of a read.
 fn print_mode(text: &mut String, mode: ReadMode) -> Result<(), AllocError> {
     match mode {
         ReadMode::Strong => text.push_str("strong"),
@@ -46,7 +46,7 @@ fn print_mode(text: &mut String, mode: ReadMode) -> Result<(), AllocError> {
     }
 }
 
-/// Prints an ask: an update by its command, client and number, or a read by its mode and object.
+/// Prints a request: an update by its command, client and number, or a read by its mode and object.
 fn print_ask(text: &mut String, ask: &Ask) -> Result<(), AllocError> {
     match ask {
         Ask::Update(update) => {
@@ -69,7 +69,7 @@ fn print_at(text: &mut String, word: &str, node: NodeId) -> Result<(), AllocErro
     write!(text, "{word} {node}")
 }
 
-/// Prints a move, as the line of a script that asks for it is spelled, but for its node and its value.
+/// Prints a move as its script line, without its node and its value.
 pub(crate) fn print_move(text: &mut String, chosen: &Move) -> Result<(), AllocError> {
     match chosen {
         Move::Ask { node: _, ask } => print_ask(text, ask),

@@ -1,43 +1,43 @@
-//! Where columns and rows lie on the picture, in its units from the left upper corner; called by `painting`, `rows`,
-//! `columns` and `arrows`.
+//! Computes where columns and rows lie, in picture units from the upper left corner; called by
+//! `painting`, `rows`, `columns` and `arrows`.
 use crate::Row;
 use craq_model::{LinkMessage, Out};
 use craq_names::NodeId;
 use craq_runs::{Move, Taken};
 use std::alloc::{AllocError, Global};
 
-/// Where the first column lies.
+/// The distance of the first column from the left.
 const FIRST_COLUMN: u64 = 250;
 
-/// How far columns lie from each other.
+/// The distance between columns.
 const COLUMN: u64 = 175;
 
-/// Where the first row lies.
+/// The distance of the first row from the top.
 const FIRST_ROW: u64 = 66;
 
-/// How high a line of a row is, and one of the legend.
+/// The height of one line of a row, and of one line of the legend.
 pub(crate) const LINE: u64 = 15;
 
-/// How far a row lies below the one above it, beside its lines.
+/// The gap between a row and the one above it, without its lines.
 const GAP: u64 = 12;
 
-/// A place on the picture.
+/// A point of the picture.
 #[derive(Clone, Copy)]
 pub(crate) struct Point {
     pub(crate) x: u64,
     pub(crate) y: u64,
 }
 
-/// Where things lie.
+/// The layout of a picture.
 #[derive(Drop)]
 pub(crate) struct Layout<'a> {
     pub(crate) columns: &'a [NodeId],
-    /// Where each row lies, and at the end where one more would.
+    /// The height of each row, and at the end the height where the next one would be.
     pub(crate) tops: &'a [u64],
 }
 
 impl Layout<'_> {
-    /// Where the column of a node lies, from the left.
+    /// Returns the distance of a node's column from the left.
     pub(crate) fn across(&self, node: NodeId) -> u64 {
         let index = self
             .columns
@@ -47,7 +47,7 @@ impl Layout<'_> {
         nth_column(index as u64)
     }
 
-    /// Where the row of a move lies, from the top; moves are numbered from 1.
+    /// Returns the distance of a move's row from the top; moves are numbered from 1.
     pub(crate) fn down(&self, row: u64) -> u64 {
         if row == 0 {
             return FIRST_ROW;
@@ -58,24 +58,26 @@ impl Layout<'_> {
         }
     }
 
-    /// Where the rows end.
+    /// Returns the height where the rows end.
     pub(crate) fn bottom(&self) -> u64 {
         self.tops.last().copied().unwrap_or(FIRST_ROW)
     }
 
-    /// Where what is committed stands, right of all columns and of the longest answer at the last one.
+    /// Returns the distance from the left of the committed numbers: right of all columns, and of
+    /// the longest reply at the last one.
     pub(crate) fn side(&self) -> u64 {
         nth_column(self.columns.len() as u64).saturating_add(110)
     }
 
-    /// Where an out of the move of a number lies, from the top: by its place among the outs, the first so far below the row.
+    /// Returns the distance from the top of a move's output at index `place`. The first output lies
+    /// `first` below the row.
     pub(crate) fn out_down(&self, number: u64, first: u64, place: u64) -> u64 {
         self.down(number)
             .saturating_add(first)
             .saturating_add(place.saturating_mul(LINE))
     }
 
-    /// Where an out of the move of a number lies.
+    /// Returns the point of a move's output.
     pub(crate) fn out_at(&self, row: &Row, number: u64, first: u64, place: u64) -> Point {
         Point {
             x: self.across(row.node),
@@ -84,12 +86,13 @@ impl Layout<'_> {
     }
 }
 
-/// Where the column of this place lies, counted from 0.
+/// Returns the distance from the left of the column of this index, counted from 0.
 fn nth_column(index: u64) -> u64 {
     index.saturating_mul(COLUMN).saturating_add(FIRST_COLUMN)
 }
 
-/// How far below its row the first out of a move lies: below the message that arrives, if one does.
+/// Returns how far below its row a move's first output lies: one line if a message arrives there,
+/// else 0.
 pub(crate) fn first_out(chosen: &Move) -> u64 {
     match chosen {
         Move::Deliver(_) => LINE,
@@ -97,7 +100,7 @@ pub(crate) fn first_out(chosen: &Move) -> u64 {
     }
 }
 
-/// How high a move's row is.
+/// Returns the height of a move's row.
 fn height_of(taken: &Taken) -> u64 {
     let lines = (taken.step.outs.len() as u64).max(1).saturating_sub(1);
     let below = if taken.step.outs.is_empty() {
@@ -112,7 +115,7 @@ fn height_of(taken: &Taken) -> u64 {
         .saturating_add(GAP)
 }
 
-/// Where each move's row lies, and at the end where one more would.
+/// Returns the height of each move's row, and at the end the height where the next one would be.
 pub(crate) fn tops_of(alloc: Global, moves: &[Taken]) -> Result<Vec<u64>, AllocError> {
     let mut tops = Vec::new(alloc);
     let mut top = FIRST_ROW;
@@ -124,7 +127,7 @@ pub(crate) fn tops_of(alloc: Global, moves: &[Taken]) -> Result<Vec<u64>, AllocE
     Ok(tops)
 }
 
-/// The message at a place among the outs of a move, if one was sent there.
+/// Returns the message at an index of a move's outputs, if one was sent there.
 pub(crate) fn sent_at(taken: &Taken, place: u64) -> Option<&LinkMessage> {
     match taken.step.outs.as_slice().get(place as usize) {
         Some(Out::Send { to: _, message }) => Some(message),

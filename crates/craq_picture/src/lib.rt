@@ -1,6 +1,6 @@
-//! A run drawn as a picture: a column a node, a row a move, an arrow a message; as a value, and as SVG text.
-//! For `craq_lab`; a crate apart since nothing else draws.
-//! Code that runs in the program.
+//! Draws a run, for `craq_lab`: a column for each node, a row for each move, an arrow for each
+//! message; as a value and as SVG text.
+//! Runs in the program.
 #![tactic(auto)]
 
 mod arrows;

@@ -1,4 +1,4 @@
-//! The whole picture as SVG text: `picture_of`, called by `craq_lab`.
+//! Draws the whole picture as SVG text: `picture_of`, called by `craq_lab`.
 use crate::arrows::{Layer, draw_messages};
 use crate::columns::draw_columns;
 use crate::layout::{LINE, Layout, Point, tops_of};
@@ -9,7 +9,7 @@ use crate::{Drawing, drawing_of};
 use craq_runs::{Explanation, Run};
 use std::alloc::{AllocError, Global};
 
-/// What the signs of a picture mean, a line each.
+/// The legend, a line for each kind of sign.
 static LEGEND: [&str; 4] = [
     "mN: message N, where it is sent and where it is taken; dotted: ignored, with the reason; into the air: never delivered",
     "answer T @P: to the ask of ticket T of this node; a single copy answers so after the first P updates of the list",
@@ -17,7 +17,7 @@ static LEGEND: [&str; 4] = [
     "committed: how many updates are, after the move",
 ];
 
-/// Begins the picture: its size, its colours and its ground.
+/// Begins the picture: its size, its colours and its background.
 fn open_picture(svg: &mut String, layout: &Layout<'_>) -> Result<(), AllocError> {
     let width = width_of(layout);
     let height = layout.bottom().saturating_add(80);
@@ -30,7 +30,7 @@ fn open_picture(svg: &mut String, layout: &Layout<'_>) -> Result<(), AllocError>
     draw_box(svg, "paper", Point { x: 0, y: 0 }, width, height)
 }
 
-/// Ends the picture, with what its signs mean.
+/// Ends the picture with the legend.
 fn close_picture(svg: &mut String, layout: &Layout<'_>) -> Result<(), AllocError> {
     let mut y = layout.bottom().saturating_add(12);
     for line in LEGEND {
@@ -66,12 +66,15 @@ fn draw_shapes(
     draw_messages(alloc, svg, layout, moves, arrows, Layer::Labels)
 }
 
-/// A run as an SVG picture: its drawing (`drawing_of`), with a column for the master and each node, a row for each move, an
-/// arrow for each message from the row that sent it to the rows that took it, dotted with the reason where it was ignored and
-/// ending in the air where it was never delivered, the answers with their places in the list of updates, and how many updates
-/// are committed after each move.
+/// Draws a run as an SVG picture of its `drawing_of`.
 ///
-/// It fails for want of memory alone.
+/// It has a column for the master and each node, and a row for each move. An arrow goes from the
+/// row that sent a message to the rows that received it. It is dotted, with the reason, if the
+/// message was ignored, and ends in the air if it was never delivered. The picture shows the
+/// replies with their linearization points in the list of updates, and the number of updates
+/// committed after each move.
+///
+/// Fails only when out of memory.
 pub fn picture_of(
     alloc: Global,
     run: &Run,

@@ -1,11 +1,11 @@
-//! The shapes of SVG that a picture is drawn with; called by `painting`, `rows`, `columns` and `arrows`.
+//! Writes the SVG shapes of a picture; called by `painting`, `rows`, `columns` and `arrows`.
 use crate::layout::Point;
 use std::alloc::AllocError;
 
-/// The most characters of a label.
+/// The largest number of characters in a label.
 const MOST: usize = 34;
 
-/// On which side of its place a label stands.
+/// The side of its point on which a label stands.
 #[derive(Clone, Copy)]
 pub(crate) enum Side {
     Left,
@@ -13,7 +13,7 @@ pub(crate) enum Side {
     Middle,
 }
 
-/// The word of SVG for a side.
+/// Returns SVG's word for a side.
 fn anchor_of(side: Side) -> &'static str {
     match side {
         Side::Left => "end",
@@ -22,7 +22,7 @@ fn anchor_of(side: Side) -> &'static str {
     }
 }
 
-/// Writes a character of a text, with SVG's own signs spelled out.
+/// Writes a character, escaped if SVG reserves it.
 fn write_character(svg: &mut String, character: char) -> Result<(), AllocError> {
     match character {
         '<' => svg.push_str("&lt;"),
@@ -32,7 +32,7 @@ fn write_character(svg: &mut String, character: char) -> Result<(), AllocError> 
     }
 }
 
-/// Writes a text, its first 34 characters where it has more.
+/// Writes a text, or its first 34 characters if it has more.
 fn write_text(svg: &mut String, text: &str) -> Result<(), AllocError> {
     for character in text.chars().take(MOST) {
         write_character(svg, character)?;
@@ -43,7 +43,7 @@ fn write_text(svg: &mut String, text: &str) -> Result<(), AllocError> {
     Ok(())
 }
 
-/// Begins a text of this class at a place.
+/// Begins a text of this class at a point.
 fn open_text(svg: &mut String, class: &str, at: Point, side: Side) -> Result<(), AllocError> {
     let x = at.x;
     let y = at.y;
@@ -54,7 +54,7 @@ fn open_text(svg: &mut String, class: &str, at: Point, side: Side) -> Result<(),
     )
 }
 
-/// Draws a text of this class at a place; of a long one the first 34 characters.
+/// Draws a text of this class at a point, or its first 34 characters if it has more.
 pub(crate) fn draw_text(
     svg: &mut String,
     class: &str,
@@ -67,7 +67,7 @@ pub(crate) fn draw_text(
     svg.push_str("</text>\n")
 }
 
-/// Draws words of this program, without signs of SVG's own, right of a place.
+/// Draws this program's own words right of a point. They must hold no character that SVG reserves.
 pub(crate) fn draw_note(svg: &mut String, at: Point, note: &str) -> Result<(), AllocError> {
     open_text(svg, "faint", at, Side::Right)?;
     svg.push_str(note)?;

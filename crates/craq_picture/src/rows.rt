@@ -1,5 +1,5 @@
-//! The rows: what each move asks for, where it happens, its answers, and how many updates are committed after it;
-//! called by `painting`.
+//! Draws the rows: each move's request, its node, its replies, and the number of updates committed
+//! after it; called by `painting`.
 use crate::Row;
 use crate::labels::print_move;
 use crate::layout::{Layout, Point, first_out};
@@ -18,12 +18,12 @@ pub(crate) struct Numbered<'a> {
     pub(crate) taken: &'a Taken,
 }
 
-/// How wide the picture is.
+/// Returns the width of the picture.
 pub(crate) fn width_of(layout: &Layout<'_>) -> u64 {
     layout.side().saturating_add(60)
 }
 
-/// Draws a paler ground behind every second row.
+/// Draws a paler background behind every second row.
 fn draw_band(svg: &mut String, layout: &Layout<'_>, number: u64) -> Result<(), AllocError> {
     if number % 2 == 1 {
         return Ok(());
@@ -37,7 +37,7 @@ fn draw_band(svg: &mut String, layout: &Layout<'_>, number: u64) -> Result<(), A
     draw_box(svg, "band", at, width_of(layout), height)
 }
 
-/// Draws the number of a move and what it asks for, left of the columns.
+/// Draws a move's number and request, left of the columns.
 fn draw_words(
     alloc: Global,
     svg: &mut String,
@@ -54,7 +54,7 @@ fn draw_words(
     draw_text(svg, "move", Point { x: 42, y }, Side::Right, words.as_str())
 }
 
-/// Draws how many updates are committed after a move, strong where they are more than before it.
+/// Draws the number of updates committed after a move, bold if it is more than before the move.
 fn draw_committed(
     alloc: Global,
     svg: &mut String,
@@ -77,7 +77,8 @@ fn draw_committed(
     draw_text(svg, class, at, Side::Middle, words.as_str())
 }
 
-/// Draws the grounds of rows, the words left of them, and what is committed right of them.
+/// Draws the rows' backgrounds, the words left of the columns, and the committed numbers right of
+/// them.
 pub(crate) fn draw_margins(
     alloc: Global,
     svg: &mut String,
@@ -102,7 +103,7 @@ pub(crate) fn draw_margins(
     Ok(())
 }
 
-/// Where an answer of this node and ticket stands in the list of updates; none where it has no place.
+/// Returns the linearization point of a reply, by its node and ticket; `None` if it has none.
 fn place_of(places: &[Place], node: NodeId, ticket: Ticket) -> Option<u64> {
     for place in places {
         if place.node == node && place.ticket == ticket {
@@ -112,7 +113,7 @@ fn place_of(places: &[Place], node: NodeId, ticket: Ticket) -> Option<u64> {
     None
 }
 
-/// Draws an answer, with its place in the list of updates if it has one.
+/// Draws a reply, with its linearization point if it has one.
 fn draw_answer(
     alloc: Global,
     svg: &mut String,
@@ -135,7 +136,7 @@ fn draw_answer(
     draw_text(svg, "answer", at, Side::Right, words.as_str())
 }
 
-/// Draws the answers among the outs of a move.
+/// Draws the replies among the outputs of a move.
 fn draw_answers(
     alloc: Global,
     svg: &mut String,
@@ -155,7 +156,8 @@ fn draw_answers(
     Ok(())
 }
 
-/// Draws the place where a move happens: a disc, and a strong line down to its last out; a cross where a node stops.
+/// Draws the point where a move happens: a disc, and a strong line down to its last output; a cross
+/// where a node stops.
 fn draw_place(
     svg: &mut String,
     layout: &Layout<'_>,
@@ -174,7 +176,7 @@ fn draw_place(
     draw_dot(svg, "dot", at)
 }
 
-/// Draws a word at the column of a node that a move of the master takes out or adds.
+/// Draws a word at the column of a node that the master removes or adds.
 fn draw_membership(
     svg: &mut String,
     layout: &Layout<'_>,
@@ -192,7 +194,7 @@ fn draw_membership(
     draw_text(svg, "why", at, Side::Right, word)
 }
 
-/// Draws where each move happens, and its answers.
+/// Draws the point of each move, and its replies.
 pub(crate) fn draw_moves(
     alloc: Global,
     svg: &mut String,

@@ -1,6 +1,7 @@
-//! The colours and lines of a picture, on paper and on a dark screen; put by `painting` at the head of the SVG text.
+//! Holds the colours and lines of a picture, for light and dark backgrounds; `painting` writes them
+//! at the head of the SVG text.
 
-/// What stands before the shapes: the colours by class, and the head of an arrow.
+/// The text before the shapes: the colours by class, and the arrowhead.
 pub(crate) const STYLE: &str = "<style>
 text { font: 11px 'DejaVu Sans', Verdana, sans-serif; fill: #1c2733; }
 .label, .answer, .why, .who { paint-order: stroke; stroke: #ffffff; stroke-width: 5px; stroke-linejoin: round; }

@@ -1,4 +1,4 @@
--- Where objects belong, and the chains so far.
+-- The chain of objects, and the chains read so far.
 use Rattle.std.proofs.Common.{◌≡◌, ℕ, suc, ◌+◌, ◌<◌, ◌≤◌, ◌∙◌, Bool, true, false, not, ◌||◌, cond, eqb, leb, ltb, List, [], ◌∷◌, ◌++◌, map, length, drop, get_or, Option, Some, None, is_some, refl, ap, arith, add-one, drop-cons, String, Global, string_bytes}
 use Rattle.std.specs.Prelude.{Ok, Err}
 use Rattle.std.specs.List.{list_any}
@@ -42,7 +42,7 @@ pub no_objects : (chains : List Chain) (os : List ObjectId) → first_chain_of o
 no_objects chains [] e = refl
 no_objects chains (o ∷ os) e = absurd cc
 
--- what is said of the first one's chain
+-- the result for objects whose first one is on this chain
 pub place_of : (chains : List Chain) (os : List ObjectId) (chain : ℕ) → first_chain_of os ≡ Some chain
     → chain_of_all chains os ≡ cond (not (ltb chain (length chains))) (Err UnknownChain) (cond (goes_elsewhere os chain) (Err TwoChains) (Ok chain))
 place_of chains [] chain e = absurd cc
@@ -51,7 +51,7 @@ place_of chains (o ∷ os) chain e =
     let itself : eqb o.chain chain ≡ true = eq-eqb o.chain chain same in
     rw (itself, same) refl
 
--- ---- chains so far
+-- ---- chains read so far
 
 named_before : (q : List ℕ) (es : List (String Global × List ℕ)) → is_some (lookup (λ k. bytes_eq q (string_bytes k)) es) ≡ has_name q (chains_of es)
 named_before q [] = refl
@@ -97,7 +97,7 @@ ends front values i past =
     let nothing : drop i values ≡ [] = nil_from_length (drop i values) (omega (arith, length-drop i values)) in
     ap (λ vs. chains_from front (items_of (map view vs))) nothing
 
--- a name that is not there goes last
+-- a name that is new goes last
 pub appended : (same : String Global → String Global → Bool) → ((k l : String Global) → same k l ≡ bytes_eq (string_bytes k) (string_bytes l)) → (es : List (String Global × List ℕ)) (k : String Global) (v : List ℕ)
     → has_name (string_bytes k) (chains_of es) ≡ false → insert_entry same es k v ≡ es ++ (k, v) ∷ []
 appended same is [] k v h = refl

@@ -1,4 +1,4 @@
--- A plan is read exactly where data stands for it.
+-- A plan is read exactly if data stands for it.
 use Rattle.std.proofs.Common.{◌≡◌, ℕ, ◌<◌, ◌≤◌, ◌∙◌, Bool, true, false, not, ◌&&◌, ◌||◌, cond, eqb, leb, List, [], ◌∷◌, ◌++◌, map, length, Option, Some, None, refl, sym, ap, subst, append_assoc, arith, le-leb, length-append}
 use Rattle.std.specs.Prelude.{pos, negsuc, nat_eq, codes, option_and_then}
 use Rattle.std.specs.Bool.{Decides}
@@ -166,7 +166,7 @@ chain_again c h =
     let members : is_membership c.1 ≡ true = (decides_membership c.1).1 h.nodes in
     rw (h.name, numbers, members) refl
 
--- ---- names that stand once
+-- ---- names that occur once
 
 abbrev names : List Chain → List (List ℕ)
 names cs = map (λ (c : Chain). c.0) cs
@@ -179,7 +179,7 @@ all_after : (P : List ℕ → Type 0) (xs : List (List ℕ)) (n : List ℕ) → 
 all_after P [] n h p = (p, tt)
 all_after P (x ∷ xs) n h p = (h.0, all_after P xs n h.1 p)
 
--- one name more, which is none of those before
+-- one more name, which is none of those before
 once_more : (cs : List Chain) (n : List ℕ) → IsDistinct same_bytes (names cs) → has_name n cs ≡ false → IsDistinct same_bytes (names cs ++ n ∷ [])
 unfolding IsDistinct
 once_more [] n h new = (tt, tt)
@@ -199,7 +199,7 @@ none_before (c ∷ cs) n more h =
 
 -- ---- plans
 
--- chains so far: few, and no name twice
+-- chains read so far: at most 64, and no name twice
 record IsFront (cs : List Chain) : Type 0 where
   few : length cs ≤ 64
   once : IsDistinct same_bytes (names cs)
@@ -265,7 +265,7 @@ plan_again cs h =
     let some : eqb (length cs) 0 ≡ false = ne_eqb (length cs) 0 (λ z. omega (arith, h.some, z)) in
     rw (read, some) refl
 
--- ---- what `read` says
+-- ---- the contract of `read`
 
 stands_is_read : (text : List ℕ) (ms : Members) (p : List Chain) → parse_document text ≡ Some ms → StandsFor text p → plan_in ms ≡ Some p
 stands_is_read text ms p e s = ap plan_in (some_is ms (plan_data p) (sym e ∙ s.read)) ∙ plan_again p s.plan

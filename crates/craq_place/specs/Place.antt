@@ -1,4 +1,4 @@
--- Where an object or a transaction belongs.
+-- The chain of an object or a transaction.
 use Rattle.std.specs.Prelude.{ℕ, ◌==◌, nat_lt, Bool, not, List, [], ◌∷◌, ◌++◌, length, Option, Some, None, Result, Ok, Err, if◌then◌else◌, slice_get}
 use Rattle.std.specs.List.{list_any}
 use Rattle.std.specs.Option.{ok_or}
@@ -8,7 +8,7 @@ use Rattle.craq_names.specs.declared.refusal.Refusal.TheVariants.{UnknownChain, 
 use Rattle.craq_commands.specs.Transaction.{Transaction, compared, written}
 use Rattle.craq_place.specs.Plan.{Chain}
 
--- the chain of this place, counted from 0
+-- the chain of this index, counted from 0
 abbrev pub chain_at : List Chain → ℕ → Result Chain Refusal
 chain_at chains id = ok_or (slice_get chains id) UnknownChain
 
@@ -16,15 +16,15 @@ chain_at chains id = ok_or (slice_get chains id) UnknownChain
 abbrev pub objects_of : Transaction → List ObjectId
 objects_of t = compared t ++ (t.reads ++ written t)
 
--- the object is of another chain
+-- the object is on another chain
 abbrev pub is_of_another : ℕ → ObjectId → Bool
 is_of_another chain o = not (o.chain == chain)
 
--- one of them is of another chain
+-- one of the objects is on another chain
 abbrev pub goes_elsewhere : List ObjectId → ℕ → Bool
 goes_elsewhere os chain = list_any (is_of_another chain) os
 
--- the chain of the first object, where there is one and all the others are of it
+-- the chain of the first object, if it exists and all other objects are on it
 abbrev pub chain_of_all : List Chain → List ObjectId → Result ℕ Refusal
 chain_of_all chains [] = Err UnknownChain
 chain_of_all chains (o ∷ os) =
@@ -32,7 +32,7 @@ chain_of_all chains (o ∷ os) =
     else if goes_elsewhere os o.chain then Err TwoChains
     else Ok o.chain
 
--- the chain of the first of them
+-- the chain of the first object
 abbrev pub first_chain_of : List ObjectId → Option ℕ
 first_chain_of [] = None
 first_chain_of (o ∷ os) = Some o.chain

@@ -32,6 +32,7 @@ pub record IsPlan (chains : List Chain) : Type 0 where
   pub each : AllByRecursion IsChain chains
   pub once : IsDistinct same_bytes (map (λ (c : Chain). c.0) chains)
 
+-- the integer that stands for an id
 abbrev pub node_data : ℕ → Data
 node_data id = integer (pos id)
 
@@ -43,7 +44,7 @@ chain_data c = table (member (codes "name") (string c.0) (member (codes "nodes")
 abbrev pub plan_data : List Chain → Members
 plan_data chains = member (codes "chain") (array (items_of (map chain_data chains))) no_members
 
--- what TOML reads in the text is these chains, and they are a plan
+-- TOML reads the text as these chains, and they are a plan
 pub record StandsFor (text : List ℕ) (chains : List Chain) : Type 0 where
   pub read : parse_document text ≡ Some (plan_data chains)
   pub plan : IsPlan chains

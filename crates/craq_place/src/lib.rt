@@ -1,6 +1,5 @@
-//! The plan of a store, read from TOML: the chain of each object, and the nodes of each chain; for `craq_workers` and the
-//! programs that open a store. A crate apart since it alone reads TOML.
-//! Code that runs in the programs.
+//! Reads a store's plan (chain configuration) from TOML: each object's chain, each chain's nodes.
+//! Runs in the programs that open a store and in `craq_workers`; the only crate that reads TOML.
 #![tactic(auto)]
 
 mod plan;

@@ -1,5 +1,5 @@
-//! `Plan`: the chains of a store by name, and the chain of an object or of a transaction; `craqd` and `craq_embedding`
-//! read one, and `craq_workers` opens a store of it.
+//! `Plan`: the chains of a store by name, and the chain of an object or of a transaction; `craqd`
+//! and `craq_embedding` read one, and `craq_workers` opens a store from it.
 ghost use Rattle.std.specs.Prelude.{◌≡◌, ◌⊎◌, ◌++◌, ◌∷◌, ℕ, List, [], false, nat_le, length, map, string_bytes, Ok, Err, MatchResult, OnOk, IfOk, IfErr};
 ghost use Rattle.toml.specs.View.{items_of, table_view, view};
 ghost use Rattle.std.specs.List.{list_any};
@@ -18,7 +18,7 @@ use std::alloc::{AllocError, Global};
 use std::marker::Model;
 use toml::Table;
 
-/// The chains of a store, by name, in the order of the plan: a chain's id is its place, from 0.
+/// The chains of a store by name, in the order of the plan. A chain's id is its index, from 0.
 #[derive(Drop)]
 pub struct Plan {
     chains: IndexMap<String, Items<NodeId>>,
@@ -34,7 +34,7 @@ impl Model for Plan {
     ghost view = { λ p. chains_of p.chains.entries };
 }
 
-/// The chain of the transaction's first object, in the order compares, reads, writes.
+/// Returns the chain of the transaction's first object, in the order compares, reads, writes.
 fn first_chain(mini: &Mini) -> Option<ChainId>
     ensures { result ≡ first_chain_of (objects_of mini.now) }
 {
@@ -50,28 +50,28 @@ fn first_chain(mini: &Mini) -> Option<ChainId>
     }
 }
 
-/// Whether a compare is of another chain.
+/// Returns true if a compare is on another chain.
 fn compares_elsewhere(compares: &[(ObjectId, Version)], chain: ChainId) -> bool
     ensures { result ≡ list_any (λ (c : ObjectId × ℕ). is_of_another chain c.0) compares.now }
 {
     compares.iter().any(|compare| compare.0.chain != chain)
 }
 
-/// Whether a read is of another chain.
+/// Returns true if a read is on another chain.
 fn reads_elsewhere(reads: &[ObjectId], chain: ChainId) -> bool
     ensures { result ≡ list_any (is_of_another chain) reads.now }
 {
     reads.iter().any(|object| object.chain != chain)
 }
 
-/// Whether a write is of another chain.
+/// Returns true if a write is on another chain.
 fn writes_elsewhere(writes: &[(ObjectId, Value)], chain: ChainId) -> bool
     ensures { result ≡ list_any (λ (w : ObjectId × List ℕ). is_of_another chain w.0) writes.now }
 {
     writes.iter().any(|write| write.0.chain != chain)
 }
 
-/// Whether an object of the transaction is of another chain.
+/// Returns true if an object of the transaction is on another chain.
 #[tactic(auto, using(crate::proofs::Places::elsewhere_parts))]
 fn is_elsewhere(mini: &Mini, chain: ChainId) -> bool
     ensures { result ≡ goes_elsewhere (objects_of mini.now) chain }
@@ -85,21 +85,22 @@ fn is_elsewhere(mini: &Mini, chain: ChainId) -> bool
     writes_elsewhere(mini.writes(), chain)
 }
 
-/// Whether a chain of this name is there.
+/// Returns true if there is a chain of this name.
 fn has_chain(chains: &IndexMap<String, Items<NodeId>>, name: &str) -> bool
     ensures { result ≡ has_name name.now (chains_of chains.now.entries) }
 {
     chains.contains_key(name)
 }
 
-/// Whether there are as many chains as a plan can have.
+/// Returns true if the plan has its maximum of 64 chains.
 fn is_full(chains: &IndexMap<String, Items<NodeId>>) -> bool
     ensures { result ≡ nat_le 64 (length (chains_of chains.now.entries)) }
 {
     chains.len() >= MOST_CHAINS as usize
 }
 
-/// A chain more at the end, whose name is not there. Where memory is refused the chains stay.
+/// Adds a chain at the end, whose name must be new. Fails only when out of memory; the chains are
+/// then unchanged.
 fn put_chain(
     chains: &mut IndexMap<String, Items<NodeId>>,
     name: String,
@@ -113,7 +114,7 @@ fn put_chain(
     Ok(())
 }
 
-/// The chains of these values.
+/// Reads the chains from these values.
 fn read_chains(alloc: Global, items: &[toml::Value]) -> Result<Plan, Refusal>
     ensures { Reads (λ p. p) result (chains_from [] (items_of (map view items.now))) }
 {
@@ -131,7 +132,7 @@ fn read_chains(alloc: Global, items: &[toml::Value]) -> Result<Plan, Refusal>
     Ok(Plan { chains })
 }
 
-/// The plan of a table.
+/// Reads the plan from a table.
 #[tactic(auto, unfolding(crate::specs::Reading::plan_in))]
 fn read_plan(alloc: Global, table: &Table) -> Result<Plan, Refusal>
     ensures { Reads (λ p. p) result (plan_in (table_view table.now)) }
@@ -150,17 +151,18 @@ fn read_plan(alloc: Global, table: &Table) -> Result<Plan, Refusal>
 }
 
 impl Plan {
-    /// The plan that the text stands for. The text is TOML with the one key `chain`, an array of
-    /// 1 to 64 tables. Each has exactly `name`, 1 to 32 letters, digits, `_` or `-`, no name
-    /// twice, and `nodes`, an array of 1 to 8 ids from 1 to 2^32 - 1, none twice, head first (this
-    /// project's profile). `BadConfig` exactly where it stands for none; `Memory` where a growth
-    /// was refused.
+    /// Reads the plan from TOML text. The text has the one key `chain`, an array of 1 to 64 tables.
+    /// Each table has exactly two keys (this project's profile):
+    /// - `name`: 1 to 32 letters, digits, `_` or `-`, no name twice;
+    /// - `nodes`: an array of 1 to 8 ids from 1 to 2^32 - 1, none twice, head first.
+    ///
+    /// `BadConfig` exactly if the text is no such plan; `Memory` if an allocation failed.
     pub fn read(alloc: Global, text: &str) -> Result<Self, Refusal>
-        // What is read is what the text stands for.
+        // The text stands for the plan that is returned.
         ensures found { IfOk result (λ p. StandsFor text.now p) }
         // It stands for no other plan.
         ensures only { IfOk result (λ p. (other : List Chain) → StandsFor text.now other → other ≡ p) }
-        // Where nothing is read, it stands for none, or memory ran out.
+        // On an error the text stands for no plan, or memory ran out.
         ensures bad { result ≡ Err Refusal.BadConfig → (p : List Chain) → StandsFor text.now p → ⊥ }
         ensures err { IfErr result (λ e. (e ≡ Refusal.BadConfig) ⊎ (e ≡ Refusal.Memory)) }
     {
@@ -176,8 +178,8 @@ impl Plan {
         }
     }
 
-    /// The name and the nodes of the chain of this id, head first. `UnknownChain` exactly where the
-    /// plan has none.
+    /// Returns the name and the nodes of the chain of this id, head first. `UnknownChain` exactly
+    /// if the plan has no such chain.
     pub fn chain(&self, id: ChainId) -> Result<(&str, &[NodeId]), Refusal>
         ensures { MatchResult result (λ x. chain_at self.now id ≡ Ok (x.0.now, x.1.now)) (λ e. chain_at self.now id ≡ Err e) }
     {
@@ -187,17 +189,17 @@ impl Plan {
         }
     }
 
-    /// The name and the nodes of the object's chain, head first. `UnknownChain` exactly where the
-    /// plan has none of its id.
+    /// Returns the name and the nodes of the object's chain, head first. `UnknownChain` exactly if
+    /// the plan has no such chain.
     pub fn chain_of(&self, object: &ObjectId) -> Result<(&str, &[NodeId]), Refusal>
         ensures { MatchResult result (λ x. chain_at self.now object.now.chain ≡ Ok (x.0.now, x.1.now)) (λ e. chain_at self.now object.now.chain ≡ Err e) }
     {
         self.chain(object.chain)
     }
 
-    /// The chain of all objects of the transaction: that of the first one, in the order compares,
-    /// reads, writes. `UnknownChain` exactly where the plan has no chain of its id, else `TwoChains`
-    /// exactly where another object is of another chain.
+    /// Returns the chain of all objects of the transaction: that of the first one, in the order
+    /// compares, reads, writes. `UnknownChain` exactly if the plan has no chain of its id; else
+    /// `TwoChains` exactly if another object is on another chain.
     #[tactic(auto, using(crate::proofs::Places::place_of, crate::proofs::Places::no_objects))]
     pub fn one_chain(&self, mini: &Mini) -> Result<ChainId, Refusal>
         ensures { result ≡ chain_of_all self.now (objects_of mini.now) }

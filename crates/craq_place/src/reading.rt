@@ -1,4 +1,4 @@
-//! The tables of a plan's text, tested and read one after another; called by `plan`.
+//! Tests and reads the tables of a plan's text one after another; used by `plan`.
 ghost use Rattle.std.specs.Prelude.{◌≡◌, [], map, codes, string_bytes, option_map};
 ghost use Rattle.std.specs.List.{list_all};
 ghost use Rattle.toml.specs.View.{view, items_of, table_view};
@@ -13,7 +13,7 @@ use toml::{Table, Value};
 /// The most bytes of a name.
 const MOST_NAME: usize = 32;
 
-/// Whether the byte is a letter, a digit, `_` or `-`.
+/// Returns true if the byte is a letter, a digit, `_` or `-`.
 fn is_of_names(byte: u8) -> bool
     ensures { result ≡ is_name_byte byte }
 {
@@ -24,21 +24,21 @@ fn is_of_names(byte: u8) -> bool
         || byte == 45
 }
 
-/// Whether each byte may stand in a name.
+/// Returns true if each byte may occur in a name.
 fn are_of_names(bytes: &[u8]) -> bool
     ensures { result ≡ list_all is_name_byte bytes.now }
 {
     bytes.iter().all(|byte| is_of_names(*byte))
 }
 
-/// Whether the text is a name.
+/// Returns true if the text is a name.
 fn test_name(name: &str) -> bool
     ensures { result ≡ is_name name.now }
 {
     name.len() >= 1 && name.len() <= MOST_NAME && are_of_names(name.as_bytes())
 }
 
-/// A name of a chain.
+/// Reads the name of a chain.
 fn read_name(alloc: Global, value: &Value) -> Result<String, Refusal>
     ensures { Reads (λ s. string_bytes s) result (name_in (view value.now)) }
 {
@@ -54,7 +54,7 @@ fn read_name(alloc: Global, value: &Value) -> Result<String, Refusal>
     }
 }
 
-/// A number of 32 bits.
+/// Reads a number of 32 bits.
 fn number_of(value: &Value) -> Option<u32>
     ensures { result ≡ number_in (view value.now) }
 {
@@ -69,7 +69,7 @@ fn number_of(value: &Value) -> Option<u32>
     }
 }
 
-/// The numbers of these values.
+/// Reads the numbers of these values.
 fn read_numbers(alloc: Global, items: &[Value]) -> Result<Vec<NodeId>, Refusal>
     ensures { Reads (λ v. v.items) result (numbers_from [] (items_of (map view items.now))) }
 {
@@ -83,14 +83,14 @@ fn read_numbers(alloc: Global, items: &[Value]) -> Result<Vec<NodeId>, Refusal>
     Ok(list)
 }
 
-/// Whether a chain can have these nodes.
+/// Returns true if a chain may have these nodes.
 fn test_nodes(nodes: &[NodeId]) -> bool
     ensures { result ≡ spelled_membership nodes.now }
 {
     is_membership(nodes)
 }
 
-/// The nodes of a chain.
+/// Reads the nodes of a chain.
 fn read_nodes(alloc: Global, value: &Value) -> Result<Items<NodeId>, Refusal>
     ensures { Reads (λ nodes. nodes) result (nodes_in (view value.now)) }
 {
@@ -107,7 +107,7 @@ fn read_nodes(alloc: Global, value: &Value) -> Result<Items<NodeId>, Refusal>
     }
 }
 
-/// The two values of a table of a name and nodes, and nothing else.
+/// Returns the two values of a table that has exactly a name and nodes.
 fn fields(table: &Table) -> Option<(&Value, &Value)>
     ensures { option_map (λ f. (view f.0.now, view f.1.now)) result ≡ fields_in (codes "name") (codes "nodes") (table_view table.now) }
 {
@@ -124,7 +124,7 @@ fn fields(table: &Table) -> Option<(&Value, &Value)>
     }
 }
 
-/// The value of a table of chains, and nothing else.
+/// Returns the value of a table that has exactly the chains.
 pub(crate) fn field(table: &Table) -> Option<&Value>
     ensures { option_map (λ f. view f.now) result ≡ field_in (codes "chain") (table_view table.now) }
 {
@@ -140,7 +140,7 @@ pub(crate) fn field(table: &Table) -> Option<&Value>
     }
 }
 
-/// The chain of a table.
+/// Reads the chain of a table.
 #[tactic(auto, unfolding(crate::specs::Reading::chain_in))]
 pub(crate) fn read_chain(alloc: Global, value: &Value) -> Result<(String, Items<NodeId>), Refusal>
     ensures { Reads (λ c. (string_bytes c.0, c.1)) result (chain_in (view value.now)) }

@@ -1,4 +1,4 @@
--- Entries that fit one after another.
+-- Entries that are applicable one after another.
 use Rattle.std.proofs.Common.{◌≡◌, ◌<◌, ◌+◌, ℕ, suc, add-one, length, get_or, take, drop, drop-cons, true, List, [], ◌∷◌, ◌++◌, sym, ap, ◌∙◌}
 use Rattle.std.specs.Prelude.{◌&&◌}
 use Rattle.std.proofs.Math.Seq.{take-suc}
@@ -8,7 +8,7 @@ use Rattle.craq_commands.specs.SingleCopy.{after_entry, after_entries}
 use Rattle.craq_commands.proofs.Entries.{after_entries-append}
 use Rattle.craq_model.specs.Deliveries.{is_applicable, are_applicable}
 
--- where one more fits, it is the rest that has to
+-- if one more is applicable, the rest decides
 pub next_fits : (s : State) (es : List Entry) (i : ℕ) (e : Entry) → i < length es → e ≡ get_or es i e → is_applicable (after_entries s (take i es)) e ≡ true → are_applicable (after_entries s (take (i + 1) es)) (drop (i + 1) es) ≡ are_applicable (after_entries s (take i es)) (drop i es)
 next_fits s es i e h is fits =
     let before : State = after_entries s (take i es) in

@@ -1,4 +1,4 @@
--- The last of a window's slots.
+-- The last slot of a window.
 use Rattle.std.proofs.Common.{◌≡◌, ℕ, suc, ◌-◌, [], ◌∷◌, length, Option, Some, None, refl, ap, subst, arith}
 use Rattle.std.specs.Prelude.{slice_get}
 use Rattle.craq_commands.specs.declared.reply.Reply.{Reply}
@@ -27,7 +27,7 @@ has_last : (y : ℕ × ℕ) (ys : Slots) → slice_get (y ∷ ys) (length ys) �
 has_last y [] h = cc
 has_last y (v ∷ ys) h = has_last v ys h
 
--- without slots nothing is told
+-- without slots every number is new
 pub none_said : (reply : ℕ → Option Reply) (xs : Slots) (n : ℕ) → slice_get xs (length xs - 1) ≡ None → said_in reply xs n ≡ None
 unfolding said_in is_stale_in
 none_said reply [] n h = refl

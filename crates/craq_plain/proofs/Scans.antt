@@ -1,4 +1,4 @@
--- What entries leave of an object is what a scan of them finds last.
+-- An object after entries is the last that a scan of them finds.
 use Rattle.std.proofs.Common.{◌≡◌, ◌<◌, ◌+◌, ℕ, suc, add-one, length, get_or, drop, drop-cons, Bool, true, false, cond, List, [], ◌∷◌, ◌++◌, Option, Some, unwrap_or, refl, sym, ap, ◌∙◌}
 use Rattle.std.specs.Prelude.{◌==◌}
 use Rattle.std.specs.Ordering.{nat_cmp, eq_by_cmp}
@@ -14,7 +14,7 @@ use Rattle.craq_commands.specs.declared.entry.Write.{Write}
 use Rattle.craq_model.specs.Past.{values_in, values_after}
 use Rattle.craq_plain.specs.Scans.{last_value}
 
--- what is found from a place on, where the test is met there and where it is not
+-- one step of a search, with the key equal or not
 pub key_here : (es : Objects) (i : ℕ) (e : List ℕ × (ℕ × List ℕ)) (key : List ℕ) → i < length es → e ≡ get_or es i e → same_bytes key e.0 ≡ true → at_key (drop i es) key ≡ Some e.1
 key_here es i e key h is test =
     ap (λ (xs : Objects). at_key xs key) (drop-cons es i e h ∙ ap (λ (x : List ℕ × (ℕ × List ℕ)). x ∷ drop (suc i) es) (sym is))
@@ -26,7 +26,7 @@ key_later es i e key h is test =
     ∙ ap (λ b. cond b (Some e.1) (find key_cmp key (drop (suc i) es))) (sym (texts_ties key e.0) ∙ test)
     ∙ ap (λ n. at_key (drop n es) key) (sym (add-one i))
 
--- the code's test of numbers is that by which a map is searched
+-- the code's equality of numbers is the one by which maps are searched
 pub same_numbers : (x y : ℕ) → (x == y) ≡ eq_by_cmp nat_cmp x y
 same_numbers x y = unsigned_ties x y
 
@@ -35,7 +35,7 @@ unfolding last_value
 last_value-append found [] ys = refl
 last_value-append found (x ∷ xs) ys = last_value-append x xs ys
 
--- two ways to compare keys, in either order
+-- the two tests of equal keys agree, in either order
 same_either_way : (k key : List ℕ) → eq_by_cmp key_cmp key k ≡ same_bytes k key
 same_either_way k key = (eq_by_cmp_equiv nat_list_cmp_total).symm key k ∙ sym (texts_ties k key)
 

@@ -64,7 +64,7 @@ last_values f [] = refl
 last_values f (x ∷ []) = refl
 last_values f (x ∷ y ∷ ys) = last_values f (y ∷ ys)
 
--- ---- slots that stand for a window
+-- ---- slots that represent a window
 
 abbrev StandFor : (ℕ → Option Reply) → Slots → Window → Type 0
 StandFor reply xs w = values reply xs ≡ values Some w
@@ -78,7 +78,7 @@ module _ (reply : ℕ → Option Reply) where
       ∙ ap (λ (x : Option Reply). window_with (values Some w) n x) f
       ∙ kept_values Some n r w
 
-  -- the slots of a window stand for it
+  -- the slots of a window represent it
   opening_stand : (w : Window) (i : ℕ) → ((j : ℕ) (k : Kept) → slice_get w j ≡ Some k → reply (i + j) ≡ Some k.1) → StandFor reply (slots_from i w) w
   opening_stand [] i f = refl
   opening_stand (k ∷ w) i f =
@@ -100,7 +100,7 @@ entries_stand reply client (e ∷ es) i xs w s f =
     entries_stand reply client es (i + 1) (cond (e.client == client) (window_with xs e.number i) xs) (cond (e.client == client) (keep w e.number e.reply) w) (split (e.client == client))
     (λ j x h. let z : i + suc j ≡ i + 1 + j = omega arith in subst (λ n. reply n ≡ Some x.reply) z (f (suc j) x h))
 
--- ---- what they tell
+-- ---- look-ups in slots
 
 module _ (reply : ℕ → Option Reply) (xs : Slots) (w : Window) (s : StandFor reply xs w) where
   same_length : length xs ≡ length w
@@ -160,7 +160,7 @@ module _ (reply : ℕ → Option Reply) (xs : Slots) (w : Window) (s : StandFor 
       ∙ ap (λ m. cond (is_stale w n) (Some (Stale m)) (option_and_then reply (at_number xs n))) same_last
       ∙ ap (λ (o : Option Reply). cond (is_stale w n) (Some (Stale (largest w))) o) (flat_then (at_number xs n) ∙ ap flat (same_found n) ∙ flat_some (at_number w n))
 
--- ---- where the replies stand
+-- ---- indexes of replies
 
 below : (i n : ℕ) → i < n → nat_lt i n ≡ true
 below i n h = grind (arith, h)
@@ -210,7 +210,7 @@ window_last : (s : State) (es : List Entry) (client : ℕ) → window_of (after_
 window_last s [] client = refl
 window_last s (e ∷ es) client = window_last (after_entry s e) es client ∙ ap (λ (w : Window). window_after client w es) (kept_here s e client)
 
--- ---- the answers
+-- ---- results
 
 stand_after : (s : State) (es : List Entry) (client : ℕ) → let w = window_of s client in StandFor (reply_at w es) (slots_after client (length w) es (slots_from 0 w)) (window_of (after_entries s es) client)
 stand_after s es client =

@@ -1,5 +1,5 @@
--- Windows of kept replies by slots: each a number, and where its reply stands among those of a window and of the
--- entries after it.
+-- Windows of kept replies as slots: each a number with the index of its reply among those of a
+-- window and of the entries after it.
 use Rattle.std.specs.Prelude.{ℕ, ◌+◌, ◌-◌, ◌==◌, nat_le, nat_lt, Bool, not, ◌&&◌, if◌then◌else◌, List, [], ◌∷◌, length, drop, slice_get, is_some, option_map, Option, Some}
 use Rattle.std.specs.Option.{option_and_then}
 use Rattle.craq_names.specs.Limits.{window_limit}
@@ -13,30 +13,30 @@ use Rattle.craq_commands.specs.Kept.{Kept, Window}
 abbrev pub Slots : Type 0
 Slots = List (ℕ × ℕ)
 
--- what a number adds, in its place; more than 8 lose the first
+-- a number is added; more than 8 drop the first
 abbrev pub within_window : {A : Type 0} → List (ℕ × A) → List (ℕ × A)
 within_window xs = if nat_lt window_limit (length xs) then drop 1 xs else xs
 
 abbrev pub window_with : {A : Type 0} → List (ℕ × A) → ℕ → A → List (ℕ × A)
 window_with xs number x = within_window (put_number xs number x)
 
--- the slots of a window, whose replies stand from this index on
+-- the slots of a window, whose replies' indexes start here
 abbrev pub slots_from : ℕ → Window → Slots
 slots_from i [] = []
 slots_from i (k ∷ ks) = (k.0, i) ∷ slots_from (i + 1) ks
 
--- the slots after a client's entries among these, whose replies stand from this index on
+-- the slots after a client's entries among these, whose replies' indexes start here
 unfoldable pub slots_after : ℕ → ℕ → List Entry → Slots → Slots
 slots_after client i [] xs = xs
 slots_after client i (e ∷ es) xs = slots_after client (i + 1) es (if e.client == client then window_with xs e.number i else xs)
 
--- the reply at an index, among those of a window and of the entries after it
+-- the reply at an index among those of a window and of the entries after it
 unfoldable pub reply_at : Window → List Entry → ℕ → Option Reply
 reply_at w es i =
     if nat_lt i (length w) then option_map (λ (k : Kept). k.1) (slice_get w i)
     else option_map (λ (e : Entry). e.reply) (slice_get es (i - length w))
 
--- the first and the last number, 0 where there is none
+-- the first and the last number, 0 if there is none
 abbrev pub first_number : {A : Type 0} → List (ℕ × A) → ℕ
 first_number [] = 0
 first_number (x ∷ xs) = x.0
@@ -46,7 +46,7 @@ last_number [] = 0
 last_number (x ∷ []) = x.0
 last_number (x ∷ y ∷ ys) = last_number (y ∷ ys)
 
--- what a window tells of a number, by its slots and where their replies are found
+-- the status of a number in a window, by its slots and their replies
 unfoldable pub is_stale_in : {A : Type 0} → List (ℕ × A) → ℕ → Bool
 is_stale_in xs number = nat_le window_limit (length xs) && nat_lt number (first_number xs)
 

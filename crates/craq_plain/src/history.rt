@@ -1,4 +1,5 @@
-//! `PlainHistory`: a past that keeps every entry, the simplest way to meet `History`. Explanations are replayed on it.
+//! `PlainHistory`: a past that keeps every entry, the simplest `History`. Explanations are replayed
+//! on it.
 ghost use Rattle.std.specs.Prelude.{◌≡◌, ◌+◌, ◌-◌, ◌<◌, ◌^◌, false, length, take, drop, refl};
 ghost use Rattle.craq_commands.specs.SingleCopy.{after_entries};
 ghost use Rattle.craq_model.specs.Deliveries.{is_applicable};
@@ -13,8 +14,8 @@ use craq_history::{History, ObjectVersions};
 use craq_names::{ClientId, Items, Key, RequestNo, Seq, Version};
 use std::alloc::{AllocError, Global};
 
-/// A past that keeps a state and every entry after it. What it is asked it finds by a look at all of
-/// them, so its calls take time in proportion to how much it keeps.
+/// A past that keeps a state and every entry after it. Each call scans all of them, so its time is
+/// linear in their number.
 #[derive(Drop)]
 pub struct PlainHistory {
     base: Seq,
@@ -25,7 +26,7 @@ pub struct PlainHistory {
 }
 
 impl PlainHistory {
-    /// Whether an entry fits the state after all entries and these earlier ones.
+    /// Returns true exactly if an entry fits the state after all entries and these earlier ones.
     #[tactic(auto, unfolding(craq_model::specs::Deliveries::is_applicable))]
     fn is_next(&self, earlier: &[Entry], entry: &Entry) -> bool
         ensures { result ≡ is_applicable (after_entries (newest_in (⟦<PlainHistory as History>⟧.past self.now)) earlier.now) entry.now }
@@ -50,14 +51,14 @@ impl PlainHistory {
         )
     }
 
-    /// The entries after a position, whichever it is.
+    /// Returns the entries after any position.
     pub fn entries_after(&self, position: u64) -> &[Entry]
         ensures { result.now ≡ entries_in (⟦<PlainHistory as History>⟧.past self.now) position }
     {
         self.split(position).1
     }
 
-    /// The entries up to a position, and those after it.
+    /// Returns the entries up to a position, and those after it.
     fn split(&self, position: u64) -> (&[Entry], &[Entry])
         ensures first { result.0.now ≡ take (position - self.now.base) self.now.entries.items }
         ensures later { result.1.now ≡ drop (position - self.now.base) self.now.entries.items }

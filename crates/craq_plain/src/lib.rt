@@ -1,6 +1,5 @@
-//! The past of a node as a state and a list of all entries after it; `craq_explain` and `craq_play` run nodes over it, and the
-//! crates of the past that forgets use its look-ups.
-//! Code that runs in the program.
+//! A node's past as a state and all entries after it, with look-ups that scan them.
+//! Runs in the program: `craq_explain` and `craq_play` use the past, compacting pasts its look-ups.
 #![tactic(auto)]
 
 mod history;

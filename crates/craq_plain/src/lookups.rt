@@ -1,5 +1,5 @@
-//! What stands for a key or a client in a state and in the entries after it. Each call looks at all of
-//! them in turn. Called by `history`, `craq_list`, `craq_settled` and `craq_unsettled`.
+//! Look-ups of a key or a client in a state and the entries after it. Each scans all of them.
+//! `history`, `craq_list`, `craq_settled` and `craq_unsettled` call them.
 ghost use Rattle.std.specs.Prelude.{◌≡◌, ◌==◌, ◌+◌, ◌≤◌, [], length, unwrap_or};
 ghost use Rattle.craq_names.specs.Maps.{at_number};
 ghost use Rattle.craq_commands.specs.Objects.{object_of, version_of};
@@ -13,7 +13,7 @@ use crate::slots::{is_new, said_in, slots_after, slots_later};
 use craq_commands::{Entry, Kept, Said, State, Window};
 use craq_names::{ClientId, Key, RequestNo, Value, Version};
 
-/// The version and value of an object of a state.
+/// Returns the version and value of an object of a state; version 0 and no bytes if it is absent.
 #[tactic(auto, unfolding(craq_commands::specs::Objects::object_of))]
 fn object_in<'a>(objects: &'a [(Key, (Version, Value))], key: &Key) -> (Version, &'a [u8])
     ensures object { (result.0, result.1.now) ≡ object_of objects.now key.now }
@@ -27,7 +27,7 @@ fn object_in<'a>(objects: &'a [(Key, (Version, Value))], key: &Key) -> (Version,
     (Version::new(0), &[])
 }
 
-/// The version and value that these entries leave to an object, which has this version and value before them.
+/// Returns an object's version and value after these entries, given those before them.
 #[tactic(auto, unfolding(craq_model::specs::Past::values_in, craq_model::specs::Past::values_after, crate::specs::Scans::last_value))]
 pub fn object_past<'a>(
     version: Version,
@@ -51,7 +51,7 @@ pub fn object_past<'a>(
     (last, bytes)
 }
 
-/// The version and value of an object after these entries.
+/// Returns an object's version and value after these entries.
 #[tactic(auto, using(crate::proofs::Scans::last_of_values))]
 pub fn object_after<'a>(state: &'a State, entries: &'a [Entry], key: &Key) -> (Version, &'a [u8])
     ensures object { (result.0, result.1.now) ≡ object_of (after_entries state.now entries.now).objects key.now }
@@ -61,7 +61,7 @@ pub fn object_after<'a>(state: &'a State, entries: &'a [Entry], key: &Key) -> (V
     object_past(version, value, entries, key)
 }
 
-/// The version of an object after these entries and further ones.
+/// Returns an object's version after these entries and the later ones.
 #[tactic(auto, using(crate::proofs::Scans::last_of_values))]
 pub fn version_later(state: &State, entries: &[Entry], later: &[Entry], key: &Key) -> Version
     ensures { result ≡ version_of (after_entries (after_entries state.now entries.now) later.now).objects key.now }
@@ -70,15 +70,15 @@ pub fn version_later(state: &State, entries: &[Entry], later: &[Entry], key: &Ke
     object_past(version, value, later, key).0
 }
 
-/// Whether a version is the next one after another.
+/// Returns true exactly if a version is the next after another.
 pub fn follows(version: Version, last: Version) -> bool
     ensures { result ≡ (version == last + 1) }
 {
     last.get().checked_add(1) == Some(version.get())
 }
 
-/// The last version and value of an object that is at most so many above a version, from the one before
-/// these entries on.
+/// Returns an object's last version that is at most `bound` above a version, with its value, from
+/// the one before these entries on.
 #[tactic(auto, unfolding(craq_model::specs::Past::values_in, craq_model::specs::Past::values_after, craq_model::specs::Past::newest_within))]
 pub fn object_up_to<'a>(
     version: Version,
@@ -107,8 +107,8 @@ pub fn object_up_to<'a>(
     (last, bytes)
 }
 
-/// The last version and value of an object that is at most so many above a version, from the one after
-/// the first entries on.
+/// Returns an object's last version that is at most the bound above a version, with its value, from
+/// the one after the first entries on.
 pub fn object_within<'a>(
     state: &'a State,
     first: &'a [Entry],
@@ -124,7 +124,7 @@ pub fn object_within<'a>(
     object_up_to(version, value, later, key, base, above)
 }
 
-/// The position of a client's last entry, or the one given where there is none.
+/// Returns the position of a client's last entry, `base` if there is none.
 #[tactic(auto, unfolding(craq_model::specs::Past::last_position))]
 pub fn last_position_of(entries: &[Entry], client: ClientId, base: u64) -> u64
     ensures { result ≡ last_position client base entries.now }
@@ -138,7 +138,7 @@ pub fn last_position_of(entries: &[Entry], client: ClientId, base: u64) -> u64
     position
 }
 
-/// What a state keeps for a client.
+/// Returns the replies that a state keeps for a client.
 #[tactic(auto, using(crate::proofs::Scans::same_numbers), unfolding(craq_commands::specs::SingleCopy::window_of))]
 fn window_in(state: &State, client: ClientId) -> &[Kept]
     ensures window { result.now ≡ window_of state.now client }
@@ -152,7 +152,7 @@ fn window_in(state: &State, client: ClientId) -> &[Kept]
     &[]
 }
 
-/// What is known of a client's number after these entries, where this is kept for the client before them.
+/// Looks up a client's request number after these entries, given the client's window before them.
 pub fn said_past<'a>(
     window: &'a [Kept],
     entries: &'a [Entry],
@@ -166,7 +166,7 @@ pub fn said_past<'a>(
     said_in(slots.as_slice(), window, entries, number)
 }
 
-/// What is known of a client's number after these entries.
+/// Looks up a client's request number after these entries.
 #[tactic(auto, using(crate::proofs::Windows::said_after))]
 pub fn said_after<'a>(
     state: &'a State,
@@ -179,8 +179,8 @@ pub fn said_after<'a>(
     said_past(window_in(state, client), entries, client, number)
 }
 
-/// Whether a client's number is new after these entries and further ones, where this is kept for the client
-/// before them.
+/// Returns true exactly if a client's request number is new after both lists of entries, given the
+/// client's window before them.
 pub fn is_new_past(
     window: &[Kept],
     entries: &[Entry],
@@ -195,7 +195,7 @@ pub fn is_new_past(
     is_new(slots.as_slice(), number)
 }
 
-/// Whether a client's number is new after these entries and further ones.
+/// Returns true exactly if a client's request number is new after both lists of entries.
 #[tactic(auto, using(crate::proofs::Windows::new_later))]
 pub fn is_new_after(
     state: &State,

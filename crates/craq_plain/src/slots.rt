@@ -1,5 +1,5 @@
-//! Windows of kept replies, without memory: each number with where its reply stands; called by `lookups`, `craq_list` and
-//! `craq_unsettled`.
+//! Windows of kept replies without allocation: each number with the index of its reply. `lookups`,
+//! `craq_list` and `craq_unsettled` call this.
 ghost use Rattle.std.specs.Prelude.{◌≡◌, ◌+◌, ◌<◌, ◌≤◌, ◌^◌, length};
 ghost use Rattle.std.specs.Option.{option_copied};
 ghost use Rattle.arrayvec.specs.ArrayVec.{array_vec_len};
@@ -13,7 +13,8 @@ use craq_names::{ClientId, RequestNo};
 use std::cmp::Ordering;
 use std::marker::Model;
 
-/// A kept number, and where its reply stands among those of a window and of the entries after it.
+/// A kept request number with the index of its reply among those of a window and of the entries
+/// after it.
 #[derive(Clone, Copy)]
 pub struct Slot {
     number: RequestNo,
@@ -31,21 +32,21 @@ impl Model for Slot {
 }
 
 impl Slot {
-    /// This number, whose reply stands there.
+    /// Makes the slot of this number with this index.
     pub fn new(number: RequestNo, index: usize) -> Self
         ensures { result ≡ (number, index) }
     {
         Slot { number, index }
     }
 
-    /// The number.
+    /// Returns the number.
     fn number(&self) -> RequestNo
         ensures { result ≡ self.now.0 }
     {
         self.number
     }
 
-    /// Where the reply stands.
+    /// Returns the index of the reply.
     fn index(&self) -> usize
         ensures { result ≡ self.now.1 }
     {
@@ -65,7 +66,7 @@ impl Default for Slot {
 /// The slots of a window, with room for a ninth.
 pub type Slots = ArrayVec<Slot, 9>;
 
-/// Puts a slot at its place by rising number, or at that of the slot with its number.
+/// Inserts a slot sorted by number, or replaces the slot with its number.
 fn put_slot(slots: &mut Slots, slot: Slot)
     requires { array_vec_len slots.old ≤ 8 }
     ensures { slots.new.items ≡ put_number slots.old.items slot.0 slot.1 }
@@ -98,7 +99,7 @@ pub fn keep_slot(slots: &mut Slots, slot: Slot)
     }
 }
 
-/// The slots of a window.
+/// Returns the slots of a window.
 fn slots_of(window: &[Kept]) -> Slots
     requires { length window.now ≤ 8 }
     ensures slots { result.items ≡ slots_from 0 window.now }
@@ -112,7 +113,7 @@ fn slots_of(window: &[Kept]) -> Slots
     slots
 }
 
-/// Keeps the replies of a client's entries, which stand from this index on.
+/// Keeps the replies of a client's entries, whose indexes start at `first`.
 #[tactic(auto, unfolding(crate::specs::Slots::slots_after))]
 pub fn add_entries(slots: &mut Slots, client: ClientId, entries: &[Entry], first: usize)
     requires few { array_vec_len slots.old ≤ 8 }
@@ -129,7 +130,7 @@ pub fn add_entries(slots: &mut Slots, client: ClientId, entries: &[Entry], first
     }
 }
 
-/// The window of a client after some entries.
+/// Returns the slots of a client's window after some entries.
 pub fn slots_after(window: &[Kept], entries: &[Entry], client: ClientId) -> Slots
     requires { length window.now ≤ 8 }
     ensures slots { result.items ≡ slots_after client (length window.now) entries.now (slots_from 0 window.now) }
@@ -140,7 +141,7 @@ pub fn slots_after(window: &[Kept], entries: &[Entry], client: ClientId) -> Slot
     slots
 }
 
-/// The window of a client after some entries and further ones.
+/// Returns the slots of a client's window after both lists of entries.
 pub fn slots_later(window: &[Kept], entries: &[Entry], later: &[Entry], client: ClientId) -> Slots
     requires { length window.now ≤ 8 }
     ensures { result.items ≡ slots_after client (length window.now + length entries.now) later.now (slots_after client (length window.now) entries.now (slots_from 0 window.now)) }
@@ -150,7 +151,7 @@ pub fn slots_later(window: &[Kept], entries: &[Entry], later: &[Entry], client: 
     slots
 }
 
-/// Where the reply to a number stands.
+/// Returns the index of the reply to a number, `None` if there is none.
 fn index_of(slots: &[Slot], number: RequestNo) -> Option<usize>
     ensures { result ≡ at_number slots.now number }
 {
@@ -162,7 +163,7 @@ fn index_of(slots: &[Slot], number: RequestNo) -> Option<usize>
     None
 }
 
-/// Whether the number is below all of a full window.
+/// Returns true exactly if the number is below all of a full window.
 #[tactic(auto, unfolding(crate::specs::Slots::is_stale_in))]
 fn is_stale(slots: &[Slot], number: RequestNo) -> bool
     ensures { result ≡ is_stale_in slots.now number }
@@ -173,7 +174,7 @@ fn is_stale(slots: &[Slot], number: RequestNo) -> bool
     }
 }
 
-/// Whether the number is new to a window.
+/// Returns true exactly if the number is new to a window.
 #[tactic(auto, unfolding(crate::specs::Slots::is_new_in))]
 pub fn is_new(slots: &[Slot], number: RequestNo) -> bool
     ensures { result ≡ is_new_in slots.now number }
@@ -181,7 +182,7 @@ pub fn is_new(slots: &[Slot], number: RequestNo) -> bool
     index_of(slots, number).is_none() && !is_stale(slots, number)
 }
 
-/// The reply at an index among those of a window and of the entries after it.
+/// Returns the reply at an index among those of a window and of the entries after it.
 #[tactic(auto, unfolding(crate::specs::Slots::reply_at))]
 fn reply_at<'a>(window: &'a [Kept], entries: &'a [Entry], index: usize) -> Option<&'a Reply>
     ensures { option_copied result ≡ reply_at window.now entries.now index }
@@ -198,7 +199,7 @@ fn reply_at<'a>(window: &'a [Kept], entries: &'a [Entry], index: usize) -> Optio
     }
 }
 
-/// What the slots tell of a number, where their replies are those of a window and of the entries after it.
+/// Looks up a number in the slots, whose replies are those of a window and of the entries after it.
 #[tactic(auto, unfolding(crate::specs::Slots::said_in))]
 pub fn said_in<'a>(
     slots: &[Slot],

@@ -1,4 +1,4 @@
-//! The state after entries, as a copy of its own; called by `history` and by `craq_list`.
+//! The state after entries, as a copy. `history` and `craq_list` call this.
 ghost use Rattle.std.specs.Prelude.{◌≡◌, [], unwrap_or, IfOk, OnOk};
 ghost use Rattle.craq_names.specs.Maps.{at_number, put_number};
 ghost use Rattle.craq_commands.specs.Kept.{keep};
@@ -9,7 +9,7 @@ use craq_commands::{Entry, Reply, State, Window, Write};
 use craq_names::{ClientId, Copied, Items, Key, RequestNo, Value, Version, copies_of, put_at};
 use std::alloc::{AllocError, Global};
 
-/// Puts a copy of a write into the objects.
+/// Copies a write into the objects. Fails only when out of memory.
 #[tactic(auto, unfolding(craq_commands::specs::Objects::set_object))]
 fn put_write(
     alloc: Global,
@@ -23,7 +23,7 @@ fn put_write(
     put_at(objects, key, (write.version, value))
 }
 
-/// Puts copies of what is written into the objects, in order.
+/// Copies writes into the objects, in order. Fails only when out of memory.
 fn put_writes(
     alloc: Global,
     objects: &mut Vec<(Key, (Version, Value))>,
@@ -37,7 +37,7 @@ fn put_writes(
     Ok(())
 }
 
-/// A copy of what is kept for a client.
+/// Copies the replies kept for a client. Fails only when out of memory.
 #[tactic(auto, using(crate::proofs::Scans::same_numbers))]
 fn window_of(
     alloc: Global,
@@ -54,7 +54,7 @@ fn window_of(
     Ok(Window::new(alloc))
 }
 
-/// Keeps the reply to a client's number.
+/// Keeps the reply to a client's request number. Fails only when out of memory.
 fn put_kept(
     alloc: Global,
     items: &mut Vec<(ClientId, Window)>,
@@ -70,7 +70,7 @@ fn put_kept(
     Ok(())
 }
 
-/// The state after these entries, as a value of its own.
+/// Returns a copy of the state after these entries. Fails only when out of memory.
 #[tactic(auto, unfolding(craq_commands::specs::SingleCopy::after_entry, craq_commands::specs::SingleCopy::kept_with, craq_commands::specs::SingleCopy::window_of))]
 pub fn state_after(alloc: Global, state: &State, entries: &[Entry]) -> Result<State, AllocError>
     ensures { IfOk result (λ s. s ≡ after_entries state.now entries.now) }

@@ -1,4 +1,4 @@
--- An explanation has no floating-point number.
+-- The JSON of a linearization witness has no floating-point number.
 use Rattle.std.proofs.Common.{◌≡◌, ℕ, false, List, [], ◌∷◌, map, refl}
 use Rattle.serde_json.specs.View.{items_of}
 use Rattle.serde_json.specs.Written.{has_float, items_have_float}

@@ -1,4 +1,4 @@
--- Which move a line of a script asks for.
+-- Gives the move of a script line.
 use Rattle.std.specs.Prelude.{ℕ, ◌==◌, Option, Some, None, Result, Ok, Err, if◌then◌else◌}
 use Rattle.craq_names.specs.declared.refusal.Refusal.{Refusal}
 use Rattle.craq_names.specs.declared.refusal.Refusal.TheVariants as refusals
@@ -11,13 +11,13 @@ use Rattle.craq_script.specs.declared.line.Line.{Line}
 use Rattle.craq_script.specs.declared.line.Line.TheVariants as lines
 use Rattle.craq_words.specs.Asked.{update_of, read_of}
 
--- an ask of a node; there is chain 0 alone
+-- a request to a node; only chain 0 exists
 abbrev pub asked_move : ℕ → Result Ask Refusal → Result (Option Move) Refusal
 asked_move node (Err refusal) = Err refusal
 asked_move node (Ok ask) =
     if chain_of_first (asked_objects ask) == 0 then Ok (Some (moves.Ask node ask)) else Err refusals.UnknownChain
 
--- the move of a line, or why it is refused before the chain is asked; `explain` is no move
+-- the move of a line, or the refusal before the chain sees it; `explain` is not a move
 unfoldable pub move_of : Line → Result (Option Move) Refusal
 move_of (lines.Update update) = asked_move update.node (update_of update)
 move_of (lines.Read node mode object) = asked_move node (read_of mode object)

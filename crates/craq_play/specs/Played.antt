@@ -1,4 +1,4 @@
--- What is printed of a script: the text of the run of its lines, by the definitions of a chain.
+-- Defines the text printed for a script: the run of its lines, by the definitions of a chain.
 use Rattle.std.specs.Prelude.{◌≡◌, ◌⊎◌, ℕ, zero, suc, List, [], ◌∷◌, ◌++◌, map, length, codes, Option, Some, None, Result, Ok, Err}
 use Rattle.craq_names.specs.declared.refusal.Refusal.{Refusal}
 use Rattle.craq_names.specs.declared.refusal.Refusal.TheVariants as refusals
@@ -14,7 +14,7 @@ use Rattle.craq_words.specs.Printed.{refusal_text}
 use Rattle.craq_play.specs.Printed.{step_text}
 use Rattle.craq_play.specs.Moves.{move_of}
 
--- a taken move prints its step, and a refused one its refusal
+-- a taken move prints its step, a refused move its refusal
 abbrev pub progress_text : Chain → Move → Result Progress Refusal → List ℕ
 progress_text c m (Ok x) = step_text (mover c m) (length c.messages) x.1
 progress_text c m (Err refusal) = refusal_text refusal
@@ -22,17 +22,17 @@ progress_text c m (Err refusal) = refusal_text refusal
 abbrev pub move_text : Chained → Move → List ℕ
 move_text w m = progress_text (chain_of w) m (chain_step (chain_of w) m)
 
--- an explanation on a line
+-- the line of a linearization witness
 abbrev pub explanation_line : Explanation → List ℕ
 explanation_line e = explanation_text e ++ codes "\n"
 
--- what is printed of a line
+-- the text printed for a line
 abbrev pub line_text : Chained → Result (Option Move) Refusal → List ℕ
 line_text w (Err refusal) = refusal_text refusal
 line_text w (Ok None) = explanation_line (explain w.chain w.run)
 line_text w (Ok (Some m)) = move_text w m
 
--- the chain after a move that was taken, or refused
+-- the chain after a move that was taken or refused
 abbrev pub goes_on : Chained → Result Chained Refusal → Chained
 goes_on w (Ok next) = next
 goes_on w (Err refusal) = w
@@ -46,34 +46,34 @@ after_line w (Err refusal) = w
 after_line w (Ok None) = w
 after_line w (Ok (Some m)) = after_one w m
 
--- what is printed of lines, one after another
+-- the text printed for lines, one after another
 abbrev pub lines_text : Chained → List Line → List ℕ
 lines_text w [] = []
 lines_text w (line ∷ lines) = line_text w (move_of line) ++ lines_text (after_line w (move_of line)) lines
 
--- the ids from 1 to a count
+-- the ids from 1 to n
 abbrev pub first_ids : ℕ → List ℕ
 first_ids zero = []
 first_ids (suc n) = first_ids n ++ suc n ∷ []
 
--- chain 0 of so many nodes, of which 1 is the head, before any move
+-- chain 0 of the nodes 1 to `nodes`, with 1 as the head, before any move
 abbrev pub opening : ℕ → Chained
 opening nodes = opened 0 (first_ids nodes)
 
--- what is printed of lines that are played on a new chain of so many nodes
+-- the text printed for lines played on a new chain of `nodes` nodes
 abbrev pub played_text : ℕ → List Line → List ℕ
 played_text nodes lines = lines_text (opening nodes) lines
 
--- what is printed of the lines of a script, or which line is outside the grammar
+-- the text printed for a script's lines, or the number of the first line outside the grammar
 abbrev pub printed : ℕ → Result (List Line) ℕ → Result (List ℕ) Refusal
 printed nodes (Ok lines) = Ok (played_text nodes lines)
 printed nodes (Err line) = Err (refusals.BadScript line)
 
--- what is printed of a script on a new chain of so many nodes
+-- the text printed for a script played on a new chain of `nodes` nodes
 abbrev pub played : ℕ → List ℕ → Result (List ℕ) Refusal
 played nodes script = printed nodes (script_of script)
 
--- this text is printed, or the script is refused, or memory ran out
+-- the result is this text, or the script's refusal, or out of memory
 abbrev pub Plays : {S : Type 0} → (S → List ℕ) → Result S Refusal → Result (List ℕ) Refusal → Type 0
 Plays bytes (Ok text) wanted = wanted ≡ Ok (bytes text)
 Plays bytes (Err e) wanted = (e ≡ refusals.Memory) ⊎ (wanted ≡ Err e)

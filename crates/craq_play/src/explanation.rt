@@ -1,4 +1,4 @@
-//! An explanation as compact JSON; called by `playing` for a line that asks for one.
+//! Encodes a linearization witness as compact JSON; `playing` calls it for an `explain` line.
 ghost use Rattle.std.specs.Prelude.{◌≡◌, IfOk, map, string_bytes};
 ghost use Rattle.serde_json.specs.View.{items_view, view};
 ghost use Rattle.craq_play.specs.Explained.{
@@ -14,7 +14,7 @@ use craq_runs::{Explanation, Place};
 use serde_json::{Value, json};
 use std::alloc::{AllocError, Global};
 
-/// Counts as a JSON array.
+/// Returns the counts as a JSON array.
 fn counts_value(alloc: Global, counts: &[u64]) -> Result<Value, AllocError>
     ensures { IfOk result (λ v. view v ≡ counts_data counts.now) }
 {
@@ -25,7 +25,7 @@ fn counts_value(alloc: Global, counts: &[u64]) -> Result<Value, AllocError>
     Ok(Value::Array(items))
 }
 
-/// A place as the JSON array of its node, ticket and position.
+/// Returns a linearization point as the JSON array of its node, ticket and position.
 fn place_value(alloc: Global, place: &Place) -> Result<Value, AllocError>
     ensures { IfOk result (λ v. view v ≡ place_data place.now) }
 {
@@ -35,7 +35,7 @@ fn place_value(alloc: Global, place: &Place) -> Result<Value, AllocError>
     json!(in alloc; [node, ticket, position])
 }
 
-/// Places as a JSON array.
+/// Returns the linearization points as a JSON array.
 fn places_value(alloc: Global, places: &[Place]) -> Result<Value, AllocError>
     ensures { IfOk result (λ v. view v ≡ places_data places.now) }
 {
@@ -46,7 +46,7 @@ fn places_value(alloc: Global, places: &[Place]) -> Result<Value, AllocError>
     Ok(Value::Array(items))
 }
 
-/// An explanation as a JSON object.
+/// Returns the linearization witness as a JSON object.
 #[tactic(auto, unfolding(crate::specs::Explained::explanation_data))]
 fn explanation_value(alloc: Global, explanation: &Explanation) -> Result<Value, AllocError>
     ensures { IfOk result (λ v. view v ≡ explanation_data explanation.now) }
@@ -57,9 +57,11 @@ fn explanation_value(alloc: Global, explanation: &Explanation) -> Result<Value, 
     json!(in alloc; {"asks": asks, "lens": lens, "places": places})
 }
 
-/// An explanation as compact JSON: an object with the members `asks`, `lens` and `places`, in this order.
-/// The first two are arrays of numbers; each place is the array of its node, ticket and position. It fails for
-/// want of memory alone.
+/// Encodes a linearization witness as compact JSON: an object with the members `asks`, `lens` and
+/// `places`, in this order.
+///
+/// `asks` and `lens` are arrays of numbers. `places` holds each linearization point as the array of
+/// its node, ticket and position. Fails only when out of memory.
 #[tactic(auto, using(crate::proofs::Floats::none_in), unfolding(crate::specs::Explained::explanation_text))]
 pub fn explanation_text(alloc: Global, explanation: &Explanation) -> Result<String, AllocError>
     ensures { IfOk result (λ text. string_bytes text ≡ explanation_text explanation.now) }

@@ -1,4 +1,4 @@
-//! Why a script was not played to its end; answered by `play`, and told by `craq_lab`.
+//! Defines the errors of `play`, which `craq_lab` reports.
 ghost use Rattle.std.specs.Prelude.{◌≡◌};
 ghost use Rattle.craq_names.specs.declared.refusal.Refusal.TheVariants.{Memory};
 ghost use Rattle.craq_play.specs.declared.fault.PlayFault.TheVariants.{Refused};
@@ -7,13 +7,13 @@ use craq_names::Refusal;
 use std::alloc::AllocError;
 use thiserror::Error;
 
-/// Why a script was not played to its end.
+/// The reason that a script was not played to its end.
 #[derive(Clone, Copy, Debug, PartialEq, Eq, Error)]
 pub enum PlayFault {
-    /// The script is outside the grammar (`BadScript`), or a growth was refused (`Memory`).
+    /// The script is outside the grammar (`BadScript`), or memory ran out (`Memory`).
     #[error("{0}")]
     Refused(Refusal),
-    /// A locked cell and the chain did not do the same with a move.
+    /// A locked node and the chain differ in what they did with a move.
     #[error("a cell and the chain differ")]
     Differs,
 }

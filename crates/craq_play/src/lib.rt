@@ -1,7 +1,6 @@
-//! Plays a script, for `craq_lab`, on one chain, and on locked cells beside it; `craq_schedules` and `craq_picture` call
-//! parts of it. A crate apart since it is without files and command line: from the script's bytes to the printed lines, with
-//! explanations.
-//! Code that runs in the program.
+//! Plays scripts on one chain, from bytes to printed lines; used by `craq_lab`, and in parts by
+//! `craq_schedules` and `craq_picture`. It reads no files and no command line.
+//! Runs in the program.
 #![tactic(auto)]
 
 mod explanation;

@@ -1,4 +1,4 @@
-//! The move of a script's line, or its refusal; called for each line before the chain is.
+//! Turns a script line into a move, or refuses it before the chain sees it.
 ghost use Rattle.std.specs.Prelude.{◌≡◌, Ok};
 ghost use Rattle.craq_words.specs.Asked.{Answers};
 ghost use Rattle.craq_play.specs.Moves.{asked_move, move_of};
@@ -10,7 +10,8 @@ use craq_script::Line;
 use craq_words::{read_of, update_of};
 use std::alloc::Global;
 
-/// The ask of a node, where it goes to the one chain. `UnknownChain` where it goes to another.
+/// Returns the move that sends a request to a node of chain 0. `UnknownChain` if the request is for
+/// another chain.
 fn asked(node: NodeId, ask: Ask) -> Result<Option<Move>, Refusal>
     ensures { result ≡ asked_move node (Ok ask) }
 {
@@ -20,11 +21,11 @@ fn asked(node: NodeId, ask: Ask) -> Result<Option<Move>, Refusal>
     Ok(Some(Move::Ask { node, ask }))
 }
 
-/// The move that a line asks for, or none for `explain`.
+/// Returns the move that a line stands for, or `None` for `explain`.
 ///
-/// Refused before the chain is asked, the lowest number first: `BadKey`, `ValueTooLong`, what a transaction is
-/// refused for, `BadNumber`; then `UnknownChain` where the first object is of another chain than 0. `Memory`
-/// where a growth was refused.
+/// A line can be refused before the chain sees it, with the first of these that applies: `BadKey`,
+/// `ValueTooLong`, a transaction's refusal, `BadNumber`; then `UnknownChain` if the first object is
+/// not of chain 0. `Memory` when out of memory.
 #[tactic(auto, unfolding(crate::specs::Moves::move_of))]
 pub fn move_of(alloc: Global, line: &Line) -> Result<Option<Move>, Refusal>
     ensures { Answers (λ m. m) result (move_of line.now) }

@@ -1,4 +1,5 @@
-//! `play`: a script on locked cells and on the chain beside them, printing what both did; called by `craq_lab`.
+//! Plays a script on locked nodes and on the chain beside them, and prints what both did;
+//! `craq_lab` calls it.
 ghost use Rattle.std.specs.Prelude.{◌≡◌, ◌++◌, ◌∷◌, [], ◌≤◌, List, IfErr, IfOk, OnOk, string_bytes};
 ghost use Rattle.craq_runs.specs.declared.run.Taken.{Taken};
 ghost use Rattle.craq_play.specs.Moves.{move_of};
@@ -22,11 +23,12 @@ use craq_words::print_refusal;
 use std::alloc::{AllocError, Global};
 use std::sync::Wait;
 
-/// What the locked cells did with a move: a step and its receipt, none where no cell can take it, or a refusal.
+/// The outcome of a move on the locked nodes: a step and its receipt, `None` if no node can take
+/// the move, or a refusal.
 type OnCells = Result<Option<CellStep>, Refusal>;
 
-/// Prints a cell's step, at this node, after so many messages were sent, where it is the wanted one. `Differs` where it is
-/// another.
+/// Prints a locked node's step if it equals the wanted step. `sent` messages were sent before it.
+/// `Differs` if the steps are not equal.
 fn print_same(
     text: &mut String,
     node: NodeId,
@@ -44,8 +46,8 @@ fn print_same(
     Ok(())
 }
 
-/// Prints what the cells did with a move that the chain took as the last of its run, at this node, after so many messages
-/// were sent. `Differs` where the cells did otherwise.
+/// Prints the locked nodes' outcome for the last move of the chain's run. `sent` messages were sent
+/// before it. `Differs` if the outcomes are not equal.
 fn print_taken(
     text: &mut String,
     node: NodeId,
@@ -67,8 +69,8 @@ fn print_taken(
     }
 }
 
-/// Prints the refusal of a move by the chain, where the cells refused it so or none of them could take it. `Differs` where
-/// they did otherwise.
+/// Prints the chain's refusal of a move if the locked nodes refused it likewise or none of them
+/// could take it. `Differs` otherwise.
 fn print_refused(text: &mut String, done: &OnCells, refusal: Refusal) -> Result<(), PlayFault>
     ensures text { OnOk result (string_bytes text.new ≡ string_bytes text.old ++ refusal_text refusal) }
     ensures err { IfErr result EndsPlay }
@@ -80,7 +82,8 @@ fn print_refused(text: &mut String, done: &OnCells, refusal: Refusal) -> Result<
     }
 }
 
-/// Takes a move on its cell, for a caller who has seen no stamp. Nobody waits for the answers of calls.
+/// Takes a move on its locked node, with pass 0 as the caller's pass. Replies to pending calls are
+/// dropped.
 fn take_on_cells<C: Core, R: Wait>(
     rt: &R,
     alloc: Global,
@@ -91,9 +94,10 @@ fn take_on_cells<C: Core, R: Wait>(
     cells.take(rt, alloc, chosen, Pass::start(), &mut calls)
 }
 
-/// Takes a move on its cell and then on the chain, and prints what the cell did: its step, or its refusal.
+/// Takes a move on its locked node and then on the chain, and prints the locked node's step or
+/// refusal.
 ///
-/// `Memory` where a growth was refused, `Differs` where the cell and the chain did not do the same.
+/// `Memory` when out of memory. `Differs` if the locked node and the chain did not do the same.
 fn play_move<C: Core, R: Wait>(
     rt: &R,
     alloc: Global,
@@ -120,7 +124,8 @@ fn play_move<C: Core, R: Wait>(
     }
 }
 
-/// Plays a line on the cells and the chain, and prints what it did. Refused as `play_move` is.
+/// Plays a line on the locked nodes and the chain, and prints what it did. Fails as `play_move`
+/// does.
 fn play_line<C: Core, R: Wait>(
     rt: &R,
     alloc: Global,
@@ -141,8 +146,8 @@ fn play_line<C: Core, R: Wait>(
     }
 }
 
-/// The locked cells of chain 0 of the nodes from 1 to the count, without journals, before any move. It fails for want of
-/// memory alone.
+/// Creates the locked nodes 1 to `nodes` of chain 0, without journals. Fails only when out of
+/// memory.
 fn cells_of<C: Core>(alloc: Global, nodes: u32) -> Result<LockedChain<C>, AllocError> {
     let members = first_ids(alloc, nodes)?;
     match LockedChain::open(alloc, ChainId::new(0), members.as_slice(), false) {
@@ -151,7 +156,8 @@ fn cells_of<C: Core>(alloc: Global, nodes: u32) -> Result<LockedChain<C>, AllocE
     }
 }
 
-/// Plays the lines in order on new cells and a new chain of so many nodes. Refused as `play_move` is.
+/// Plays the lines in order on new locked nodes and a new chain of `nodes` nodes. Fails as
+/// `play_move` does.
 fn play_lines<C: Core, R: Wait>(
     rt: &R,
     alloc: Global,
@@ -171,16 +177,16 @@ fn play_lines<C: Core, R: Wait>(
     Ok(text)
 }
 
-/// Plays a script on one chain of the nodes from 1 to the count, 1 the head: what it prints, line for line. The whole
-/// script is read before anything is played.
+/// Plays a script on one chain of the nodes 1 to `nodes`, with 1 as the head, and returns the
+/// printed lines. The whole script is parsed before the first move.
 ///
-/// Each move is taken on a locked cell first, that of the node or of the master that it concerns, and then on the chain;
-/// what is printed is what the cell did. A move that no cell can take (of a message or a node that there is not, or the
-/// removal of a node that runs) goes to the chain alone.
+/// Each move is first taken on the locked node, or the master, that it concerns, and then on the
+/// chain. The locked node's outcome is printed. A move that no locked node can take goes to the
+/// chain alone: it names a message or node that does not exist, or removes a node that runs.
 ///
-/// `Refused` as `BadScript` with the first line that is outside the grammar, or as `Memory` where a growth was refused.
-/// `Differs` where a cell and the chain did not do the same: nothing is printed then. No script is known to meet it, and
-/// what is printed never rests on it.
+/// `Refused` with `BadScript` and the first line outside the grammar, or with `Memory` when out of
+/// memory. `Differs` if a locked node and the chain did not do the same; nothing is printed then.
+/// No script is known to cause it, and no printed text depends on it.
 pub fn play<C: Core, R: Wait>(
     rt: &R,
     alloc: Global,

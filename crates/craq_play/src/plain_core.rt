@@ -1,4 +1,5 @@
-//! `PlainCore`: the node that keeps its whole history; for `craq_lab` with `--core plain`, and for tests.
+//! Defines `PlainCore`, the node that keeps its whole history; for `craq_lab` with `--core plain`,
+//! and for tests.
 use craq_node::NodeCore;
 use craq_plain::PlainHistory;
 

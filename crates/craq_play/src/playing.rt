@@ -1,4 +1,5 @@
-//! A script's lines on one chain: a move is taken and printed; also for `craq_schedules`.
+//! Plays a script's lines on one chain: takes each move and prints it. `craq_schedules` calls it
+//! too.
 ghost use Rattle.std.specs.Prelude.{◌≡◌, ◌⊎◌, ◌++◌, ◌∷◌, [], ◌≤◌, List, IfOk, OnOk, OnErr, string_bytes};
 ghost use Rattle.craq_runs.specs.Explain.{explain};
 ghost use Rattle.craq_runs.specs.declared.run.Taken.{Taken};
@@ -26,7 +27,7 @@ use craq_script::Line;
 use craq_words::print_refusal;
 use std::alloc::{AllocError, Global};
 
-/// The ids from 1 to the count.
+/// Returns the ids from 1 to `count`.
 pub(crate) fn first_ids(alloc: Global, count: u32) -> Result<Vec<NodeId>, AllocError>
     ensures { IfOk result (λ ids. ids.items ≡ first_ids count) }
 {
@@ -37,8 +38,8 @@ pub(crate) fn first_ids(alloc: Global, count: u32) -> Result<Vec<NodeId>, AllocE
     Ok(ids)
 }
 
-/// Chain 0 of the nodes from 1 to the count, which is from 1 to 8, 1 the head, before any move. It fails for want of memory
-/// alone.
+/// Opens chain 0 of the nodes 1 to `nodes`, with 1 as the head, before any move. `nodes` is from 1
+/// to 8. Fails only when out of memory.
 pub fn opened<C: Core>(alloc: Global, nodes: u32) -> Result<ChainCore<C>, AllocError>
     requires { (1 ≤ nodes) × (nodes ≤ 8) }
     ensures { IfOk result (λ w. w ≡ opening nodes) }
@@ -50,7 +51,7 @@ pub fn opened<C: Core>(alloc: Global, nodes: u32) -> Result<ChainCore<C>, AllocE
     }
 }
 
-/// Prints the step of the last move of a run, at this node, after so many messages were sent.
+/// Prints the step of a run's last move, taken at `node` after `sent` messages were sent.
 fn print_last(text: &mut String, node: NodeId, sent: u64, run: &Run) -> Result<(), AllocError>
     ensures { (before : List Taken) (t : Taken) → run.now.moves ≡ before ++ t ∷ [] → OnOk result (string_bytes text.new ≡ string_bytes text.old ++ step_text node sent t.step) }
 {
@@ -60,8 +61,10 @@ fn print_last(text: &mut String, node: NodeId, sent: u64, run: &Run) -> Result<(
     }
 }
 
-/// Takes a move and prints what it did: its step, or its refusal. It fails for want of memory alone: the chain is then as it was,
-/// or has taken the move, and nothing is known of the text.
+/// Takes a move and prints its step or its refusal.
+///
+/// Fails only when out of memory. The chain is then unchanged or has taken the move, and the text
+/// is unspecified.
 pub fn play_move<C: Core>(
     alloc: Global,
     chain: &mut ChainCore<C>,
@@ -81,7 +84,8 @@ pub fn play_move<C: Core>(
     }
 }
 
-/// Prints the explanation of what has happened so far, as a line of JSON. It fails for want of memory alone.
+/// Prints the linearization witness of the run so far as a line of JSON. Fails only when out of
+/// memory.
 pub(crate) fn print_explanation<C: Core>(
     alloc: Global,
     chain: &ChainCore<C>,
@@ -95,8 +99,10 @@ pub(crate) fn print_explanation<C: Core>(
     text.push_str("\n")
 }
 
-/// Plays a line and prints what it did. It fails for want of memory alone: the chain is then as it was, or has taken the line's
-/// move, and nothing is known of the text.
+/// Plays a line and prints what it did.
+///
+/// Fails only when out of memory. The chain is then unchanged or has taken the line's move, and the
+/// text is unspecified.
 pub fn play_line<C: Core>(
     alloc: Global,
     chain: &mut ChainCore<C>,

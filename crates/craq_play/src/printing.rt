@@ -1,4 +1,4 @@
-//! Messages and steps as printed text, as `specs/Printed` has it; called by `playing` and `on_cells`, and by
+//! Prints messages and steps as `specs/Printed` defines; called by `playing`, `on_cells` and
 //! `craq_picture`.
 ghost use Rattle.std.specs.Prelude.{◌≡◌, ◌+◌, ◌<◌, ◌^◌, ◌++◌, length, OnOk, string_bytes};
 ghost use Rattle.craq_model.specs.Deliveries.{final_position, first_position};
@@ -10,7 +10,7 @@ use craq_names::NodeId;
 use craq_words::print_answer;
 use std::alloc::AllocError;
 
-/// The position of the first entry; 0 where there is none.
+/// Returns the position of the first entry, or 0 if there are no entries.
 fn first_position(entries: &[Entry]) -> u64
     ensures { result ≡ first_position entries.now }
 {
@@ -20,7 +20,7 @@ fn first_position(entries: &[Entry]) -> u64
     }
 }
 
-/// The position of the last entry; 0 where there is none.
+/// Returns the position of the last entry, or 0 if there are no entries.
 #[tactic(auto, using(craq_model::proofs::Batches::final_last))]
 fn final_position(entries: &[Entry]) -> u64
     ensures { result ≡ final_position entries.now }
@@ -31,7 +31,7 @@ fn final_position(entries: &[Entry]) -> u64
     }
 }
 
-/// Prints `batch` and the positions of the first and the last of the entries.
+/// Prints `batch` and the positions of the first and the last entry.
 #[tactic(auto, unfolding(crate::specs::Printed::batch_text))]
 fn print_batch(text: &mut String, entries: &[Entry]) -> Result<(), AllocError>
     ensures { OnOk result (string_bytes text.new ≡ string_bytes text.old ++ batch_text entries.now) }
@@ -41,7 +41,7 @@ fn print_batch(text: &mut String, entries: &[Entry]) -> Result<(), AllocError>
     write!(text, "batch {first}-{last}")
 }
 
-/// Prints `part`, the position, the part's number and how many parts there are.
+/// Prints `part`, the state's position, the part's number and the number of parts.
 #[tactic(auto, unfolding(crate::specs::Printed::part_text))]
 fn print_part(text: &mut String, part: &StatePart) -> Result<(), AllocError>
     ensures { OnOk result (string_bytes text.new ≡ string_bytes text.old ++ part_text part.now) }
@@ -52,7 +52,8 @@ fn print_part(text: &mut String, part: &StatePart) -> Result<(), AllocError>
     write!(text, "part {position} {number}/{count}")
 }
 
-/// Prints what a message says, in short: its kind and its numbers. It fails for want of memory alone, and nothing is known of the text then.
+/// Prints a message in short: its kind and its numbers. Fails only when out of memory; the text is
+/// then unspecified.
 #[tactic(auto, unfolding(crate::specs::Printed::message_text))]
 pub fn print_message(text: &mut String, message: &LinkMessage) -> Result<(), AllocError>
     ensures { OnOk result (string_bytes text.new ≡ string_bytes text.old ++ message_text message.now.epoch message.now.body) }
@@ -96,7 +97,7 @@ pub fn print_message(text: &mut String, message: &LinkMessage) -> Result<(), All
     }
 }
 
-/// Prints an out of a step of this node; a message that it sends has this number.
+/// Prints one output of a step of `node`. If it sends a message, the message has this number.
 #[tactic(auto, unfolding(crate::specs::Printed::out_text))]
 fn print_out(text: &mut String, node: NodeId, number: u64, out: &Out) -> Result<(), AllocError>
     ensures { OnOk result (string_bytes text.new ≡ string_bytes text.old ++ out_text node number out.now) }
@@ -117,7 +118,7 @@ fn print_out(text: &mut String, node: NodeId, number: u64, out: &Out) -> Result<
     }
 }
 
-/// How many messages were sent after this out, of those so many before it.
+/// Returns the number of messages sent after this output, given the number sent before it.
 fn sent_after(sent: u64, out: &Out) -> u64
     requires { sent + 1 < 2 ^ 64 }
     ensures { result ≡ sent_after sent out.now }
@@ -131,7 +132,7 @@ fn sent_after(sent: u64, out: &Out) -> u64
     }
 }
 
-/// Prints a line for each out of a step of this node, after so many messages were sent.
+/// Prints a line for each output of a step of `node`, after `sent` messages were sent.
 fn print_outs(text: &mut String, node: NodeId, sent: u64, outs: &[Out]) -> Result<(), AllocError>
     requires { sent + length outs.now < 2 ^ 64 }
     ensures { OnOk result (string_bytes text.new ≡ string_bytes text.old ++ outs_text node sent outs.now) }
@@ -145,7 +146,7 @@ fn print_outs(text: &mut String, node: NodeId, sent: u64, outs: &[Out]) -> Resul
     Ok(())
 }
 
-/// The word for why a message was ignored.
+/// Returns the word for the reason that a message was ignored.
 pub const fn word_of(why: Why) -> &'static str
     ensures { result.now ≡ why_text why }
 {
@@ -160,10 +161,12 @@ pub const fn word_of(why: Why) -> &'static str
     }
 }
 
-/// Prints what a taken move did: a line for each out, in order, or `ignored` and why, or `ok`
-/// where there is neither. Messages are numbered from 1 in the order sent; `sent` were sent before.
+/// Prints what a taken move did: a line for each output in order, or `ignored` and the reason, or
+/// `ok` if there is neither. Messages are numbered from 1 in the order sent; `sent` were sent
+/// before.
 ///
-/// It fails for want of memory alone, which no 2^64 messages find either. Nothing is known of the text then.
+/// Fails when out of memory, or if the numbers of messages would reach 2^64. The text is then
+/// unspecified.
 #[tactic(auto, unfolding(crate::specs::Printed::step_text))]
 pub fn print_step(text: &mut String, node: NodeId, sent: u64, step: &Step) -> Result<(), AllocError>
     ensures { OnOk result (string_bytes text.new ≡ string_bytes text.old ++ step_text node sent step.now) }

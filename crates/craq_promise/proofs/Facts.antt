@@ -1,4 +1,4 @@
--- Eventual and bounded answers, each against what its node told before.
+-- Eventual and bounded replies, each against the earlier replies of its node.
 use Rattle.std.proofs.Common.{◌≡◌, ◌⊎◌, ⊎_elim, ℕ, ◌+◌, ◌≤◌, ◌==◌, Bool, true, ◌&&◌, List, [], ◌∷◌, ◌++◌, length, take, Some, refl, ap, sym, subst, ◌∙◌, arith, append_assoc, append-nil}
 use Rattle.std.specs.Prelude.{⊤}
 use Rattle.std.specs.List.{AllByRecursion}
@@ -40,7 +40,7 @@ use Rattle.craq_strong_answers.proofs.Nodes.{version_after, rises_between}
 use Rattle.craq_strong_answers.proofs.Placed.{after_move}
 use Rattle.craq_promise.proofs.Lows.{CommittedAs, committed_stays, LowWrite, LowBy, Low, IsNear, newest_at, clean_at, clean_whole, low_answer}
 
--- a line of entries at an answer
+-- a line of entries at a reply
 pub record LineAt (a : Account) (x : Answered) (h : List Entry) : Type 0 where
   pub genuine : AllGenuine a.asks opening_state h
   pub in_time : AllByRecursion (λ k. k ≤ x.move) (numbers_of a.asks h)
@@ -52,7 +52,7 @@ pub record BelowWrite (a : Account) (object : ObjectId) (version : ℕ) (u : Upd
   pub found : CommittedAs a u update
   pub below : (o : ObjectId) → single_object update.command ≡ Some o → o.key ≡ object.key → told ≤ version
 
--- what an answer told of the object is no later
+-- the version in a reply about the object is no later
 abbrev pub BelowBy : Account → (ReadMode → Bool) → ObjectId → ℕ → Ask → Answer → Type 0
 BelowBy a counts object version (asks.Read mode o) (answers.Read told value) = counts mode ≡ true → o.key ≡ object.key → told ≤ version
 BelowBy a counts object version (asks.Update u) (answers.Update reply) = (told : ℕ) → reply ≡ Written told → BelowWrite a object version u told
@@ -64,7 +64,7 @@ pub record Below (a : Account) (counts : ReadMode → Bool) (object : ObjectId) 
   pub is_ask : ask_with a.asks y.node y.ticket ≡ Some ask
   pub below : BelowBy a counts object version ask.ask y.answer
 
--- of the answers of the node
+-- the same of the replies of the node
 abbrev pub BelowAt : Account → ℕ → (ReadMode → Bool) → ObjectId → ℕ → Answered → Type 0
 BelowAt a node counts object version y = y.node ≡ node → Below a counts object version y
 
@@ -94,7 +94,7 @@ pub record Look (a : Account) (x : Answered) (earlier : List Answered) : Type 0 
   pub is_ask : ask_with a.asks x.node x.ticket ≡ Some ask
   pub fact : LookBy a x earlier ask.ask x.answer
 
--- each answer, after those before it
+-- each reply, after those before it
 abbrev pub Facts : Account → List Answered → List Answered → Type 0
 Facts a earlier [] = ⊤
 Facts a earlier (x ∷ xs) = Look a x earlier × Facts a (earlier ++ x ∷ []) xs
@@ -109,7 +109,7 @@ pub fact_at : (a : Account) (front earlier later : List Answered) (x : Answered)
 fact_at a front [] later x f = let P : List Answered → Type 0 = λ l. Look a x l in subst P (sym (append-nil front)) f.0
 fact_at a front (y ∷ earlier) later x f = let P : List Answered → Type 0 = λ l. Look a x l in subst P (append_assoc front (y ∷ []) earlier) (fact_at a (front ++ y ∷ []) earlier later x f.1)
 
--- ---- stays
+-- ---- earlier claims stay true
 
 below_by_stays : (a b : Account) (w v : World Entry) → Known a w → Known b v → GoesOn a b w v → IsPrefix a.committed b.committed → (counts : ReadMode → Bool) (object : ObjectId) (version : ℕ) (ask : Ask) (answer : Answer)
     → BelowBy a counts object version ask answer → BelowBy b counts object version ask answer
@@ -174,9 +174,9 @@ facts_stay a b w v k n g p earlier (x ∷ xs) f =
     let l : Look a x earlier = f.0 in
     (record { ask = l.ask; is_ask = g.stay x.node x.ticket l.ask l.is_ask; fact = look_by_stays a b w v k n g p x earlier l.ask.ask x.answer l.fact }, facts_stay a b w v k n g p (earlier ++ x ∷ []) xs f.1)
 
--- ---- a new answer
+-- ---- a new reply
 
--- a later read is above what was told before
+-- a later read is not below the earlier replies
 below_eventual : (b : Account) (v : World Entry) → Known b v → (object : ObjectId) (version node : ℕ) → newest_at v node object.key ≡ version → (ask : Ask) (answer : Answer) → LowBy b v node ask answer → BelowBy b any_mode object version ask answer
 below_eventual b v n object version node is (asks.Read mode o) (answers.Read told value) l =
     λ c same. let e : newest_at v node o.key ≡ newest_at v node object.key = ap (newest_at v node) same in omega (arith, l.whole, e, is)
@@ -186,7 +186,7 @@ below_eventual b v n object version node is (asks.Update u) (answers.Update repl
 below_eventual b v n object version node is (asks.Read mode o) (answers.Update reply) l = tt
 below_eventual b v n object version node is (asks.Update u) (answers.Read told value) l = tt
 
--- likewise a bounded one, above bounded ones of no more
+-- the same for a bounded read, and earlier reads of no larger bound
 pub record IsMost (v : World Entry) (node k : ℕ) (key : List ℕ) (version : ℕ) : Type 0 where
   pub most : (c : ℕ) → v.acknowledged node ≤ c → version_after (v.history node) key c ≤ clean_at v node key + k → version_after (v.history node) key c ≤ version
 

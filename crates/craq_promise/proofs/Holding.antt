@@ -1,4 +1,4 @@
--- Eventual and bounded answers hold in each run.
+-- Eventual and bounded replies are correct in each run.
 use Rattle.std.proofs.Common.{◌≡◌, ◌⊎◌, inl, inr, ⊎_elim, ℕ, suc, ◌≤◌, ◌==◌, Bool, true, ◌&&◌, List, [], ◌∷◌, ◌++◌, filter_map, take, find, option_and_then, Contains, Option, Some, None, refl, ap, sym, subst, ◌∙◌, arith}
 use Rattle.std.specs.List.{AllByRecursion}
 use Rattle.std.proofs.lemmas.Bool.{cond_both, and_parts, eqb-true}
@@ -87,7 +87,7 @@ line_is a w answers x h k l =
       begins = ap (λ us. us ++ updates_of a.asks p.rest) (updates_take a.asks opening_state (after_move a x.move) a.committed k.numbered (log_genuine k)) ∙ sym split;
     }
 
--- ---- what was told before
+-- ---- earlier replies
 
 keys_same : (o q : ObjectId) → same_object o q ≡ true → o.key ≡ q.key
 keys_same o q h = (bytes_decides o.key q.key).0 (and_parts (o.chain == q.chain) (same_bytes o.key q.key) h).1
@@ -98,7 +98,7 @@ none_some o n s = cc
 some_told : (told v : ℕ) (o : Option ℕ) → o ≡ Some told → o ≡ Some v → told ≡ v
 some_told told v o h k = cc
 
--- the version of an answered read, by its ask
+-- the version of an answered read, by its request
 reads_below : (a : Account) (counts : ReadMode → Bool) (object : ObjectId) (version : ℕ) (ask : Ask) (answer : Answer) → BelowBy a counts object version ask answer
     → (v : ℕ) → version_looked counts object (look_by ask answer) ≡ Some v → v ≤ version
 reads_below a counts object version (asks.Read mode q) (answers.Read told value) b v h =
@@ -183,7 +183,7 @@ not_below a given earlier node counts l h =
           (sym (ap (λ (o : Option Asked). if_on l.object (option_and_then (committed_object (updates_of a.asks a.committed)) (option_and_then (λ (ask : Asked). update_of ask.ask) o)) (written_version y.answer)) b.is_ask) ∙ is)) h);
     }
 
--- ---- each look
+-- ---- each read
 
 pub look_is : (l m : valid.Look) → Some l ≡ Some m → l ≡ m
 look_is l m h = cc

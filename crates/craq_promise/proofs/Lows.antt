@@ -1,4 +1,4 @@
--- No answer of a node tells of a later version than the node holds.
+-- No reply of a node has a later version than the node holds.
 use Rattle.std.proofs.Common.{◌≡◌, ⊎_elim, ℕ, ◌+◌, ◌≤◌, List, [], ◌∷◌, ◌++◌, filter_map, length, take, find, Some, refl, ap, sym, subst, ◌∙◌, arith, take-take}
 use Rattle.std.proofs.lemmas.List.Elements.{filter_map-append}
 use Rattle.std.proofs.lemmas.List.{map-append}
@@ -71,16 +71,17 @@ committed_stays {a} {b} {w} {v} k n g p u x h =
     let same : updates_of b.asks a.committed ≡ updates_of a.asks a.committed = updates_stay a.asks b.asks g.stay opening_state a.committed k.numbered n.numbered (subst P (sym k.committed) held.log) in
     found_longer b.asks a.committed b.committed u x p (ap (find (same_request u)) same ∙ h)
 
--- ---- what an answer tells of versions, against what its node holds
+-- ---- the versions in a reply, against those that its node holds
 
--- the object's newest version at a node, and its version among what the node knows to be committed
+-- the object's newest version at a node, and its version among the entries that the node knows to
+-- be committed
 abbrev pub newest_at : World Entry → ℕ → List ℕ → ℕ
 newest_at w id key = version_of (after_entries opening_state (w.history id)).objects key
 
 abbrev pub clean_at : World Entry → ℕ → List ℕ → ℕ
 clean_at w id key = version_after (w.history id) key (w.acknowledged id)
 
--- a bounded answer is of a beginning, near to what is clean
+-- a bounded reply is from a prefix, near to the clean version
 pub record IsNear (w : World Entry) (id j : ℕ) (key : List ℕ) (version : ℕ) : Type 0 where
   pub count : ℕ
   pub short : count ≤ length (w.history id)
@@ -107,7 +108,7 @@ pub record Low (a : Account) (w : World Entry) (y : Answered) : Type 0 where
   pub is_ask : ask_with a.asks y.node y.ticket ≡ Some ask
   pub low : LowBy a w y.node ask.ask y.answer
 
--- ---- it stays
+-- ---- it stays true
 
 whole_take : (h : List Entry) (key : List ℕ) → version_after h key (length h) ≡ version_of (after_entries opening_state h).objects key
 whole_take h key = ap (λ l. version_of (after_entries opening_state l).objects key) (take-length h)
@@ -155,7 +156,7 @@ low_by_stays a b w v k n g p id (asks.Update u) (answers.Read version value) h =
 pub low_stays : (a b : Account) (w v : World Entry) → Known a w → Known b v → GoesOn a b w v → IsPrefix a.committed b.committed → (y : Answered) → Low a w y → Low b v y
 low_stays a b w v k n g p y h = record { ask = h.ask; is_ask = g.stay y.node y.ticket h.ask h.is_ask; low = low_by_stays a b w v k n g p y.node h.ask.ask y.answer h.low }
 
--- ---- a new answer
+-- ---- a new reply
 
 pub clean_whole : (b : Account) (v : World Entry) → Known b v → (id : ℕ) (key : List ℕ) → clean_at v id key ≤ newest_at v id key
 clean_whole b v n id key =

@@ -1,4 +1,4 @@
--- The version that a reply tells as written is the object's version after the command's writes.
+-- The version that a reply reports as written is the object's version after the command's writes.
 use Rattle.std.proofs.Common.{◌≡◌, ◌≢◌, ◌⊎◌, inl, inr, ⊎_elim, ℕ, ◌+◌, ◌-◌, ◌≤◌, ◌==◌, nat_lt, Bool, true, false, cond, List, [], ◌∷◌, ◌++◌, length, drop, find, unwrap_or, Option, Some, None, refl, ap, sym, subst, ◌∙◌, arith}
 use Rattle.std.specs.List.{AllByRecursion}
 use Rattle.std.proofs.lemmas.Bool.{cond_both, cond-true, cond-false, eq-eqb, eqb-true, and_from, and_parts, both_ways, false_from_ne_true, cases_eq}
@@ -36,7 +36,7 @@ set_version : (m : Objects) (key : List ℕ) (version : ℕ) (value : List ℕ) 
 unfolding object_of set_object
 set_version m key version value = ap (λ (o : Option (ℕ × List ℕ)). (unwrap_or o (0, [])).0) (found_here m key (version, value))
 
--- what is written of the key is told
+-- the version written to the key is in the reply
 abbrev TellsVersion : Objects → List ℕ → Outcome → Type 0
 TellsVersion m key o = (version : ℕ) → o.1 ≡ Written version → version_of (all_written m o.0) key ≡ version
 
@@ -81,7 +81,7 @@ tells m (Mini t) o h = absurd (cc)
 
 -- ---- the update of a kept reply
 
--- the reply to a request is that of the one update that bears it
+-- the reply to a request is that of the one update with its client and number
 pub record IsReplyOf (asked : List Asked) (s : State) (es : List Entry) (u : Update) (reply : Reply) : Type 0 where
   pub update : Update
   pub found : find (same_request u) (updates_of asked es) ≡ Some update
@@ -96,7 +96,7 @@ abbrev pub Has : Kept → Window → Type 0
 Has x [] = ⊥
 Has x (k ∷ ks) = (k ≡ x) ⊎ Has x ks
 
--- what a window has with one more reply, it had, or it is the new one
+-- each reply in a window with one more was there before, or is the new one
 has_put : (x : Kept) (w : Window) (m : ℕ) (r : Reply) → Has x (put_number w m r) → Has x w ⊎ ((m, r) ≡ x)
 has_put x [] m r = elim [ inl e ↦ inr e | inr h ↦ absurd h ]
 has_put x (k ∷ ks) m r =
@@ -186,7 +186,7 @@ reply_of asked s (e ∷ es) u reply rises n g h =
         (eq-eqb g.number x.number (sym (eqb-true u.number g.number a.1) ∙ eqb-true u.number x.number b.1)) in
         both_ways (same_request g x) (other_request s g x new) same)
 
--- a reply that is said and tells of a write is kept
+-- a reply about a write is kept
 pub said_kept : (w : Window) (number version : ℕ) → said_of w number ≡ Some (Written version) → Has (number, Written version) w
 unfolding said_of
 said_kept w number version h =

@@ -1,4 +1,4 @@
--- A node learns of a later membership, of a floor, and stops.
+-- A node adopts a later membership, gets a floor, and stops.
 use Rattle.std.proofs.Common.{Option, Some, None, ◌≡◌, ◌≢◌, ◌⊎◌, inl, inr, ⊎_elim, ℕ, zero, suc, ◌<◌, ◌≤◌, Bool, true, false, List, [], length, refl, sym, subst, ◌∙◌, arith}
 use Rattle.craq_protocol.specs.Members.{is_member, membership_of, with_value}
 use Rattle.craq_protocol.specs.Machine.{Body, World, Entry, Ack, Copy, Floor}

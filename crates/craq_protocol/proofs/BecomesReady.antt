@@ -9,7 +9,7 @@ use Rattle.craq_protocol.proofs.Prefix.{prefix_reached}
 use Rattle.craq_protocol.proofs.Invariant.{Ages, Clauses, Truth}
 use Rattle.craq_protocol.proofs.Places.{before_next, not_last, some_epoch}
 
--- a ready node stays so
+-- a ready node stays ready
 stays : {A : Type 0} → (w : World A) (n m : ℕ) → w.ready m ≡ true → with_value w.ready n true m ≡ true
 stays {A} w n m = put_each w.ready n true (λ k x. w.ready k ≡ true → x ≡ true) (λ r. refl) (λ k ne r. r) m
 

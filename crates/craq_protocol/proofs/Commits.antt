@@ -1,4 +1,4 @@
--- The tail commits what it has.
+-- The tail commits its entries.
 use Rattle.std.proofs.Common.{◌≡◌, ⊎_elim, ℕ, ◌≤◌, true, length, take, subst, arith}
 use Rattle.std.proofs.lemmas.Bool.{cases_order}
 use Rattle.craq_protocol.specs.Members.{is_member, is_last, membership_of, with_value}

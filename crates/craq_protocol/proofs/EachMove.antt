@@ -1,4 +1,4 @@
--- Each move keeps the invariant, and takes nothing back; so do lists of moves.
+-- Each move preserves the invariant and takes nothing back; so do lists of moves.
 use Rattle.std.proofs.Common.{Option, Some, None, ◌≡◌, inl, inr, ⊎_elim, ℕ, zero, suc, ◌+◌, ◌<◌, ◌≤◌, ◌==◌, nat_lt, nat_le, true, false, not, ◌&&◌, List, [], ◌∷◌, ◌++◌, length, take, slice_get, refl, ap, sym, subst, ◌∙◌, arith, take_all}
 use Rattle.std.proofs.lemmas.Bool.{and_parts, both_ways, not-true, ltb-true, leb-true, eqb-true, cases_order, cond_both, cases_eq}
 use Rattle.std.proofs.lemmas.List.{length-take-le}
@@ -108,7 +108,7 @@ receives {A} {w} i n s (Floor k) u sent =
       later = later_floors w (with_value w.floor n (Some k));
     })
 
--- what stands at an index was sent
+-- the message at an index was sent
 found : {A : Type 0} → (messages : List (Message A)) (k : ℕ) (m : Message A) → slice_get messages k ≡ Some m → Sent messages m
 found {A} [] k m e = absurd (cc)
 found {A} (x ∷ messages) zero m e = inl (cc)
@@ -229,7 +229,7 @@ joins_if {A} {w} i n =
 
 -- ---- messages
 
--- a member has what stands behind it
+-- a member holds the history of each member after it
 upstream : {A : Type 0} → {w : World A} {g : Ages} → Clauses w g → (n q : ℕ) → is_member (membership_of w.memberships (w.epoch n)) n ≡ true → is_member (membership_of w.memberships (w.epoch n)) q ≡ true → g.rank q ≤ g.rank n
     → IsPrefix (w.history n) (w.history q)
 upstream {A} {w} {g} c n q hn hq le =

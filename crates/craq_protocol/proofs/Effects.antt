@@ -1,4 +1,5 @@
--- What each move does where its condition holds: for a proof that a system follows the machine.
+-- The effect of each move if its condition holds; used in the proof that a system follows the
+-- machine.
 use Rattle.std.proofs.Common.{Some, None, ◌≡◌, inl, inr, ℕ, suc, ◌+◌, ◌<◌, ◌≤◌, ◌==◌, nat_lt, nat_le, true, false, not, ◌&&◌, List, [], ◌∷◌, ◌++◌, length, take, slice_get, refl, ap, ◌∙◌}
 use Rattle.std.proofs.lemmas.Bool.{and_from, not_from_false, lt-ltb, le-leb, eq-eqb, cond-true, cond-false}
 use Rattle.craq_protocol.specs.Members.{is_member, is_first, is_next, membership_of, with_value, without}
@@ -17,7 +18,7 @@ append_does w n x u r f =
     cond-true ((w.running n && w.ready n) && is_first (known_membership w n) n) (after_commit (record w { history = with_value w.history n (w.history n ++ x ∷ []) }) n) w
     (and_from (w.running n && w.ready n) (is_first (known_membership w n) n) (and_from (w.running n) (w.ready n) u r) f)
 
--- where a message stands that was sent
+-- the index of a message that was sent
 pub sent_at : {A : Type 0} → (messages : List (Message A)) (m : Message A) → Sent messages m → (k : ℕ) × (slice_get messages k ≡ Some m)
 sent_at [] m s = absurd s
 sent_at (x ∷ messages) m (inl e) = (0, ap Some e)

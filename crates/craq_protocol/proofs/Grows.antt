@@ -1,4 +1,4 @@
--- A history that grows, and a mark of how much is committed.
+-- A history grows, and so does its committed length.
 use Rattle.std.proofs.Common.{◌≡◌, ℕ, ◌<◌, ◌≤◌, true, List, [], length, take, arith}
 use Rattle.craq_protocol.specs.Members.{is_member, membership_of, with_value}
 use Rattle.craq_protocol.specs.Machine.{Body, World, Entry, Ack, Copy, Floor}

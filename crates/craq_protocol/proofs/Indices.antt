@@ -1,4 +1,5 @@
--- The words on lists of ids by index, and as words of std: for a proof that a system follows the machine.
+-- The predicates on lists of ids by index, and as those of std; used in the proof that a system
+-- follows the machine.
 use Rattle.std.proofs.Common.{◌≡◌, ⊎_elim, ℕ, zero, suc, ◌<◌, ◌==◌, true, false, not, cond, ◌&&◌, List, [], ◌∷◌, length, get_or, filter, Contains, refl, ap, sym, subst, ◌∙◌, arith}
 use Rattle.std.proofs.lemmas.Bool.{both_ways, false_from_ne_true, eq-eqb, and_from, or_left, or_right, cond_both, cond-true, cond-false, not_from_true, not_from_false}
 use Rattle.craq_protocol.specs.Members.{is_member, is_first, is_last, is_next, without, IsDistinct}
@@ -27,7 +28,7 @@ next_at (m ∷ k ∷ ms) (suc i) a b lt d e = or_right ((m == a) && (k == b)) (i
 pub is_member_at : (c : List ℕ) (i n : ℕ) → i < length c → get_or c i 0 ≡ n → is_member c n ≡ true
 is_member_at c i n lt e = let P : ℕ → Type 0 = λ k. is_member c k ≡ true in subst P e (get_has c i lt)
 
--- who stands before another is not last
+-- an id before another is not last
 pub not_last_at : (c : List ℕ) (i n : ℕ) → IsDistinct c → suc i < length c → get_or c i 0 ≡ n → is_last c n ≡ false
 unfolding is_last
 not_last_at [] i n d lt e = absurd (omega arith)

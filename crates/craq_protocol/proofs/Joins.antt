@@ -48,7 +48,7 @@ clauses_ages {A} {w} {g} k n out =
           k.never_last_before s m x r h (omega (arith, rank (length w.memberships) m h, rank (w.epoch s) s (here s r))) ge (omega arith) l;
     }
 
--- who never was a member
+-- a node that never was a member
 pub record Blank {A : Type 0} (w : World A) (n : ℕ) : Type 0 where
   pub epoch : w.epoch n ≡ 0
   pub ready : w.ready n ≡ false
@@ -79,7 +79,7 @@ blank_yet {A} {w} {g} k n out =
     zero_from zero f = refl
     zero_from (suc x) f = absurd (f (omega arith))
 
--- the world after, but for the fields that stay as they were
+-- the next world, without the fields that stay as they were
 joins_bare : {A : Type 0} → {w : World A} {g : Ages} → Clauses w g → (n : ℕ) → is_member w.joined n ≡ false → Blank w n
     → Clauses (with_membership w (membership_of w.memberships (length w.memberships) ++ n ∷ []) (w.joined ++ n ∷ []) (with_value w.running n true)) (aged w.memberships g n)
 joins_bare {A} {w} {g} k n out b =

@@ -1,4 +1,4 @@
--- What holds after every move, and how a move that may commit keeps it.
+-- The invariant after every move; a move that may commit preserves it.
 use Rattle.std.proofs.Common.{◌≡◌, ◌≢◌, ⊎_elim, ℕ, ◌<◌, ◌≤◌, Bool, true, cond, ◌&&◌, List, length, ap, sym, subst, ◌∙◌, arith}
 use Rattle.std.proofs.lemmas.Bool.{cond_both, and_parts, and_from, both_ways, cases_eq}
 use Rattle.craq_protocol.specs.Members.{is_member, is_last, membership_of, with_value}

@@ -14,7 +14,7 @@ pub put_other : {A : Type 0} (f : ℕ → A) (n : ℕ) (v : A) (m : ℕ) → m �
 unfolding with_value
 put_other f n v m ne = cond-false (m == n) v (f m) (ne_eqb m n ne)
 
--- what holds at n of the new value and elsewhere of the old ones
+-- a property of the new value at n, and of the old values elsewhere
 pub put_each : {A : Type 0} (f : ℕ → A) (n : ℕ) (v : A) (P : ℕ → A → Type 0) → P n v → ((m : ℕ) → m ≢ n → P m (f m)) → (m : ℕ) → P m (with_value f n v m)
 unfolding with_value
 put_each f n v P here there m =
@@ -22,7 +22,7 @@ put_each f n v P here there m =
     (λ e. let Q : ℕ → Type 0 = λ k. P k v in subst Q (sym (eqb-true m n e)) here)
     (λ e. there m (eqb-false m n e))
 
--- ---- who is in a list
+-- ---- membership in a list
 
 pub is_member_cases : (m : ℕ) (ms : List ℕ) (n : ℕ) → is_member (m ∷ ms) n ≡ true → (m ≡ n) ⊎ (is_member ms n ≡ true)
 unfolding is_member
@@ -109,7 +109,7 @@ next_rank r (m ∷ k ∷ ms) a b s h =
     (λ e. next_rank r (k ∷ ms) a b s.1 e)
     (next_cases m k ms a b h)
 
--- nobody stands between
+-- no id is between the two
 pub next_gap : (r : ℕ → ℕ) (c : List ℕ) (a b q : ℕ) → Sorted r c → is_next c a b ≡ true → is_member c q ≡ true → r q < r b → r q ≤ r a
 unfolding is_next
 next_gap r [] a b q s h hq lt = absurd (is_member_none q hq)
@@ -259,7 +259,7 @@ membership_beyond [] (suc x) lt = refl
 membership_beyond (c ∷ cs) (suc zero) lt = absurd (omega arith)
 membership_beyond (c ∷ cs) (suc (suc x)) lt = membership_beyond cs (suc x) (omega arith)
 
--- what is last now
+-- the newest membership
 pub membership_present : (cs : List (List ℕ)) (c : List ℕ) → membership_of (cs ++ c ∷ []) (length (cs ++ c ∷ [])) ≡ c
 membership_present cs c = ap (membership_of (cs ++ c ∷ [])) (length_push cs c) ∙ membership_new cs c
 

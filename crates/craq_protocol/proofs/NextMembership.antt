@@ -1,4 +1,4 @@
--- The master goes on to another membership.
+-- The master makes the next membership.
 use Rattle.std.proofs.Common.{◌≡◌, ◌⊎◌, inl, ⊎_elim, ℕ, ◌<◌, ◌≤◌, Bool, true, false, List, [], ◌∷◌, ◌++◌, length, sym, subst, arith}
 use Rattle.std.proofs.lemmas.Bool.{both_ways}
 use Rattle.craq_protocol.specs.Members.{is_member, is_last, is_next, membership_of, without}
@@ -13,7 +13,7 @@ pub record Fresh {A : Type 0} (w : World A) (g : Ages) (m : ℕ) : Type 0 where
   pub absent : (x : ℕ) → is_member (membership_of w.memberships x) m ≡ true → ⊥
   pub above : (s : ℕ) → w.ready s ≡ true → g.rank m < g.rank s → ⊥
 
--- the world after
+-- the next world
 abbrev pub with_membership : {A : Type 0} → World A → List ℕ → List ℕ → (ℕ → Bool) → World A
 with_membership {A} w c joined running = record w { memberships = w.memberships ++ c ∷ []; joined = joined; running = running }
 

@@ -7,7 +7,7 @@ use Rattle.craq_protocol.proofs.Lists.{Sorted, is_member_none, is_member_cases, 
 use Rattle.craq_protocol.proofs.Prefix.{prefix_nil}
 use Rattle.craq_protocol.proofs.Invariant.{Ages, Shape, Clauses, Invariant}
 
--- where n stands
+-- the place of n
 place : List ℕ → ℕ → ℕ
 place [] n = 0
 place (m ∷ ms) n = cond (m == n) 0 (suc (place ms n))

@@ -1,4 +1,4 @@
--- Who stands where, and that there is one tail at most.
+-- The places of ids in memberships; there is at most one tail.
 use Rattle.std.proofs.Common.{◌≡◌, ⊎_elim, ℕ, zero, suc, ◌<◌, ◌≤◌, true, false, List, length, sym, subst, arith}
 use Rattle.std.proofs.lemmas.Bool.{cases_lt, cases_order, both_ways}
 use Rattle.craq_protocol.specs.Members.{is_member, is_last, is_next, membership_of}
@@ -6,7 +6,7 @@ use Rattle.craq_protocol.specs.Machine.{World}
 use Rattle.craq_protocol.proofs.Lists.{last_highest, next_gap, next_left, next_right, next_rank, membership_none, membership_past}
 use Rattle.craq_protocol.proofs.Invariant.{Ages, Shape, Clauses}
 
--- an older member of a later membership was one already
+-- an older member of a later membership already was a member
 pub older : {cs : List (List ℕ)} {joined : List ℕ} {g : Ages} → Shape cs joined g → (x z q m : ℕ)
     → is_member (membership_of cs x) m ≡ true → is_member (membership_of cs z) q ≡ true → g.rank q < g.rank m → x ≤ z → is_member (membership_of cs x) q ≡ true
 older h x z q m hm hq lt le =
@@ -14,7 +14,7 @@ older h x z q m hm hq lt le =
     let b : _ = h.since_born x m hm in
     h.stays z x q hq (omega arith) le
 
--- whoever stands before t in a later membership stands no later than t's predecessor
+-- an id before t in a later membership is no later than t's predecessor
 pub before_next : {cs : List (List ℕ)} {joined : List ℕ} {g : Ages} → Shape cs joined g → (x z q s t : ℕ)
     → is_next (membership_of cs x) s t ≡ true → is_member (membership_of cs z) q ≡ true → g.rank q < g.rank t → x ≤ z → g.rank q ≤ g.rank s
 before_next {cs} {joined} {g} h x z q s t nx hq lt le =
@@ -28,7 +28,7 @@ pub some_epoch : (cs : List (List ℕ)) (x n : ℕ) → is_member (membership_of
 some_epoch cs zero n h = absurd (membership_none cs n h)
 some_epoch cs (suc x) n h = omega arith
 
--- a tail has no ready node behind it
+-- a tail has no ready node after it
 pub tail_last : {A : Type 0} → {w : World A} {g : Ages} → Clauses w g → (n m : ℕ)
     → is_last (membership_of w.memberships (w.epoch n)) n ≡ true → is_member (membership_of w.memberships (length w.memberships)) n ≡ true
     → w.ready m ≡ true → is_member (membership_of w.memberships (length w.memberships)) m ≡ true → g.rank n < g.rank m → ⊥
@@ -38,7 +38,7 @@ tail_last {A} {w} {g} c n m l hn r hm lt =
     (λ a. not_last c.shape (w.epoch n) n m l (c.shape.stays (length w.memberships) (w.epoch n) m hm a (c.epoch_made n)) lt)
     (cases_lt (w.epoch n) (g.born m))
 
--- there is one tail at most
+-- there is at most one tail
 pub one_tail : {A : Type 0} → {w : World A} {g : Ages} → Clauses w g → (n m : ℕ)
     → w.running n ≡ true → w.ready n ≡ true → is_last (membership_of w.memberships (w.epoch n)) n ≡ true
     → w.running m ≡ true → w.ready m ≡ true → is_last (membership_of w.memberships (w.epoch m)) m ≡ true → n ≡ m
@@ -50,7 +50,7 @@ one_tail {A} {w} {g} c n m un rn ln um rm lm =
     (λ o. ⊎_elim (λ lt. absurd (tail_last c n m ln hn rm hm lt)) (λ lt. absurd (tail_last c m n lm hm rn hn lt)) o)
     (cases_order (g.rank n) (g.rank m))
 
--- while a member is not ready that a floor was sent to, there is no tail
+-- while a member to which a floor was sent is not ready, there is no tail
 pub no_tail : {A : Type 0} → {w : World A} {g : Ages} → Clauses w g → (e s t n : ℕ)
     → w.ready s ≡ true → e ≤ w.epoch s → is_next (membership_of w.memberships e) s t ≡ true
     → w.ready t ≡ false → is_member (membership_of w.memberships (length w.memberships)) t ≡ true

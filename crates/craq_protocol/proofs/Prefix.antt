@@ -25,7 +25,7 @@ prefix_length {A} {xs} {ys} p = omega (arith, length-append xs p.rest, ap length
 pub prefix_take : {A : Type 0} → (k : ℕ) (xs : List A) → IsPrefix (take k xs) xs
 prefix_take {A} k xs = record { rest = drop k xs; is = take-append-drop k xs }
 
--- what of ys is as long as its prefix
+-- the first elements of ys, as many as its prefix has, are the prefix
 pub prefix_is_take : {A : Type 0} → {xs ys : List A} → IsPrefix xs ys → take (length xs) ys ≡ xs
 prefix_is_take {A} {xs} {ys} p = rw (← p.is) (take_at xs p.rest (length xs) refl)
 
@@ -36,14 +36,14 @@ prefix_both {A} {xs} {ys} {zs} p q le =
     in
     let P : List A → Type 0 = λ l. IsPrefix l ys in subst P e (prefix_take (length xs) ys)
 
--- of a longer history the same is taken
+-- the same elements are taken from a longer history
 pub take_prefix : {A : Type 0} → (k : ℕ) {xs ys : List A} → IsPrefix xs ys → k ≤ length xs → take k ys ≡ take k xs
 take_prefix {A} k {xs} {ys} p le = ap (take k) (sym p.is) ∙ take-append-le k xs p.rest le
 
 pub prefix_within : {A : Type 0} → (k : ℕ) {xs ys : List A} → IsPrefix xs ys → k ≤ length xs → IsPrefix (take k ys) xs
 prefix_within {A} k {xs} {ys} p le = let P : List A → Type 0 = λ l. IsPrefix l xs in subst P (sym (take_prefix k p le)) (prefix_take k xs)
 
--- what is within the first k of a longer one is in this one, once it has k
+-- a list within the first k of a longer one is within this one, once it has k
 pub prefix_reached : {A : Type 0} → (k : ℕ) {log xs ys : List A} → IsPrefix log (take k ys) → IsPrefix xs ys → k ≤ length xs → IsPrefix log xs
 prefix_reached {A} k l p le = prefix_trans l (prefix_within k p le)
 
@@ -55,7 +55,7 @@ take_more {A} zero xs rest = prefix_nil []
 take_more {A} (suc k) [] rest = prefix_nil (take (suc k) rest)
 take_more {A} (suc k) (x ∷ xs) rest = cons_prefix x (take_more k xs rest)
 
--- the first k of a longer one are no less
+-- the first k of a longer list are no fewer
 pub take_grows : {A : Type 0} → (k : ℕ) {xs ys : List A} → IsPrefix xs ys → IsPrefix (take k xs) (take k ys)
 take_grows {A} k {xs} {ys} p = let P : List A → Type 0 = λ l. IsPrefix (take k xs) (take k l) in subst P p.is (take_more k xs p.rest)
 
@@ -85,6 +85,6 @@ prefix_next {A} {xs} {ys} p x e =
     let h : IsPrefix (x ∷ []) p.rest = get_behind xs p.rest x at in
     record { rest = h.rest; is = append_assoc xs (x ∷ []) h.rest ∙ (ap (λ l. xs ++ l) h.is ∙ p.is) }
 
--- what is taken of a history stays as it grows
+-- the first k of a history stay as it grows
 pub prefix_taken : {A : Type 0} → (k : ℕ) {xs ys log : List A} → IsPrefix xs ys → k ≤ length xs → IsPrefix (take k xs) log → IsPrefix (take k ys) log
 prefix_taken {A} k {xs} {ys} {log} p le h = let P : List A → Type 0 = λ l. IsPrefix l log in subst P (sym (take_prefix k p le)) h

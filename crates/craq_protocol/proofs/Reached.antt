@@ -1,4 +1,4 @@
--- For a proof that a system's steps are lists of moves: worlds that are reached, and equal worlds.
+-- For a proof that a system's steps are lists of moves: reached worlds, and equal worlds.
 use Rattle.std.proofs.Common.{◌≡◌, ℕ, List, [], ◌∷◌, ◌++◌, refl, ap, subst, ◌∙◌}
 use Rattle.craq_protocol.specs.Members.{IsDistinct}
 use Rattle.craq_protocol.specs.Machine.{World, Move, after_move, opening, after_moves}

@@ -13,7 +13,7 @@ pub record New (cs : List (List ℕ)) (joined : List ℕ) (g : Ages) (n m : ℕ)
   pub below : g.rank m < g.top
   pub listed : is_member joined m ≡ true
 
--- what is known of a member, old or new
+-- the properties of a member, old or new
 abbrev Old : List (List ℕ) → ℕ → ℕ → Type 0
 Old cs x m = (z : ℕ) × (is_member (membership_of cs z) m ≡ true) × (z ≤ x) × (z ≤ length cs)
 

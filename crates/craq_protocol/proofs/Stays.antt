@@ -1,4 +1,4 @@
--- What is never taken back, at each kind of change.
+-- Nothing is taken back, at each kind of change.
 use Rattle.std.proofs.Common.{Option, None, ◌≡◌, inr, ℕ, ◌<◌, ◌≤◌, true, false, List, [], ◌∷◌, ◌++◌, refl, sym, subst, ◌∙◌, arith}
 use Rattle.std.proofs.lemmas.Bool.{both_ways}
 use Rattle.craq_protocol.specs.Members.{is_member, with_value}

@@ -1,4 +1,4 @@
--- The invariant gives what is promised.
+-- The invariant implies the promises.
 use Rattle.std.proofs.Common.{◌≡◌, ⊎_elim, ℕ, ◌<◌, ◌≤◌, true, ◌&&◌, List, length, take, ap, sym, subst, arith}
 use Rattle.std.proofs.lemmas.Bool.{and_parts, cases_order}
 use Rattle.std.proofs.lemmas.List.{length-take-le}

@@ -1,40 +1,43 @@
--- Chain replication with changing memberships, as a pure machine: the master, every node that ever was, and every message that was ever sent.
+-- Chain replication with changing memberships, as a pure machine: the master, every node that ever
+-- was, and every message that was ever sent.
 use Rattle.std.specs.Prelude.{Option, Some, None, ℕ, zero, suc, ◌+◌, ◌==◌, nat_lt, nat_le, Bool, true, false, not, if◌then◌else◌, ◌&&◌, List, [], ◌∷◌, ◌++◌, length, take, slice_get}
 use Rattle.craq_protocol.specs.Members.{is_member, is_first, is_last, is_next, without, membership_of, with_value}
 
--- what a message says; A is the type of entries
+-- the body of a message; A is the type of entries
 pub data Body (A : Type 0) : Type 0 where
   Entry : (place : ℕ) (entry : A) → Body A  -- the entry at this place of the sender's history, counted from 1
-  Ack : (count : ℕ) → Body A  -- so many entries are committed
+  Ack : (count : ℕ) → Body A  -- this number of entries is committed
   Copy : (entries : List A) → Body A  -- these are the first entries, and they are committed
-  Floor : (count : ℕ) → Body A  -- who holds so many entries may become ready
+  Floor : (count : ℕ) → Body A  -- a node that holds this number of entries may become ready
 
+-- a message from one node to another
 pub record Message (A : Type 0) : Type 0 where
   pub epoch : ℕ  -- of the membership that the sender knew
   pub from : ℕ
   pub to : ℕ
   pub body : Body A
 
+-- the state of the machine; nodes' fields are functions of their ids
 pub record World (A : Type 0) : Type 0 where
-  pub memberships : List (List ℕ)  -- those that the master made, that of epoch 1 first
+  pub memberships : List (List ℕ)  -- made by the master, that of epoch 1 first
   pub joined : List ℕ  -- each id that ever was a member, in the order of joining
   pub running : ℕ → Bool
   pub epoch : ℕ → ℕ  -- of the membership that the node knows; 0: none yet
   pub ready : ℕ → Bool  -- the node holds all that was committed before it joined
   pub history : ℕ → List A
-  pub acknowledged : ℕ → ℕ  -- how many entries the node knows to be committed
-  pub floor : ℕ → Option ℕ  -- how many entries the node must hold to become ready
+  pub acknowledged : ℕ → ℕ  -- the number of entries that the node knows to be committed
+  pub floor : ℕ → Option ℕ  -- the number of entries that the node must hold to become ready
   pub messages : List (Message A)  -- each that was ever sent, the newest first
-  pub log : List A  -- what is committed: the history of the last node that committed as a tail
+  pub log : List A  -- the committed entries: the history of the last node that committed as a tail
 
--- what may happen next. A message arrives by Take: any number of times, in any order, or never
+-- the moves; a message arrives by Take: any number of times, in any order, or never
 pub data Move (A : Type 0) : Type 0 where
-  Append : (node : ℕ) (entry : A) → Move A  -- the head takes a new entry
+  Append : (node : ℕ) (entry : A) → Move A  -- the head appends a new entry
   Take : (node : ℕ) (which : ℕ) → Move A  -- the message at this index of all that were sent arrives
   Become_ready : (node : ℕ) → Move A
-  Adopt : (node : ℕ) (epoch : ℕ) → Move A  -- the node learns of a later membership
-  Stop : (node : ℕ) → Move A  -- for good
-  Remove : (node : ℕ) → Move A  -- the master takes a stopped member out
+  Adopt : (node : ℕ) (epoch : ℕ) → Move A  -- the node adopts a later membership
+  Stop : (node : ℕ) → Move A  -- permanently
+  Remove : (node : ℕ) → Move A  -- the master removes a stopped member
   Join : (node : ℕ) → Move A  -- the master adds a new member at the end
   Send_entry : (node : ℕ) (to : ℕ) (place : ℕ) → Move A
   Send_ack : (node : ℕ) (to : ℕ) → Move A
@@ -69,8 +72,9 @@ unfoldable pub entry_at : {A : Type 0} → List A → ℕ → Option A
 entry_at xs zero = None
 entry_at xs (suc i) = slice_get xs i
 
--- What a message of the node's own epoch does. From the predecessor: the next entry; and while the node is not ready,
--- a copy of more than it holds, and a floor. From the successor, once it is ready: how much is committed.
+-- The effect of a message of the node's own epoch. From the predecessor: the next entry; and while
+-- the node is not ready, a copy of more than it holds, and a floor. From the successor, once it is
+-- ready: the number of committed entries.
 abbrev pub after_receipt : {A : Type 0} → World A → ℕ → ℕ → Body A → World A
 after_receipt w node from (Entry place entry) =
     if is_next (known_membership w node) from node && (place == length (w.history node) + 1)
@@ -95,7 +99,8 @@ after_take w node None = w
 after_take w node (Some message) =
     if w.running node && ((message.to == node) && (message.epoch == w.epoch node)) then after_receipt w node message.from message.body else w
 
--- an unready node that holds as many entries as its floor says becomes ready; with no floor it does not
+-- an unready node that holds as many entries as its floor says becomes ready; without a floor it
+-- does not
 abbrev pub after_floor : {A : Type 0} → World A → ℕ → Option ℕ → World A
 after_floor w node None = w
 after_floor w node (Some floor) =
@@ -109,7 +114,7 @@ after_send_entry w node to place None = w
 after_send_entry w node to place (Some entry) =
     if w.running node && is_next (known_membership w node) node to then after_send w node to (Entry place entry) else w
 
--- one move; where its condition fails, nothing happens
+-- one move; if its condition fails, nothing happens
 abbrev pub after_move : {A : Type 0} → World A → Move A → World A
 after_move w (Append node entry) =
     if (w.running node && w.ready node) && is_first (known_membership w node) node

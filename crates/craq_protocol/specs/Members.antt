@@ -23,21 +23,21 @@ is_next [] first second = false
 is_next (m ∷ []) first second = false
 is_next (m ∷ k ∷ ms) first second = ((m == first) && (k == second)) || is_next (k ∷ ms) first second
 
--- the members but this one
+-- the members without this one
 unfoldable pub without : List ℕ → ℕ → List ℕ
 without [] id = []
 without (m ∷ ms) id = if m == id then without ms id else m ∷ without ms id
 
--- no id stands there twice
+-- no id occurs twice
 abbrev pub IsDistinct : List ℕ → Type 0
 IsDistinct [] = Unit {0}
 IsDistinct (m ∷ ms) = (is_member ms m ≡ false) × IsDistinct ms
 
--- the membership of an epoch, counted from 1; none for epoch 0, and none for an epoch that has not come
+-- the membership of an epoch, counted from 1; empty for epoch 0 and for an epoch that has not come
 unfoldable pub membership_of : List (List ℕ) → ℕ → List ℕ
 membership_of memberships zero = []
 membership_of memberships (suc epoch) = get_or memberships epoch []
 
--- the function, but with this value at the id
+-- the function with this value at the id
 unfoldable pub with_value : {A : Type 0} → (ℕ → A) → ℕ → A → ℕ → A
 with_value f id value other = if other == id then value else f other

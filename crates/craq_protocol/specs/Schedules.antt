@@ -2,7 +2,7 @@
 use Rattle.std.specs.Prelude.{ℕ, List, [], ◌∷◌, ◌++◌}
 use Rattle.craq_protocol.specs.Machine.{World, Move, opening, after_moves, Append, Take, Become_ready, Adopt, Stop, Remove, Join, Send_entry, Send_ack, Send_copy, Send_floor}
 
--- where moves lead from an opening of the chain 1, 2, 3
+-- the world after moves from an opening of the chain 1, 2, 3
 abbrev pub from_three : List (Move ℕ) → World ℕ
 from_three moves = after_moves (opening (1 ∷ 2 ∷ 3 ∷ [])) moves
 
@@ -10,11 +10,11 @@ from_three moves = after_moves (opening (1 ∷ 2 ∷ 3 ∷ [])) moves
 abbrev pub entry_passes : ℕ → ℕ → ℕ → List (Move ℕ)
 entry_passes from to place = Send_entry from to place ∷ Take to 0 ∷ []
 
--- what is committed is told to the node before
+-- the committed length is sent to the node before
 abbrev pub ack_passes : ℕ → ℕ → List (Move ℕ)
 ack_passes from to = Send_ack from to ∷ Take to 0 ∷ []
 
--- each of the nodes learns of the membership of an epoch
+-- each of the nodes adopts the membership of an epoch
 abbrev pub all_adopt : ℕ → List ℕ → List (Move ℕ)
 all_adopt epoch [] = []
 all_adopt epoch (node ∷ nodes) = Adopt node epoch ∷ all_adopt epoch nodes
@@ -35,7 +35,8 @@ second_fails =
     (Stop 2 ∷ Remove 2 ∷ Append 1 9 ∷ []) ++ all_adopt 3 (1 ∷ 3 ∷ 4 ∷ []) ++ entry_passes 1 3 3 ++ entry_passes 3 4 3
     ++ ack_passes 4 3 ++ ack_passes 3 1
 
--- in the chain 1, 2, 3 the head takes 8 and 9 after 7 was committed, and fails before anybody has them
+-- in the chain 1, 2, 3 the head appends 8 and 9 after 7 was committed, and fails before another
+-- node has them
 abbrev pub head_fails : List (Move ℕ)
 head_fails = Append 1 8 ∷ Append 1 9 ∷ Send_entry 1 2 2 ∷ Stop 1 ∷ Remove 1 ∷ []
 

@@ -4,7 +4,7 @@ use Rattle.craq_protocol.specs.Members.{is_member, is_last, is_next, without, wi
 use Rattle.craq_protocol.specs.Machine.{Body, Message, World, Move, Entry, Copy, Floor, Append, Take, Become_ready, Adopt, Stop, Remove, Join, Send_entry, Send_copy, Send_floor, known_membership, current_membership, after_commit, after_send, after_receipt, after_move, opening}
 use Rattle.craq_protocol.specs.Schedules.{entry_passes}
 
--- what one move does
+-- the effect of one move
 abbrev pub Rule : Type 0
 Rule = World ℕ → Move ℕ → World ℕ
 
@@ -13,12 +13,13 @@ abbrev pub after_moves_by : Rule → World ℕ → List (Move ℕ) → World ℕ
 after_moves_by rule w [] = w
 after_moves_by rule w (move ∷ moves) = after_moves_by rule (rule w move) moves
 
--- where moves by a rule lead from an opening
+-- the world after moves by a rule from an opening
 abbrev pub led_by : Rule → List ℕ → List (Move ℕ) → World ℕ
 led_by rule members moves = after_moves_by rule (opening members) moves
 
 -- ---- an unready node becomes ready without a floor
 
+-- the rule that does not ask for a floor
 abbrev pub ready_without_floor : Rule
 ready_without_floor w (Become_ready node) =
     if w.running node && not (w.ready node)
@@ -32,6 +33,7 @@ second_is_ready = Join 2 ∷ Adopt 2 2 ∷ Become_ready 2 ∷ []
 
 -- ---- an unready node sends a floor
 
+-- the rule that lets an unready node send a floor
 abbrev pub floor_of_unready : Rule
 floor_of_unready w (Send_floor node to) =
     if w.running node && is_next (known_membership w node) node to
@@ -39,12 +41,13 @@ floor_of_unready w (Send_floor node to) =
     else w
 floor_of_unready w move = after_move w move
 
--- 1 commits 7; then 2 and 3 join, and 3 would be ready by the word of 2, which holds nothing
+-- 1 commits 7; then 2 and 3 join, and 3 would be ready by the floor of 2, which holds nothing
 abbrev pub third_is_ready : List (Move ℕ)
 third_is_ready = Join 2 ∷ Join 3 ∷ Adopt 2 3 ∷ Adopt 3 3 ∷ Send_floor 2 3 ∷ Take 3 0 ∷ Become_ready 3 ∷ []
 
--- ---- a ready node takes a copy in place of its history
+-- ---- a ready node replaces its history by a copy
 
+-- a message arrives; a copy replaces the history of a ready node too
 abbrev pub after_any_copy : World ℕ → ℕ → ℕ → Body ℕ → World ℕ
 after_any_copy w node from (Copy entries) =
     if is_next (known_membership w node) from node
@@ -52,11 +55,13 @@ after_any_copy w node from (Copy entries) =
     else w
 after_any_copy w node from body = after_receipt w node from body
 
+-- a message arrives, if it is for the node and of its epoch
 abbrev pub taken_with_any_copy : World ℕ → ℕ → Option (Message ℕ) → World ℕ
 taken_with_any_copy w node None = w
 taken_with_any_copy w node (Some message) =
     if w.running node && ((message.to == node) && (message.epoch == w.epoch node)) then after_any_copy w node message.from message.body else w
 
+-- the rule that lets a ready node take a copy
 abbrev pub copy_at_ready : Rule
 copy_at_ready w (Take node which) = taken_with_any_copy w node (slice_get w.messages which)
 copy_at_ready w move = after_move w move
@@ -65,16 +70,18 @@ copy_at_ready w move = after_move w move
 abbrev pub commits_at_two : List (Move ℕ)
 commits_at_two = (Append 1 7 ∷ []) ++ entry_passes 1 2 1
 
--- 1, which was not told, sends a copy of nothing, and fails; 2 would go on from the copy
+-- 1, which got no acknowledgement, sends a copy of nothing, and fails; 2 would go on from the copy
 abbrev pub second_goes_on : List (Move ℕ)
 second_goes_on = Send_copy 1 2 ∷ Take 2 0 ∷ Stop 1 ∷ Remove 1 ∷ Adopt 2 2 ∷ []
 
 -- ---- a node takes an entry of another epoch
 
+-- the body is an entry
 abbrev pub is_entry : Body ℕ → Bool
 is_entry (Entry place entry) = true
 is_entry body = false
 
+-- a message arrives, if it is for the node and of its epoch, or is an entry
 abbrev pub taken_of_any_epoch : World ℕ → ℕ → Option (Message ℕ) → World ℕ
 taken_of_any_epoch w node None = w
 taken_of_any_epoch w node (Some message) =
@@ -82,6 +89,7 @@ taken_of_any_epoch w node (Some message) =
     then after_receipt w node message.from message.body
     else w
 
+-- the rule that lets a node take an entry of any epoch
 abbrev pub entry_of_any_epoch : Rule
 entry_of_any_epoch w (Take node which) = taken_of_any_epoch w node (slice_get w.messages which)
 entry_of_any_epoch w move = after_move w move
@@ -92,6 +100,7 @@ third_lags = Stop 1 ∷ Remove 1 ∷ Adopt 2 2 ∷ Append 2 7 ∷ Send_entry 2 3
 
 -- ---- the master removes a running member
 
+-- the rule that lets the master remove a running member
 abbrev pub removes_running : Rule
 removes_running w (Remove node) =
     if is_member (current_membership w) node && nat_lt 1 (length (current_membership w))
@@ -99,7 +108,7 @@ removes_running w (Remove node) =
     else w
 removes_running w move = after_move w move
 
--- in the chain 1, 2 the entry 7 is on its way as 2 is removed; 1 commits 7 and 8 by itself
+-- in the chain 1, 2 the entry 7 has been sent as 2 is removed; 1 commits 7 and 8 by itself
 abbrev pub first_goes_alone : List (Move ℕ)
 first_goes_alone = Append 1 7 ∷ Send_entry 1 2 1 ∷ Remove 2 ∷ Adopt 1 2 ∷ Append 1 8 ∷ []
 
@@ -109,6 +118,7 @@ second_commits = Take 2 0 ∷ []
 
 -- ---- an id that was removed joins again
 
+-- the rule that lets an id that was a member join again
 abbrev pub joins_again : Rule
 joins_again w (Join node) =
     if is_member (current_membership w) node
@@ -136,12 +146,14 @@ second_comes_back = Join 2 ∷ Adopt 2 2 ∷ Take 2 0 ∷ Become_ready 2 ∷ []
 
 -- ---- the last node commits before it is ready
 
+-- the last member commits all that it holds, even if it is not ready
 abbrev pub after_any_commit : World ℕ → ℕ → World ℕ
 after_any_commit w node =
     if w.running node && is_last (known_membership w node) node
     then record w { acknowledged = with_value w.acknowledged node (length (w.history node)); log = w.history node }
     else w
 
+-- the rule that lets the last member commit before it is ready
 abbrev pub commits_unready : Rule
 commits_unready w (Adopt node epoch) = after_any_commit (after_move w (Adopt node epoch)) node
 commits_unready w move = after_move w move

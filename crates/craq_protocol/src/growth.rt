@@ -1,12 +1,13 @@
-//! What is never taken back; apart from `safety`, since these laws compare two moments of a run.
+//! States what is never taken back; unlike `safety`, these laws compare two moments of a run.
 
 ghost use Rattle.std.specs.Prelude.{◌≡◌, ◌≤◌, ℕ, List, length, true, false};
 ghost use Rattle.craq_protocol.specs.Machine.{Message, Move, World, after_move, after_moves};
 ghost use Rattle.craq_protocol.specs.Members.{is_member, membership_of};
 ghost use Rattle.craq_protocol.specs.Promises.{IsPrefix, IsReached, Sent};
 
-/// What is committed is never taken back or changed: the log grows at its end only, at each move and over each list of
-/// moves (chain replication's safety: van Renesse and Schneider, OSDI 2004).
+/// States that committed entries are never taken back or changed: the log grows only at its end, at
+/// each move and over each list of moves (chain replication's safety: van Renesse and Schneider,
+/// OSDI 2004).
 pub fn log_only_grows<T>()
     ensures move_by_move { (w : World T) (next : Move T) → IsReached w
         → IsPrefix w.log (after_move w next).log }
@@ -14,8 +15,8 @@ pub fn log_only_grows<T>()
         → IsPrefix w.log (after_moves w moves).log }
 {}
 
-/// What a node holds is never taken back or changed, and neither how much it knows to be committed, its epoch nor its
-/// readiness falls; a node that stopped stays so.
+/// States that a node's history is never taken back or changed, and that its committed length, its
+/// epoch and its readiness never fall; a stopped node stays stopped.
 pub fn nodes_only_gain<T>()
     ensures history { (w : World T) (moves : List (Move T)) (node : ℕ) → IsReached w
         → IsPrefix (w.history node) ((after_moves w moves).history node) }
@@ -30,7 +31,7 @@ pub fn nodes_only_gain<T>()
         → (after_moves w moves).running node ≡ false }
 {}
 
-/// What was sent stays sent, and the memberships that were made stay as they are.
+/// States that sent messages stay sent, and that memberships that were made are unchanged.
 pub fn past_stays<T>()
     ensures sent { (w : World T) (moves : List (Move T)) (message : Message T) → IsReached w
         → Sent w.messages message → Sent (after_moves w moves).messages message }

@@ -1,6 +1,5 @@
-//! Chain replication with memberships that change, as a pure machine, and its safety; `craq_refinement` and the theorem
-//! above it stand on it. A crate apart since the machine knows no commands, no clients and no code.
-//! Laws: functions without bodies, whose contracts are the theorems.
+//! Chain replication with changing memberships, as a pure machine without commands or clients.
+//! States laws for `craq_refinement`: functions without bodies, whose contracts are the theorems.
 #![tactic(auto)]
 
 pub mod growth;

@@ -1,4 +1,5 @@
-//! The machine does move: runs that commit entries; here since a machine that never moves would be safe too.
+//! States that the machine does move: runs that commit entries. A machine that never moves would be
+//! safe too.
 
 ghost use Rattle.std.specs.Prelude.{◌≡◌, ◌∷◌, ◌++◌, ℕ, List, Some, []};
 ghost use Rattle.craq_protocol.specs.Machine.{Move, after_moves, entry_at};
@@ -11,7 +12,8 @@ ghost use Rattle.craq_protocol.specs.Schedules.{
   second_fails,
 };
 
-/// Three entries are committed, and the head knows it, while a node joins and another fails.
+/// States that three entries are committed, and that the head knows it, while a node joins and
+/// another fails.
 pub fn commits_through_a_join_and_a_failure()
     ensures first { (from_three commits_at_three).log ≡ 7 ∷ [] }
     ensures joined { (from_three (commits_at_three ++ fourth_joins)).log ≡ 7 ∷ 8 ∷ [] }
@@ -19,8 +21,8 @@ pub fn commits_through_a_join_and_a_failure()
     ensures acknowledged { (from_three (commits_at_three ++ fourth_joins ++ second_fails)).acknowledged 1 ≡ 3 }
 {}
 
-/// The head fails with entries that nobody else has. The next head's log goes on from what was committed, and whatever
-/// happens then, another entry stands in their place.
+/// States that entries which only a failed head held are not committed. The next head's log goes on
+/// from the committed entries, and in each later world another entry is in their place.
 pub fn entries_of_a_lost_head_are_not_committed()
     ensures held { (from_three (commits_at_three ++ head_fails)).history 1 ≡ 7 ∷ 8 ∷ 9 ∷ [] }
     ensures goes_on { (from_three (commits_at_three ++ head_fails ++ next_head_goes_on)).log ≡ 7 ∷ 10 ∷ [] }

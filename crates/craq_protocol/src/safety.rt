@@ -1,19 +1,20 @@
-//! What holds at all times, whatever happens, and whatever messages are lost, repeated or late; the main laws of the
-//! crate.
+//! States what holds at all times, for every list of moves, whatever messages are lost, repeated or
+//! late; the main laws of the crate.
 
 ghost use Rattle.std.specs.Prelude.{◌≡◌, ◌<◌, ◌≤◌, ℕ, List, length, take, true};
 ghost use Rattle.craq_protocol.specs.Machine.{Ack, Copy, Message, World, current_membership, is_tail, known_membership};
 ghost use Rattle.craq_protocol.specs.Members.{IsDistinct, is_member, membership_of};
 ghost use Rattle.craq_protocol.specs.Promises.{Before, IsPrefix, IsReached, Sent};
 
-/// What is committed is a beginning of the history of each member that is ready.
+/// States that the log is a prefix of the history of each ready member.
 pub fn ready_members_hold_the_log<T>()
     ensures { (w : World T) (node : ℕ) → IsReached w
         → w.ready node ≡ true → is_member (current_membership w) node ≡ true
         → IsPrefix w.log (w.history node) }
 {}
 
-/// The entries that a node knows to be committed are committed: they are the first of the log, and the node holds them.
+/// States that the entries that a node knows to be committed are committed: they are the first of
+/// the log, and the node holds them.
 pub fn acknowledged_is_committed<T>()
     ensures held { (w : World T) (node : ℕ) → IsReached w
         → w.acknowledged node ≤ length (w.history node) }
@@ -23,8 +24,8 @@ pub fn acknowledged_is_committed<T>()
         → take (w.acknowledged node) (w.history node) ≡ take (w.acknowledged node) w.log }
 {}
 
-/// There is one tail at most, also while nodes know different memberships; its history is the log, and it knows that all
-/// of it is committed.
+/// States that there is at most one tail, even while nodes know different memberships. Its history
+/// is the log, and it knows that all of it is committed.
 pub fn one_tail_holds_the_log<T>()
     ensures one { (w : World T) (node other : ℕ) → IsReached w
         → is_tail w node ≡ true → is_tail w other ≡ true → node ≡ other }
@@ -34,7 +35,7 @@ pub fn one_tail_holds_the_log<T>()
         → is_tail w node ≡ true → w.acknowledged node ≡ length (w.history node) }
 {}
 
-/// Each acknowledgement and each copy that was ever sent is of a beginning of the log.
+/// States that each acknowledgement and each copy that was ever sent is of a prefix of the log.
 pub fn messages_are_of_the_log<T>()
     ensures ack { (w : World T) (message : Message T) (count : ℕ) → IsReached w
         → Sent w.messages message → message.body ≡ Ack count → count ≤ length w.log }
@@ -42,8 +43,9 @@ pub fn messages_are_of_the_log<T>()
         → Sent w.messages message → message.body ≡ Copy entries → IsPrefix entries w.log }
 {}
 
-/// In the membership that a node knows, and in the newest one, a node's history is a beginning of that of each node
-/// before it (the invariant of chain replication's updates: van Renesse and Schneider, OSDI 2004).
+/// States that a node's history is a prefix of that of each node before it: in the membership that
+/// the node knows, and in the newest one. This is the invariant of chain replication's updates (van
+/// Renesse and Schneider, OSDI 2004).
 pub fn predecessors_hold_more<T>()
     ensures known { (w : World T) (node other : ℕ) → IsReached w
         → Before (known_membership w node) other node → IsPrefix (w.history node) (w.history other) }
@@ -51,14 +53,14 @@ pub fn predecessors_hold_more<T>()
         → Before (current_membership w) other node → IsPrefix (w.history node) (w.history other) }
 {}
 
-/// The members before a ready one are ready.
+/// States that the members before a ready one are ready.
 pub fn predecessors_are_ready<T>()
     ensures { (w : World T) (node other : ℕ) → IsReached w
         → Before (current_membership w) other node → w.ready node ≡ true → w.ready other ≡ true }
 {}
 
-/// No membership has an id twice; a node knows only memberships that were made, and of which it is a member; a node that
-/// runs is a member of the newest one.
+/// States that no membership has an id twice; that a node knows only memberships that were made and
+/// contain it; and that a running node is a member of the newest one.
 pub fn memberships_are_sound<T>()
     ensures distinct { (w : World T) (epoch : ℕ) → IsReached w
         → IsDistinct (membership_of w.memberships epoch) }

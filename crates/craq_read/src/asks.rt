@@ -1,4 +1,4 @@
-//! `plan_read`: the rule of a read that is asked, eventual, bounded or strong; called by `craq_node`.
+//! `plan_read`: the rule of a read, eventual, bounded or strong. `craq_node` calls it.
 ghost use Rattle.std.specs.Prelude.{◌≡◌, ◌==◌, ◌<◌, ◌≤◌, ◌+◌, ◌-◌, ◌^◌, [], false, is_some, length, IfOk, IfErr, IfSome};
 ghost use Rattle.craq_commands.specs.Objects.{object_of};
 ghost use Rattle.craq_model.specs.Asks.{read_turn, waiting_read_turn};
@@ -17,10 +17,11 @@ use craq_model::{Answer, Body, Out, Step, WaitingRead};
 use craq_names::{Copied, Key, Refusal, Ticket, Value, Version};
 use std::alloc::Global;
 
-/// A read at a ready node that has a ticket left. Eventual: the newest version held. Bounded: the
-/// newest version held that is at most so many above the clean one. Strong: a clean object is
-/// answered at once; a dirty one waits, and the last member is asked which version is committed
-/// (USENIX ATC 2009). `PendingFull` where it would have to wait and 1,024 asks wait.
+/// Plans a read at a ready node that has a ticket left. Eventual: replies with the newest version
+/// held. Bounded: replies with the newest version held that is at most the bound above the clean
+/// one. Strong: replies at once if the object is clean; if it is dirty, the read waits and the last
+/// member is asked which version is committed (USENIX ATC 2009). Returns `PendingFull` if the read
+/// would have to wait and 1,024 requests wait. Otherwise fails only when out of memory.
 #[tactic(auto, unfolding(craq_model::specs::Asks::read_turn, craq_model::specs::Plain::newest, craq_model::specs::Plain::clean, craq_model::specs::Plain::entries_after))]
 pub fn plan_read<H: History>(
     alloc: Global,
@@ -48,7 +49,7 @@ pub fn plan_read<H: History>(
     }
 }
 
-/// The newest version and value of an object, where that version is the clean one.
+/// Returns an object's newest version and value if that version is the clean one.
 fn newest_if_clean<'a, H: History>(history: &'a H, key: &Key) -> Option<(Version, &'a [u8])>
     ensures object { IfSome result (λ r. (r.0, r.1.now) ≡ object_of (newest_in (H.past history.now)).objects key.now) }
     ensures short { IfSome result (λ r. length r.1.now ≤ 4096) }
@@ -62,7 +63,7 @@ fn newest_if_clean<'a, H: History>(history: &'a H, key: &Key) -> Option<(Version
     }
 }
 
-/// A read that is answered in the step of its ask.
+/// Plans the reply to a read in the step of its request.
 fn answered(
     alloc: Global,
     last: Ticket,
@@ -86,7 +87,7 @@ fn answered(
     Ok((change, accepted(ticket, outs)))
 }
 
-/// A read that waits for the last member's word.
+/// Plans a read that waits for the last member's version.
 #[tactic(auto, unfolding(craq_model::specs::Asks::waiting_read_turn, craq_model::specs::Asks::is_full))]
 fn waits<H: History>(alloc: Global, node: &Node<H>, key: &Key) -> Result<(Change, Step), Refusal>
     requires { node.now.last_ticket < 2 ^ 64 - 1 }

@@ -1,4 +1,5 @@
-//! The rules of a question to the tail and of its answer, which a strong read of a dirty object waits for; called by `craq_node`.
+//! The rules of a version query to the tail and of its reply, for strong reads of dirty objects.
+//! `craq_node` calls them.
 ghost use Rattle.std.specs.Prelude.{◌≡◌, IfOk, IsOk, IsSome};
 ghost use Rattle.std.specs.Option.{option_copied};
 ghost use Rattle.craq_model.specs.Deliveries.{query_turn, version_turn, told_version_turn, read_with};
@@ -13,9 +14,9 @@ use craq_model::{Answer, Body, Out, Step, WaitingRead, Why};
 use craq_names::{Key, NodeId, Ticket, Value, Version};
 use std::alloc::{AllocError, Global};
 
-/// The question of another member, which version of an object is committed: the tail tells its newest,
-/// which is committed there (USENIX ATC 2009). Ignored where the sender is no other member
-/// (`NotNeighbour`) or this node is not the tail (`NotReadyHere`).
+/// Plans the reply to another member's query which version of an object is committed. The tail
+/// replies with its newest version, which is committed there (USENIX ATC 2009). Ignored if the
+/// sender is no other member (`NotNeighbour`) or this node is not the tail (`NotReadyHere`).
 #[tactic(auto, unfolding(craq_model::specs::Deliveries::query_turn, craq_model::specs::Plain::newest))]
 pub fn plan_query<H: History>(
     alloc: Global,
@@ -42,7 +43,7 @@ pub fn plan_query<H: History>(
     Ok((Change::none(), done(outs)))
 }
 
-/// The read of a ticket, among those that wait.
+/// Returns the waiting read of a ticket, `None` if no read waits under it.
 #[tactic(auto, unfolding(craq_model::specs::Deliveries::read_with))]
 fn waiting_read(reads: &[WaitingRead], ticket: Ticket) -> Option<&WaitingRead>
     ensures { option_copied result ≡ read_with ticket reads.now }
@@ -55,9 +56,9 @@ fn waiting_read(reads: &[WaitingRead], ticket: Ticket) -> Option<&WaitingRead>
     None
 }
 
-/// The tail's word on a version that is committed: the read that waits for it is answered with that
-/// version, or with the clean one where that is later. Ignored where the sender is not the last member
-/// (`NotNeighbour`), where no read waits under the ticket (`UnknownTicket`), or where the version is
+/// Plans the delivery of a committed version from the tail. The read that waits for it gets that
+/// version, or the clean one if that is later. Ignored if the sender is not the last member
+/// (`NotNeighbour`), if no read waits under the ticket (`UnknownTicket`), or if the version is
 /// above the newest held (`TooFar`).
 #[tactic(auto, unfolding(craq_model::specs::Deliveries::version_turn, craq_model::specs::Deliveries::told_version_turn))]
 pub fn plan_version<H: History>(
@@ -79,7 +80,7 @@ pub fn plan_version<H: History>(
     told(alloc, node, version, read)
 }
 
-/// A waiting read learns of a version that is committed.
+/// Plans the reply to a waiting read, given a committed version.
 #[tactic(auto, unfolding(craq_model::specs::Deliveries::told_version_turn, craq_model::specs::Plain::newest, craq_model::specs::Plain::clean, craq_model::specs::Plain::entries_after))]
 fn told<H: History>(
     alloc: Global,

@@ -56,24 +56,25 @@ module _ (tells : List ℕ → Type 0) (refuses : Refusing) (submits : ℕ → S
   called count mid made new number after due taken took is asked =
       subst (λ (x : ℕ). TakesSteps tells refuses submits old before (count + 1) new x) (sym is) (call count mid made new number due taken took asked)
 
+module _ (most : ℕ) (tells : List ℕ → Type 0) (refuses : Refusing) (submits : ℕ → Submitting) (old : Dialogue) (before : ℕ) where
   -- the turn of a connection that is not over
-  turn_of : (over : Bool) (new : Dialogue) (after : ℕ) → over ≡ false → TakesTurn tells refuses submits old before new after
-      → HasTurn tells refuses submits over old before new after
-  turn_of over new after is turn = subst (λ (x : Bool). HasTurn tells refuses submits x old before new after) (sym is) turn
+  turn_of : (over : Bool) (new : Dialogue) (after : ℕ) → over ≡ false → TakesTurn most tells refuses submits old before new after
+      → HasTurn most tells refuses submits over old before new after
+  turn_of over new after is turn = subst (λ (x : Bool). HasTurn most tells refuses submits x old before new after) (sym is) turn
 
   pub starved : (over : Bool) (count : ℕ) (mid new : Dialogue) (after : ℕ) → over ≡ false → TakesSteps tells refuses submits old before count mid after
-      → Took tells mid.phase steps.Starved new.phase mid.talk new.talk mid.calls new.calls → HasTurn tells refuses submits over old before new after
+      → Took tells mid.phase steps.Starved new.phase mid.talk new.talk mid.calls new.calls → HasTurn most tells refuses submits over old before new after
   starved over count mid new after is taken took = turn_of over new after is (rests count mid steps.Starved taken tt took)
 
   pub stayed : (over : Bool) (count : ℕ) (mid new : Dialogue) (after : ℕ) → over ≡ false → TakesSteps tells refuses submits old before count mid after
-      → Took tells mid.phase steps.Stays new.phase mid.talk new.talk mid.calls new.calls → HasTurn tells refuses submits over old before new after
+      → Took tells mid.phase steps.Stays new.phase mid.talk new.talk mid.calls new.calls → HasTurn most tells refuses submits over old before new after
   stayed over count mid new after is taken took = turn_of over new after is (rests count mid steps.Stays taken tt took)
 
-module _ {S : Type 0} (tells : List ℕ → Type 0) (refuses : Refusing) where
+module _ {S : Type 0} (most : ℕ) (tells : List ℕ → Type 0) (refuses : Refusing) where
   -- what a connection became is what is under its key
   pub turned_at : (submits : Token → Submitting) (s : Slab (Connection S)) (key : ℕ) (c d : Connection S)
-      → get s key ≡ Some c → HasTurn tells refuses (under_key submits key) c.over c.dialogue c.calls d.dialogue d.calls → d.stream ≡ c.stream → d.over ≡ c.over → d.busy ≡ c.busy → KeepsPlace c d → d.readiness ≡ c.readiness
-      → HasTurnAt tells refuses submits s (with_value s key d) key
+      → get s key ≡ Some c → HasTurn most tells refuses (under_key submits key) c.over c.dialogue c.calls d.dialogue d.calls → d.stream ≡ c.stream → d.over ≡ c.over → d.busy ≡ c.busy → KeepsPlace c d → d.readiness ≡ c.readiness
+      → HasTurnAt most tells refuses submits s (with_value s key d) key
   turned_at submits s key c d was took same ends marked place ready c' here =
       let e : c' ≡ c = cc in
       let is : get (with_value s key d) key ≡ Some d = (Updates-with_value s key d (rw was refl)).changed in

@@ -20,19 +20,19 @@ module _ {S : Type 0} (is_dry : S → Type 0) (old new : Connection S) where
   pub reads_as_before : new.readiness ≡ old.readiness → ReadsOn is_dry old new
   reads_as_before same = (
     λ off. inl (sym (ap (λ (r : Readiness). r.readable) same) ∙ off),
-    ap (λ (r : Readiness). r.closing) same,
+    ap (λ (r : Readiness). r.until_dry) same,
     ap (λ (r : Readiness). r.writable) same,
   )
 
   pub dried : new.readiness ≡ record old.readiness { readable = false } → is_dry new.stream → ReadsOn is_dry old new
-  dried same is = (λ off. inr is, ap (λ (r : Readiness). r.closing) same, ap (λ (r : Readiness). r.writable) same)
+  dried same is = (λ off. inr is, ap (λ (r : Readiness). r.until_dry) same, ap (λ (r : Readiness). r.writable) same)
 
   -- it reads on but where less came than there was room for
-  pub reads_until_short : (count room : ℕ) (told : Bool) → IsTrue told ↔ ((count < room) × (old.readiness.closing ≡ false)) → (count < room → is_dry new.stream)
+  pub reads_until_short : (count room : ℕ) (told : Bool) → IsTrue told ↔ ((count < room) × (old.readiness.until_dry ≡ false)) → (count < room → is_dry new.stream)
       → new.readiness ≡ record old.readiness { readable = not told } → ReadsOn is_dry old new
   reads_until_short count room told says short same = (
     λ off. inr (short (says.0 (off_if told (sym (ap (λ (r : Readiness). r.readable) same) ∙ off))).0),
-    ap (λ (r : Readiness). r.closing) same,
+    ap (λ (r : Readiness). r.until_dry) same,
     ap (λ (r : Readiness). r.writable) same,
   )
 
@@ -40,9 +40,9 @@ module _ {S : Type 0} (is_full : S → Type 0) (old new : Connection S) where
   pub writes_as_before : new.readiness ≡ old.readiness → WritesOn is_full old new
   writes_as_before same = (
     λ off. inl (sym (ap (λ (r : Readiness). r.writable) same) ∙ off),
-    ap (λ (r : Readiness). r.closing) same,
+    ap (λ (r : Readiness). r.until_dry) same,
     ap (λ (r : Readiness). r.readable) same,
   )
 
   pub filled : new.readiness ≡ record old.readiness { writable = false } → is_full new.stream → WritesOn is_full old new
-  filled same is = (λ off. inr is, ap (λ (r : Readiness). r.closing) same, ap (λ (r : Readiness). r.readable) same)
+  filled same is = (λ off. inr is, ap (λ (r : Readiness). r.until_dry) same, ap (λ (r : Readiness). r.readable) same)

@@ -10,7 +10,7 @@ use Rattle.craq_letters.specs.declared.token.Token.{Token}
 use Rattle.craq_door.specs.Asking.{Submitting}
 use Rattle.craq_door.specs.Turns.{Refusing}
 use Rattle.craq_ready.specs.declared.connection.Connection.{Connection}
-use Rattle.craq_ready.specs.Advancing.{HasTurnAt, TakeTurns}
+use Rattle.craq_ready.specs.Advancing.{HasTurnAt, TakeTurns, most_steps}
 use Rattle.craq_ready.specs.Belonging.{Alone, OneByOne, OthersStay, StaysVacant, Wakes}
 use Rattle.craq_ready.specs.Busy.{IsBehind, ListsBehind, ListsMarked, MarksBehind, is_marked, with_key}
 use Rattle.craq_ready.specs.Serving.{ReadsAt, StaysUnlessDone, WritesAt}
@@ -141,8 +141,8 @@ module _ {S : Type 0} (remaining contents : S → Option (List ℕ)) (is_over is
   keeps_read : KeepsMarks (ReadsAt remaining contents is_over is_dry is_full)
   keeps_read s t key reads c was = ((reads c was).0, (reads c was).1, (reads c was).2.busy)
 
-  keeps_turned : KeepsMarks {S = S} (λ s t key. HasTurnAt tells refuses submits s t key)
-  keeps_turned s t key turn c was = ((turn c was).0, (turn c was).1, (turn c was).5)
+  keeps_turned : (most : ℕ) → KeepsMarks {S = S} (λ s t key. HasTurnAt most tells refuses submits s t key)
+  keeps_turned most s t key turn c was = ((turn c was).0, (turn c was).1, (turn c was).5)
 
   -- a mark that is set after a write is right
   right_at : (s t : Slab (Connection S)) (key : ℕ) (o : Option (Connection S)) → get s key ≡ o → Alone (WritesAt remaining contents is_over is_dry is_full) s t key → IsRightAt t key
@@ -157,7 +157,7 @@ module _ {S : Type 0} (remaining contents : S → Option (List ℕ)) (is_over is
   listed_stepped s r a busy later l reads turns =
       listed_still s a busy later
       (marks_then s r a (marks_kept (ReadsAt remaining contents is_over is_dry is_full) keeps_read busy.items s r reads)
-      (marks_kept (λ s t key. HasTurnAt tells refuses submits s t key) keeps_turned busy.items r a turns))
+      (marks_kept (λ s t key. HasTurnAt most_steps tells refuses submits s t key) (keeps_turned most_steps) busy.items r a turns))
       l
 
   -- all marks are right once the connections of the list were served
@@ -167,7 +167,7 @@ module _ {S : Type 0} (remaining contents : S → Option (List ℕ)) (is_over is
   all_right s r a t busy later l behind reads turns writes =
       right_everywhere s t busy later l behind
       (λ key not. untouched (WritesAt remaining contents is_over is_dry is_full) busy.items a t key writes not
-      ∙ (untouched (λ s t key. HasTurnAt tells refuses submits s t key) busy.items r a key turns not
+      ∙ (untouched (λ s t key. HasTurnAt most_steps tells refuses submits s t key) busy.items r a key turns not
       ∙ untouched (ReadsAt remaining contents is_over is_dry is_full) busy.items s r key reads not))
       (λ key listed. right_after (WritesAt remaining contents is_over is_dry is_full) (λ s t key. right_at s t key (get s key) refl) busy.items a t key writes listed)
 

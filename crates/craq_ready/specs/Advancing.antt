@@ -1,5 +1,5 @@
 -- What taking the steps of a connection's dialogue comes to, and under which key and number its calls are asked.
-use Rattle.std.specs.Prelude.{◌≡◌, ◌⊎◌, ◌+◌, ◌%◌, ◌^◌, ⊤, ℕ, zero, suc, Bool, true, false, List, [], ◌∷◌, ◌++◌, None, Some, Result}
+use Rattle.std.specs.Prelude.{◌≡◌, ◌⊎◌, ◌+◌, ◌%◌, ◌^◌, ⊤, ℕ, zero, suc, length, Bool, true, false, List, [], ◌∷◌, ◌++◌, None, Some, Result}
 use Rattle.slab.specs.Slab.{Slab, get}
 use Rattle.craq_names.specs.declared.refusal.Refusal.{Refusal}
 use Rattle.craq_seat.specs.Calls.{Called}
@@ -64,9 +64,9 @@ asked_in none = []
 asked_in (step count mid new number stepped taken no_call took) = asked_in taken
 asked_in (call count mid made new number due taken took asked) = asked_in taken ++ next_call number ∷ []
 
--- so many steps a dialogue takes at most before others have their turn
+-- the most steps that a connection takes in a round before others have their turn
 abbrev pub most_steps : ℕ
-most_steps = 64
+most_steps = 8
 
 -- a step that finds nothing to do, and says why
 abbrev pub IsLast : Stepped → Type 0
@@ -76,24 +76,24 @@ IsLast stepped = ⊥
 
 -- the dialogue had its turn: it took steps until one found nothing more to do, or as many as are taken at most; before and after it
 -- the call asked last had these numbers
-pub data TakesTurn (tells : List ℕ → Type 0) (refuses : Refusing) (submits : ℕ → Submitting) (old : Dialogue) (before : ℕ) (new : Dialogue) (after : ℕ) : Type 0 where
+pub data TakesTurn (most : ℕ) (tells : List ℕ → Type 0) (refuses : Refusing) (submits : ℕ → Submitting) (old : Dialogue) (before : ℕ) (new : Dialogue) (after : ℕ) : Type 0 where
   rests : (count : ℕ) (mid : Dialogue) (stepped : Stepped) → TakesSteps tells refuses submits old before count mid after
-      → IsLast stepped → Took tells mid.phase stepped new.phase mid.talk new.talk mid.calls new.calls → TakesTurn tells refuses submits old before new after
-  gives_way : TakesSteps tells refuses submits old before most_steps new after → TakesTurn tells refuses submits old before new after
+      → IsLast stepped → Took tells mid.phase stepped new.phase mid.talk new.talk mid.calls new.calls → TakesTurn most tells refuses submits old before new after
+  gives_way : TakesSteps tells refuses submits old before most new after → TakesTurn most tells refuses submits old before new after
 
 -- the turn of a connection: where it is over it asks nothing, and its dialogue is as it was
-abbrev pub HasTurn : (List ℕ → Type 0) → Refusing → (ℕ → Submitting) → Bool → Dialogue → ℕ → Dialogue → ℕ → Type 0
-HasTurn tells refuses submits true old before new after = (new ≡ old) × (after ≡ before)
-HasTurn tells refuses submits false old before new after = TakesTurn tells refuses submits old before new after
+abbrev pub HasTurn : ℕ → (List ℕ → Type 0) → Refusing → (ℕ → Submitting) → Bool → Dialogue → ℕ → Dialogue → ℕ → Type 0
+HasTurn most tells refuses submits true old before new after = (new ≡ old) × (after ≡ before)
+HasTurn most tells refuses submits false old before new after = TakesTurn most tells refuses submits old before new after
 
 -- under this key, the connection had its turn, in which its host was asked each call under this key and the number after that of
 -- the call before; its socket, its mark, its place and what is known of its readiness are as they were, and so is whether it is over
-abbrev pub HasTurnAt : {S : Type 0} → (List ℕ → Type 0) → Refusing → (Token → Submitting) → Slab (Connection S) → Slab (Connection S) → ℕ → Type 0
-HasTurnAt {S} tells refuses submits old new key =
+abbrev pub HasTurnAt : {S : Type 0} → ℕ → (List ℕ → Type 0) → Refusing → (Token → Submitting) → Slab (Connection S) → Slab (Connection S) → ℕ → Type 0
+HasTurnAt {S} most tells refuses submits old new key =
     (c : Connection S) → get old key ≡ Some c
-    → (d : Connection S) × (get new key ≡ Some d) × HasTurn tells refuses (under_key submits key) c.over c.dialogue c.calls d.dialogue d.calls × (d.stream ≡ c.stream) × (d.over ≡ c.over) × (d.busy ≡ c.busy) × KeepsPlace c d × (d.readiness ≡ c.readiness)
+    → (d : Connection S) × (get new key ≡ Some d) × HasTurn most tells refuses (under_key submits key) c.over c.dialogue c.calls d.dialogue d.calls × (d.stream ≡ c.stream) × (d.over ≡ c.over) × (d.busy ≡ c.busy) × KeepsPlace c d × (d.readiness ≡ c.readiness)
 
 -- the connections under these keys have their turns, one after another, in which the host is asked under their own keys; and
 -- no other connection changes
 abbrev pub TakeTurns : {S : Type 0} → (List ℕ → Type 0) → Refusing → (Token → Submitting) → List ℕ → Slab (Connection S) → Slab (Connection S) → Type 0
-TakeTurns tells refuses submits keys old new = OneByOne (λ mid next key. HasTurnAt tells refuses submits mid next key) keys old new
+TakeTurns tells refuses submits keys old new = OneByOne (λ mid next key. HasTurnAt most_steps tells refuses submits mid next key) keys old new

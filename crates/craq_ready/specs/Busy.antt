@@ -1,8 +1,9 @@
 -- Which connections have something to do, which are marked for it, and which the list of a thread names.
-use Rattle.std.specs.Prelude.{◌≡◌, ◌≢◌, ◌≤◌, ◌<◌, ◌-◌, ◌⊎◌, ◌↔◌, ◌++◌, ℕ, Bool, true, false, List, [], ◌∷◌, Option, None, Some, Vec, nat_lt, vec_capacity, vec_len, if◌then◌else◌}
+use Rattle.std.specs.Prelude.{◌≡◌, ◌≢◌, ◌≤◌, ◌<◌, ◌-◌, ◌⊎◌, ◌↔◌, ◌++◌, ℕ, Bool, true, false, List, [], ◌∷◌, Option, None, Some, Vec, length, nat_lt, vec_capacity, vec_len, if◌then◌else◌}
 use Rattle.std.specs.List.{AllPairs, Contains}
 use Rattle.std.specs.declared.alloc.Global.{Global}
 use Rattle.slab.specs.Slab.{Slab, get, slab_len}
+use Rattle.craq_door.specs.Dialogues.{ending_of}
 use Rattle.craq_door.specs.declared.dialogue.Phase.{Phase}
 use Rattle.craq_door.specs.declared.dialogue.Phase.TheVariants as phases
 use Rattle.craq_ready.specs.declared.connection.Connection.{Connection}
@@ -21,6 +22,11 @@ IsDone c = (c.over ≡ true) × (is_waiting c.dialogue.phase ≡ false)
 -- the connection has ended, or nothing came and nothing was taken for more than so many seconds while no call of it was under way
 abbrev pub IsLeft : {S : Type 0} → ℕ → ℕ → Connection S → Type 0
 IsLeft now idle c = (c.over ≡ true) ⊎ ((is_waiting c.dialogue.phase ≡ false) × (idle < now - c.heard))
+
+-- there may be a whole frame, no call is under way, the dialogue has not ended, and fewer than 1,024 bytes are due: more will be due soon
+abbrev pub GoesOn : {S : Type 0} → Connection S → Type 0
+GoesOn c =
+    (c.more ≡ true) × (length c.dialogue.talk.buffers.output.items < 1024) × (ending_of c.dialogue.phase ≡ None) × (is_waiting c.dialogue.phase ≡ false)
 
 -- bytes are due, and the socket may take some
 abbrev pub MayGive : {S : Type 0} → Connection S → Type 0

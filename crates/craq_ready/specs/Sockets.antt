@@ -41,10 +41,10 @@ pub record EndsInOrder {S : Type 0} (is_over : S → Type 0) (old new : Connecti
 abbrev pub ReadsOn : {S : Type 0} → (S → Type 0) → Connection S → Connection S → Type 0
 ReadsOn is_dry old new =
     (new.readiness.readable ≡ false → (old.readiness.readable ≡ false) ⊎ is_dry new.stream)
-    × (new.readiness.closing ≡ old.readiness.closing) × (new.readiness.writable ≡ old.readiness.writable)
+    × (new.readiness.until_dry ≡ old.readiness.until_dry) × (new.readiness.writable ≡ old.readiness.writable)
 
 -- it goes on to write as it did, or its socket takes no byte before there is room; what else is known of its readiness is as it was
 abbrev pub WritesOn : {S : Type 0} → (S → Type 0) → Connection S → Connection S → Type 0
 WritesOn is_full old new =
     (new.readiness.writable ≡ false → (old.readiness.writable ≡ false) ⊎ is_full new.stream)
-    × (new.readiness.closing ≡ old.readiness.closing) × (new.readiness.readable ≡ old.readiness.readable)
+    × (new.readiness.until_dry ≡ old.readiness.until_dry) × (new.readiness.readable ≡ old.readiness.readable)

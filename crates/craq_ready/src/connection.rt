@@ -1,4 +1,5 @@
-//! A connection of a thread that serves many: its socket and its `Dialogue`, and what goes between them; called by `crowd`.
+//! A connection of an event loop: its socket and its state (`Dialogue`), and what goes between
+//! them; called by `crowd`.
 ghost use Rattle.std.specs.Prelude.{◌≡◌, ◌≤◌, ◌<◌, ◌-◌, ◌↔◌, ◌⊎◌, true, false, length, take, not, IfOk, IsTrue};
 ghost use Rattle.craq_door.specs.declared.dialogue.Phase.TheVariants.{Idle, Waits};
 ghost use Rattle.craq_door.specs.declared.question.Question.{Question};
@@ -18,16 +19,27 @@ use std::net::TcpStream;
 use std::os::fd::AsRawFd;
 use std::sync::Arc;
 
-/// So many steps of a dialogue are taken at most before others have their turn.
-const MOST_STEPS: usize = 64;
+/// The number of unsent bytes below which they wait for more replies, where a whole frame may be
+/// there. This project's profile.
+const FEW_BYTES: usize = 1_024;
 
-/// What is known of a connection's readiness.
+/// The share of each busy connection in a round of its event loop.
+#[derive(Clone, Copy, Debug)]
+pub(crate) struct Share {
+    /// The most steps that it takes.
+    pub(crate) steps: usize,
+    /// True where few connections are busy.
+    pub(crate) few: bool,
+}
+
+/// The readiness of a connection, as far as it is known.
 #[derive(Clone, Copy)]
 struct Readiness {
     /// A read may give bytes, or the end.
     readable: bool,
-    /// The other side writes no more: reads go on until they give the end.
-    closing: bool,
+    /// Reads go on until one gives nothing: the peer writes no more, or it sent urgent data, before
+    /// which a read stops short.
+    until_dry: bool,
     /// A write may be taken.
     writable: bool,
 }
@@ -35,15 +47,15 @@ struct Readiness {
 impl Readiness {
     ghost use Rattle.craq_ready.specs.Readiness.{noticed};
 
-    /// An event tells of it. What was known stays known.
+    /// Adds what an event reports. What was known stays known.
     fn notice(&mut self, event: &Event)
         ensures { self.new ≡ noticed self.old event.now }
     {
         if event.is_readable() || event.is_read_closed() || event.is_error() {
             self.readable = true;
         }
-        if event.is_read_closed() || event.is_error() {
-            self.closing = true;
+        if event.is_read_closed() || event.is_error() || event.is_priority() {
+            self.until_dry = true;
         }
         if event.is_writable() || event.is_write_closed() || event.is_error() {
             self.writable = true;
@@ -51,20 +63,21 @@ impl Readiness {
     }
 }
 
-/// A connection of a thread that serves many.
+/// A connection of an event loop.
 #[derive(Drop)]
 pub(crate) struct Connection<S> {
     stream: S,
     dialogue: Dialogue,
-    /// The number of the call that was asked last: its first call has 1, each later one the next, and after 2^64 - 1 comes 0. So a
-    /// number comes again only after 2^64 calls. 0 where none was asked.
+    /// The number of the call that was asked last: the first call has 1, each later one the next,
+    /// and after 2^64 - 1 comes 0. So a number comes again only after 2^64 calls. 0 where none was
+    /// asked.
     calls: u64,
     place: usize,
     receipts: usize,
     readiness: Readiness,
-    /// When its last bytes came or were taken, in the host's seconds.
+    /// The backend's seconds when its last bytes came or were taken.
     heard: u64,
-    /// It is among those that have something to do.
+    /// True where it is on the busy list.
     busy: bool,
     /// There may be a whole frame in what was read; where this is false there is none.
     more: bool,
@@ -76,8 +89,9 @@ pub(crate) struct Connection<S> {
 impl Connection<Arc<TcpStream>> {
     ghost use Rattle.craq_ready.specs.Belonging.{CameAs, IsNew};
 
-    /// A connection that came, of which readiness is told under this token. Nothing came on it, nothing is due, none of its calls was
-    /// asked, and its socket is taken for ready.
+    /// Makes the state of a connection that came, whose readiness is reported under this token.
+    /// Nothing came on it, nothing is unsent, none of its calls was asked, and its socket is taken
+    /// for ready. Fails where the system refuses to report its readiness.
     pub(crate) fn open(
         alloc: Global,
         registry: &Registry,
@@ -96,8 +110,8 @@ impl Connection<Arc<TcpStream>> {
         } = arrival;
         stream.set_nonblocking(true)?;
         let _ = stream.set_nodelay(true);
-        let both = Interest::READABLE | Interest::WRITABLE;
-        registry.register(&mut SourceFd(&stream.as_raw_fd()), token, both)?;
+        let all = Interest::READABLE | Interest::WRITABLE | Interest::PRIORITY;
+        registry.register(&mut SourceFd(&stream.as_raw_fd()), token, all)?;
         Ok(Connection {
             stream,
             dialogue: Dialogue::new(alloc, keeps),
@@ -106,7 +120,7 @@ impl Connection<Arc<TcpStream>> {
             receipts,
             readiness: Readiness {
                 readable: true,
-                closing: false,
+                until_dry: false,
                 writable: true,
             },
             heard: now,
@@ -118,7 +132,7 @@ impl Connection<Arc<TcpStream>> {
 }
 
 impl<S: Socket + Drop> Connection<S> {
-    /// The connection ends, and is given back to its host.
+    /// Ends the connection and hands its receipts to the backend.
     pub(crate) fn close<H: Host>(self, registry: &Registry, host: &H) {
         let Connection {
             stream,
@@ -141,19 +155,19 @@ impl<S: Socket + Drop> Connection<S> {
 impl<S: Socket> Connection<S> {
     ghost use Rattle.craq_ready.specs.Advancing.{AsksHost, HasTurn, next_call, under_key};
     ghost use Rattle.craq_ready.specs.Belonging.{CameBack, Gives, GivesNow, Hears, HearsNow, KeepsPlace, Reads, TakesLetter, Writes};
-    ghost use Rattle.craq_ready.specs.Busy.{IsBehind, IsDone, IsLeft, is_waiting};
+    ghost use Rattle.craq_ready.specs.Busy.{GoesOn, IsBehind, IsDone, IsLeft, is_waiting};
     ghost use Rattle.craq_ready.specs.Letters.{IsOutcome};
     ghost use Rattle.craq_ready.specs.Readiness.{noticed};
     ghost use Rattle.craq_ready.specs.Sockets.{EndsAsSocket, EndsInOrder, HasSaidAll, ReadsOn, WritesOn};
 
-    /// What is told of the connection's readiness.
+    /// Adds what an event reports of its readiness.
     pub(crate) fn notice(&mut self, event: &Event)
         ensures { self.new ≡ record self.old { readiness = noticed self.old.readiness event.now } }
     {
         self.readiness.notice(event);
     }
 
-    /// Whether its call is under way: a letter will come.
+    /// Returns whether its call is under way: a completion will come.
     #[tactic(auto, using(crate::proofs::Serving::found_waiting))]
     fn waits(&self) -> bool
         ensures { result ≡ is_waiting self.now.dialogue.phase }
@@ -161,14 +175,15 @@ impl<S: Socket> Connection<S> {
         self.dialogue.question().is_some()
     }
 
-    /// Whether it has ended, and no letter comes to it any more.
+    /// Returns whether it has ended and no completion will come to it.
     pub(crate) fn is_done(&self) -> bool
         ensures { IsTrue result ↔ IsDone self.now }
     {
         self.over && !self.waits()
     }
 
-    /// The connection is over where nothing came, and nothing was taken, for more than so many seconds; whether it is.
+    /// Ends the connection where no byte came or was taken for more than `idle` seconds and no call
+    /// is under way. Returns whether it is over.
     pub(crate) fn is_left(&mut self, now: u64, idle: u64) -> bool
         ensures left { IsTrue result ↔ IsLeft now idle self.old }
         ensures over { self.new ≡ record self.old { over = result } }
@@ -179,7 +194,7 @@ impl<S: Socket> Connection<S> {
         self.over
     }
 
-    /// From now on it has something to do; whether it had not before.
+    /// Marks it as busy. Returns whether it was not busy before.
     pub(crate) fn is_newly_busy(&mut self) -> bool
         ensures marked { self.new ≡ record self.old { busy = true } }
         ensures was_not { result ≡ not self.old.busy }
@@ -189,7 +204,8 @@ impl<S: Socket> Connection<S> {
         is_new
     }
 
-    /// After its turn: whether it has something left to do of which no event and no letter will tell.
+    /// Marks it after its share of a round: busy where it has work left of which no event and no
+    /// completion will report. Returns the mark.
     pub(crate) fn stays_busy(&mut self) -> bool
         ensures marked { self.new ≡ record self.old { busy = result } }
         ensures behind { IsTrue result ↔ IsBehind self.old }
@@ -198,7 +214,7 @@ impl<S: Socket> Connection<S> {
         self.busy
     }
 
-    /// Whether there is something to do of which no event and no letter will tell.
+    /// Returns whether it has work left of which no event and no completion will report.
     fn is_behind(&self) -> bool
         ensures { IsTrue result ↔ IsBehind self.now }
     {
@@ -211,7 +227,7 @@ impl<S: Socket> Connection<S> {
         }
     }
 
-    /// Whether a read is worth a try: nothing is asked and nothing is due.
+    /// Returns whether a read is worth a try: no request is under way and nothing is unsent.
     fn may_read(&self) -> bool
         ensures { IsTrue result → self.now.dialogue.phase ≡ Idle }
     {
@@ -222,7 +238,7 @@ impl<S: Socket> Connection<S> {
             && self.dialogue.listens()
     }
 
-    /// These bytes came. They go to the dialogue.
+    /// Takes bytes that came.
     fn hear(&mut self, alloc: Global, bytes: &[u8], now: u64)
         requires { self.old.dialogue.phase ≡ Idle }
         ensures hears { Hears bytes.now self.old.dialogue self.new.dialogue }
@@ -236,18 +252,19 @@ impl<S: Socket> Connection<S> {
     {
         self.more = true;
         self.heard = now;
-        // Where memory lacks the dialogue is over, as `give` sees.
+        // Out of memory the state is over, as `give` sees.
         let _ = self.dialogue.receive(alloc, bytes);
     }
 
-    /// So many bytes came where there was room for so many: where there was more room, no more are there.
+    /// Returns whether no more bytes are there: a read gave `count` bytes where `room` was, so it
+    /// came short, and reads need not go on until one gives nothing.
     fn is_drained(&self, count: usize, room: usize) -> bool
-        ensures { IsTrue result ↔ ((count < room) × (self.now.readiness.closing ≡ false)) }
+        ensures { IsTrue result ↔ ((count < room) × (self.now.readiness.until_dry ≡ false)) }
     {
-        count < room && !self.readiness.closing
+        count < room && !self.readiness.until_dry
     }
 
-    /// Reads once. What came goes to the dialogue.
+    /// Reads once and takes what came.
     #[tactic(auto, using(crate::proofs::Belonging::nothing_came, crate::proofs::Ending::is_as_before, crate::proofs::Ending::ended, crate::proofs::Ending::reads_as_before, crate::proofs::Ending::dried, crate::proofs::Ending::reads_until_short, crate::proofs::Belonging::heard_now, crate::proofs::Belonging::not_heard))]
     fn take(&mut self, alloc: Global, chunk: &mut [u8], now: u64)
         requires { self.old.dialogue.phase ≡ Idle }
@@ -271,8 +288,9 @@ impl<S: Socket> Connection<S> {
         }
     }
 
-    /// Reads once, where nothing is asked and nothing is due. What its socket gave, and no other byte, goes to its dialogue.
-    /// Where its call is under way nothing is read, and its dialogue is as it was. It is over only if it was, or its socket is.
+    /// Reads once, where no request is under way and nothing is unsent. What its socket gave, and
+    /// no other byte, goes to its state. Where its call is under way nothing is read, and its state
+    /// is unchanged. It is over only if it was, or its socket is.
     #[tactic(auto, using(crate::proofs::Belonging::nothing_read, crate::proofs::Ending::is_as_before, crate::proofs::Ending::reads_as_before, crate::proofs::Belonging::not_heard))]
     pub(crate) fn read(&mut self, alloc: Global, chunk: &mut [u8], now: u64)
         ensures waits { (q : Question) → self.old.dialogue.phase ≡ Waits q → self.new.dialogue ≡ self.old.dialogue }
@@ -290,7 +308,7 @@ impl<S: Socket> Connection<S> {
         }
     }
 
-    /// So many of the bytes that are due were taken.
+    /// Drops the first `count` unsent bytes, which were taken.
     fn given(&mut self, count: usize, now: u64)
         requires { count ≤ length self.old.dialogue.talk.buffers.output.items }
         ensures gives { Gives (take count self.old.dialogue.talk.buffers.output.items) self.old.dialogue self.new.dialogue }
@@ -305,7 +323,19 @@ impl<S: Socket> Connection<S> {
         self.dialogue.wrote(count);
     }
 
-    /// Writes once what is due. What its socket took, and no other byte, is then written for its dialogue.
+    /// Returns whether more replies will soon be written together with the few that are unsent: a
+    /// whole frame may be there, and no call is under way.
+    fn goes_on(&self) -> bool
+        ensures { IsTrue result ↔ GoesOn self.now }
+    {
+        self.more
+            && self.dialogue.due().len() < FEW_BYTES
+            && self.dialogue.ending().is_none()
+            && !self.waits()
+    }
+
+    /// Writes unsent bytes once, unless more replies come to them in the next rounds. What its
+    /// socket took, and no other byte, is then written.
     #[tactic(auto, using(crate::proofs::Belonging::nothing_written, crate::proofs::Belonging::nothing_went, crate::proofs::Ending::is_as_before, crate::proofs::Ending::ended, crate::proofs::Ending::writes_as_before, crate::proofs::Ending::filled, crate::proofs::Belonging::gave_now, crate::proofs::Belonging::not_gave))]
     fn write(&mut self, now: u64)
         ensures writes { Writes (S.contents self.old.stream) (S.contents self.new.stream) self.old.dialogue self.new.dialogue }
@@ -319,6 +349,9 @@ impl<S: Socket> Connection<S> {
         if self.over || !self.readiness.writable || self.dialogue.due().is_empty() {
             return;
         }
+        if self.goes_on() {
+            return;
+        }
         match self.stream.put(self.dialogue.due()) {
             Moved::Bytes(count) => self.given(count, now),
             Moved::NotReady => self.readiness.writable = false,
@@ -327,7 +360,7 @@ impl<S: Socket> Connection<S> {
         }
     }
 
-    /// The call that is under way came back.
+    /// Takes the outcome of the call that is under way.
     fn answer<H: Host>(&mut self, alloc: Global, host: &H, outcome: Outcome)
         ensures told { CameBack outcome self.old.dialogue self.new.dialogue }
         ensures stream { self.new.stream ≡ self.old.stream }
@@ -343,8 +376,8 @@ impl<S: Socket> Connection<S> {
         self.dialogue.answer(alloc, outcome);
     }
 
-    /// How the call that is under way came back whose letter says this. A refusal that such an ask cannot have is another call's,
-    /// and is `Closed`.
+    /// Returns the outcome of the call that is under way whose completion says this. A refusal that
+    /// such a request cannot have is another call's, and becomes `Closed`.
     fn outcome_of(&self, reply: Outcome) -> Outcome
         ensures { IsOutcome self.now.dialogue.phase reply result }
     {
@@ -357,8 +390,9 @@ impl<S: Socket> Connection<S> {
         }
     }
 
-    /// A letter with this number says this. Where the call that was asked last has this number, it came back so. A letter with
-    /// another number is let go: none comes, since a call is asked only once the one before it came back.
+    /// Takes a completion. Where the call that was asked last has this number, its outcome is this.
+    /// Another number is ignored: none comes, since a call is asked only once the one before it has
+    /// its outcome.
     pub(crate) fn take_reply<H: Host>(&mut self, alloc: Global, host: &H, call: u64, reply: Outcome)
         ensures takes { TakesLetter call reply self.old self.new }
         ensures busy { self.new.busy ≡ self.old.busy }
@@ -370,8 +404,8 @@ impl<S: Socket> Connection<S> {
         self.answer(alloc, host, outcome);
     }
 
-    /// The call that is due is asked, under this key and the number after that of the call before it. What comes of it at once, the
-    /// dialogue is told.
+    /// Asks the call that a step made, under this key and the number after that of the call before
+    /// it. An outcome at once goes to its state.
     #[tactic(auto, using(crate::proofs::Advancing::nothing_came, crate::proofs::Advancing::came_at_once))]
     fn submit<H: Host>(&mut self, alloc: Global, host: &H, due: CallDue, key: usize, few: bool)
         ensures asked { AsksHost (H.refuses host.now) (under_key (H.submits host.now) key (next_call self.old.calls)) self.old.dialogue.phase self.old.dialogue self.new.dialogue }
@@ -392,12 +426,12 @@ impl<S: Socket> Connection<S> {
         }
     }
 
-    /// Its turn: takes the steps of the dialogue, until one finds nothing to do, or 64. Its calls are asked under this key, each under
-    /// the next number. What comes of the steps is then due. A connection that is over takes none. `few` tells that few connections
-    /// have something to do just now.
+    /// Takes steps until one finds nothing to do, or as many as its share of the round has. Its
+    /// calls are asked under this key, each under the next number. A connection that is over takes
+    /// no step.
     #[tactic(auto, using(crate::proofs::Advancing::none_taken, crate::proofs::Advancing::went, crate::proofs::Advancing::called, crate::proofs::Advancing::starved, crate::proofs::Advancing::stayed, crate::proofs::Starved::step_still, crate::proofs::Starved::step_starved))]
-    pub(crate) fn advance<H: Host>(&mut self, alloc: Global, host: &H, key: usize, few: bool)
-        ensures turn { HasTurn (H.tells host.now) (H.refuses host.now) (under_key (H.submits host.now) key) self.old.over self.old.dialogue self.old.calls self.new.dialogue self.new.calls }
+    pub(crate) fn advance<H: Host>(&mut self, alloc: Global, host: &H, key: usize, share: Share)
+        ensures turn { HasTurn share.steps (H.tells host.now) (H.refuses host.now) (under_key (H.submits host.now) key) self.old.over self.old.dialogue self.old.calls self.new.dialogue self.new.calls }
         ensures stream { self.new.stream ≡ self.old.stream }
         ensures busy { self.new.busy ≡ self.old.busy }
         ensures over { self.new.over ≡ self.old.over }
@@ -407,10 +441,10 @@ impl<S: Socket> Connection<S> {
         if self.over {
             return;
         }
-        for _step in 0..MOST_STEPS {
+        for _step in 0..share.steps {
             match self.dialogue.step(alloc, host) {
                 Stepped::Goes => {}
-                Stepped::Calls(due) => self.submit(alloc, host, due, key, few),
+                Stepped::Calls(due) => self.submit(alloc, host, due, key, share.few),
                 Stepped::Starved => {
                     self.more = false;
                     return;
@@ -420,14 +454,14 @@ impl<S: Socket> Connection<S> {
         }
     }
 
-    /// Whether its dialogue is over, and nothing that it made due is left to be written.
+    /// Returns whether its state is over and nothing is unsent.
     fn has_said_all(&self) -> bool
         ensures { IsTrue result ↔ HasSaidAll self.now.dialogue }
     {
         self.dialogue.ending().is_some() && self.dialogue.due().is_empty()
     }
 
-    /// Writes what is due. It is over where that was the last.
+    /// Writes unsent bytes. It is over where its state is and these were the last.
     pub(crate) fn give(&mut self, now: u64)
         ensures writes { Writes (S.contents self.old.stream) (S.contents self.new.stream) self.old.dialogue self.new.dialogue }
         ensures remaining { S.remaining self.new.stream ≡ S.remaining self.old.stream }

@@ -1,17 +1,17 @@
-//! `Crowd`: the connections of a thread and the loop over them, for the thread that serves them: it takes what came, steps each
-//! connection that has something to do, and sleeps where none has.
+//! `Crowd`: an event loop. It takes what came, steps each connection that is busy, and sleeps where
+//! none is.
 ghost use Rattle.std.specs.Prelude.{◌≡◌, ◌≢◌, ◌⊎◌, ◌<◌, ◌≤◌, ◌↔◌, ◌++◌, ℕ, Bool, [], ◌∷◌, Some, None, IfOk, OnErr, OnOk, IsTrue, false, filter, nat_lt, option_map, vec_capacity, vec_len, if◌then◌else◌};
 ghost use Rattle.std.specs.Duration.{as_nanos};
 ghost use Rattle.mio.specs.Events.{items};
 ghost use Rattle.slab.specs.Slab.{get, slab_len};
 ghost use Rattle.craq_ready.specs.declared.connection.Connection.{Connection};
-ghost use Rattle.craq_ready.specs.Advancing.{HasTurnAt, TakeTurns};
+ghost use Rattle.craq_ready.specs.Advancing.{HasTurnAt, TakeTurns, most_steps};
 ghost use Rattle.craq_ready.specs.Belonging.{Delivers, DeliversAll, DeliversBrought, OneByOne, OthersStay, StaysVacant, Wakes};
 ghost use Rattle.craq_ready.specs.Busy.{HasNone, ListsBehind, ListsMarked, LooksAgain, NoneBehind, NoneForgotten, is_marked, longest_wait, with_key};
 ghost use Rattle.craq_ready.specs.Coming.{AllTold, ChangesRoom, EndsIdle, EndsIfLeft, LooksAt, NoticesAt, PresentStay, TakesIn, TellsOf};
 ghost use Rattle.craq_ready.specs.Serving.{ReadsAt, Serves, WritesAt};
 
-use crate::connection::Connection;
+use crate::connection::{Connection, Share};
 use crate::host::{Arrival, Host};
 use crate::socket::Socket;
 use craq_letters::Letter;
@@ -24,42 +24,57 @@ use std::net::{Net, TcpStream};
 use std::sync::{Arc, Wait};
 use std::time::Duration;
 
-/// The token under which a thread is woken.
+/// The token under which the event loop is woken.
 const WAKER: Token = Token(usize::MAX);
 
-/// The most bytes that one read of a connection brings.
+/// The most bytes of one read of a connection.
 const CHUNK_SIZE: usize = 65_536;
 
-/// The most connections whose readiness is told at once.
+/// The most connections whose readiness is reported at once.
 const MOST_EVENTS: usize = 256;
 
-/// The most connections that are few.
+/// The most connections that count as few.
 const FEW_CONNECTIONS: usize = 2;
 
-/// So often a thread of few connections looks again for something to do, before it sleeps: some 60 microseconds.
+/// The most steps of a busy connection in a round. This project's profile.
+const MOST_STEPS: usize = 8;
+
+/// The number of looks for work of an event loop with few connections before it sleeps: some 60
+/// microseconds.
 const MOST_LOOKS: u32 = 200;
 
-/// The connection under a key has its turn. Its calls are asked under this key, each under the next number, and no other connection
-/// changes; where none is under the key nothing does.
+/// Returns the share of each busy connection in a round: 8 steps, of which a request takes 2. So a
+/// round is short, and a connection with one request waits little for others that have many.
+fn share_of(busy: usize) -> Share
+    ensures { result.steps ≡ most_steps }
+{
+    Share {
+        steps: MOST_STEPS,
+        few: busy <= FEW_CONNECTIONS,
+    }
+}
+
+/// Takes the share of the connection under a key in a round. Its calls are asked under this key,
+/// each under the next number. No other connection changes; none does where none is under the key.
 fn advance_at<S: Socket, H: Host>(
     alloc: Global,
     connections: &mut Slab<Connection<S>>,
     host: &H,
     key: usize,
-    few: bool,
+    share: Share,
 )
-    ensures turn { HasTurnAt (H.tells host.now) (H.refuses host.now) (H.submits host.now) connections.old connections.new key }
+    ensures turn { HasTurnAt share.steps (H.tells host.now) (H.refuses host.now) (H.submits host.now) connections.old connections.new key }
     ensures vacant { StaysVacant connections.old connections.new key }
     ensures others { OthersStay connections.old connections.new key }
 {
     let Some(connection) = connections.get_mut(key) else {
         return;
     };
-    connection.advance(alloc, host, key, few);
+    connection.advance(alloc, host, key, share);
 }
 
-/// An event tells of the readiness of the connection under a key. No other connection changes; where none is under the key nothing
-/// does.
+/// Adds what an event reports of the connection under a key. No other connection changes; none does
+/// where none is under the key.
 fn notice_at<S: Socket>(connections: &mut Slab<Connection<S>>, key: usize, event: &Event)
     ensures told { NoticesAt event.now connections.old connections.new key }
     ensures vacant { StaysVacant connections.old connections.new key }
@@ -70,8 +85,8 @@ fn notice_at<S: Socket>(connections: &mut Slab<Connection<S>>, key: usize, event
     }
 }
 
-/// The connection under a key is over where it was left idle; whether it is. No other connection changes; where none is under the
-/// key nothing does.
+/// Ends the connection under a key where it was left idle. Returns whether it is over. No other
+/// connection changes; none does where none is under the key.
 fn end_if_left<S: Socket>(
     connections: &mut Slab<Connection<S>>,
     key: usize,
@@ -89,7 +104,8 @@ fn end_if_left<S: Socket>(
     connection.is_left(now, idle)
 }
 
-/// The connection under a key reads. No other connection changes; where none is under the key nothing does.
+/// Reads for the connection under a key. No other connection changes; none does where none is under
+/// the key.
 fn read_at<S: Socket>(
     alloc: Global,
     connections: &mut Slab<Connection<S>>,
@@ -107,9 +123,9 @@ fn read_at<S: Socket>(
     connection.read(alloc, chunk, now);
 }
 
-/// What is due to the connection under a key is written. It is let go exactly where it is done, and no other connection changes;
-/// where none is under the key nothing does. Tells whether it is still there and has something left to do of which no event and no
-/// letter will tell.
+/// Writes for the connection under a key, and removes it exactly where it is done. No other
+/// connection changes; none does where none is under the key. Returns whether it is still there and
+/// has work left of which no event and no completion will report.
 fn give_at<S: Socket + Drop, H: Host>(
     connections: &mut Slab<Connection<S>>,
     registry: &Registry,
@@ -135,7 +151,7 @@ fn give_at<S: Socket + Drop, H: Host>(
     false
 }
 
-/// A key comes to the others, behind them, where it is to be kept and there is room for it.
+/// Appends a key where it is to be kept and there is room for it.
 fn keep_where(keys: &mut Vec<usize>, key: usize, is_kept: bool)
     ensures keys { vec_len keys.old < vec_capacity keys.old → keys.new.items ≡ (if is_kept then keys.old.items ++ key ∷ [] else keys.old.items) }
     ensures capacity { vec_capacity keys.old ≤ vec_capacity keys.new }
@@ -145,31 +161,31 @@ fn keep_where(keys: &mut Vec<usize>, key: usize, is_kept: bool)
     }
 }
 
-/// The connections of a thread.
+/// The connections of an event loop.
 #[derive(Drop)]
 struct Members<S> {
     alloc: Global,
     connections: Slab<Connection<S>>,
-    /// The connections that have something to do, each once.
+    /// The busy connections, each once.
     busy: Vec<usize>,
-    /// Those of them that have something left to do after their turn.
+    /// Those of them that have work left after their share.
     later: Vec<usize>,
-    /// The letters that came.
+    /// The completions that came.
     letters: Vec<Letter>,
-    /// What one read brings.
+    /// The buffer of one read.
     chunk: Vec<u8>,
-    /// Whether the receipts of calls are kept.
+    /// True where the receipts of calls are kept.
     keeps: bool,
-    /// After how many seconds without a byte a connection is over; 0 where it is not.
+    /// The seconds without a byte after which a connection is over; 0 for never.
     idle: u64,
-    /// The host's seconds as the turn began, where they matter.
+    /// The backend's seconds as the turn began, where they matter.
     now: u64,
-    /// How many turns began since a connection last had something to do.
+    /// The number of turns that began since a connection was last busy.
     looks: u32,
 }
 
 impl<S: Socket + Drop> Members<S> {
-    /// No connections. It fails for want of memory alone.
+    /// Makes an event loop without connections. Fails only when out of memory.
     fn new(alloc: Global, keeps: bool, idle: u32) -> Result<Self, AllocError>
         ensures kept { IfOk result (λ m. NoneForgotten m) }
         ensures none { IfOk result (λ m. HasNone m) }
@@ -191,8 +207,8 @@ impl<S: Socket + Drop> Members<S> {
         })
     }
 
-    /// A connection has something to do: its key comes to the list, behind the others, where the list did not name it. Where none is
-    /// under the key the list stays.
+    /// Marks a connection as busy: appends its key to the busy list where the list did not name it.
+    /// The list is unchanged where none is under the key.
     fn wake(&mut self, key: usize)
         ensures listed { ListsMarked self.old.connections self.old.busy self.old.later → ListsMarked self.new.connections self.new.busy self.new.later }
         ensures busy { ListsMarked self.old.connections self.old.busy self.old.later
@@ -212,7 +228,7 @@ impl<S: Socket + Drop> Members<S> {
         }
     }
 
-    /// The letters that came are the outcomes of their connections' calls. Each that the host brought is delivered.
+    /// Takes the completions that the backend brought, and delivers each.
     fn take_letters<H: Host>(&mut self, host: &H)
         ensures kept { NoneForgotten self.old → NoneForgotten self.new }
         ensures delivered { DeliversBrought (H.brings host.now self.old.letters.items) self.old.connections self.new.connections }
@@ -222,7 +238,7 @@ impl<S: Socket + Drop> Members<S> {
         self.deliver_all(host);
     }
 
-    /// Each letter that is there is delivered, the last one first, and none is left.
+    /// Delivers each completion, the last one first. None is left.
     fn deliver_all<H: Host>(&mut self, host: &H)
         ensures kept { NoneForgotten self.old → NoneForgotten self.new }
         ensures delivered { DeliversAll self.old.letters.items self.old.connections self.new.connections }
@@ -236,8 +252,8 @@ impl<S: Socket + Drop> Members<S> {
         }
     }
 
-    /// A letter came. Where it bears the number of the call that its connection asked last, the connection's dialogue is told that
-    /// its call came back so. No other connection changes; where it has gone nothing does.
+    /// Delivers a completion. Where it has the number of the call that its connection asked last,
+    /// it is that call's outcome. No other connection changes; none does where it has gone.
     fn deliver<H: Host>(&mut self, host: &H, letter: Letter)
         ensures kept { NoneForgotten self.old → NoneForgotten self.new }
         ensures letters { self.new.letters.items ≡ self.old.letters.items }
@@ -254,7 +270,7 @@ impl<S: Socket + Drop> Members<S> {
         self.wake(key);
     }
 
-    /// What is told of readiness.
+    /// Adds what events report of readiness.
     fn notice(&mut self, events: &Events)
         ensures kept { NoneForgotten self.old → NoneForgotten self.new }
         ensures told { AllTold (items events.now) self.old.connections self.new.connections }
@@ -264,8 +280,8 @@ impl<S: Socket + Drop> Members<S> {
         }
     }
 
-    /// An event tells of the readiness of the connection under its token's key, which then has something to do. No other connection
-    /// changes; where it has gone nothing does.
+    /// Adds what an event reports of the connection under its token's key, which is then busy. No
+    /// other connection changes; none does where it has gone.
     fn notice_event(&mut self, event: &Event)
         ensures kept { NoneForgotten self.old → NoneForgotten self.new }
         ensures told { TellsOf event.now self.old.connections self.new.connections }
@@ -275,8 +291,8 @@ impl<S: Socket + Drop> Members<S> {
         self.wake(key);
     }
 
-    /// What has come on the busy connections is read: each reads under its own key, one after another, and no other connection
-    /// changes.
+    /// Reads for the busy connections: each under its own key, one after another, and no other
+    /// connection changes.
     fn read_all(&mut self)
         ensures reads { OneByOne (ReadsAt S.remaining S.contents S.is_over S.is_dry S.is_full) self.old.busy.items self.old.connections self.new.connections }
         ensures busy { self.new.busy ≡ self.old.busy }
@@ -293,22 +309,22 @@ impl<S: Socket + Drop> Members<S> {
         }
     }
 
-    /// Each busy connection has its turn, in which it asks its calls under its own key, each under the next of its numbers, and no other
-    /// connection changes.
+    /// Takes the share of each busy connection, in which its calls are asked under its own key,
+    /// each under the next of its numbers. No other connection changes.
     fn advance_all<H: Host>(&mut self, host: &H)
         ensures turns { TakeTurns (H.tells host.now) (H.refuses host.now) (H.submits host.now) self.old.busy.items self.old.connections self.new.connections }
         ensures busy { self.new.busy ≡ self.old.busy }
         ensures later { self.new.later ≡ self.old.later }
     {
-        let few = self.busy.len() <= FEW_CONNECTIONS;
+        let share = share_of(self.busy.len());
         for key in self.busy.iter() {
-            advance_at(self.alloc, &mut self.connections, host, *key, few);
+            advance_at(self.alloc, &mut self.connections, host, *key, share);
         }
     }
 
-    /// What is due to the busy connections is written, to one after another, and no other connection changes. Each is let go
-    /// exactly where it is done. The list then names those of its connections that are still there and have something left to do, in
-    /// the order in which it named them.
+    /// Writes for the busy connections, one after another, and no other connection changes. Each is
+    /// removed exactly where it is done. The list then names those that are still there and have
+    /// work left, in the order in which it named them.
     fn give_all<H: Host>(&mut self, registry: &Registry, host: &H)
         ensures writes { OneByOne (WritesAt S.remaining S.contents S.is_over S.is_dry S.is_full) self.old.busy.items self.old.connections self.new.connections }
         ensures listed { ListsMarked self.old.connections self.old.busy self.old.later → ListsMarked self.new.connections self.new.busy self.new.later }
@@ -324,9 +340,10 @@ impl<S: Socket + Drop> Members<S> {
         mem::swap(&mut self.busy, &mut self.later);
     }
 
-    /// Each connection that has something to do is served once. All are read before the first takes its steps, and all have taken
-    /// them before the first is written to: so a processor does one kind of work for a while. The list then names just the
-    /// connections of the thread that are behind, in the order in which it named them before.
+    /// Serves each busy connection once. All are read before the first takes its steps, and all
+    /// have taken them before the first is written to: so a processor does one kind of work for a
+    /// while. The list then names exactly the connections that are behind, in the order in which it
+    /// named them before.
     fn step_all<H: Host>(&mut self, registry: &Registry, host: &H)
         ensures kept { NoneForgotten self.old → NoneForgotten self.new }
         ensures behind { NoneForgotten self.old → ListsBehind self.new.connections self.new.busy.items }
@@ -338,7 +355,8 @@ impl<S: Socket + Drop> Members<S> {
         self.give_all(registry, host);
     }
 
-    /// Once a second the connections that were left idle are over, and have something to do: to be let go. No other one changes.
+    /// Ends the connections that were left idle, once a second; each is then busy, to be removed.
+    /// No other one changes.
     fn look_for_idle(&mut self, now: u64)
         ensures kept { NoneForgotten self.old → NoneForgotten self.new }
         ensures ends { now ≢ self.old.now → EndsIdle now self.old.idle self.old.connections self.new.connections }
@@ -353,8 +371,8 @@ impl<S: Socket + Drop> Members<S> {
         }
     }
 
-    /// The connection under a key is over where it was left idle, and then has something to do: it is to be let go. No other connection
-    /// changes.
+    /// Ends the connection under a key where it was left idle; it is then busy, to be removed. No
+    /// other connection changes.
     fn end_idle(&mut self, key: usize, now: u64)
         ensures kept { NoneForgotten self.old → NoneForgotten self.new }
         ensures ends { EndsIfLeft now self.old.idle (get self.old.connections key) (get self.new.connections key) }
@@ -366,17 +384,18 @@ impl<S: Socket + Drop> Members<S> {
         }
     }
 
-    /// Whether it looks again soon: a client alone asks again as soon as it was answered, and a thread that sleeps takes longer to
-    /// wake than that.
+    /// Returns whether it looks again soon: a client alone asks again as soon as it was answered,
+    /// and a thread that sleeps takes longer to wake than that.
     fn looks_again(&self) -> bool
         ensures { IsTrue result ↔ LooksAgain self.entry.now }
     {
         self.connections.len() <= FEW_CONNECTIONS && self.looks < MOST_LOOKS
     }
 
-    /// How long to wait for readiness: not at all exactly where something is left to do, may come soon or came meanwhile, and else at
-    /// most a second where idle connections are looked for. So where the thread waits at all, none of its connections has something to
-    /// do of which no event and no letter will tell.
+    /// Returns how long to wait for readiness: not at all exactly where work is left, may come soon
+    /// or came meanwhile, and else at most a second where idle connections are looked for. So where
+    /// it waits at all, no connection has work left of which no event and no completion will
+    /// report.
     fn pause<H: Host>(&self, host: &H) -> Option<Duration>
         requires { ListsBehind self.now.connections self.now.busy.items }
         ensures behind { (option_map as_nanos result ≡ Some 0) ⊎ NoneBehind self.entry.now.connections }
@@ -399,8 +418,8 @@ impl<S: Socket + Drop> Members<S> {
 }
 
 impl Members<Arc<TcpStream>> {
-    /// A connection is taken in, with room for its key in both lists. It has something to do: to be read. It fails for want of
-    /// memory, or where the system refuses it, and then nothing changes but room.
+    /// Takes a connection in, with room for its key in both lists. It is busy, to be read. Fails
+    /// when out of memory, or where the system refuses it; then nothing changes but room.
     fn take_in(&mut self, registry: &Registry, arrival: Arrival) -> Result<(), AllocError>
         ensures kept { NoneForgotten self.old → NoneForgotten self.new }
         ensures taken { OnOk result (NoneForgotten self.old → TakesIn arrival.stream arrival.place arrival.receipts self.old self.new) }
@@ -428,7 +447,8 @@ impl Members<Arc<TcpStream>> {
         Ok(())
     }
 
-    /// The connections that came are taken in, and those that were there are as they were. One for which there is no room ends at once.
+    /// Takes in the connections that came; those that were there are unchanged. One for which there
+    /// is no room ends at once.
     fn take_arrivals<H: Host>(&mut self, registry: &Registry, host: &H)
         ensures kept { NoneForgotten self.old → NoneForgotten self.new }
         ensures stay { NoneForgotten self.old → PresentStay self.old.connections self.new.connections }
@@ -445,20 +465,33 @@ impl Members<Arc<TcpStream>> {
         }
     }
 
-    /// What came is taken, and each connection that has something to do takes its steps. The list then names just the connections
-    /// of the thread that are behind.
+    /// Makes a round: takes what came, and serves each busy connection. The list then names exactly
+    /// the connections that are behind.
     fn round<H: Host>(&mut self, registry: &Registry, host: &H)
         ensures kept { NoneForgotten self.old → NoneForgotten self.new }
         ensures behind { NoneForgotten self.old → ListsBehind self.new.connections self.new.busy.items }
     {
-        // Letters first: what is told from then on keeps the thread awake, so no arrival is left behind.
+        // Completions first: what comes from then on keeps the thread awake, so no arrival is left
+        // behind.
         self.take_letters(host);
         self.take_arrivals(registry, host);
         self.step_all(registry, host);
     }
 
-    /// A round, and another one, for the replies that came to what was asked in the first: they are written before the next
-    /// look at readiness. The list then names just the connections of the thread that are behind.
+    /// Makes another round where no connection has work left. The list then names just the
+    /// connections of the thread that are behind, where it did before.
+    fn round_again<H: Host>(&mut self, registry: &Registry, host: &H)
+        ensures kept { NoneForgotten self.old → NoneForgotten self.new }
+        ensures behind { NoneForgotten self.old → ListsBehind self.old.connections self.old.busy.items → ListsBehind self.new.connections self.new.busy.items }
+    {
+        if self.busy.is_empty() {
+            self.round(registry, host);
+        }
+    }
+
+    /// Makes a round. Makes another one where no connection has work left, for the replies that
+    /// came meanwhile to what was asked in the first: they are written before the next look at
+    /// readiness. The list then names just the connections of the thread that are behind.
     fn turn<H: Host>(&mut self, registry: &Registry, host: &H)
         ensures kept { NoneForgotten self.old → NoneForgotten self.new }
         ensures behind { NoneForgotten self.old → ListsBehind self.new.connections self.new.busy.items }
@@ -468,11 +501,11 @@ impl Members<Arc<TcpStream>> {
             self.look_for_idle(host.seconds());
         }
         self.round(registry, host);
-        self.round(registry, host);
+        self.round_again(registry, host);
     }
 }
 
-/// A thread's connections, none before it attends to them, and what tells of their readiness.
+/// An event loop: its connections, none before it begins, and the reports of their readiness.
 #[derive(Drop)]
 pub struct Crowd {
     poll: Poll,
@@ -482,9 +515,9 @@ pub struct Crowd {
 }
 
 impl Crowd {
-    /// No connections, whose calls' receipts will be kept or not, and which are over after so many seconds without a byte (0:
-    /// which are not). It fails for want of memory, or where the system gives no
-    /// more descriptors.
+    /// Makes an event loop. `keeps`: whether the receipts of calls are kept; `idle`: the seconds
+    /// without a byte after which a connection is over (0: never). Fails when out of memory, or
+    /// where the system gives no more descriptors.
     pub fn new(net: &impl Net, alloc: Global, keeps: bool, idle: u32) -> Result<Self, AllocError> {
         let Ok(poll) = Poll::new(net) else {
             return Err(AllocError);
@@ -496,7 +529,7 @@ impl Crowd {
         })
     }
 
-    /// What wakes the thread. It fails where the system gives no more descriptors.
+    /// Returns what wakes the event loop. Fails where the system gives no more descriptors.
     pub fn waker(&self) -> Result<Waker, AllocError> {
         match Waker::new(self.poll.registry(), WAKER) {
             Ok(waker) => Ok(waker),
@@ -504,8 +537,7 @@ impl Crowd {
         }
     }
 
-    /// Serves the connections that come, until no more of them come and all have ended: it takes what came, steps each
-    /// connection that has something to do, and sleeps where none has.
+    /// Serves the connections that come, until no more come and all have ended.
     pub fn attend<R: Wait, H: Host>(self, rt: &R, host: &H) {
         let Crowd {
             mut poll,
@@ -518,7 +550,11 @@ impl Crowd {
                 break;
             }
             let pause = members.pause(host);
-            // A wait that fails tells of no event, and the next turn waits again.
+            if members.busy.is_empty() && pause.is_some_and(|wait| wait.is_zero()) {
+                // It only looks again: a thread that has work comes first on this processor.
+                let _ = libc::sched_yield();
+            }
+            // A wait that fails reports no event, and the next turn waits again.
             let _ = poll.poll(&mut events, pause);
             members.notice(&events);
         }

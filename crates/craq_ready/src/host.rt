@@ -1,5 +1,5 @@
-//! `Host`: what a thread of connections reaches, a store that is asked without waiting, and where its connections come from; the
-//! server of a store is one.
+//! `Host`: the backend of an event loop, which is asked without waiting, and the source of its
+//! connections. The server of a store is one.
 ghost use Rattle.std.specs.Prelude.{Bool, List};
 ghost use Rattle.craq_letters.specs.declared.pile.Letter.{Letter};
 
@@ -10,44 +10,46 @@ use craq_seat::CallReceipt;
 use std::net::TcpStream;
 use std::sync::Arc;
 
-/// A connection that came to a thread.
+/// A connection that came to an event loop.
 #[derive(Drop)]
 pub struct Arrival {
     pub stream: Arc<TcpStream>,
-    /// Its place among the connections that are open.
+    /// Its place among the open connections.
     pub place: usize,
-    /// Where the receipts of its calls go once it has ended.
+    /// The index under which the receipts of its calls are handed over once it has ended.
     pub receipts: usize,
 }
 
-/// What a thread of connections reaches.
+/// The backend of an event loop.
 pub trait Host: CallTaker {
-    /// Which letters it brought: those that were there before, and all that are then.
+    /// The completions that it brought: those that were there before, and all that are there then.
     ghost brings: { Self → List Letter → List Letter → Type 0 };
 
-    /// What it said when it was asked whether the thread may sleep.
+    /// Its answer to the question whether the event loop may sleep.
     ghost lets_sleep: { Self → Bool → Type 0 };
 
-    /// The letters that have come go to the end of these.
+    /// Appends the completions that have come.
     fn take_letters(&self, into: &mut Vec<Letter>)
         ensures { brings self.now into.old.items into.new.items };
 
-    /// The next connection that came to this thread.
+    /// Returns the next connection that came to this event loop.
     fn arrival(&self) -> Option<Arrival>;
 
-    /// Whether no connection will come any more.
+    /// Returns whether no more connections will come.
     fn is_over(&self) -> bool;
 
-    /// Whether nothing came since the last look, so that the thread may sleep; the next letter or connection then wakes it.
+    /// Returns whether nothing came since the last look, so that the event loop may sleep. The next
+    /// completion or connection then wakes it.
     fn may_sleep(&self) -> bool
         ensures { lets_sleep self.now result };
 
-    /// The seconds since some moment. They never go back.
+    /// Returns the seconds since some fixed moment. They never go back.
     fn seconds(&self) -> u64;
 
-    /// A call of the connection of this place is refused.
+    /// Notes that a call of the connection at this place is refused.
     fn refused(&self, place: usize, refusal: Refusal);
 
-    /// A connection of this place has ended, and these are the receipts of its calls, where they are kept.
+    /// Notes that the connection at this place has ended, with the receipts of its calls where they
+    /// are kept.
     fn ended(&self, place: usize, receipts: usize, calls: Vec<CallReceipt>);
 }

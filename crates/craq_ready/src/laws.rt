@@ -1,5 +1,5 @@
-//! Laws: with what a call may be refused whose letter came, so that what its dialogue then tells is a turn of its host's door; and
-//! that each call of a connection has a number of its own.
+//! Laws: the refusals of a call whose completion came, so that its reply is a turn of the backend's
+//! request handler; and that each call of a connection has a number of its own.
 ghost use Rattle.std.specs.Prelude.{◌≡◌, ◌≢◌, ◌≤◌, ◌+◌, ◌^◌, ◌++◌, ℕ, length, Result};
 ghost use Rattle.std.specs.List.{AllPairs};
 ghost use Rattle.craq_names.specs.declared.refusal.Refusal.{Refusal};
@@ -14,17 +14,19 @@ ghost use Rattle.craq_ready.specs.Letters.{IsOutcome};
 
 use crate::Host;
 
-/// Law: where a call may have any refusal of an ask of its kind, as one that `CallTaker::submit` did not refuse, it may be refused with
-/// all with which it can be refused once its letter came, whatever the letter says. So the turn that ends then is one of a door
-/// that refuses as the host does (`halves_are_a_turn`). It has no body: the contract is the law.
+/// Law: a call that `CallTaker::submit` did not refuse may have any refusal of its kind of request.
+/// Then it may be refused with all that its completion can say. So the turn that ends then is one
+/// of a request handler that refuses as the backend does (`halves_are_a_turn`). It has no body: the
+/// contract is the law.
 pub fn letters_refuse_as_hosts_may<H: Host>(host: &H)
     ensures { (q : Question) (reply outcome : Result Called Refusal)
         → MayHaveAny (H.refuses host.now) q → IsOutcome (Waits q) reply outcome → IsRefusable (H.refuses host.now) q outcome }
 {}
 
-/// Law: the calls that a connection asks in some steps have the numbers after that of the call asked last before them, one by one,
-/// and those of later calls go on from there; and of so many calls in a row, up to 2^64, no two have the same number. So what comes
-/// under one number is not taken for what comes of another call, until 2^64 calls later. It has no body: the contract is the law.
+/// Law: the calls that a connection asks in some steps have the numbers after that of the call
+/// asked last before them, one by one, and later calls go on from there. Of up to 2^64 calls in a
+/// row no two have the same number. So a completion under one number is not taken for that of
+/// another call until 2^64 calls later. It has no body: the contract is the law.
 pub fn each_call_has_its_number<H: Host>(host: &H)
     ensures in_order { (key before after count more : ℕ) (old new : Dialogue)
         → (taken : TakesSteps (H.tells host.now) (H.refuses host.now) (under_key (H.submits host.now) key) old before count new after)

@@ -1,6 +1,5 @@
-//! Threads that serve many connections each: a loop over readiness that takes the steps of the conversations whose
-//! bytes came. What it serves is behind the trait `Host`.
-//! Code that runs in the programs.
+//! Event loops: each serves many connections by readiness and takes the steps of those whose bytes
+//! came. The backend is behind the trait `Host`. Code that runs in the programs.
 #![tactic(auto)]
 
 mod connection;

@@ -1,4 +1,4 @@
-//! `Socket`: the stream of a connection, as `Connection` knows it.
+//! `Socket`: the stream of a connection, as `Connection` sees it.
 ghost use Rattle.std.specs.Prelude.{◌≡◌, ◌≢◌, ◌<◌, ◌≤◌, ℕ, List, Option, None, Some, IfErr, IfOk, length, take, ⊤};
 ghost use Rattle.std.specs.Io.KnownBytes.{Appends, Consumes};
 ghost use Rattle.std.specs.IoError.{error_kind};
@@ -12,20 +12,20 @@ use std::net::TcpStream;
 use std::os::fd::AsRawFd;
 use std::sync::Arc;
 
-/// What a read or a write of a socket came to.
+/// The outcome of a read or a write of a socket.
 #[derive(Debug, Clone, Copy, PartialEq, Eq)]
 pub(crate) enum Moved {
-    /// So many bytes went.
+    /// This many bytes were moved, at least 1.
     Bytes(usize),
-    /// None went, and none will before readiness is told.
+    /// No byte was moved, and none will be before readiness is reported.
     NotReady,
-    /// None went, and it may be tried again at once.
+    /// No byte was moved, and it may be tried again at once.
     Interrupted,
-    /// None went, and none will any more: the stream is at its end, or has failed.
+    /// No byte was moved, and none will be: the stream is at its end, or has failed.
     Over,
 }
 
-/// A stream that is read and written, where neither has to wait for the other.
+/// A stream whose reads and writes do not wait for one another.
 pub(crate) trait Socket {
     /// The bytes that reads will give from here on, where they are known.
     ghost remaining: { Self → Option (List ℕ) };
@@ -33,16 +33,16 @@ pub(crate) trait Socket {
     /// The bytes that it took, where they are known.
     ghost contents: { Self → Option (List ℕ) };
 
-    /// That it gives or takes no more bytes.
+    /// It gives and takes no more bytes.
     ghost is_over: { Self → Type 0 };
 
-    /// That a read gives no byte before more have come.
+    /// A read gives no byte before more have come.
     ghost is_dry: { Self → Type 0 };
 
-    /// That a write takes no byte before there is room again.
+    /// A write takes no byte before there is room again.
     ghost is_full: { Self → Type 0 };
 
-    /// Reads once into the front of the buffer, and tells how many bytes came.
+    /// Reads once into the front of the buffer. Returns how many bytes came.
     fn take(&mut self, buffer: &mut [u8]) -> Moved
         ensures few { moved_count result ≤ length buffer.new }
         ensures gave { Consumes (remaining self.old) (remaining self.new) (take (moved_count result) buffer.new) }
@@ -52,7 +52,7 @@ pub(crate) trait Socket {
         ensures short { (n : ℕ) → result ≡ Moved.Bytes n → n < length buffer.new → is_dry self.new }
         ensures contents { contents self.new ≡ contents self.old };
 
-    /// Writes the front of the bytes, and tells how many were taken.
+    /// Writes the front of the bytes. Returns how many were taken.
     fn put(&mut self, bytes: &[u8]) -> Moved
         ensures few { moved_count result ≤ length bytes.now }
         ensures took { Appends (contents self.old) (contents self.new) (take (moved_count result) bytes.now) }
@@ -61,11 +61,12 @@ pub(crate) trait Socket {
         ensures not_ready { result ≡ Moved.NotReady → is_full self.new }
         ensures remaining { remaining self.new ≡ remaining self.old };
 
-    /// Its readiness is not told any more.
+    /// Ends the reports of its readiness.
     fn leave(&self, registry: &Registry);
 }
 
-/// What a system's read or write, which gives an error or so many bytes, came to: none that are there, or can be taken, is the end.
+/// Returns the outcome of a read or write of the system, which gave an error or a number of bytes.
+/// 0 bytes are the end.
 fn moved_by(gone: io::Result<usize>) -> Moved
     ensures went { IfOk gone (λ n. (result ≡ moved_of_count n) × (moved_count result ≡ n)) }
     ensures none { IfErr gone (λ e. (result ≡ moved_of_error (error_kind e)) × (moved_count result ≡ 0)) }

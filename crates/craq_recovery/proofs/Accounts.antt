@@ -1,4 +1,4 @@
--- What the moves of a round use up: no more than the chain has room for.
+-- The numbers used by the moves of a round: no more than the chain has room for.
 use Rattle.std.proofs.Common.{◌≡◌, ◌≢◌, ⊎_elim, ℕ, zero, suc, ◌+◌, ◌*◌, ◌≤◌, ◌==◌, nat_le, Bool, true, false, not, ◌||◌, List, [], ◌∷◌, ◌++◌, append-nil, append_assoc, count_by, filter, map, length, take, drop, Option, Some, None, Result, Ok, Err, refl, ap, sym, subst, ◌∙◌, arith}
 use Rattle.std.proofs.lemmas.Bool.{and_from, both_ways, cases_eq, cond-false, cond-true, cond_both, eqb-true, false_from_ne_true, le-leb, not_from_false}
 use Rattle.std.proofs.lemmas.List.{length-append, take-append-drop}
@@ -48,7 +48,7 @@ use Rattle.craq_recovery.proofs.Sound.{Sound, own_chain, sound_after, sound_move
 use Rattle.craq_recovery.proofs.Spending.{Turned, delivery_turned, load}
 use Rattle.craq_recovery.proofs.Taking.{bears, for_it, round_travels, runs_on, sent_before, stands_at}
 
--- ---- what nodes pay once they become ready
+-- ---- the cost of nodes that become ready
 
 abbrev load_if : ℕ → Option Plain → ℕ
 load_if s None = 0
@@ -100,7 +100,7 @@ module _ (s : ℕ) (nodes : List Plain) (p q : Plain) (at : node_at nodes (id_of
       (λ e k. omega (arith, one_less id, member_less ids k))
       h
 
--- ---- the outs of a step fit
+-- ---- the outputs of a step fit
 
 sends_found : (os : List Out) → length (filter is_send os) ≡ length (sent_in os)
 unfolding sent_in
@@ -162,7 +162,7 @@ length_both xs ys whole is = sym (ap length is) ∙ length-append xs ys
 after_one : (d : Chain) (m : Move) (x : Progress) → chain_step d m ≡ Ok x → after_move d m ≡ x.0
 after_one d m x ok = ap (progressed d) ok
 
--- ---- what a chain keeps in its rounds
+-- ---- the invariant of a chain in its rounds
 
 module _ (e i r : ℕ) (small : top e i r ≤ greatest_count) where
   record Stands (d : Chain) : Type 0 where
@@ -174,7 +174,7 @@ module _ (e i r : ℕ) (small : top e i r ≤ greatest_count) where
   abbrev unready : Chain → ℕ
   unready d = loads (top e i r) d.nodes d.members
 
-  -- a move that so much pays for
+  -- a move for which this amount pays
   record Pays (d : Chain) (x : Chain) (b : ℕ) : Type 0 where
     within : AllWithin e i r x
     sent : List LinkMessage
@@ -314,7 +314,7 @@ module _ (e i r : ℕ) (small : top e i r ≤ greatest_count) where
         moves = omega (arith, p.moves, c.moves);
       }
 
-  -- how many messages there are after a move, and what they and the nodes may cost then
+  -- the number of messages after a move, and the possible cost of the messages and nodes then
   room_after : (d : Chain) (m : Move) (b rest : ℕ) → Moves d m b → length d.messages + ((b + rest) + unready d) ≤ greatest → length (after_move d m).messages + (rest + unready (after_move d m)) ≤ greatest
   room_after d m b rest v room =
       let p : Pays d (after_move d m) b = v.pays in

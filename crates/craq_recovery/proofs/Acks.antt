@@ -1,4 +1,4 @@
--- An acknowledgement gets one member further in a round.
+-- An acknowledgement advances by one member in a round.
 use Rattle.std.proofs.Common.{◌≡◌, ◌≢◌, inl, inr, ℕ, suc, ◌≤◌, ◌<◌, ◌==◌, nat_le, nat_lt, true, not, cond, List, [], ◌∷◌, ◌++◌, length, Option, Some, None, refl, ap, sym, subst, ◌∙◌, arith}
 use Rattle.std.proofs.lemmas.Bool.{cond_both, both_ways, eq-eqb, eqb-true, leb-true, ltb-true, not-true}
 use Rattle.craq_commands.specs.declared.entry.Entry.{Entry}
@@ -40,7 +40,7 @@ use Rattle.craq_recovery.proofs.Travels.{IsKept, Makes, Met, NodeIs, crosses_one
 
 -- ---- nodes of the master's epoch
 
--- a ready node of an epoch at least
+-- a ready node of at least this epoch
 pub record Receiver (epoch : ℕ) (p : Plain) : Type 0 where
   pub ready : p.ready ≡ true
   pub late : epoch ≤ p.epoch
@@ -149,7 +149,7 @@ acknowledges p from position after ready le =
     (λ e. let far : length_of p < position = ltb-true (length_of p) position e in absurd (omega (arith, far, le)))
     (λ e. omega arith))))
 
--- what is acknowledged in an epoch a ready node holds
+-- a ready node holds the entries acknowledged in an epoch
 held_by : (c : Chain) (number : ℕ) (m : LinkMessage) (position id : ℕ) (p : Plain) → IsFollowed c → message_at c.messages number ≡ Some m → m.body ≡ bodies.Ack position
     → node_at c.nodes id ≡ Some p → p.running ≡ true → p.ready ≡ true → position ≤ length_of p
 held_by c number m position id p f there is at runs ready =

@@ -1,4 +1,4 @@
--- Each ask that waits is answered in the rounds.
+-- Each request that waits is answered in the rounds.
 use Rattle.std.proofs.Common.{◌≡◌, ◌≢◌, ◌⊎◌, ⊎_elim, inl, inr, ℕ, zero, suc, ◌==◌, Bool, true, false, ◌||◌, List, [], ◌∷◌, ◌++◌, map, Option, Some, None, Result, Ok, Err, refl, ap, sym, subst, ◌∙◌}
 use Rattle.std.proofs.lemmas.Bool.{cases_eq, eqb-true}
 use Rattle.std.specs.List.{AllByRecursion}
@@ -117,7 +117,7 @@ in_rest : (x id : ℕ) (ids : List ℕ) → x ≢ id → is_member (x ∷ ids) i
 unfolding is_member
 in_rest x id ids ne m = either (x == id) (is_member ids id) (λ e. ne (eqb-true x id e)) m
 
--- where a chain has recovered no ask waits
+-- in a recovered chain no request waits
 nothing_waits : (c : Chain) (ids : List ℕ) (id k : ℕ) → AllByRecursion (ServesAt c) ids → is_member ids id ≡ true → AskWaits c id k → ⊥
 unfolding is_member
 nothing_waits c [] id k a m w = absurd (cc)

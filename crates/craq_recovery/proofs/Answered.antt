@@ -1,4 +1,4 @@
--- No update waits once what the first member holds is known to be committed.
+-- No update waits once the entries of the first member are known to be committed.
 use Rattle.std.proofs.Common.{◌≡◌, ◌⊎◌, inl, inr, ⊎_elim, ℕ, zero, suc, ◌<◌, ◌≤◌, true, List, [], ◌∷◌, length, Some, refl, ap, sym, subst, ◌∙◌, arith}
 use Rattle.std.proofs.lemmas.Bool.{eq-eqb}
 use Rattle.std.specs.Prelude.{⊤}
@@ -56,7 +56,7 @@ onward_rounds count zero c = onward_self c
 onward_rounds count (suc rounds) c =
     onward_on (onward_moves (round after_move count c) c (round_travels count c)) (onward_rounds count rounds (after_moves_by after_move c (round after_move count c)))
 
--- ---- what waits at a node
+-- ---- the requests that wait at a node
 
 still_rounds : (chain : ℕ) (P : WaitingUpdate → Type 0) (R : WaitingRead → Type 0) (count rounds : ℕ) (c : Chain) (id : ℕ) → IsReachedBy chain c → NodeIs c id (Waiting P R) → NodeIs (after_rounds after_move count rounds c) id (Waiting P R)
 still_rounds chain P R count zero c id r q = q
@@ -105,7 +105,7 @@ head_holds_most c h p f at_h at_p runs k first =
     omega (arith, long, history_length n.history, history_length o.history))
     (le_split (ages.rank (id_of h)) (ages.rank (id_of p)) (first_lowest ages.rank c.members (id_of h) (id_of p) sorted is_head there))
 
--- ---- the last member knows what it holds to be committed
+-- ---- the last member knows its entries to be committed
 
 pub tail_knows : (c : Chain) (least : ℕ) → IsFollowed c → IsReadyAt c (last_of c.members) → HoldsEntries c (last_of c.members) least → KnowsCommitted c (last_of c.members) least
 tail_knows c least f r h =

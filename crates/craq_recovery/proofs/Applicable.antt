@@ -1,4 +1,4 @@
--- Entries that follow on a node's history in its predecessor's are applicable at the node.
+-- The entries that follow a node's history in its predecessor's are applicable at the node.
 use Rattle.std.proofs.Common.{◌≡◌, ℕ, suc, ◌+◌, ◌==◌, Bool, true, ◌&&◌, List, [], ◌∷◌, ◌++◌, append_assoc, map, length, Option, Some, None, slice_get, refl, ap, sym, subst, ◌∙◌, arith}
 use Rattle.std.proofs.lemmas.Bool.{eq-eqb}
 use Rattle.std.proofs.lemmas.List.{length-append}
@@ -28,7 +28,7 @@ use Rattle.craq_updates.proofs.Runs.{KnownRun, known_run, run_account}
 use Rattle.craq_protocol.specs.Machine as machine
 use Rattle.craq_recovery.proofs.Extending.{IsReachedBy}
 
--- ---- genuine entries are applicable
+-- ---- valid entries are applicable
 
 both_true : (a b : Bool) → a ≡ true → b ≡ true → (a && b) ≡ true
 both_true a b h k = ap (λ x. x && b) h ∙ k
@@ -56,7 +56,7 @@ genuine_front : (asked : List Asked) (s : State) (xs ys : List Entry) → AllGen
 genuine_front asked s [] ys g = tt
 genuine_front asked s (x ∷ xs) ys g = (g.0, genuine_front asked (after_entry s x) xs ys g.1)
 
--- ---- entries that stand in a history after a part of it
+-- ---- entries that follow a part of a history
 
 abbrev pub StandIn : List Entry → List Entry → Type 0
 StandIn history es = AllByRecursion (λ (e : Entry). entry_at history e.position ≡ Some e) es
@@ -93,7 +93,7 @@ fit_between asked held whole es g p placed stand =
     let rest : AllGenuine asked (after_entries opening_state held) p.rest = genuine_back asked opening_state held p.rest (subst G (sym p.is) g) in
     all_apply asked (after_entries opening_state held) es (genuine_front asked (after_entries opening_state held) es next.rest (subst H (sym next.is) rest))
 
--- ---- a world that stands for the chain, in which each entry that is held is genuine
+-- ---- a world that stands for the chain, in which each entry that is held is valid
 
 pub record Explained (d : Chain) : Type 0 where
   pub asked : List Asked
@@ -112,7 +112,7 @@ explained chain d r =
     let h : Held (AllGenuine a.asks opening_state) k.world = n.held in
     record { asked = a.asks; world = k.world; reached = n.reached; follows = subst F same n.follows; genuine = h.histories }
 
--- the node takes them
+-- the node takes the entries
 pub fits : (asked : List Asked) (w : World Entry) (q : Plain) (whole es : List Entry) → NodeFollows w (seen_of q) → AllGenuine asked opening_state whole
     → IsPrefix (w.history (id_of q)) whole → IsPlaced (length_of q) es → StandIn whole es → are_applicable (newest q) es ≡ true
 fits asked w q whole es n g p placed stand =

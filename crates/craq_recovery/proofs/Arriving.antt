@@ -1,4 +1,4 @@
--- Messages arrive one after the other, and lead a chain from one fact to another.
+-- Messages arrive one after the other, and lead a chain from one property to another.
 use Rattle.std.proofs.Common.{◌≡◌, ◌≢◌, ℕ, suc, ◌+◌, ◌≤◌, Bool, true, false, cond, List, [], ◌∷◌, ◌++◌, length, take, drop, append_assoc, append-nil, Some, Result, Ok, Err, refl, ap, sym, subst, ◌∙◌, arith}
 use Rattle.std.proofs.lemmas.Bool.{cond_both}
 use Rattle.std.proofs.lemmas.List.{length-append, take-append-drop}
@@ -48,7 +48,7 @@ arrivals_both nodes (x ∷ xs) ys number =
     arrivals_both nodes xs ys (number + 1) ∙ ap (λ n. arrivals_of nodes (number + 1) xs ++ arrivals_of nodes n ys) same in
     one_more (is_running (node_at nodes x.receiver)) (Deliver number) (arrivals_of nodes (number + 1) (xs ++ ys)) (arrivals_of nodes (number + 1) xs) (arrivals_of nodes (number + length (x ∷ xs)) ys) rest
 
--- ---- facts about chains that ticks and arrivals keep
+-- ---- properties of chains that ticks and arrivals preserve
 
 abbrev pub Stays : (Chain → Type 0) → Type 0
 Stays C = (d : Chain) (m : Move) → IsTravel m → C d → C (after_move d m)
@@ -57,7 +57,7 @@ pub stays_all : (C : Chain → Type 0) → Stays C → (ms : List Move) (d : Cha
 stays_all C stays [] d t s = s
 stays_all C stays (m ∷ ms) d t s = stays_all C stays ms (after_move d m) t.1 (stays d m t.0 s)
 
--- likewise in chains that the protocol's worlds follow
+-- the same in chains for which worlds of the protocol stand
 abbrev pub Endures : (Chain → Type 0) → Type 0
 Endures E = (m : Move) (d : Chain) → IsTravel m → IsFollowed d → E d → E (after_move d m)
 
@@ -65,14 +65,14 @@ pub endures_all : (E : Chain → Type 0) → Endures E → (ms : List Move) (d :
 endures_all E endures [] d t f e = e
 endures_all E endures (m ∷ ms) d t f e = let g : Goes d (after_move d m) = goes_move d m f in endures_all E endures ms (after_move d m) t.1 g.followed (endures m d t.0 f e)
 
--- ---- what arrivals bring about
+-- ---- the effect of arrivals
 
 -- the message's arrival leads a chain from E to F
 abbrev pub Brings : (Chain → Type 0) → Chain → (Chain → Type 0) → (Chain → Type 0) → LinkMessage → Type 0
 Brings C c E F m =
     (d : Chain) (number : ℕ) (x : Progress) → C d → Sound d → IsFollowed d → Onward c d → E d → message_at d.messages number ≡ Some m → chain_step d (Deliver number) ≡ Ok x → F x.0
 
--- so do these messages, arriving one after the other
+-- these messages, arriving one after the other, lead a chain from E to F
 abbrev pub BringAll : (Chain → Type 0) → Chain → (Chain → Type 0) → (Chain → Type 0) → List LinkMessage → Type 0
 BringAll C c E F ms =
     (before rest : List LinkMessage) (number : ℕ) (d : Chain) → C d → Sound d → IsFollowed d → Onward c d → E d → before ++ (ms ++ rest) ≡ c.messages → number ≡ suc (length before)
@@ -97,7 +97,7 @@ module _ (C : Chain → Type 0) (stays : Stays C) (c : Chain) where
       (λ r h. then (before ++ m ∷ []) others (number + 1) d s0 s f on (skips d e (on.running m.receiver ∙ r)) more up h)
       has
 
-  -- a message arrives that leaves the fact as it is
+  -- a message arrives that preserves the property
   pub bring_past : (m : LinkMessage) (ms : List LinkMessage) (E F : Chain → Type 0) → Endures E → BringAll C c E F ms → BringAll C c E F (m ∷ ms)
   bring_past m ms E F endures then =
       bring_more m ms E E F
@@ -107,7 +107,7 @@ module _ (C : Chain → Type 0) (stays : Stays C) (c : Chain) where
   pub bring_lasts : (E : Chain → Type 0) (ms : List LinkMessage) → Endures E → BringAll C c E E ms
   bring_lasts E ms endures = λ before rest number d s0 s f on e is at has. endures_all E endures (arrivals_of c.nodes number ms) d (arrivals_travel c.nodes ms number) f e
 
-  -- what ticks and arrivals keep stands beside it
+  -- a property that ticks and arrivals preserve may be added
   pub bring_with : (ms : List LinkMessage) (E F H : Chain → Type 0) → Endures H → BringAll C c E F ms → BringAll C c (λ d. E d × H d) (λ d. F d × H d) ms
   bring_with ms E F H endures bring = λ before rest number d s0 s f on e is at has. (bring before rest number d s0 s f on e.0 is at has, bring_lasts H ms endures before rest number d s0 s f on e.1 is at has)
 
@@ -127,7 +127,7 @@ module _ (C : Chain → Type 0) (stays : Stays C) (c : Chain) where
       (first before (ys ++ others) number d s0 s f on e whole at n.0) (append_assoc before xs (ys ++ others) ∙ whole) up n.1))
       has
 
-  -- all messages but the first so many arrive
+  -- all messages but the first `sent` arrive
   pub bring_hop : (sent : ℕ) (E F : Chain → Type 0) → BringAll C c E F (drop sent c.messages) → C c → Sound c → IsFollowed c → sent ≤ length c.messages → E c → HaveNumbers c (arrivals c sent)
       → F (after_moves_by after_move c (arrivals c sent))
   unfolding arrivals
@@ -142,11 +142,11 @@ module _ (C : Chain → Type 0) (stays : Stays C) (c : Chain) where
 abbrev pub ticked : Chain → Chain
 ticked c = after_moves_by after_move c (ticks c)
 
--- what was sent since
+-- the messages sent since
 abbrev pub news : Chain → Chain → List LinkMessage
 news c d = drop (length c.messages) d.messages
 
--- it arrives
+-- they arrive
 abbrev pub hopped : Chain → Chain → Chain
 hopped c d = after_moves_by after_move d (arrivals d (length c.messages))
 
@@ -178,7 +178,7 @@ module _ (C : Chain → Type 0) (stays : Stays C) (F : Chain → Type 0) (lasts 
       let travel : AllByRecursion IsTravel ms = (tt, ticks_travel c.nodes c.members) in
       subst F (sym (after_both ms rest c)) (then n.0 (stays_all C stays ms c travel s0) (sound_moves ms c s) (followed_moves ms c f) n.1)
 
-  -- what the ticks send brings it about
+  -- the messages of the ticks lead to F
   pub round_brings : (count : ℕ) (c : Chain) (E : Chain → Type 0) → C c → Sound c → IsFollowed c → HaveNumbers c (round after_move (suc count) c) → E (ticked c)
       → (HaveNumbers c (ticks c) → BringAll C (ticked c) E F (news c (ticked c))) → F (after_round (suc count) c)
   round_brings count c E s0 s f numbers e bring =
@@ -187,7 +187,7 @@ module _ (C : Chain → Type 0) (stays : Stays C) (F : Chain → Type 0) (lasts 
       (λ h s2 t2 f2 on n2. rest_lasts count (length (ticked c).messages) (hopped c (ticked c)) f2
       (bring_hop C stays (ticked c) (length c.messages) E F (bring n) s1 t1 f1 (no_fewer (ticks_onward c)) e h)))
 
-  -- what the ticks send brings G about, and what is sent then brings it about
+  -- the messages of the ticks lead to G, and those sent then lead to F
   pub two_hops_bring : (count : ℕ) (c : Chain) (E G : Chain → Type 0) → C c → Sound c → IsFollowed c → HaveNumbers c (round after_move (suc (suc count)) c) → E (ticked c)
       → (HaveNumbers c (ticks c) → BringAll C (ticked c) E G (news c (ticked c)))
       → ((d : Chain) → C d → Sound d → IsFollowed d → Onward (ticked c) d → G d → HaveNumbers d (arrivals d (length (ticked c).messages)) → F (hopped (ticked c) d)) → F (after_round (suc (suc count)) c)

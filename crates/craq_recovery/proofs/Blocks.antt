@@ -1,4 +1,4 @@
--- Messages that stand next to each other, and what they lead a node to.
+-- Adjacent messages, and their effect on a node.
 use Rattle.std.proofs.Common.{◌≡◌, ℕ, ◌+◌, List, [], ◌∷◌, ◌++◌}
 use Rattle.std.specs.List.{AllByRecursion}
 use Rattle.craq_model.specs.declared.message.LinkMessage.{LinkMessage}
@@ -9,17 +9,17 @@ use Rattle.craq_recovery.proofs.Arriving.{BringAll, Brings, Stays, bring_both, b
 use Rattle.craq_recovery.proofs.Onward.{Onward}
 use Rattle.craq_recovery.proofs.Travels.{NodeIs, not_stopped}
 
--- ---- what messages lead a node to
+-- ---- the effect of messages on a node
 
 -- the message's arrival leads the node of this id from E to F
 abbrev pub Turns : (Chain → Type 0) → Chain → ℕ → LinkMessage → (Plain → Type 0) → (Plain → Type 0) → Type 0
 Turns C c id m E F = Brings C c (λ d. NodeIs d id E) (λ d. NodeIs d id F) m
 
--- so do these messages, arriving one after the other
+-- these messages, arriving one after the other, lead the node from E to F
 abbrev pub Conveys : (Chain → Type 0) → Chain → ℕ → (Plain → Type 0) → (Plain → Type 0) → List LinkMessage → Type 0
 Conveys C c id E F ms = BringAll C c (λ d. NodeIs d id E) (λ d. NodeIs d id F) ms
 
--- what is true wherever the messages begin to arrive
+-- a property that holds wherever the messages begin to arrive
 pub conveys_none : (C : Chain → Type 0) (c : Chain) (id : ℕ) (E F : Plain → Type 0) → ((d : Chain) → C d → IsFollowed d → Onward c d → NodeIs d id E → NodeIs d id F) → Conveys C c id E F []
 conveys_none C c id E F so = λ before rest number d s0 s f on g is at has. so d s0 f on g
 
@@ -30,7 +30,7 @@ conveys_more C c id m ms E G F stays to turns then =
 pub conveys_both : (C : Chain → Type 0) (c : Chain) (id : ℕ) (xs ys : List LinkMessage) (E G F : Plain → Type 0) → Stays C → Conveys C c id E G xs → Conveys C c id G F ys → Conveys C c id E F (xs ++ ys)
 conveys_both C c id xs ys E G F stays first second = bring_both C stays c xs ys (λ d. NodeIs d id E) (λ d. NodeIs d id G) (λ d. NodeIs d id F) first second
 
--- messages that change nothing of it, whoever they go to
+-- messages that preserve the property, to any receiver
 pub conveys_mild : (C : Chain → Type 0) (c : Chain) (id : ℕ) (Mild : LinkMessage → Type 0) (E : Plain → Type 0) (ms : List LinkMessage) → Stays C → ((m : LinkMessage) → Mild m → Turns C c id m E E)
     → AllByRecursion Mild ms → Conveys C c id E E ms
 conveys_mild C c id Mild E [] stays kept a = λ before others number d s0 s f on g is at has. g

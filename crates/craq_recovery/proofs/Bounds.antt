@@ -1,4 +1,4 @@
--- In the chains of rounds no node comes to hold more than some node held before.
+-- In the chains of rounds no node holds more than some node held before.
 use Rattle.std.proofs.Common.{◌≡◌, ◌≢◌, ⊎_elim, ℕ, ◌<◌, ◌≤◌, ◌==◌, Bool, true, false, cond, ◌||◌, List, [], ◌∷◌, ◌++◌, map, max, length, Option, Some, refl, ap, sym, subst, ◌∙◌, arith}
 use Rattle.std.proofs.lemmas.Bool.{cond_both}
 use Rattle.craq_names.specs.Limits.{greatest_count}
@@ -66,7 +66,7 @@ within_at_first c = λ id p at. record {
   reads = counted (λ (q : Plain). length q.waiting_reads) c.nodes id p at;
 }
 
--- ---- the chain after a turn, whether or not its messages can be numbered
+-- ---- the chain after a step, even if its messages cannot be numbered
 
 stands : (Own : List (machine.Move Entry) → Type 0) (c : Chain) (w : World Entry) (t : Turn) → TurnFollows Own c w t → CanFollow w (moved c t)
 stands Own c w t s = (s.own ++ moves_of_sends (sent_in t.1.outs), s.follows)
@@ -106,7 +106,7 @@ found (q ∷ qs) id h =
     (λ e k. found qs id k)
     h
 
--- a node's predecessor is another one, and a node of the chain
+-- a node's predecessor is another node of the chain
 record HasPredecessor (d : Chain) (v : World Entry) (q : Plain) (before : ℕ) : Type 0 where
   other : before ≢ id_of q
   node : Plain
@@ -142,7 +142,7 @@ prefix_items {xs} {ys} p =
 -- ---- after a message
 
 module _ (e i r : ℕ) (small : top e i r ≤ greatest_count) where
-  -- a node that takes entries or a state from its predecessor holds no more than that one does
+  -- a node that takes entries or a state from its predecessor holds no more than the predecessor
   taken_within : (c d : Chain) (v : World Entry) (p q : Plain) (before : ℕ) → AllWithin e i r c → Follows d v → IsReached v → d.nodes ≡ set_node c.nodes q → node_at c.nodes (id_of q) ≡ Some p
       → length q.waiting_reads ≤ length p.waiting_reads → predecessor q ≡ Some before → Within e i r q
   taken_within c d v p q before a f reach nodes at reads pred =

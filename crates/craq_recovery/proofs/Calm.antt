@@ -63,12 +63,12 @@ message_calm m = record {
   gathers = λ p part g says from at count lacks h. h;
 }
 
--- ---- asks
+-- ---- requests
 
 take_whole : (n : ℕ) (es : List Entry) → length es ≤ n → take n es ≡ es
 take_whole n es le = take_all n es le
 
--- where all entries are known to be committed, each object is clean
+-- if all entries are known to be committed, each object is clean
 all_clean : (p : Plain) (key : List ℕ) → p.past.acknowledged ≡ length_of p → is_clean p key ≡ true
 unfolding newest clean
 all_clean p key known =

@@ -1,4 +1,4 @@
--- What the messages that a node sends cost: one each, and more those that are answered by many.
+-- The cost of the messages that a node sends: one each, and more for those that cause many replies.
 use Rattle.std.proofs.Common.{◌≡◌, ℕ, zero, suc, ◌+◌, ◌-◌, ◌*◌, ◌≤◌, ◌==◌, nat_le, nat_lt, max, Bool, true, cond, List, [], ◌∷◌, ◌++◌, map, length, take, drop, Option, Some, None, refl, ap, sym, subst, arith, length-drop}
 use Rattle.std.proofs.lemmas.Bool.{cond_both, and_from, le-leb, leb-true}
 use Rattle.std.proofs.lemmas.List.{length-take}
@@ -24,7 +24,7 @@ use Rattle.craq_runs.specs.Chain.{sent_in}
 use Rattle.craq_recovery.proofs.Items.{clean_items}
 use Rattle.craq_recovery.proofs.Series.{sent_both}
 
--- ---- what messages cost, where one that is answered by many is answered by so many at most
+-- ---- the cost of messages, if a message that causes many replies causes at most s
 
 abbrev pub cost : ℕ → Body → ℕ
 cost s (bodies.Config members) = suc s
@@ -71,7 +71,7 @@ bodies_both : (s : ℕ) (xs ys : List Body) → cost_bodies s (xs ++ ys) ≡ cos
 bodies_both s [] ys = omega arith
 bodies_both s (x ∷ xs) ys = omega (arith, bodies_both s xs ys)
 
--- ---- what is sent costs so much at most, and its counts fit
+-- ---- the messages cost at most this, and their counts fit
 
 abbrev pub Fits : Out → Type 0
 Fits o = out_fits o ≡ true

@@ -1,4 +1,4 @@
--- What is so of each node of a chain, move by move.
+-- A property of each node of a chain, move by move.
 use Rattle.std.proofs.Common.{◌≡◌, ◌≢◌, ⊎_elim, ℕ, ◌==◌, List, [], ◌∷◌, ◌++◌, Some, Result, Ok, Err, refl, sym, subst}
 use Rattle.std.specs.List.{AllByRecursion}
 use Rattle.craq_names.specs.declared.name.NodeName.{NodeName}
@@ -33,7 +33,8 @@ module _ (P : Plain → Type 0) where
       let opening : ℕ → Plain = λ id. opening_member (record { chain = chain; node = id }) members in
       all_map P opening members (all_each (λ id. P (opening id)) members a)
 
-  -- after a move, if it stays so of the node where the move happens, and is so of one that joins
+  -- the property holds after a move, if it stays true of the move's node and is true of one that
+  -- joins
   pub each_moved : (c : Chain) (m : Move) → Each c.nodes → ((x : Progress) (a : AtNode c m x) → P a.was → P a.turn.0) → ((name : NodeName) → name.node ≢ 0 → P (opening_joined name)) → Each (after_move c m).nodes
   each_moved c m all stays joins = moved (chain_step c m) refl
     where

@@ -1,4 +1,4 @@
--- Entries get one member further in a round.
+-- Entries advance by one member in a round.
 use Rattle.std.proofs.Common.{◌≡◌, ◌≢◌, inr, ℕ, suc, ◌+◌, ◌-◌, ◌<◌, ◌≤◌, ◌==◌, nat_le, nat_lt, true, not, ◌&&◌, cond, List, [], ◌∷◌, ◌++◌, map, length, drop, Option, Some, None, refl, ap, sym, subst, ◌∙◌, arith}
 use Rattle.std.proofs.lemmas.Bool.{cond_both, both_ways, eqb-true, leb-true, ltb-true, ltb-false, not-true}
 use Rattle.std.proofs.lemmas.List.{length-append, length-drop, map-append}
@@ -121,7 +121,7 @@ tick_sent p to ready late next placed =
     (λ r. ready_sent p to next placed)
     (λ r. absurd (both_ways p.ready r ready)))
 
--- what the entries after a position are, at a node that stands for one of a world
+-- the entries after a position, at a node for which one of a world stands
 later_placed : {w : World Entry} (p : Plain) → NodeFollows w (seen_of p) → IsPlaced p.past.acknowledged (entries_after p p.past.acknowledged)
 unfolding entries_after
 later_placed {w} p n =
@@ -143,7 +143,7 @@ later_length p based within =
 
 -- ---- they arrive
 
--- a ready node of an epoch at least, that holds so many entries
+-- a ready node of at least this epoch that holds this number of entries
 pub record HoldsSo (epoch least : ℕ) (p : Plain) : Type 0 where
   pub ready : p.ready ≡ true
   pub late : epoch ≤ p.epoch
@@ -152,7 +152,7 @@ pub record HoldsSo (epoch least : ℕ) (p : Plain) : Type 0 where
 pub holds_kept : (epoch least : ℕ) → IsKept (HoldsSo epoch least)
 holds_kept epoch least p q g s = record { ready = g.ready s.ready; late = omega (arith, g.epoch, s.late); holds = omega (arith, g.held, s.holds) }
 
--- so many are left of entries in a row
+-- the number of consecutive entries that are left
 few_left : (n a : ℕ) (es : List Entry) → IsPlaced a es → length es ≤ (n - a) + length (entries_above n es)
 unfolding entries_above
 few_left n a [] p = omega arith
@@ -220,7 +220,7 @@ run_turn p m [] = refl
 run_turn p m (e ∷ []) = refl
 run_turn p m (e ∷ f ∷ es) = refl
 
--- the message says the entry
+-- the message contains the entry
 abbrev IsSaid : World Entry → LinkMessage → Entry → Type 0
 IsSaid w m e = Sent w.messages (said m.epoch m.sender m.receiver (machine.Entry e.position e))
 
@@ -229,7 +229,7 @@ run_said w m [] b = tt
 run_said w m (e ∷ []) b = (b, tt)
 run_said w m (e ∷ f ∷ es) b = b.2
 
--- what was sent stands in the sender's history
+-- the entries that were sent are in the sender's history
 stand : (w : World Entry) (m : LinkMessage) (es : List Entry) → Invariant w → AllByRecursion (IsSaid w m) es → StandIn (w.history m.sender) es
 stand w m es i a =
     let g : Ages = i.ages in
@@ -249,7 +249,7 @@ prefix_of w p from i n pred =
     let next : is_next ms from id ≡ true = subst N (sym n.members) (next_from_predecessor p.members id from pred) in
     k.elders_hold id from (next_left ms from id next) (next_rank g.rank ms from id (k.shape.sorted (w.epoch id)) next)
 
--- a node takes the entries that its predecessor sent, where it holds those before
+-- a node takes the entries that its predecessor sent, if it holds those before
 pub takes_them : (chain : ℕ) (d : Chain) (number : ℕ) (m : LinkMessage) (es : List Entry) (a : ℕ) (p : Plain) → IsReachedBy chain d → message_at d.messages number ≡ Some m → m.body ≡ run_body es
     → IsPlaced a es → a ≤ length_of p → node_at d.nodes (id_of p) ≡ Some p → predecessor p ≡ Some m.sender
     → a + length es ≤ length_of (entries_turn p m.sender es).0
@@ -280,7 +280,7 @@ entries_lead chain c from to before a b d number m x r s f on g there e is =
 
 -- ---- in a round
 
--- what a node knows to be committed each ready node holds
+-- each ready node holds the entries that a node knows to be committed
 pub held_there : (c : Chain) (p q : Plain) → IsFollowed c → node_at c.nodes (id_of p) ≡ Some p → node_at c.nodes (id_of q) ≡ Some q → q.running ≡ true → q.ready ≡ true → p.past.acknowledged ≤ length_of q
 held_there c p q f at_p at_q runs ready =
     let w : World Entry = f.0 in

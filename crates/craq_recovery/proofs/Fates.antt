@@ -1,4 +1,4 @@
--- An ask that waits at a node waits on by a message, or is answered by it.
+-- A request that waits at a node waits on after a message, or is answered by it.
 use Rattle.std.proofs.Common.{◌≡◌, ℕ, ◌+◌, ◌==◌, nat_le, nat_lt, Bool, true, false, not, cond, ◌||◌, List, [], ◌∷◌, ◌++◌, map, None, refl, ap, sym, subst, ◌∙◌, ◌⊎◌, ⊎_elim, inl, inr, ◌<◌}
 use Rattle.std.proofs.lemmas.Bool.{cond_both, both_ways, eq-eqb, eqb-true, leb-false, lt-ltb}
 use Rattle.craq_model.specs.declared.message.Body.TheVariants as bodies
@@ -148,7 +148,7 @@ told_or_left told (r ∷ rs) k h =
     (told_or_left told rs k i))
     (or_parts (r.ticket == k) (is_member (map (λ (r : WaitingRead). r.ticket) rs) k) h)
 
--- ---- what becomes of it
+-- ---- the fate of the request
 
 module _ (k : ℕ) where
   abbrev pub StillWaits : Plain → Type 0
@@ -205,6 +205,6 @@ module _ (k : ℕ) where
     gathers = λ p part g says from at count lacks h. h;
   }
 
-  -- by a message it waits on or is answered
+  -- after a message the request waits on or is answered
   pub delivery_fate : (p : Plain) (m : LinkMessage) → StillWaits p → Fate (delivery_turn p m)
   delivery_fate p m h = by_message StillWaits Fate m (message_fate m) p h

@@ -1,4 +1,4 @@
--- What a ready node sends to its unready successor, and what each of these messages does there.
+-- The messages of a ready node to its unready successor, and the effect of each there.
 use Rattle.std.proofs.Common.{◌≡◌, ◌⊎◌, inl, inr, ℕ, suc, ◌-◌, ◌<◌, ◌≤◌, ◌*◌, ◌==◌, nat_le, nat_lt, Bool, true, false, not, ◌||◌, ◌&&◌, cond, List, [], ◌++◌, Option, Some, None, is_some, refl, ap, sym, subst, ◌∙◌, arith}
 use Rattle.std.proofs.lemmas.Bool.{cond_both, both_ways, eq-eqb, leb-true, le-leb, ltb-true, ltb-false, not-true}
 use Rattle.std.specs.List.{AllByRecursion}
@@ -53,7 +53,7 @@ readies q r f =
     (λ e. settling_ready (record q { ready = true; gathering = None }) refl)
     (λ e. absurd (both_ways (not q.ready && is_reached q.floor (length_of q)) e both))
 
--- a node that holds as many entries as the floor says is ready then
+-- a node that holds as many entries as the floor says is then ready
 pub floor_readies : (p : Plain) (sender count : ℕ) → predecessor p ≡ Some sender → count ≤ length_of p → (floor_turn p sender count).0.ready ≡ true
 unfolding floor_turn
 floor_readies p sender count pred le =
@@ -68,7 +68,7 @@ floor_readies p sender count pred le =
 
 -- ---- parts
 
--- of the state after a position, in so many parts, the part of this number is gathered
+-- the part of this number is gathered, of the state after a position in this number of parts
 pub record HasPart (position count number : ℕ) (o : Option Gathering) : Type 0 where
   pub gathering : Gathering
   pub is : o ≡ Some gathering
@@ -76,7 +76,7 @@ pub record HasPart (position count number : ℕ) (o : Option Gathering) : Type 0
   pub of : gathering.count ≡ count
   pub has : is_some (at_number gathering.parts number) ≡ true
 
--- so are all up to a number
+-- all parts up to a number are gathered
 abbrev pub HasParts : ℕ → ℕ → ℕ → Option Gathering → Type 0
 HasParts position count number o = (j : ℕ) → 1 ≤ j → j ≤ number → HasPart position count j o
 
@@ -84,7 +84,8 @@ HasParts position count number o = (j : ℕ) → 1 ≤ j → j ≤ number → Ha
 abbrev pub NoneLater : ℕ → Option Gathering → Type 0
 NoneLater position o = (g : Gathering) → o ≡ Some g → g.position ≤ position
 
--- the node holds so many entries, or gathers the state after them and has the parts up to this number
+-- the node holds this number of entries, or gathers the state after them and has the parts up to
+-- this number
 abbrev pub HasTaken : ℕ → ℕ → ℕ → Plain → Type 0
 HasTaken position count number p = (position ≤ length_of p) ⊎ (NoneLater position p.gathering × HasParts position count number p.gathering)
 

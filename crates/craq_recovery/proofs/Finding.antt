@@ -1,4 +1,4 @@
--- What is found in a list, and what is left of one.
+-- Searching a list, and the items that are left.
 use Rattle.std.proofs.Common.{◌≡◌, Bool, true, false, List, [], ◌∷◌, filter, find, Option, Some, None, subst}
 use Rattle.std.proofs.lemmas.Bool.{cond_both}
 use Rattle.std.specs.List.{AllByRecursion}

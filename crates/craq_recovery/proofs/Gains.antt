@@ -21,7 +21,7 @@ use Rattle.craq_runs.specs.Runs.{after_move, progressed}
 use Rattle.craq_recovery.specs.Rounds.{after_moves_by}
 use Rattle.craq_recovery.proofs.Onward.{IsTravel, Onward, onward_move}
 
--- what a node knew and held it knows and holds later
+-- the later node knows and holds at least what it did before
 pub record Gains (p q : Plain) : Type 0 where
   pub epoch : p.epoch ≤ q.epoch
   pub ready : p.ready ≡ true → q.ready ≡ true

@@ -1,4 +1,5 @@
--- What a node gathers comes from its predecessor: each gathering began with a part, or goes on with one, that was sent to it.
+-- A node's gathering comes from its predecessor: it began or goes on with a part that the
+-- predecessor sent.
 use Rattle.std.proofs.Common.{◌≡◌, ℕ, ◌+◌, true, false, List, [], ◌∷◌, ◌++◌, Option, Some, None, Result, Ok, Err, refl, sym, subst, slice_get, zero, suc, append-nil, inl, inr}
 use Rattle.craq_names.specs.declared.refusal.Refusal.{Refusal}
 use Rattle.craq_names.specs.declared.refusal.Refusal.TheVariants as refusals
@@ -28,7 +29,7 @@ use Rattle.craq_updates.proofs.Places.{EventOf}
 use Rattle.craq_recovery.proofs.Extending.{IsReachedBy}
 use Rattle.craq_recovery.proofs.Series.{Has, has_front}
 
--- what a node gathers is so, of its predecessor
+-- a node's gathering has the property for its predecessor
 module _ (K : Option ℕ → Gathering → Type 0) where
   abbrev pub GathersSo : Plain → Type 0
   GathersSo p = (g : Gathering) → p.gathering ≡ Some g → K (predecessor p) g
@@ -104,7 +105,7 @@ pub record IsPartFor (from : Option ℕ) (g : Gathering) (m : LinkMessage) : Typ
   pub count : part.count ≡ g.count
   pub comes : from ≡ Some m.sender
 
--- the gathering lacks parts, and one of those that were sent is of its state and comes from that node
+-- the gathering lacks parts, and a part of its state was sent by that node
 pub record CameFrom (ms : List LinkMessage) (from : Option ℕ) (g : Gathering) : Type 0 where
   pub lacks : is_whole g ≡ false
   pub sent : Has (IsPartFor from g) ms
@@ -157,7 +158,7 @@ came_moves (t ∷ ts) c a = came_moves ts (after_move c t.chosen) (came_move c t
 came_after : (chain : ℕ) (run : Run) → AllGatherSo (CameFrom (chain_after chain run).messages) (chain_after chain run).nodes
 came_after chain run = came_moves run.moves (opening_chain chain run.members) (each_opening (GathersSo (CameFrom [])) chain run.members (λ id. gathers_none (CameFrom []) (opening_member (record { chain = chain; node = id }) run.members) refl))
 
--- what a node gathers lacks parts, and its predecessor sent one of them
+-- a node's gathering lacks parts, and its predecessor sent one of them
 pub came_there : (chain : ℕ) (d : Chain) (id : ℕ) (p : Plain) → IsReachedBy chain d → node_at d.nodes id ≡ Some p → GathersSo (CameFrom d.messages) p
 came_there chain d id p r at =
     let P : Chain → Type 0 = λ c. AllGatherSo (CameFrom c.messages) c.nodes in

@@ -1,4 +1,5 @@
--- What the last member knows to be committed reaches each member, one member a round.
+-- The entries that the last member knows to be committed become known to each member, one member a
+-- round.
 use Rattle.std.proofs.Common.{◌≡◌, ℕ, zero, suc, ◌+◌, ◌≤◌, ◌==◌, true, false, List, [], ◌∷◌, ◌++◌, append_assoc, length, Some, slice_get, refl, ap, sym, subst, ◌∙◌, arith}
 use Rattle.std.proofs.lemmas.Bool.{both_ways, cond-true, cond-false, eq-eqb, eqb-true, false_from_ne_true, or_left, or_right}
 use Rattle.std.specs.List.{AllByRecursion}
@@ -33,7 +34,7 @@ use Rattle.craq_recovery.proofs.Sound.{Sound, sound_after}
 use Rattle.craq_recovery.proofs.Taking.{round_travels}
 use Rattle.craq_recovery.proofs.Travels.{NodeIs}
 
--- ---- neighbours of a list without an id twice
+-- ---- neighbours in a list of distinct ids
 
 apart : (a b : ℕ) → (a == b) ≡ false → (b == a) ≡ false
 apart a b h = false_from_ne_true (b == a) (λ e. both_ways (a == b) h (eq-eqb a b (sym (eqb-true b a e))))
@@ -41,7 +42,7 @@ apart a b h = false_from_ne_true (b == a) (λ e. both_ways (a == b) h (eq-eqb a 
 self_is : (a : ℕ) → (a == a) ≡ true
 self_is a = eq-eqb a a refl
 
--- the id stands in the list
+-- the id is in the list
 pub stands : (front : List ℕ) (a : ℕ) (rest : List ℕ) → protocol.is_member (front ++ a ∷ rest) a ≡ true
 unfolding protocol.is_member
 stands [] a rest = or_left (a == a) (protocol.is_member rest a) (self_is a)
@@ -67,7 +68,7 @@ predecessor_there (m ∷ k ∷ front) a b rest d =
     let P : List ℕ → Type 0 = λ l. protocol.is_member l k ≡ false in
     cond-false (k == b) (Some m) (predecessor_in (k ∷ front ++ a ∷ b ∷ rest) b) (other_than k b (front ++ a ∷ []) rest (subst P (sym (append_assoc front (a ∷ []) (b ∷ rest))) d.1.0)) ∙ predecessor_there (k ∷ front) a b rest d.1
 
--- ---- chains of which all this is known
+-- ---- chains with these invariants
 
 pub record Good (c : Chain) : Type 0 where
   pub sound : Sound c
@@ -84,7 +85,7 @@ good_moves ms c g = record { sound = sound_moves ms c g.sound; followed = follow
 pub good_run : (chain : ℕ) (run : Run) → IsRunOf chain run → Good (chain_after chain run)
 good_run chain run is = record { sound = sound_after chain run.members run.moves; followed = every_run chain run is; ids = none_is_master chain run is }
 
--- who knows the membership knows it a round later, and has only gained
+-- a node that knows the membership knows it a round later, and has only gained
 pub knows_later : (count : ℕ) (c : Chain) (id : ℕ) (p : Plain) → Good c → node_at c.nodes id ≡ Some p → Knows c p → (l : Later (after_round count c) id p) × Knows (after_round count c) l.node
 knows_later count c id p g at k =
     let ms : List Move = round after_move count c in
@@ -94,7 +95,7 @@ knows_later count c id p g at k =
     let i : Informed d id c.epoch = record { node = l.node; at = l.at; runs = l.runs; late = omega (arith, gains.epoch, k.epoch) } in
     (l, knows_at c d id (onward_moves ms c (round_travels count c)) (followed_moves ms c g.followed) i)
 
--- who is ready stays so, and knows the membership
+-- a ready node stays ready, and knows the membership
 pub ready_later : (count : ℕ) (c : Chain) → Good c → (id : ℕ) → IsReadyAt c id → IsReadyAt (after_round count c) id
 ready_later count c g id r =
     let k : (l : Later (after_round count c) id r.node) × Knows (after_round count c) l.node = knows_later count c id r.node g r.at r.knows in
@@ -137,7 +138,7 @@ distinct_members c f =
 pub in_members : (c : Chain) (front : List ℕ) (a : ℕ) (rest : List ℕ) → front ++ a ∷ rest ≡ c.members → is_member c.members a ≡ true
 in_members c front a rest is = let M : List ℕ → Type 0 = λ l. is_member l a ≡ true in subst M is (is_member-same (front ++ a ∷ rest) a ∙ stands front a rest)
 
--- two members next to each other that know the membership are neighbours
+-- two adjacent members that know the membership are neighbours
 pub facing : (c : Chain) (front : List ℕ) (a b : ℕ) (rest : List ℕ) → Good c → front ++ a ∷ b ∷ rest ≡ c.members → (p q : Plain) → node_at c.nodes a ≡ Some p → node_at c.nodes b ≡ Some q → Knows c p → Knows c q → AreNeighbours c p q
 facing c front a b rest g is p q at_p at_q kp kq =
     let own_p : id_of p ≡ a = node_id c.nodes a p at_p in
@@ -163,7 +164,7 @@ facing c front a b rest g is p q at_p at_q kp kq =
       before = subst P1 (sym own_q) (subst P2 (sym own_p) before);
     }
 
--- the member before one that knows so much knows it a round later
+-- the member before one that knows this number to be committed knows it a round later
 one_more : (count : ℕ) (c : Chain) (least : ℕ) (front : List ℕ) (a b : ℕ) (rest : List ℕ) → Good c → front ++ a ∷ b ∷ rest ≡ c.members → IsReadyAt c a → IsReadyAt c b → KnowsCommitted c b least
     → HaveNumbers c (round after_move (suc count) c) → KnowsCommitted (after_round (suc count) c) a least
 one_more count c least front a b rest g is ra rb k numbers =
@@ -197,7 +198,7 @@ split_last before m (k ∷ ms) =
     let r : (rev : List ℕ) × (onto rev (last_of (k ∷ ms) ∷ []) ≡ onto (m ∷ before) (k ∷ ms)) × (length rev ≡ length (m ∷ before) + length ms) = split_last (m ∷ before) k ms in
     (r.0, r.1, omega (arith, r.2))
 
--- the members from one on know it; so many rounds later all do
+-- the members from one on know it; after enough rounds all do
 spreads : (count least rounds : ℕ) (rev : List ℕ) (a : ℕ) (rest : List ℕ) (c : Chain) → Good c → length rev ≤ rounds → onto rev (a ∷ rest) ≡ c.members → AllReady c
     → KnowAll c least (a ∷ rest) → HaveNumbersFor (suc count) rounds c → KnowAll (after_rounds after_move (suc count) rounds c) least (onto rev (a ∷ rest))
 spreads count least zero [] a rest c g le is r k numbers = k

@@ -69,13 +69,13 @@ config_epoch p e ms member =
     (λ out. absurd (both_ways (is_member ms (id_of p)) (not-true (is_member ms (id_of p)) out) member))
     (λ _. omega (arith, settled_epoch q)))
 
--- the message tells this membership to the node of this id
+-- the message brings this membership to the node of this id
 pub record IsConfigTo (epoch : ℕ) (members : List ℕ) (id : ℕ) (m : LinkMessage) : Type 0 where
   pub says : m.body ≡ bodies.Config members
   pub made : m.epoch ≡ epoch
   pub goes_to : m.receiver ≡ id
 
--- the node of an id runs, and knows an epoch as late
+-- the node of an id runs, and knows at least this epoch
 pub record Informed (d : Chain) (id epoch : ℕ) : Type 0 where
   pub node : Plain
   pub at : node_at d.nodes id ≡ Some node
@@ -105,14 +105,14 @@ config_informs d number m x epoch members id at k is member =
       late = omega (arith, late, is.made, ap (λ (t : Turn). t.0.epoch) by);
     })
 
--- who is informed stays so
+-- an informed node stays informed
 informed_lasts : (id epoch : ℕ) → Endures (λ d. Informed d id epoch)
 informed_lasts id epoch m d t f i =
     let l : Later (after_move d m) id i.node = later_moves (m ∷ []) d id i.node (t, tt) f (later_here d id i.node i.at i.runs) in
     let g : Gains i.node l.node = l.gains in
     record { node = l.node; at = l.at; runs = l.runs; late = omega (arith, i.late, g.epoch) }
 
--- ---- messages arrive, one of which tells the membership
+-- ---- messages arrive, one of which brings the membership
 
 abbrev IsUp : ℕ → Chain → Type 0
 IsUp id d = is_running (node_at d.nodes id) ≡ true
@@ -129,7 +129,7 @@ hears c epoch members id member (m ∷ ms) (inl now) =
     (bring_lasts (λ d. ⊤) (λ d m t u. tt) c (λ d. Informed d id epoch) ms (informed_lasts id epoch))
 hears c epoch members id member (m ∷ ms) (inr later) = bring_past (λ d. ⊤) (λ d m t u. tt) c m ms (IsUp id) (λ d. Informed d id epoch) (up_lasts id) (hears c epoch members id member ms later)
 
--- ---- the master tells it
+-- ---- the master sends it
 
 has_one : (c : Chain) (to : ℕ) (tos : List ℕ) (rest : List LinkMessage) (id : ℕ) (b : Bool) → (to == id) ≡ b → (b || is_member tos id) ≡ true
     → (is_member tos id ≡ true → Has (IsConfigTo c.epoch c.members id) (sent_in (map (config_to c) tos) ++ rest))
@@ -173,7 +173,7 @@ informed_by_round count c id s f runs member numbers =
         let H : List LinkMessage → Type 0 = λ l. Has (IsConfigTo c.epoch c.members id) l in
         subst H (sym new) (has_config c c.members on.sent id member)
 
--- who is as late as the master knows its membership
+-- a node that knows at least the master's epoch knows its membership
 pub knows_at : (c d : Chain) (id : ℕ) → Onward c d → IsFollowed d → (i : Informed d id c.epoch) → Knows d i.node
 knows_at c d id on f i =
     let w : World Entry = f.0 in

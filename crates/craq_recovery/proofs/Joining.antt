@@ -1,4 +1,4 @@
--- An unready member becomes ready in a round of two hops, where its predecessor is ready.
+-- An unready member becomes ready in a round of two hops, if its predecessor is ready.
 use Rattle.std.proofs.Common.{◌≡◌, ℕ, zero, suc, ◌+◌, ◌<◌, ◌≤◌, max, nat_le, nat_lt, cond, List, [], ◌∷◌, ◌++◌, map, length, append-nil, Some, refl, ap, sym, subst, ◌∙◌, arith}
 use Rattle.std.proofs.lemmas.Bool.{cond_both, leb-false, ltb-true, ltb-false}
 use Rattle.std.proofs.lemmas.List.{length-append, map-append}
@@ -29,7 +29,7 @@ use Rattle.craq_recovery.proofs.Arriving.{Stays}
 pub reach_stays : (chain : ℕ) → Stays (IsReachedBy chain)
 reach_stays chain = λ d m t r. reached_move chain d m t r
 
--- ---- what a ready predecessor sends, one kind after the other
+-- ---- the messages of a ready predecessor, one kind after the other
 
 at_least : (n : ℕ) → 64 < n → 1 ≤ chunk_count n 64
 at_least n many = omega (arith, many)
@@ -74,7 +74,7 @@ module _ (chain : ℕ) (c : Chain) (p : Plain) (to : ℕ) (before : predecessor_
       (turn_floor chain c (id_of p) to count m before (from_it (bodies.Floor count)) refl)
       (conveys_none (IsReachedBy chain) c to (HoldsSo c.epoch count) (HoldsSo c.epoch count) (λ d r f on i. i))
 
-  -- where no state is sent
+  -- if no state is sent
   weakened : (least a : ℕ) → a ≡ least → Brought (Begins c.epoch (id_of p) least p.past.acknowledged) (Holds c.epoch a) []
   unfolding sent_in
   weakened least a same =
@@ -137,7 +137,7 @@ module _ (chain : ℕ) (c : Chain) (p : Plain) (to : ℕ) (before : predecessor_
       brought_both E (T 0) F [] parts first
       (subst W whole (brought_both (T 0) (T (part_count s)) F parts [] (subst N all (parts_brought position s 0 1 (part_count s) refl)) last)))
 
-  -- all that is sent in reply to a node of so many entries
+  -- all messages sent in reply to a node of this number of entries
   pub fill_brought : (least : ℕ) → IsPlaced (max least p.past.acknowledged) (entries_after p (max least p.past.acknowledged))
       → max least p.past.acknowledged + length (entries_after p (max least p.past.acknowledged)) ≡ length_of p
       → Brought (Begins c.epoch (id_of p) least p.past.acknowledged) (HoldsSo c.epoch (length_of p)) (fill_bodies p least)

@@ -1,4 +1,5 @@
--- What is so of a node is carried through the turn that a message or an ask brings about, line by line of the rules.
+-- Preserves a property of a node through the step of a message or a request, line by line of the
+-- rules.
 use Rattle.std.proofs.Common.{◌≡◌, ℕ, ◌+◌, ◌≤◌, Bool, true, false, not, cond, List, [], ◌∷◌, ◌++◌, is_some, Option, Some, None, Result, Ok, Err, refl, ap, sym, arith}
 use Rattle.std.proofs.lemmas.Bool.{cond_both, eqb-true, ltb-false, not-false}
 use Rattle.std.specs.Prelude.{◌==◌, ◌||◌, nat_lt, nat_le, ⊤}
@@ -58,7 +59,8 @@ for_position part (Some g) late =
 
 -- ---- a message
 
--- what has to be shown: where S is so of a node, A is so of its turn by this message, whichever line of the rules that takes
+-- the proof obligations: if S holds of a node, A holds of its step by this message, in each line of
+-- the rules
 pub record ByMessage (S : Plain → Type 0) (A : Turn → Type 0) (m : LinkMessage) : Type 0 where
   pub silent : (t : Turn) → t.1.outs ≡ [] → S t.0 → A t
   pub sends : (p : Plain) (past : Past) (to : Option ℕ) (bs : List Body) → S p → A (turn_with (record p { past = past }) (to_neighbour to (λ to. send_all p to bs)))
@@ -162,9 +164,9 @@ module _ (S : Plain → Type 0) (A : Turn → Type 0) (m : LinkMessage) (by : By
   pub by_message : (p : Plain) → S p → A (delivery_turn p m)
   by_message p s = by_body p m.body refl s
 
--- ---- an ask
+-- ---- a request
 
--- what has to be shown: where S is so of a node, A is so of its turn by an ask
+-- the proof obligations: if S holds of a node, A holds of its step by a request
 pub record ByAsk (S : Plain → Type 0) (A : Turn → Type 0) : Type 0 where
   pub answered : (p : Plain) (past : Past) (answer : Answer) (to : Option ℕ) (bs : List Body) → S p → A (answered_turn (record p { past = past }) answer (to_neighbour to (λ to. send_all p to bs)))
   pub waits : (p : Plain) (past : Past) (us : List WaitingUpdate) (to : Option ℕ) (bs : List Body) → S p

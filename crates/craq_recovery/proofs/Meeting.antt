@@ -1,4 +1,4 @@
--- What each message of a ready predecessor does at an unready node, in a chain.
+-- The effect of each message of a ready predecessor at an unready node, in a chain.
 use Rattle.std.proofs.Common.{◌≡◌, ◌≢◌, ⊎_elim, inl, inr, ℕ, suc, ◌+◌, ◌≤◌, true, List, [], ◌∷◌, length, take, Option, Some, is_some, Result, refl, ap, sym, subst, ◌∙◌, arith}
 use Rattle.std.proofs.lemmas.Bool.{cases_eq, both_ways, eq-eqb}
 use Rattle.std.specs.List.{AllByRecursion}
@@ -52,9 +52,9 @@ use Rattle.craq_recovery.proofs.Sound.{own_chain, turn_named}
 use Rattle.craq_recovery.proofs.Taking.{bears, for_it}
 use Rattle.craq_recovery.proofs.Travels.{Met, NodeIs, arrived_here, ends, in_turn, met, stands_by}
 
--- ---- what is true of the node meanwhile
+-- ---- properties of the node meanwhile
 
--- it holds so many entries, and gathers from that predecessor no state later than this one
+-- the node gathers no state later than this one from that predecessor
 abbrev pub Below : ℕ → ℕ → Option ℕ → Gathering → Type 0
 Below from position o g = o ≡ Some from → g.position ≤ position
 
@@ -63,12 +63,12 @@ pub record Begins (epoch from least position : ℕ) (q : Plain) : Type 0 where
   pub holds : least ≤ length_of q
   pub below : GathersSo (Below from position) q
 
--- it holds so many entries
+-- the node holds this number of entries
 pub record Holds (epoch least : ℕ) (q : Plain) : Type 0 where
   pub late : epoch ≤ q.epoch
   pub holds : least ≤ length_of q
 
--- it holds so many entries, or has the parts up to a number of the state after them
+-- the node holds this number of entries, or has the parts up to a number of the state after them
 pub record Takes (epoch position count number : ℕ) (q : Plain) : Type 0 where
   pub late : epoch ≤ q.epoch
   pub taken : HasTaken position count number q
@@ -140,20 +140,20 @@ turn_floor chain c from to count m before is says = λ d number x r s f on g the
 
 -- ---- parts
 
--- some message of the list is such, and of each this holds
+-- some message of the list is such, and this holds of each
 pub with_has : (Is P : LinkMessage → Type 0) (ms : List LinkMessage) → Has Is ms → AllByRecursion P ms → (m : LinkMessage) × Is m × P m
 with_has Is P [] h a = absurd h
 with_has Is P (m ∷ ms) (inl is) a = (m, is, a.0)
 with_has Is P (m ∷ ms) (inr h) a = with_has Is P ms h a.1
 
--- all parts of the state after a position are of one count
+-- all parts of the state after a position have one count
 count_is : (w : World Entry) → IsReached w → (epoch from to : ℕ) (part : StatePart) → PartFollows w.messages epoch from to part → part_count (after_entries opening_state (take part.position w.log)) ≡ part.count
 count_is w r epoch from to part f = ap (λ (p : StatePart). p.count) (part_is r epoch from to part f)
 
 part_follows : (w : World Entry) (m : LinkMessage) (part : StatePart) → m.body ≡ bodies.Part part → MessageFollows w.memberships w.messages m → PartFollows w.messages m.epoch m.sender m.receiver part
 part_follows w m part says f = let P : Body → Type 0 = λ b. BodyFollows w.memberships w.messages m.epoch m.sender m.receiver b in subst P says f
 
--- what a node gathers of a state has as many parts as any part of it that was sent says
+-- a gathering has as many parts as each part of its state that was sent says
 gathered_count : (chain : ℕ) (d : Chain) (p : Plain) (f : IsFollowed d) → IsReachedBy chain d → node_at d.nodes (id_of p) ≡ Some p → (g : Gathering) → p.gathering ≡ Some g
     → g.count ≡ part_count (gathered_state f.0 g)
 gathered_count chain d p f r at g is =
@@ -224,7 +224,7 @@ turn_part chain c from to number part m before is says next = λ d place x r s f
 between : (messages : List (machine.Message Entry)) (g : Gathering) (h : ℕ × State) → PartWasSent messages (held_part g h) → IsBetween 1 (1 + g.count) h
 between messages g h f = record { low = f.3.first; high = omega (arith, f.3.last) }
 
--- then the node doesn't gather any more: it holds the state
+-- then the node no longer gathers: it holds the state
 pub all_taken : (chain : ℕ) (c : Chain) (to position count : ℕ) → 1 ≤ count → (d : Chain) → IsReachedBy chain d → IsFollowed d → Onward c d → NodeIs d to (Takes c.epoch position count count) → NodeIs d to (Holds c.epoch position)
 all_taken chain c to position count some d r f on i =
     let p : Plain = i.node in
@@ -268,7 +268,7 @@ none_taken chain c from to least position count before d r f on i =
 
 -- ---- other messages
 
--- of that sender's parts none is later than this
+-- no part from that sender is later than this
 abbrev pub IsMild : ℕ → ℕ → LinkMessage → Type 0
 IsMild from position m = (part : StatePart) → m.body ≡ bodies.Part part → m.sender ≡ from → part.position ≤ position
 

@@ -1,4 +1,4 @@
--- What ticks and arrivals leave as it is.
+-- The fields that ticks and arrivals preserve.
 use Rattle.std.proofs.Common.{◌≡◌, ⊎_elim, ℕ, ◌+◌, ◌==◌, List, [], ◌∷◌, ◌++◌, append_assoc, append-nil, Option, Some, None, Result, Ok, Err, refl, ap, sym, subst, ◌∙◌}
 use Rattle.std.proofs.lemmas.Bool.{cases_eq, cond_both, cond-true}
 use Rattle.std.specs.Prelude.{⊤}
@@ -23,7 +23,7 @@ use Rattle.craq_recovery.proofs.Running.{delivery_turn-runs}
 use Rattle.craq_recovery.proofs.Sound.{Sound, sound_move, turn_named}
 use Rattle.craq_recovery.proofs.Lines.{IfTaken, by_test, in_step}
 
--- the same master, the messages that were sent stand, and the same nodes run
+-- the same master, the messages that were sent stay, and the same nodes run
 pub record Onward (c d : Chain) : Type 0 where
   pub chain : d.chain ≡ c.chain
   pub epoch : d.epoch ≡ c.epoch
@@ -45,7 +45,7 @@ onward_on {b} {c} {d} f g = record {
   running = λ id. g.running id ∙ f.running id;
 }
 
--- the same of what a move does, before it is counted
+-- the same of a move's result, before it is counted
 record Leaves (c : Chain) (x : Progress) : Type 0 where
   chain : x.0.chain ≡ c.chain
   epoch : x.0.epoch ≡ c.epoch
@@ -56,7 +56,7 @@ abbrev LeavesIfAny : Chain → Result Progress Refusal → Type 0
 LeavesIfAny c (Ok x) = Leaves c x
 LeavesIfAny c (Err e) = ⊤
 
--- an event that is no ask and stops nobody
+-- an event that is no request and no stop
 abbrev IsQuiet : Event → Type 0
 IsQuiet (events.Ask ask) = ⊥
 IsQuiet (events.Deliver m) = ⊤
@@ -79,7 +79,7 @@ event_stays p events.Stop q = absurd q
 step_stays : (p : Plain) (e : Event) → IsQuiet e → IfTaken (Stays p) (node_step p e)
 step_stays p e q = in_step (Stays p) p e (event_stays p e q)
 
--- a node in place of that of its name, which runs as that did
+-- a node that replaces the one of its name runs as that did
 runs_alike : (nodes : List Plain) (p q : Plain) → node_at nodes (id_of p) ≡ Some p → q.name ≡ p.name → q.running ≡ p.running
     → (id : ℕ) → is_running (node_at (set_node nodes q) id) ≡ is_running (node_at nodes id)
 runs_alike nodes p q at named runs id =

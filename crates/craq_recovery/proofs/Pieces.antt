@@ -1,4 +1,4 @@
--- The parts of a state come in order, and as many as there are numbers make a gathering whole.
+-- The parts of a state come in order, and as many as there are numbers complete a gathering.
 use Rattle.std.proofs.Common.{◌≡◌, ◌≢◌, ◌<◌, ◌≤◌, ℕ, zero, suc, ◌+◌, ◌-◌, ◌*◌, min, ◌==◌, nat_lt, nat_le, Bool, true, false, ◌&&◌, ◌||◌, T, cond, List, [], ◌∷◌, ◌++◌, length, take, drop, Option, Some, is_some, refl, ap, sym, subst, ◌∙◌, arith, length-drop}
 use Rattle.std.proofs.lemmas.Bool.{cond_both, eq-eqb, leb-true, leb-false, ltb-true, ltb-false}
 use Rattle.std.proofs.lemmas.Bool.Decides.{nat_tests}
@@ -30,7 +30,7 @@ holds : (b : Bool) → T b → b ≡ true
 holds true t = refl
 holds false t = absurd t
 
--- ---- two pieces of a list whose keys rise
+-- ---- two pieces of a list of ascending keys
 
 outer : {A : Type 0} (P : A → Type 0) (b c : ℕ) (xs : List A) → b ≤ c → AllByRecursion P (take c xs) → AllByRecursion P (take b xs)
 outer {A} P zero c xs le a = tt
@@ -126,7 +126,7 @@ part_precedes s n i r lt =
 apart_number : (j n : ℕ) → j ≢ n → eq_by_cmp nat_cmp j n ≡ false
 apart_number j n ne = cond_both (eq_by_cmp nat_cmp j n) true false (λ (b : Bool). eq_by_cmp nat_cmp j n ≡ false) (λ e. absurd (ne (same_of j n e))) (λ e. e)
 
--- of a list of parts: the first one is of that number, or a later one is
+-- in a list of parts, the first one is of that number, or a later one is
 found_where : (j : ℕ) (h : ℕ × State) (hs : List (ℕ × State)) → j ≢ h.0 → at_number (h ∷ hs) j ≡ at_number hs j
 found_where j h hs ne = ap (λ b. cond b (Some h.1) (at_number hs j)) (apart_number j h.0 ne)
 
@@ -191,7 +191,7 @@ none_below : (n j : ℕ) (hs : List (ℕ × State)) → j ≤ n → AreAbove n h
 none_below n j [] le a h = absurd (cc)
 none_below n j (x ∷ hs) le a h = none_below n j hs le a.1 (sym (ap is_some (found_where j x hs (λ e. absurd (omega (arith, e, le, a.0))))) ∙ h)
 
--- the number lies between two
+-- the number is between two
 pub record IsBetween (a b : ℕ) (h : ℕ × State) : Type 0 where
   pub low : a ≤ h.0
   pub high : h.0 < b

@@ -71,7 +71,7 @@ use Rattle.craq_recovery.proofs.Waits.{Waiting, waits_last}
 
 -- ---- versions along a history
 
--- what is written later has no lower version
+-- later writes have no lower version
 never_fall : (asked : List Asked) (key : List ℕ) (s : State) (es : List Entry) → AllGenuine asked s es → version_of s.objects key ≤ version_of (after_entries s es).objects key
 never_fall asked key s [] g = omega arith
 never_fall asked key s (e ∷ es) g =
@@ -88,7 +88,7 @@ never_fall asked key s (e ∷ es) g =
     no_lower : (s : State) (u : Update) (key : List ℕ) → version_of s.objects key ≤ version_of (apply s u).objects key
     no_lower s u key = by_age s.objects (apply s u).objects key (more_updates s (u ∷ []) key)
 
--- a beginning of the list, and a history that begins with the list
+-- a prefix of the list, and a history that begins with the list
 shorter : (asked : List Asked) (key : List ℕ) (count : ℕ) (log history : List Entry) → count ≤ length log → IsPrefix log history → AllGenuine asked opening_state history
     → version_of (after_entries opening_state (take count log)).objects key ≤ version_of (after_entries opening_state history).objects key
 shorter asked key count log history le p g =
@@ -103,7 +103,7 @@ shorter asked key count log history le p g =
     (subst S (sym (after_entries-append opening_state (take count history) (drop count history)))
     (never_fall asked key (after_entries opening_state (take count history)) (drop count history) (genuine_back asked opening_state (take count history) (drop count history) (subst G (sym split) g)))))
 
--- ---- a version that was told is not above what a ready node holds
+-- ---- a version that was reported is not above a ready node's
 
 same_object : (a b : ObjectId) (k : Ask) → k ≡ asks.Read Strong a → k ≡ asks.Read Strong b → a ≡ b
 same_object a b k h g = cc
@@ -169,7 +169,7 @@ pub record IsVersion (epoch from to ticket : ℕ) (m : LinkMessage) : Type 0 whe
   pub comes_from : m.sender ≡ from
   pub goes_to : m.receiver ≡ to
 
--- each waiting read is asked about
+-- each waiting read has its query
 asks_about : (p : Plain) (rs : List WaitingRead) → AllByRecursion (λ (r : WaitingRead). Has (IsQuery p.epoch (id_of p) (last_of p.members) r.ticket) (sent_in (map (λ (r : WaitingRead). send p (last_of p.members) (bodies.Query r.ticket r.key)) rs))) rs
 unfolding sent_in
 asks_about p [] = tt

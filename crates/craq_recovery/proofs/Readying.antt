@@ -1,4 +1,4 @@
--- Round after round one member more is ready, and holds what the first one held.
+-- In each round one more member becomes ready, and holds the entries of the first one.
 use Rattle.std.proofs.Common.{◌≡◌, ℕ, suc, ◌≤◌, Bool, true, false, List, [], ◌∷◌, ◌++◌, append_assoc, length, Some, sym, subst, ◌∙◌, arith}
 use Rattle.std.proofs.lemmas.Bool.{cond_both}
 use Rattle.std.specs.List.{AllByRecursion}
@@ -25,7 +25,7 @@ use Rattle.craq_recovery.proofs.Tails.{good_there, reached_round}
 use Rattle.craq_recovery.proofs.Taking.{round_travels}
 use Rattle.craq_recovery.proofs.Travels.{NodeIs}
 
--- the node of an id is ready, knows the membership and holds so many entries
+-- the node of an id is ready, knows the membership and holds this number of entries
 pub record Stands (least : ℕ) (c : Chain) (id : ℕ) : Type 0 where
   pub node : Plain
   pub at : node_at c.nodes id ≡ Some node
@@ -33,7 +33,7 @@ pub record Stands (least : ℕ) (c : Chain) (id : ℕ) : Type 0 where
   pub ready : node.ready ≡ true
   pub holds : least ≤ length_of node
 
--- a node that knows the membership knows it a round later too
+-- a node that knows the membership also knows it a round later
 hears_later : (count : ℕ) (c : Chain) → Good c → (id : ℕ) → HearsAt c id → HearsAt (after_round count c) id
 hears_later count c g id h =
     let k : (l : Later (after_round count c) id h.0) × Knows (after_round count c) l.node = knows_later count c id h.0 g h.1 h.2 in
@@ -49,7 +49,7 @@ stands_later count c least g id s =
 
 -- ---- one round
 
--- a ready member's successor is ready after a round of two hops, and holds what that one held
+-- a ready member's successor is ready after a round of two hops, and holds the member's entries
 pub next_ready : (chain count : ℕ) (c : Chain) (p q : Plain) → IsReachedBy chain c → Good c → AreNeighbours c p q → is_member c.members (id_of p) ≡ true → is_member c.members (id_of q) ≡ true → p.ready ≡ true
     → HaveNumbers c (round after_move (suc (suc count)) c) → NodeIs (after_moves_by after_move c (round after_move (suc (suc count)) c)) (id_of q) (HoldsSo c.epoch (length_of p))
 next_ready chain count c p q r g n mp mq ready numbers =
@@ -95,7 +95,7 @@ stood_on chain count least = record {
   hands = λ c r front a b rest is s h numbers. stands_next chain count c least front a b rest r is s h numbers;
 }
 
--- all members stand as the first one did, after as many rounds as there are members
+-- all members are as the first one was, after as many rounds as there are members
 pub all_stand : (chain count least rounds : ℕ) (c : Chain) (m : ℕ) (ms : List ℕ) → IsReachedBy chain c → m ∷ ms ≡ c.members → length (m ∷ ms) ≤ rounds → AllByRecursion (HearsAt c) (m ∷ ms) → Stands least c m
     → HaveNumbersFor (suc (suc count)) rounds c → AllByRecursion (Stands least (after_rounds after_move (suc (suc count)) rounds c)) (m ∷ ms)
 all_stand chain count least rounds c m ms r is le hear first numbers =

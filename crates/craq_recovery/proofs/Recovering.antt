@@ -149,7 +149,7 @@ all_run : (c : Chain) (ids : List ℕ) → AllByRecursion (RunsReady c) ids → 
 all_run c [] a = tt
 all_run c (id ∷ ids) a = let r : RunsReady c id = a.0 in (ap is_running r.at ∙ r.running, all_run c ids a.1)
 
--- who hears of the membership is ready still
+-- a node that learns of the membership is still ready
 still_ready : (count : ℕ) (c : Chain) (ids : List ℕ) → Good c → AllByRecursion (RunsReady c) ids → AllByRecursion (HearsAt (after_round count c)) ids → AllByRecursion (IsReadyAt (after_round count c)) ids
 still_ready count c [] g a b = tt
 still_ready count c (id ∷ ids) g a b =

@@ -1,4 +1,4 @@
--- In a round of two hops an unready member asks its ready predecessor, which fills it.
+-- In a round of two hops an unready member asks its ready predecessor, which sends what it lacks.
 use Rattle.std.proofs.Common.{◌≡◌, ◌≢◌, inl, ℕ, suc, ◌+◌, ◌-◌, ◌<◌, ◌≤◌, ◌==◌, max, true, false, not, cond, List, [], ◌∷◌, ◌++◌, length, drop, append_assoc, Option, Some, Result, Ok, slice_get, refl, ap, sym, subst, ◌∙◌, arith, inr}
 use Rattle.std.proofs.lemmas.Bool.{cond_both, both_ways, eqb-true, not-true}
 use Rattle.std.proofs.lemmas.List.{drop-append-le, length-drop}
@@ -51,9 +51,9 @@ use Rattle.craq_recovery.proofs.Sound.{Sound}
 use Rattle.craq_recovery.proofs.Taking.{arrivals_travel, bears, deliver_taken, no_fewer, stands_at, ticks_travel}
 use Rattle.craq_recovery.proofs.Travels.{IsKept, Met, NodeIs, in_turn, kept_move, met, runs_there, stands_by, tick_sent}
 
--- ---- the question
+-- ---- the message that asks
 
--- a node says how many entries it holds, to another, in an epoch
+-- a node reports its length to another, in an epoch
 pub record IsBlank (epoch from to count : ℕ) (m : LinkMessage) : Type 0 where
   pub says : m.body ≡ bodies.Blank count
   pub made : m.epoch ≡ epoch
@@ -104,13 +104,13 @@ replies c d from to count least number m x after s f on g there e is =
     let U : ℕ → Type 0 = λ i. x.0.messages ≡ d.messages ++ sent_in (send_all p i (fill_bodies p count)) in
     subst T same (subst U is.comes (k.sends ∙ ap (λ (t : Turn). d.messages ++ sent_in t.1.outs) does))
 
--- ---- what was sent before is mild
+-- ---- earlier messages are harmless
 
 all_numbered : (P : LinkMessage → Type 0) (ms : List LinkMessage) → ((i : ℕ) (m : LinkMessage) → slice_get ms i ≡ Some m → P m) → AllByRecursion P ms
 all_numbered P [] so = tt
 all_numbered P (m ∷ ms) so = (so 0 m refl, all_numbered P ms (λ i x h. so (suc i) x h))
 
--- of the parts that a node sent none is of a later state than it knows to be committed
+-- no part that a node sent is of a later state than it knows to be committed
 all_mild : (chain : ℕ) (d : Chain) (from : ℕ) (p : Plain) → IsReachedBy chain d → node_at d.nodes from ≡ Some p → AllByRecursion (IsMild from p.past.acknowledged) d.messages
 all_mild chain d from p r at =
     let agree : MessagesAgreeWithSenders chain r.run = messages_agree_with_senders chain r.run r.typed in
@@ -130,7 +130,7 @@ all_mild chain d from p r at =
         let P : Plain → Type 0 = λ q. part.position ≤ q.past.acknowledged in
         subst P same s.holds
 
--- nor does a node gather a later one of that node's
+-- no gathering of a node is of a later state of that sender
 begins : (chain : ℕ) (d : Chain) (epoch from to least : ℕ) (p : Plain) → IsReachedBy chain d → node_at d.nodes from ≡ Some p → NodeIs d to (Holds epoch least) → NodeIs d to (Begins epoch from least p.past.acknowledged)
 begins chain d epoch from to least p r at i =
     let q : Plain = i.node in
@@ -156,7 +156,7 @@ begins chain d epoch from to least p r at i =
     same_id : (o : Option ℕ) (a b : ℕ) → o ≡ Some a → o ≡ Some b → a ≡ b
     same_id o a b x y = cc
 
--- ---- what the predecessor has to send
+-- ---- the messages that the predecessor must send
 
 sent_placed : {w : World Entry} (p : Plain) (a : ℕ) → NodeFollows w (seen_of p) → p.past.base ≤ a → IsPlaced a (entries_after p a)
 unfolding entries_after
@@ -178,7 +178,7 @@ sent_length p a based within =
 
 -- ---- the first hop
 
--- the chain after the hop: the reply stands among its messages, and the node that asked is as it has to be
+-- the chain after the hop: the reply is among its messages, and the node that asked is as required
 pub record HopOne (c e : Chain) (from to count least : ℕ) : Type 0 where
   pub filler : Plain
   pub own : id_of filler ≡ from
@@ -196,14 +196,15 @@ pub record HopOne (c e : Chain) (from to count least : ℕ) : Type 0 where
 holds_so_kept : (epoch least : ℕ) → IsKept (Holds epoch least)
 holds_so_kept epoch least p q g s = record { late = omega (arith, g.epoch, s.late); holds = omega (arith, g.held, s.holds) }
 
--- the predecessor is ready and holds so many entries, and the node that asks holds as many as it says
+-- the predecessor is ready and holds this number of entries, and the node that asks holds as many
+-- as it reports
 abbrev Asks : ℕ → ℕ → ℕ → ℕ → ℕ → Chain → Type 0
 Asks epoch from to count least d = NodeIs d from (HoldsSo epoch least) × NodeIs d to (Holds epoch count)
 
 asks_last : (epoch from to count least : ℕ) → Endures (Asks epoch from to count least)
 asks_last epoch from to count least m d t f a = (kept_move (HoldsSo epoch least) (holds_kept epoch least) m d from t f a.0, kept_move (Holds epoch count) (holds_so_kept epoch count) m d to t f a.1)
 
--- at the chain in which the question arrives
+-- at the chain in which the request for entries arrives
 asked : (chain : ℕ) (c : Chain) (from to count least : ℕ) (b : LinkMessage) (back : List LinkMessage) → successor_in c.members from ≡ Some to → count ≤ least → IsBlank c.epoch to from count b
     → BringAll (IsReachedBy chain) c (Asks c.epoch from to count least) (λ e. HopOne c e from to count least) (b ∷ back)
 asked chain c from to count least b back after le blank = λ before others number d r s f on gq is at has.
@@ -263,7 +264,7 @@ asked chain c from to count least b back after le blank = λ before others numbe
     all_front P [] ys a = tt
     all_front P (x ∷ xs) ys a = (a.0, all_front P xs ys a.1)
 
--- the question arrives among the messages
+-- the request for entries arrives among the messages
 hop_one : (chain : ℕ) (c : Chain) (from to count least : ℕ) → successor_in c.members from ≡ Some to → count ≤ least → (ms : List LinkMessage) → Has (IsBlank c.epoch to from count) ms
     → BringAll (IsReachedBy chain) c (Asks c.epoch from to count least) (λ e. HopOne c e from to count least) ms
 hop_one chain c from to count least after le [] has = absurd has
@@ -301,7 +302,7 @@ filled chain c e from to count least on prior r s f h has =
     let t : HoldsSo e.epoch (length_of p) i.node = i.holds in
     record { node = i.node; at = i.at; runs = i.runs; holds = record { ready = t.ready; late = t.late; holds = omega (arith, t.holds, h.holds) } }
 
--- an unready member becomes ready, and holds what its predecessor held
+-- an unready member becomes ready, and holds its predecessor's entries
 pub joins : (chain count : ℕ) (c : Chain) (p q : Plain) → IsReachedBy chain c → Sound c → IsFollowed c → id_of q ≢ 0
     → node_at c.nodes (id_of p) ≡ Some p → node_at c.nodes (id_of q) ≡ Some q → Knows c p → Knows c q → p.ready ≡ true → q.ready ≡ false
     → is_member c.members (id_of q) ≡ true → successor_in c.members (id_of p) ≡ Some (id_of q) → predecessor_in c.members (id_of q) ≡ Some (id_of p)

@@ -1,4 +1,4 @@
--- Ticks and messages stop nobody.
+-- Ticks and messages stop no node.
 use Rattle.std.proofs.Common.{◌≡◌, true, None, refl}
 use Rattle.std.specs.Prelude.{Bool}
 use Rattle.craq_model.specs.declared.message.LinkMessage.{LinkMessage}

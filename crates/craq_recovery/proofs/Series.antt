@@ -1,11 +1,12 @@
--- Messages in a row, each of which takes a node one step further.
+-- A series of messages, each of which takes a node one step further.
 use Rattle.std.proofs.Common.{◌≡◌, ◌⊎◌, inl, inr, ℕ, List, [], ◌∷◌, ◌++◌, refl, ap, sym, subst, arith}
 use Rattle.craq_model.specs.declared.message.LinkMessage.{LinkMessage}
 use Rattle.craq_model.specs.declared.step.Out.{Out}
 use Rattle.craq_model.specs.declared.step.Out.TheVariants as outs
 use Rattle.craq_runs.specs.Chain.{sent_in}
 
--- in the list stand messages, in this order, that lead from the first number to the second; others stand between them
+-- the list has messages, in this order, that lead from the first number to the second, with others
+-- between them
 abbrev pub Series : (ℕ → ℕ → LinkMessage → Type 0) → List LinkMessage → ℕ → ℕ → Type 0
 Series Step [] a b = a ≡ b
 Series Step (m ∷ ms) a b = Series Step ms a b ⊎ ((k : ℕ) × Step a k m × Series Step ms k b)
@@ -55,7 +56,7 @@ pub has_back : (Is : LinkMessage → Type 0) (xs ys : List LinkMessage) → Has 
 has_back Is [] ys h = h
 has_back Is (x ∷ xs) ys h = inr (has_back Is xs ys h)
 
--- ---- among what is sent
+-- ---- among the messages sent
 
 pub sent_both : (os ps : List Out) → sent_in (os ++ ps) ≡ sent_in os ++ sent_in ps
 unfolding sent_in

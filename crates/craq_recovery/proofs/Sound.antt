@@ -1,4 +1,4 @@
--- What bears a chain's id at all times.
+-- The nodes and messages of a chain have its id at all times.
 use Rattle.std.proofs.Common.{◌≡◌, ℕ, ◌+◌, ◌==◌, nat_le, Bool, not, cond, ◌||◌, List, [], ◌∷◌, ◌++◌, map, length, is_some, Option, Some, None, Result, Ok, Err, refl, ap, sym, subst}
 use Rattle.std.specs.Prelude.{⊤}
 use Rattle.craq_names.specs.Limits.{greatest, member_limit}
@@ -23,19 +23,19 @@ use Rattle.craq_recovery.proofs.Speaking.{AreOfChain, Speak, Speaks, event_speak
 use Rattle.craq_recovery.proofs.Each.{Each, each_at, each_opening, each_pushed, each_set}
 use Rattle.craq_recovery.proofs.Lines.{IfTaken, by_test, in_step}
 
--- each node bears this chain
+-- the node has this chain's id
 abbrev IsOf : ℕ → Plain → Type 0
 IsOf chain p = p.name.chain ≡ chain
 
 abbrev pub NodesAreOf : ℕ → List Plain → Type 0
 NodesAreOf chain ps = Each (IsOf chain) ps
 
--- a chain whose nodes and messages bear its id
+-- a chain whose nodes and messages have its id
 pub record Sound (c : Chain) : Type 0 where
   pub nodes : NodesAreOf c.chain c.nodes
   pub messages : AreOfChain c.chain c.messages
 
--- the same of what a move does, before it is counted
+-- the same of a move's result, before it is counted
 record Does (c : Chain) (x : Progress) : Type 0 where
   same : x.0.chain ≡ c.chain
   nodes : NodesAreOf c.chain x.0.nodes
@@ -45,11 +45,11 @@ abbrev DoesIfAny : Chain → Result Progress Refusal → Type 0
 DoesIfAny c (Ok x) = Does c x
 DoesIfAny c (Err e) = ⊤
 
--- the node of an id bears the chain
+-- the node of an id has the chain's id
 pub own_chain : (chain id : ℕ) (ps : List Plain) (q : Plain) → NodesAreOf chain ps → node_at ps id ≡ Some q → q.name.chain ≡ chain
 own_chain chain id ps q h e = each_at (IsOf chain) ps id q h e
 
--- a node bears the chain after a turn too, and so does what it sends
+-- a node and its messages also have the chain's id after a step
 abbrev Bears : ℕ → Turn → Type 0
 Bears chain t = IsOf chain t.0 × Speaks chain t
 

@@ -1,4 +1,4 @@
--- What a node sends bears the node's chain.
+-- A node's messages have its chain's id.
 use Rattle.std.proofs.Common.{◌≡◌, ℕ, ◌==◌, true, List, [], ◌∷◌, ◌++◌, cond, map, Option, Some, None, Ok, Err, refl}
 use Rattle.std.specs.List.{AllByRecursion}
 use Rattle.craq_names.specs.declared.refusal.Refusal.TheVariants as refusals
@@ -20,7 +20,7 @@ use Rattle.craq_runs.specs.Chain.{sent_in}
 use Rattle.craq_recovery.proofs.Lines.{ByAsk, ByMessage, IfTaken, by_ask, by_message, by_test}
 
 module _ (chain : ℕ) where
-  -- each message among the outs bears this chain
+  -- each message among the outputs has this chain's id
   abbrev pub AreOfChain : List LinkMessage → Type 0
   AreOfChain ms = AllByRecursion (λ (m : LinkMessage). m.chain ≡ chain) ms
 

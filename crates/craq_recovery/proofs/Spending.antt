@@ -1,4 +1,5 @@
--- What a message costs pays for what it brings about, line by line; and a node that becomes ready pays for what it sends then.
+-- The cost of a message pays for its effects, line by line; and a node that becomes ready pays for
+-- the messages that it sends then.
 use Rattle.std.proofs.Common.{◌≡◌, ◌⊎◌, inl, inr, ℕ, suc, ◌+◌, ◌-◌, ◌≤◌, ◌==◌, nat_le, nat_lt, Bool, true, false, not, cond, ◌||◌, ◌&&◌, List, [], ◌∷◌, ◌++◌, filter, is_some, length, map, Option, Some, None, refl, ap, sym, subst, ◌∙◌, arith}
 use Rattle.std.proofs.lemmas.Bool.{cond_both, not-false, not-true}
 use Rattle.std.proofs.lemmas.List.{length-append}
@@ -33,12 +34,12 @@ use Rattle.craq_recovery.proofs.Lines.{by_test}
 abbrev pub Grows : Plain → Plain → Type 0
 Grows p q = ((length_of q ≡ length_of p) × (newest q ≡ newest p)) ⊎ ((id : ℕ) × (predecessor q ≡ Some id))
 
--- what a node pays once it becomes ready
+-- the cost of a node until it becomes ready
 abbrev pub load : ℕ → Plain → ℕ
 load s p = cond p.ready 0 s
 
 module _ (e i r : ℕ) (small : top e i r ≤ greatest_count) where
-  -- a turn that so much pays for
+  -- a step for which this amount pays
   pub record Turned (b : ℕ) (p : Plain) (t : Turn) : Type 0 where
     pub readies : load (top e i r) t.0 ≤ load (top e i r) p
     pub reads : length t.0.waiting_reads ≤ length p.waiting_reads
@@ -50,7 +51,7 @@ module _ (e i r : ℕ) (small : top e i r ≤ greatest_count) where
   load_same : (p q : Plain) → q.ready ≡ p.ready → load (top e i r) q ≡ load (top e i r) p
   load_same p q is = ap (λ (b : Bool). cond b 0 (top e i r)) is
 
-  -- a turn of a node that stays as ready as it was
+  -- a step of a node whose readiness is unchanged
   turned : (b n : ℕ) (p : Plain) (t : Turn) → t.0.ready ≡ p.ready → length t.0.waiting_reads ≤ length p.waiting_reads → Grows p t.0
       → (Within e i r t.0 → Costs (top e i r) n t.1.outs) → n ≤ b → (Within e i r t.0 → n ≤ suc (top e i r)) → Turned b p t
   turned b n p t ready reads grows does pays few =
@@ -64,7 +65,7 @@ module _ (e i r : ℕ) (small : top e i r ≤ greatest_count) where
         fits = λ w. let c : Costs (top e i r) n t.1.outs = does w in c.fits;
       }
 
-  -- one that sends nothing
+  -- a step that sends nothing
   silent : (b : ℕ) (p : Plain) (t : Turn) → t.0.ready ≡ p.ready → length t.0.waiting_reads ≤ length p.waiting_reads → Grows p t.0 → t.1.outs ≡ [] → Turned b p t
   silent b p t ready reads grows none =
       let C : List Out → Type 0 = λ os. Costs (top e i r) 0 os in
@@ -100,7 +101,7 @@ module _ (e i r : ℕ) (small : top e i r ≤ greatest_count) where
       (λ w. costs_both (costs_answers (top e i r) (all_given q)) (tick_cost e i r small c w)) (omega (arith, pays)) (λ w. omega arith))
       (turned b (suc (top e i r)) p (turn_with q (tick_sends q)) ready reads grows (λ w. tick_cost e i r small q w) pays (λ w. omega arith))
 
-  -- a turn of a node that becomes ready
+  -- a step of a node that becomes ready
   begun : (b n : ℕ) (p : Plain) (t : Turn) → p.ready ≡ false → t.0.ready ≡ true → length t.0.waiting_reads ≤ length p.waiting_reads → Grows p t.0
       → n ≤ top e i r → (Within e i r t.0 → Costs (top e i r) n t.1.outs) → Turned b p t
   begun b n p t unready ready reads grows few does =

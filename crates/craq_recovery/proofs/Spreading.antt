@@ -1,4 +1,4 @@
--- What a member hands on to the next in a round reaches all members, one member a round.
+-- A property that a member hands on to the next in a round reaches all members, one member a round.
 use Rattle.std.proofs.Common.{◌≡◌, ℕ, zero, suc, ◌≤◌, List, [], ◌∷◌, ◌++◌, append_assoc, length, subst, ◌∙◌, arith, sym}
 use Rattle.std.specs.List.{AllByRecursion}
 use Rattle.craq_names.proofs.Lists.{all_append, all_like}
@@ -11,7 +11,8 @@ use Rattle.craq_recovery.specs.Taken.{HaveNumbers, HaveNumbersFor}
 use Rattle.craq_recovery.proofs.Onward.{Onward, onward_moves}
 use Rattle.craq_recovery.proofs.Taking.{round_travels}
 
--- rounds keep what is so of the chain, of a member that has it (P) and of one that waits for it (W), and a member that has it hands it on
+-- rounds preserve the property of the chain (C), of a member that has it (P) and of one that waits
+-- for it (W), and a member that has it hands it on
 pub record Hands (hops : ℕ) (C : Chain → Type 0) (W P : Chain → ℕ → Type 0) : Type 0 where
   pub keeps : (c : Chain) → C c → C (after_round hops c)
   pub waits : (c : Chain) → C c → (id : ℕ) → W c id → W (after_round hops c) id
@@ -22,7 +23,7 @@ module _ (hops : ℕ) (C : Chain → Type 0) (W P : Chain → ℕ → Type 0) (h
   same_members : (c : Chain) → c.members ≡ (after_round hops c).members
   same_members c = let on : Onward c (after_round hops c) = onward_moves (round after_move hops c) c (round_travels hops c) in sym on.members
 
-  -- the first members have it; so many rounds later all do
+  -- the first members have it; after enough rounds all do
   spreads : (rounds : ℕ) (rest front : List ℕ) (a : ℕ) (c : Chain) → C c → length rest ≤ rounds → front ++ a ∷ rest ≡ c.members → AllByRecursion (W c) rest → AllByRecursion (P c) (front ++ a ∷ [])
       → HaveNumbersFor hops rounds c → AllByRecursion (P (after_rounds after_move hops rounds c)) (front ++ a ∷ rest)
   spreads zero [] front a c so le is wait have numbers = have

@@ -1,4 +1,4 @@
--- A chain that has recovered stays so by rounds.
+-- A recovered chain stays recovered by rounds.
 use Rattle.std.proofs.Common.{◌≡◌, ℕ, List, [], ◌∷◌, Some, refl, sym, subst}
 use Rattle.std.specs.List.{AllByRecursion}
 use Rattle.craq_names.proofs.Lists.{all_like}

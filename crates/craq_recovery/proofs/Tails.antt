@@ -1,4 +1,4 @@
--- What the first member holds reaches each member, one member a round.
+-- The entries of the first member reach each member, one member a round.
 use Rattle.std.proofs.Common.{◌≡◌, ℕ, suc, ◌≤◌, true, List, [], ◌∷◌, ◌++◌, length, Some, refl, sym, subst, arith}
 use Rattle.std.specs.List.{AllByRecursion}
 use Rattle.craq_names.proofs.Lists.{all_like}
@@ -22,7 +22,7 @@ use Rattle.craq_recovery.proofs.Taking.{round_travels}
 pub good_there : (chain : ℕ) (d : Chain) → IsReachedBy chain d → Good d
 good_there chain d r = let P : Chain → Type 0 = λ c. Good c in subst P r.leads (good_run chain r.run r.typed.run_of)
 
--- the law of neighbours, of each chain that a run leads to
+-- the law of neighbours, of each chain to which a run leads
 flow_there : (chain count : ℕ) (d : Chain) (p q : Plain) → IsReachedBy chain d → AreNeighbours d p q → p.ready ≡ true → q.ready ≡ true → HaveNumbers d (round after_move (suc count) d)
     → HoldsEntries (after_round (suc count) d) (id_of q) (length_of p)
 flow_there chain count d p q r n rp rq numbers =
@@ -45,7 +45,7 @@ next_holds chain count c least front a b rest r is ra rb h numbers =
     let le : least ≤ length_of ra.node = same_held c a least ra.node ra.at h in
     record { node = i.node; at = subst E own i.at; holds = omega (arith, le, i.holds) }
 
--- a member is ready, knows the membership and holds so many entries
+-- a member is ready, knows the membership and holds this number of entries
 abbrev ReadyHolds : ℕ → Chain → ℕ → Type 0
 ReadyHolds least c id = IsReadyAt c id × HoldsEntries c id least
 

@@ -83,7 +83,7 @@ pub deliver_taken : (c : Chain) (number : ℕ) (m : LinkMessage) → Sound c →
 unfolding chain_step
 deliver_taken c number m s at own h = counted_taken c (arrival_progress c (message_at c.messages number)) (arrival_taken c m (message_at c.messages number) s at own h)
 
--- each message bears the chain
+-- each message has the chain's id
 pub bears : (c : Chain) (number : ℕ) (m : LinkMessage) → Sound c → message_at c.messages number ≡ Some m → m.chain ≡ c.chain
 bears c zero m s at = absurd (cc)
 bears c (suc i) m s at = all_at (λ (n : LinkMessage). n.chain ≡ c.chain) c.messages i m at s.messages
@@ -94,7 +94,7 @@ taken_both : (ms ns : List Move) (c : Chain) → AreTakenInTurn c ms → AreTake
 taken_both [] ns c a b = b
 taken_both (m ∷ ms) ns c a b = (a.0, taken_both ms ns (after_move c m) a.1 b)
 
--- those that ran before run
+-- the nodes that ran before still run
 pub runs_on : {c d : Chain} → Onward c d → (id : ℕ) → is_running (node_at c.nodes id) ≡ true → is_running (node_at d.nodes id) ≡ true
 runs_on f id h = f.running id ∙ h
 
@@ -116,7 +116,7 @@ arrivals_travel nodes (m ∷ ms) number =
     by_test (is_running (node_at nodes m.receiver)) (AllByRecursion IsTravel) (Deliver number ∷ arrivals_of nodes (number + 1) ms) (arrivals_of nodes (number + 1) ms)
     (tt, arrivals_travel nodes ms (number + 1)) (arrivals_travel nodes ms (number + 1))
 
--- the message after the first so many
+-- the message at an index
 at_middle : (before : List LinkMessage) (m : LinkMessage) (rest : List LinkMessage) → slice_get (before ++ m ∷ rest) (length before) ≡ Some m
 at_middle [] m rest = refl
 at_middle (b ∷ before) m rest = at_middle before m rest

@@ -42,7 +42,7 @@ use Rattle.craq_recovery.proofs.Ticking.{tick_keeps}
 use Rattle.craq_recovery.proofs.Sound.{Sound, own_chain, turn_named}
 use Rattle.craq_recovery.proofs.Taking.{bears, for_it, no_fewer, tick_taken, ticks_travel}
 
--- ---- what is true of a node that runs, and stays so
+-- ---- a property of a node that runs and goes on running
 
 pub record NodeIs (d : Chain) (id : ℕ) (Holds : Plain → Type 0) : Type 0 where
   pub node : Plain
@@ -64,7 +64,7 @@ kept_move F kept m c id t f i = kept_on F kept (m ∷ []) c id (t, tt) f i
 pub runs_there : {c : Chain} {id : ℕ} {F : Plain → Type 0} → NodeIs c id F → is_running (node_at c.nodes id) ≡ true
 runs_there i = ap is_running i.at ∙ i.runs
 
--- nor has it stopped where a message is for it
+-- a node for which a message is has not stopped
 pub not_stopped : (d : Chain) (id : ℕ) (m : LinkMessage) (F : Plain → Type 0) → m.receiver ≡ id → NodeIs d id F → is_running (node_at d.nodes m.receiver) ≡ false → ⊥
 not_stopped d id m F to i stopped =
     let P : ℕ → Type 0 = λ k. is_running (node_at d.nodes k) ≡ true in
@@ -84,7 +84,7 @@ arrived_here d number m x s at a id to =
     let Q : Progress → Type 0 = λ y. node_at y.0.nodes id ≡ Some t.0 in
     subst Q (sym a.is) (subst R (same ∙ (sym a.own ∙ to)) (node_here d.nodes t.0 p (subst N (sym same) a.at)))
 
--- the node of the id, of which E is so, takes a message of the master's epoch
+-- the node of the id, with property E, takes a message of the master's epoch
 pub record Met (c d : Chain) (x : Progress) (m : LinkMessage) (to : ℕ) (E : Plain → Type 0) : Type 0 where
   pub node : Plain
   pub own : id_of node ≡ to
@@ -129,7 +129,7 @@ met c d to number m x E lates s f on g is e goes made =
     }
 
 module _ {c d : Chain} {x : Progress} {m : LinkMessage} {to : ℕ} {E : Plain → Type 0} (k : Met c d x m to E) where
-  -- the sender is its neighbour, as the master has it
+  -- the sender is its neighbour in the master's membership
   pub stands_by : {from : ℕ} (f : List ℕ → ℕ → Option ℕ) → f c.members to ≡ Some from → m.sender ≡ from → f k.node.members (id_of k.node) ≡ Some m.sender
   stands_by {from} f beside comes =
       let P : List ℕ → Type 0 = λ l. f l to ≡ Some from in
@@ -140,18 +140,18 @@ module _ {c d : Chain} {x : Progress} {m : LinkMessage} {to : ℕ} {E : Plain �
   pub in_turn : (t : Turn) → turn_in_epoch k.node m t ≡ t
   in_turn t = cond-true (m.epoch == k.node.epoch) t (turn_ignoring k.node OtherEpoch) (eq-eqb m.epoch k.node.epoch k.made)
 
-  -- what the message makes of it
+  -- the effect of the message
   pub ends : (F : Plain → Type 0) → F (delivery_turn k.node m).0 → NodeIs x.0 to F
   ends F h = record { node = (delivery_turn k.node m).0; at = k.after; runs = delivery_turn-runs k.node m ∙ k.running; holds = h }
 
--- a fact about a node that ticks and arrivals keep
+-- a property of a node that ticks and arrivals preserve
 abbrev pub Lasts : (Plain → Type 0) → Type 0
 Lasts F = (m : Move) (c : Chain) (id : ℕ) → IsTravel m → IsFollowed c → NodeIs c id F → NodeIs (after_move c m) id F
 
 pub kept_lasts : (F : Plain → Type 0) → IsKept F → Lasts F
 kept_lasts F kept = λ m c id t f i. kept_move F kept m c id t f i
 
--- an arrival or a tick leaves the fact as it is, if no message changes it
+-- an arrival or a tick preserves the property, if no message changes it
 lasts_at : (F : Plain → Type 0) → ((p : Plain) (l : LinkMessage) → F p → F (delivery_turn p l).0) → (c : Chain) (m : Move) (e : Event) → IsTravel m → EventOf c m e → (p : Plain) → F p → IfTaken (λ t. F t.0) (event_turn p e)
 lasts_at F keeps c (moves.Ask node ask) e t by p h = absurd t
 lasts_at F keeps c (moves.Deliver number) e t by p h =
@@ -163,7 +163,7 @@ lasts_at F keeps c (moves.Stop node) e t by p h = absurd t
 lasts_at F keeps c (moves.Remove node) e t by p h = absurd t
 lasts_at F keeps c (moves.Join node) e t by p h = absurd t
 
--- a fact that no message changes lasts
+-- a property that no message changes is preserved
 pub lasts_by : (F : Plain → Type 0) → ((p : Plain) (l : LinkMessage) → F p → F (delivery_turn p l).0) → Lasts F
 lasts_by F keeps m c id t f i =
     let on : Onward c (after_move c m) = onward_move c m t in
@@ -196,7 +196,7 @@ lasts_on F lasts ms c id t f i = endures_all (λ d. NodeIs d id F) (λ m d t f i
 
 -- ---- messages arrive, some of which matter
 
--- what such a message does, at a node of which F a is true: F k is true of it then
+-- the effect of such a message at a node with property F a: it then has F k
 abbrev pub Leads : (Chain → Type 0) → Chain → ℕ → (ℕ → ℕ → LinkMessage → Type 0) → (ℕ → Plain → Type 0) → Type 0
 Leads C c id Step F =
     (a k : ℕ) (d : Chain) (number : ℕ) (m : LinkMessage) (x : Progress) → C d → Sound d → IsFollowed d → Onward c d → NodeIs d id (F a) → message_at d.messages number ≡ Some m
@@ -234,7 +234,7 @@ in_rest : (a b : Bool) → a ≡ false → (a || b) ≡ true → b ≡ true
 in_rest true b e h = absurd (cc)
 in_rest false b e h = h
 
--- what a tick of the node sends stands among what the ticks sent
+-- the messages of the node's tick are among those of all ticks
 ticks_send : (c : Chain) (id since : ℕ) (p : Plain) (Step : ℕ → ℕ → LinkMessage → Type 0) (a b : ℕ) → id ≢ 0 → p.running ≡ true → Series Step (sent_in (tick_sends p)) a b
     → (ids : List ℕ) (d : Chain) → is_member ids id ≡ true → Onward c d → since ≤ length d.messages → node_at d.nodes id ≡ Some p → HaveNumbers d (ticks_of c.nodes ids)
     → Series Step (drop since (after_moves_by after_move d (ticks_of c.nodes ids)).messages) a b
@@ -275,9 +275,9 @@ ticks_send c id since p Step a b some runs sends (k ∷ ids) d member on le at n
     numbers)
     (cases_eq k id)
 
--- ---- a round: what the tick of one member sends arrives at another
+-- ---- a round: the messages of one member's tick arrive at another
 
--- so it does among what was sent since the round began
+-- they are among the messages sent since the round began
 pub tick_sent : (c : Chain) (id : ℕ) (p : Plain) (Step : ℕ → ℕ → LinkMessage → Type 0) (a b : ℕ) → id ≢ 0 → p.running ≡ true → Series Step (sent_in (tick_sends p)) a b → is_member c.members id ≡ true → node_at c.nodes id ≡ Some p
     → HaveNumbers c (ticks c) → Series Step (news c (ticked c)) a b
 tick_sent c id p Step a b some runs sends member at numbers =
@@ -294,9 +294,9 @@ crosses count c from to p C Step F a b stays kept some member at runs sends goes
     round_brings C stays (λ d. NodeIs d to (F b)) (λ m d t f i. kept b m d to t f i) count c (λ d. NodeIs d to (F a)) s0 s f numbers (lasts_on (F a) (kept a) (ticks c) c to (tt, ticks_travel c.nodes c.members) f g)
     (λ n. arrives c1 to C Step F stays kept goes_to (λ a k d number m x sc sd fd od gd at e is. leads a k d number m x sc sd fd (onward_on (ticks_onward c) od) gd at e is) (news c c1) a b (tick_sent c from p Step a b some runs sends member at n))
 
--- ---- likewise one message
+-- ---- the same for one message
 
--- what such a message does, at a node of which G is true: F is true of it then
+-- the effect of such a message at a node with property G: it then has F
 abbrev pub Makes : Chain → ℕ → (LinkMessage → Type 0) → (Plain → Type 0) → (Plain → Type 0) → Type 0
 Makes c id Is G F =
     (d : Chain) (number : ℕ) (m : LinkMessage) (x : Progress) → Sound d → IsFollowed d → Onward c d → NodeIs d id G → message_at d.messages number ≡ Some m

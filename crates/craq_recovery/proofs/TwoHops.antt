@@ -1,4 +1,5 @@
--- What the tick of one member sends arrives at another, and what that sends arrives in the hop after it.
+-- The messages of one member's tick arrive at another, and the other's messages arrive in the next
+-- hop.
 use Rattle.std.proofs.Common.{◌≡◌, ◌≢◌, ℕ, suc, ◌+◌, ◌≤◌, true, List, [], ◌∷◌, ◌++◌, length, drop, Some, Ok, sym, subst, arith, inl, inr}
 use Rattle.std.proofs.lemmas.List.{drop-append-le, length-append}
 use Rattle.std.specs.List.{AllByRecursion}
@@ -19,13 +20,13 @@ use Rattle.craq_recovery.proofs.Sound.{Sound}
 use Rattle.craq_recovery.proofs.Taking.{no_fewer, ticks_travel}
 use Rattle.craq_recovery.proofs.Travels.{Either, Lasts, Leads, NodeIs, arrives, either_lasts, lasts_on, not_stopped, tick_sent}
 
--- what such a message makes a node send of which G is true
+-- the messages that such a message makes a node with property G send
 abbrev pub Replies : (Chain → Type 0) → Chain → ℕ → (LinkMessage → Type 0) → (Plain → Type 0) → (LinkMessage → Type 0) → Type 0
 Replies C c id Is G Out =
     (d : Chain) (number : ℕ) (m : LinkMessage) (x : Progress) → C d → Sound d → IsFollowed d → Onward c d → NodeIs d id G → message_at d.messages number ≡ Some m
     → chain_step d (Deliver number) ≡ Ok x → Is m → (new : List LinkMessage) × (x.0.messages ≡ d.messages ++ new) × Has Out new
 
--- such a message is among those that were sent after the first so many
+-- such a message is among those sent after the first `since`
 abbrev SentSince : ℕ → (LinkMessage → Type 0) → Chain → Type 0
 SentSince since Out d = (since ≤ length d.messages) × Has Out (drop since d.messages)
 
@@ -38,7 +39,7 @@ sent_lasts since Out m d t f h =
     let S : List LinkMessage → Type 0 = λ l. Has Out (drop since l) in
     (omega (arith, h.0, no_fewer on), subst S on.messages (sent_more since Out d.messages on.sent h.0 (has_front Out (drop since d.messages) on.sent h.1)))
 
--- so many messages were sent at least, and the node is so
+-- at least `since` messages were sent, and the node has the property
 abbrev AwaitsSince : ℕ → ℕ → (Plain → Type 0) → Chain → Type 0
 AwaitsSince since id G d = (since ≤ length d.messages) × NodeIs d id G
 
@@ -60,7 +61,8 @@ arrives_sends c id since C Is G Out stays lasts to replies (m ∷ ms) (inl now) 
 arrives_sends c id since C Is G Out stays lasts to replies (m ∷ ms) (inr later) =
     bring_past C stays c m ms (AwaitsSince since id G) (SentSince since Out) (awaits_lasts since id G lasts) (arrives_sends c id since C Is G Out stays lasts to replies ms later)
 
--- a round of two hops: what one member sends at its tick arrives at another, whose reply arrives at the first
+-- a round of two hops: the message of one member's tick arrives at another, whose reply arrives at
+-- the first
 pub crosses_back : (count : ℕ) (c : Chain) (from to : ℕ) (p : Plain) (C : Chain → Type 0) (Is : LinkMessage → Type 0) (G : Plain → Type 0) (Out : LinkMessage → Type 0) (E F : Plain → Type 0)
     → Stays C → Lasts G → Lasts E → Lasts F → from ≢ 0 → is_member c.members from ≡ true → node_at c.nodes from ≡ Some p → p.running ≡ true
     → Has Is (sent_in (tick_sends p)) → ((m : LinkMessage) → Is m → m.receiver ≡ to) → Replies C c to Is G Out

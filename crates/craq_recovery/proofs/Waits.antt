@@ -1,4 +1,4 @@
--- By ticks and messages no ask begins to wait.
+-- Ticks and messages make no request wait.
 use Rattle.std.proofs.Common.{◌==◌, nat_lt, true, not, None}
 use Rattle.std.specs.List.{AllByRecursion}
 use Rattle.craq_names.proofs.Lists.{all_filter}
@@ -11,7 +11,7 @@ use Rattle.craq_model.specs.Settle.{Turn, settling_turn}
 use Rattle.craq_recovery.proofs.Travels.{Lasts, lasts_by}
 use Rattle.craq_recovery.proofs.Lines.{ByMessage, by_message, by_test}
 
--- this is so of each update and each read that waits at the node
+-- each update and each read that waits at the node has the property
 abbrev pub Waiting : (WaitingUpdate → Type 0) → (WaitingRead → Type 0) → Plain → Type 0
 Waiting P R p = AllByRecursion P p.waiting_updates × AllByRecursion R p.waiting_reads
 

@@ -1,4 +1,4 @@
--- A chain recovers that has a ready member and no stopped one.
+-- A chain recovers if it has a ready member and no stopped one.
 use Rattle.std.proofs.Common.{◌≡◌, ℕ, zero, suc, ◌+◌, ◌≤◌, ◌<◌, ◌==◌, Bool, true, false, ◌||◌, List, [], ◌∷◌, length, Option, Some, None, get_or, refl, ap, sym, subst, ◌∙◌, arith}
 use Rattle.std.proofs.lemmas.Bool.{cond_both, eqb-true}
 use Rattle.std.specs.List.{AllByRecursion}
@@ -32,7 +32,7 @@ use Rattle.craq_recovery.proofs.Taking.{round_travels}
 use Rattle.craq_recovery.proofs.Travels.{NodeIs}
 use Rattle.craq_recovery.proofs.Waits.{Waiting}
 
--- what waits for no more than the first member holds
+-- no update waits for more than the first member holds
 quiet_there : (chain : ℕ) (c : Chain) (h : Plain) (ids : List ℕ) → IsReachedBy chain c → node_at c.nodes (id_of h) ≡ Some h → h.running ≡ true → first_of c.members ≡ id_of h → AllByRecursion (HearsAt c) ids
     → AllByRecursion (λ id. NodeIs c id (Waiting (Below (length_of h)) Any)) ids
 quiet_there chain c h ids r at runs first hear =
@@ -91,7 +91,7 @@ members_serve chain count c (m ∷ ms) reach is hear first numbers =
     let Later : List ℕ → Type 0 = λ l. AllByRecursion (IsReadyAt d) l in
     serve_all chain count c2 (m ∷ ms) reach2 (subst L2 now2 (all_of_last (IsReadyAt c2) m ms mine2)) mine2 none (subst Later (sym (now2 ∙ sym on3.members)) ready3) numbers.last
 
--- ---- the first member is ready where some member is
+-- ---- the first member is ready if some member is
 
 open_at : (o : Option Plain) → is_running o ≡ true → (p : Plain) × (o ≡ Some p) × (p.running ≡ true)
 open_at None runs = absurd (cc)
@@ -101,7 +101,7 @@ in_rest : (a b : Bool) → a ≡ false → (a || b) ≡ true → b ≡ true
 in_rest true b e h = absurd (cc)
 in_rest false b e h = h
 
--- where a member stands
+-- the place of a member
 place_of : (ids : List ℕ) (id : ℕ) → is_member ids id ≡ true → (k : ℕ) × (k < length ids) × (get_or ids k 0 ≡ id)
 unfolding is_member
 place_of [] id h = absurd (cc)
@@ -110,7 +110,7 @@ place_of (m ∷ ms) id h =
     (λ e. (0, omega arith, eqb-true m id e))
     (λ e. let later : (k : ℕ) × (k < length ms) × (get_or ms k 0 ≡ id) = place_of ms id (in_rest (m == id) (is_member ms id) e h) in (suc later.0, omega (arith, later.1), later.2))
 
--- the member at the first place is ready where that at a place is
+-- the first member is ready if the member at a place is
 by_place : (chain : ℕ) (run : Run) (m id : ℕ) (ms : List ℕ) → IsTypedRunOf chain run → m ∷ ms ≡ (chain_after chain run).members → (k : ℕ) → k < length (m ∷ ms) → get_or (m ∷ ms) k 0 ≡ id → (p q : Plain) → id_of p ≡ m → id_of q ≡ id
     → node_at (chain_after chain run).nodes m ≡ Some p → node_at (chain_after chain run).nodes id ≡ Some q → q.ready ≡ true → p.ready ≡ true
 by_place chain run m id ms typed is zero lt e p q own_p own_q at_p at_q ready =
@@ -191,7 +191,7 @@ chains_recover_on chain run count typed all some first rest =
         let P : Plain → Type 0 = λ p. p.ready ≡ true in
         members_serve chain count d (m ∷ ms) r (is ∙ sym on.members) hear (record { node = k.0; at = k.1; knows = k.2; ready = subst P same (gains.ready ready) }) rest
 
--- ---- so many rounds, and so many more
+-- ---- a number of rounds, and then more
 
 rounds_both : (h a b : ℕ) (c : Chain) → after_rounds after_move h (a + b) c ≡ after_rounds after_move h b (after_rounds after_move h a c)
 rounds_both h zero b c = let none : 0 + b ≡ b = omega arith in ap (λ n. after_rounds after_move h n c) none
@@ -209,7 +209,7 @@ numbers_first h (suc a) b c has =
     numbers_first h a b (after_moves_by after_move c (round after_move h c)) all.1 in
     ((all.0, rest.0), rest.1)
 
--- as many as there are members, counted before and after
+-- as many rounds as there are members, counted before and after
 as_counted : (h k : ℕ) (d : Chain) → length d.members ≡ k → length (after_rounds after_move h k d).members ≡ k
     → after_round h (after_rounds after_move h k (after_rounds after_move h k d)) ≡ after_all_rounds h d
 as_counted h k d many again =
@@ -254,7 +254,7 @@ recover_in_rounds chain run count typed all some numbers =
     let R : Chain → Type 0 = λ e. HasRecovered e in
     subst R (sym (last ∙ as_counted h k d many again)) recovered
 
--- ---- the parts, as laws of their own
+-- ---- the parts, as separate laws
 
 pub joined_ready : (chain : ℕ) (run : Run) (count : ℕ) (p q : Plain) → IsTypedRunOf chain run → AreNeighbours (chain_after chain run) p q → p.ready ≡ true
     → HaveNumbers (chain_after chain run) (round after_move (suc (suc count)) (chain_after chain run))

@@ -1,4 +1,4 @@
--- A chain that has recovered.
+-- A recovered chain.
 use Rattle.std.specs.Prelude.{◌≡◌, ◌≤◌, ℕ, ◌+◌, ◌==◌, Bool, true, false, ◌&&◌, List, [], ◌∷◌, length, Option, Some, None}
 use Rattle.std.specs.List.{AllByRecursion}
 use Rattle.craq_model.specs.Members.{is_member, predecessor_in, successor_in}
@@ -9,7 +9,7 @@ use Rattle.craq_runs.specs.declared.run.Run.{Run}
 use Rattle.craq_recovery.specs.Rounds.{after_moves_by, after_rounds, round}
 use Rattle.craq_recovery.specs.Taken.{HaveNumbers, HaveNumbersFor}
 
--- the node runs, knows the master's membership and is ready, and nobody waits at it
+-- the node runs, knows the master's membership and is ready, and no request waits at it
 pub record IsServing (c : Chain) (p : Plain) : Type 0 where
   pub running : p.running ≡ true
   pub epoch : p.epoch ≡ c.epoch
@@ -18,7 +18,7 @@ pub record IsServing (c : Chain) (p : Plain) : Type 0 where
   pub updates : p.waiting_updates ≡ []
   pub reads : p.waiting_reads ≡ []
 
--- likewise the node of an id
+-- the node of an id serves
 abbrev pub ServesAt : Chain → ℕ → Type 0
 ServesAt c id = (p : Plain) × (node_at c.nodes id ≡ Some p) × IsServing c p
 
@@ -28,25 +28,30 @@ HasRecovered c = AllByRecursion (ServesAt c) c.members
 
 -- ---- the same as a test
 
+-- the lists of ids are equal
 abbrev pub are_same : List ℕ → List ℕ → Bool
 are_same [] [] = true
 are_same [] (n ∷ ns) = false
 are_same (m ∷ ms) [] = false
 are_same (m ∷ ms) (n ∷ ns) = (m == n) && are_same ms ns
 
+-- the list is empty
 abbrev pub is_none : {A : Type 0} → List A → Bool
 is_none [] = true
 is_none (x ∷ xs) = false
 
+-- the node exists, runs, knows the master's membership and is ready, and no request waits at it
 abbrev pub is_serving : Chain → Option Plain → Bool
 is_serving c None = false
 is_serving c (Some p) =
     p.running && ((p.epoch == c.epoch) && (are_same p.members c.members && (p.ready && (is_none p.waiting_updates && is_none p.waiting_reads))))
 
+-- each of these nodes serves
 abbrev pub serve_all : Chain → List ℕ → Bool
 serve_all c [] = true
 serve_all c (id ∷ ids) = is_serving c (node_at c.nodes id) && serve_all c ids
 
+-- each member serves
 abbrev pub has_recovered : Chain → Bool
 has_recovered c = serve_all c c.members
 
@@ -56,29 +61,29 @@ has_recovered c = serve_all c c.members
 abbrev pub chain_after : ℕ → Run → Chain
 chain_after chain run = after_moves (opening_chain chain run.members) run.moves
 
--- the chain after a round of so many hops
+-- the chain after a round of count hops
 abbrev pub after_round : ℕ → Chain → Chain
 after_round count c = after_moves_by after_move c (round after_move count c)
 
--- after as many rounds as it has members, each of so many hops
+-- the chain after as many rounds as it has members, each of count hops
 abbrev pub after_as_many : ℕ → Chain → Chain
 after_as_many count c = after_rounds after_move count (length c.members) c
 
--- none of their moves is refused for want of numbers
+-- none of their moves is refused because counters are exhausted
 abbrev pub HaveNumbersForAsMany : ℕ → Chain → Type 0
 HaveNumbersForAsMany count c = HaveNumbersFor count (length c.members) c
 
--- after as many rounds as it has members, then as many again, and one more
+-- the chain after as many rounds as it has members, then as many again, and one more
 abbrev pub after_all_rounds : ℕ → Chain → Chain
 after_all_rounds count c = after_round count (after_as_many count (after_as_many count c))
 
--- none of their moves is refused for want of numbers
+-- none of their moves is refused because counters are exhausted
 pub record HaveNumbersForAll (count : ℕ) (c : Chain) : Type 0 where
   pub first : HaveNumbersForAsMany count c
   pub second : HaveNumbersForAsMany count (after_as_many count c)
   pub last : HaveNumbers (after_as_many count (after_as_many count c)) (round after_move count (after_as_many count (after_as_many count c)))
 
--- twice as many rounds as the chain has members, and two
+-- twice as many rounds as the chain has members, plus two
 abbrev pub rounds_to_recover : Chain → ℕ
 rounds_to_recover c = length c.members + length c.members + 2
 
@@ -92,15 +97,15 @@ pub record Knows (c : Chain) (p : Plain) : Type 0 where
   pub epoch : p.epoch ≡ c.epoch
   pub members : p.members ≡ c.members
 
--- likewise the node of an id
+-- the node of an id runs, and knows the master's membership
 abbrev pub HearsAt : Chain → ℕ → Type 0
 HearsAt c id = (p : Plain) × (node_at c.nodes id ≡ Some p) × Knows c p
 
--- each member knows the master's membership
+-- each member runs, and knows the master's membership
 abbrev pub HaveHeard : Chain → Type 0
 HaveHeard c = AllByRecursion (HearsAt c) c.members
 
--- two nodes next to each other in the master's membership, which both know
+-- two adjacent nodes of the master's membership, which both know
 pub record AreNeighbours (c : Chain) (p q : Plain) : Type 0 where
   pub earlier : node_at c.nodes (id_of p) ≡ Some p
   pub later : node_at c.nodes (id_of q) ≡ Some q
@@ -109,7 +114,7 @@ pub record AreNeighbours (c : Chain) (p q : Plain) : Type 0 where
   pub after : successor_in c.members (id_of p) ≡ Some (id_of q)
   pub before : predecessor_in c.members (id_of q) ≡ Some (id_of p)
 
--- the node of an id knows that so many entries are committed
+-- the node of an id knows that count entries are committed
 pub record KnowsCommitted (c : Chain) (id count : ℕ) : Type 0 where
   pub node : Plain
   pub at : node_at c.nodes id ≡ Some node
@@ -132,7 +137,7 @@ pub record SomeReady (c : Chain) : Type 0 where
 abbrev pub AllRunReady : Chain → Type 0
 AllRunReady c = AllByRecursion (RunsReady c) c.members
 
--- the node of an id holds so many entries at least
+-- the node of an id holds at least count entries
 pub record HoldsEntries (c : Chain) (id count : ℕ) : Type 0 where
   pub node : Plain
   pub at : node_at c.nodes id ≡ Some node

@@ -1,4 +1,5 @@
--- Rounds of a chain: what a clock that ticks and a network that loses nothing for a while bring about.
+-- Rounds of a chain: the moves of a clock that ticks and of a network that loses nothing for a
+-- while.
 use Rattle.std.specs.Prelude.{ℕ, zero, suc, ◌+◌, if◌then◌else◌, List, [], ◌∷◌, ◌++◌, length, drop}
 use Rattle.craq_model.specs.Plain.{Plain}
 use Rattle.craq_model.specs.declared.message.LinkMessage.{LinkMessage}
@@ -6,7 +7,7 @@ use Rattle.craq_runs.specs.Chain.{Chain, is_running, node_at}
 use Rattle.craq_runs.specs.declared.run.Move.{Move}
 use Rattle.craq_runs.specs.declared.run.Move.TheVariants.{Deliver, Tick}
 
--- what one move does to a chain; in the store that is `after_move`
+-- the effect of one move on a chain; in the store it is `after_move`
 abbrev pub Rule : Type 0
 Rule = Chain → Move → Chain
 
@@ -15,7 +16,7 @@ abbrev pub after_moves_by : Rule → Chain → List Move → Chain
 after_moves_by rule c [] = c
 after_moves_by rule c (m ∷ ms) = after_moves_by rule (rule c m) ms
 
--- ticks of those that run
+-- ticks of those nodes that run
 abbrev pub ticks_of : List Plain → List ℕ → List Move
 ticks_of nodes [] = []
 ticks_of nodes (id ∷ ids) = if is_running (node_at nodes id) then Tick id ∷ ticks_of nodes ids else ticks_of nodes ids
@@ -24,26 +25,28 @@ ticks_of nodes (id ∷ ids) = if is_running (node_at nodes id) then Tick id ∷ 
 abbrev pub ticks : Chain → List Move
 ticks c = Tick 0 ∷ ticks_of c.nodes c.members
 
--- messages arrive, each once and in order, the first of them under this number; none arrives at a node that stopped
+-- messages arrive, each once and in order, the first of them under this number; none arrives at a
+-- stopped node
 abbrev pub arrivals_of : List Plain → ℕ → List LinkMessage → List Move
 arrivals_of nodes number [] = []
 arrivals_of nodes number (m ∷ ms) =
     if is_running (node_at nodes m.receiver) then Deliver number ∷ arrivals_of nodes (number + 1) ms else arrivals_of nodes (number + 1) ms
 
--- all messages but the first so many arrive
+-- all messages but the first `sent` arrive
 unfoldable pub arrivals : Chain → ℕ → List Move
 arrivals c sent = arrivals_of c.nodes (sent + 1) (drop sent c.messages)
 
--- so many times over, the messages arrive that were sent since the last time; those that the last ones bring about are lost
+-- in each of count hops, the messages sent since the last hop arrive; the messages that the last
+-- hop sends are lost
 abbrev pub hops : Rule → ℕ → ℕ → Chain → List Move
 hops rule zero sent c = []
 hops rule (suc count) sent c = arrivals c sent ++ hops rule count (length c.messages) (after_moves_by rule c (arrivals c sent))
 
--- a round of so many hops: all tick, and then messages travel
+-- a round of count hops: all tick, and then messages travel
 unfoldable pub round : Rule → ℕ → Chain → List Move
 round rule count c = ticks c ++ hops rule count (length c.messages) (after_moves_by rule c (ticks c))
 
--- the chain after so many rounds of so many hops
+-- the chain after this number of rounds of count hops
 abbrev pub after_rounds : Rule → ℕ → ℕ → Chain → Chain
 after_rounds rule count zero c = c
 after_rounds rule count (suc rounds) c = after_rounds rule count rounds (after_moves_by rule c (round rule count c))

@@ -7,22 +7,23 @@ use Rattle.craq_runs.specs.Runs.{after_move}
 use Rattle.craq_runs.specs.declared.run.Move.{Move}
 use Rattle.craq_recovery.specs.Rounds.{after_moves_by, round}
 
--- a move is taken, or refused for want of numbers alone
+-- a move is taken, or refused only because counters are exhausted
 abbrev pub IsTaken : Result Progress Refusal → Type 0
 IsTaken (Ok x) = ⊤
 IsTaken (Err e) = e ≡ Exhausted
 
--- so is each of these moves, one after the other
+-- each of these moves, one after the other, is taken, or refused only because counters are
+-- exhausted
 abbrev pub AreTakenInTurn : Chain → List Move → Type 0
 AreTakenInTurn c [] = ⊤
 AreTakenInTurn c (m ∷ ms) = IsTaken (chain_step c m) × AreTakenInTurn (after_move c m) ms
 
--- none of these moves is refused for want of numbers
+-- none of these moves is refused because counters are exhausted
 abbrev pub HaveNumbers : Chain → List Move → Type 0
 HaveNumbers c [] = ⊤
 HaveNumbers c (m ∷ ms) = (chain_step c m ≢ Err Exhausted) × HaveNumbers (after_move c m) ms
 
--- nor is one of so many rounds of so many hops
+-- no move of this number of rounds of count hops is refused because counters are exhausted
 abbrev pub HaveNumbersFor : ℕ → ℕ → Chain → Type 0
 HaveNumbersFor count zero c = ⊤
 HaveNumbersFor count (suc rounds) c = HaveNumbers c (round after_move count c) × HaveNumbersFor count rounds (after_moves_by after_move c (round after_move count c))

@@ -26,7 +26,7 @@ use Rattle.craq_refinement.proofs.Stages.{TurnFollows, Stage, stage_turn}
 use Rattle.craq_refinement.proofs.Ticks.{sendable_both, sendable_answers, sendable_neighbour, sendable_one, next_before}
 use Rattle.craq_refinement.proofs.Here.{Here, here_node, guard, in_epoch, takes, next_is_succ}
 
--- the node that knows so many entries to be committed
+-- the node that knows this number of entries to be committed
 abbrev hearing : Plain → ℕ → Plain
 hearing p position = record (acknowledging p position) { waiting_updates = later_updates position p.waiting_updates }
 

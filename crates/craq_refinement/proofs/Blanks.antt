@@ -1,4 +1,4 @@
--- A node fills up its successor.
+-- A node sends its successor what it lacks.
 use Rattle.std.proofs.Common.{◌≡◌, ℕ, zero, suc, ◌+◌, ◌-◌, ◌≤◌, nat_le, nat_lt, max, true, not, cond, List, [], ◌∷◌, ◌++◌, map, length, take, Some, None, refl, ap, sym, ◌∙◌, arith}
 use Rattle.std.proofs.lemmas.Bool.{cond_both, not-false}
 use Rattle.std.proofs.lemmas.List.{length-take-le}

@@ -130,7 +130,7 @@ gathering_follows {c} {w} p h g i =
     } in
     stage_turn h.follows s (inl refl) (record { ticket = None; outs = []; ignored = None }) (none_sendable w (id_of p))
 
--- a part is the last that was missing, or is kept
+-- a part is the last missing one, or is kept
 gathered_follows : {c : Chain} {w : World Entry} (p : Plain) → Here c w p → IsReached w → (m : LinkMessage) (part : StatePart) (g : Gathering) → m.receiver ≡ id_of p → m.epoch ≡ p.epoch
     → IsGathered w.messages g → part.position ≡ g.position → part.count ≡ g.count → PartFollows w.messages m.epoch m.sender m.receiver part
     → predecessor p ≡ Some m.sender → p.ready ≡ false → length_of p < part.position → TurnFollows (IsTaking (id_of p)) c w (gathered_turn p g)

@@ -24,7 +24,7 @@ use Rattle.craq_refinement.proofs.Acks.{ack_follows}
 use Rattle.craq_refinement.proofs.Configs.{config_follows}
 use Rattle.craq_refinement.proofs.Updates.{update_follows}
 
--- what holds of the turn that a message's body makes holds of the move
+-- a property of the step that a message's body makes holds of the move
 pub delivered : (Own : ℕ → List (Move Entry) → Type 0) {c : Chain} {w : World Entry} (m : LinkMessage) (b : Body) (x : Progress) → m.body ≡ b → (a : Arrived c m x)
     → TurnFollows (Own (id_of a.node)) c w (body_turn a.node m b) → StandsFor (Own m.receiver) w x
 delivered Own {c} {w} m b x is a t =

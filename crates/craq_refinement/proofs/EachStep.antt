@@ -40,7 +40,7 @@ use Rattle.craq_refinement.proofs.Master.{Counted, counted, progress_same, maste
 use Rattle.craq_refinement.proofs.Opening.{opening_follows, distinct_members}
 use Rattle.craq_refinement.proofs.EachLine.{delivered, said_as, entry_line, batch_line, ack_line, config_line, update_line}
 
--- ---- what the other messages do
+-- ---- the effect of the other messages
 
 pub copy_line : (c : Chain) (w : World Entry) (number : ℕ) (m : LinkMessage) (position : ℕ) (state : State) (x : Progress) → Follows c w → message_at c.messages number ≡ Some m
     → m.body ≡ bodies.Copy position state → chain_step c (Deliver number) ≡ Ok x → StandsFor (IsTaking m.receiver) w x

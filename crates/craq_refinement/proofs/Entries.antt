@@ -105,7 +105,7 @@ took_entry {c} {w} {own} {v} q s m to ep pr e at sent =
       },
     )
 
--- so many messages were taken, and the node is this one then
+-- this number of messages was taken, and the node is then this one
 record TookAll (c : Chain) (w : World Entry) (own : List (Move Entry)) (id count : ℕ) (q : Plain) : Type 0 where
   which : List ℕ
   many : length which ≡ count
@@ -164,7 +164,7 @@ other_takes {c} {w} q {own} {v} s t m to ep pr e (f ∷ es) placed sent =
       stage = subst Y (append_assoc own (Take id u.0 ∷ []) (map (Take id) rest.which)) (subst X (append_assoc q.past.entries (e ∷ []) (f ∷ es)) rest.stage);
     }
 
--- the moves of a node that takes so many messages
+-- the moves of a node that takes these messages
 abbrev pub Lines : (List (Move Entry) → Type 0) → ℕ → List ℕ → Type 0
 Lines Own id which = Own (map (Take id) which) × Own (map (Take id) which ++ Become_ready id ∷ [])
 
@@ -197,7 +197,7 @@ taken {Own} {c} {w} p h m to ep pr (e ∷ es) some placed sent line =
     let lines : Lines Own id a.which = line a.which a.many in
     readiness_follows h.follows a.stage lines.0 lines.1 (with_pred_member p m.sender pr))
 
--- entries in a row arrive
+-- consecutive entries arrive
 pub entries_follow : {Own : List (Move Entry) → Type 0} {c : Chain} {w : World Entry} (p : Plain) → Here c w p → (m : LinkMessage) (es : List Entry) → m.receiver ≡ id_of p
     → (length_of p < final_position es → first_position es ≤ length_of p + 1 → IsPlaced (length_of p) (entries_above (length_of p) es)) → WereSent w m es
     → Own [] → ((which : List ℕ) → 1 ≤ length which → length which ≤ length es → Lines Own (id_of p) which) → TurnFollows Own c w (turn_in_epoch p m (entries_turn p m.sender es))

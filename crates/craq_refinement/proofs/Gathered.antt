@@ -56,7 +56,7 @@ no_gap : (s : State) (n a k : ℕ) → n < a + suc k → AreAbove n (map (number
 no_gap s n a zero high above = omega (arith, high)
 no_gap s n a (suc k) high above = omega (arith, above.0)
 
--- as many parts with rising numbers as there are numbers: each is there
+-- if there are as many parts with ascending numbers as there are numbers, each number has its part
 all_parts : (s : State) (hs : Held) (a k : ℕ) → length hs ≡ k → AllByRecursion (IsPartOf s a (a + k)) hs → T (is_sorted nat_cmp hs) → hs ≡ map (numbered s) (range_with_len a k)
 all_parts s [] a zero len is rises = refl
 all_parts s [] a (suc k) len is rises = absurd (omega (arith, len))
@@ -83,7 +83,7 @@ unfolding parts_of
 parts_are_state position s hs len is rises =
     ap joined_state (all_parts s hs 1 (part_count s) len is rises ∙ numbered_parts position s (range_with_len 1 (part_count s))) ∙ parts_joined position s
 
--- ---- what was sent
+-- ---- sent messages
 
 -- the entries of a copy are the first that are committed
 pub copied_entries : {w : World Entry} → IsReached w → (epoch from to : ℕ) (part : StatePart) (f : PartFollows w.messages epoch from to part) → f.entries ≡ take part.position w.log
@@ -109,7 +109,7 @@ held_is {w} r g count h f = record {
   is = ap (λ (p : StatePart). p.state) (part_is r f.0 f.1 f.2 (held_part g h) f.3);
 }
 
--- a whole gathering is the state
+-- a complete gathering is the state
 pub whole_state : {w : World Entry} → IsReached w → (g : Gathering) → IsGathered w.messages g → g.count ≡ part_count (gathered_state w g) → length g.parts ≡ g.count → joined_state g.parts ≡ gathered_state w g
 whole_state {w} r g i count all =
     parts_are_state g.position (gathered_state w g) g.parts (all ∙ count)
@@ -136,7 +136,7 @@ gathers {messages} g part i position count sent =
       parts = all_put (λ (h : ℕ × State). PartWasSent messages (held_part g h)) g.parts part.number part.state (subst P same sent) i.parts;
     }
 
--- the gathering that a part goes to is of the part's position
+-- the gathering of a part has the part's position
 pub gathered_at : (part : StatePart) (o : Option Gathering) → nat_lt part.position (gathered_position o) ≡ false → part.position ≡ (gathering_for part o).position
 gathered_at part None h = refl
 gathered_at part (Some g) h =

@@ -67,7 +67,7 @@ next_is_succ p h s e =
 pub with_pred_member : (p : Plain) (s : ℕ) → predecessor p ≡ Some s → is_member p.members (id_of p) ≡ true
 with_pred_member p s e = next_right p.members s (id_of p) (next_from_predecessor p.members (id_of p) s e)
 
--- a ready node is a member of what it knows
+-- a ready node is a member of the membership that it knows
 pub ready_member : {c : Chain} {w : World Entry} (p : Plain) → Here c w p → IsReached w → p.ready ≡ true → is_member p.members (id_of p) ≡ true
 ready_member {c} {w} p h r e =
     let n : NodeFollows w (seen_of p) = here_node p h in

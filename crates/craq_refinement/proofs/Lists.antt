@@ -1,11 +1,11 @@
--- Lists of entries at their positions, and facts of each element.
+-- Lists of entries at their positions, and properties of each element.
 use Rattle.std.proofs.Common.{◌≡◌, ℕ, zero, suc, ◌+◌, List, [], ◌∷◌, ◌++◌, Some, length, take, slice_get, refl, ap, sym, subst, ◌∙◌, arith, append_assoc, length-append}
 use Rattle.std.specs.List.{AllByRecursion}
 use Rattle.craq_commands.specs.declared.entry.Entry.{Entry}
 use Rattle.craq_protocol.specs.Machine.{entry_at}
 use Rattle.craq_refinement.specs.Follows.{IsPlaced}
 
--- ---- facts of each element
+-- ---- properties of each element
 
 pub all_back : {A : Type 0} (P : A → Type 0) (xs ys : List A) → AllByRecursion P (xs ++ ys) → AllByRecursion P ys
 all_back P [] ys a = a
@@ -42,7 +42,7 @@ pub entry_at_length : {A : Type 0} (front : List A) (x : A) (xs : List A) (place
 unfolding entry_at
 entry_at_length front x xs place e = ap (entry_at (front ++ x ∷ xs)) e ∙ get_at_length front x xs
 
--- each entry stands in the whole history at its position
+-- each entry is in the whole history at its position
 pub placed_entries : (front es : List Entry) → IsPlaced (length front) es → AllByRecursion (λ (e : Entry). entry_at (front ++ es) e.position ≡ Some e) es
 placed_entries front [] p = tt
 placed_entries front (x ∷ xs) p =

@@ -1,4 +1,4 @@
--- The master tells its membership, removes and adds members.
+-- The master announces its membership, removes and adds members.
 use Rattle.std.proofs.Common.{◌≡◌, ◌≢◌, ◌⊎◌, inl, inr, ⊎_elim, ℕ, ◌+◌, ◌<◌, ◌≤◌, ◌==◌, nat_le, Bool, true, false, not, cond, ◌||◌, List, [], ◌∷◌, ◌++◌, map, length, Option, Some, None, is_some, Result, Ok, Err, refl, ap, sym, subst, ◌∙◌, arith, append-nil}
 use Rattle.std.proofs.lemmas.Bool.{cond_both, not-false, or_parts, both_ways, false_from_ne_true, eqb-true, eqb-false, cond-true, cond-false}
 use Rattle.std.specs.List.{AllByRecursion}
@@ -47,7 +47,7 @@ unfolding sent_in
 configs_said c cs messages [] le is = tt
 configs_said c cs messages (to ∷ tos) le is = ((le, is), configs_said c cs messages tos le is)
 
--- the chain once the master told its membership
+-- the chain once the master announced its membership
 abbrev pub told : Chain → ℕ → Chain
 told c count = record c { messages = c.messages ++ sent_in (map (config_to c) c.members); moves = count }
 
@@ -63,7 +63,7 @@ told_follows {c} {v} f count =
           (configs_said c v.memberships v.messages c.members (omega (arith, f.epoch)) (subst P f.epoch f.members));
     }
 
--- after its own moves the world stands for the chain, and the master tells its membership
+-- after its own moves the world stands for the chain, and the master announces its membership
 pub master_stands : {w v : World Entry} (own : List (Move Entry)) (c : Chain) (step : Step) (count : ℕ) → after_moves w own ≡ v → Follows c v → step.outs ≡ map (config_to c) c.members
     → StandsFor (λ l. l ≡ own) w (told c count, step)
 master_stands {w} {v} own c step count is f outs =
@@ -119,7 +119,7 @@ grown_messages w c ms a =
 grown_known : (w : World Entry) (c : List ℕ) (s : Seen) → NodeFollows w s → w.epoch s.id ≤ length w.memberships → membership_of (w.memberships ++ c ∷ []) (w.epoch s.id) ≡ s.members
 grown_known w c s n le = membership_old w.memberships c (w.epoch s.id) le ∙ n.members
 
--- ---- nodes that are there
+-- ---- nodes that exist
 
 pub found : (nodes : List Plain) (id : ℕ) → protocol.is_member (map id_of nodes) id ≡ true → (p : Plain) × (node_at nodes id ≡ Some p)
 unfolding node_at

@@ -1,4 +1,4 @@
--- The words on members, in the model of a node and in the protocol.
+-- The predicates on members, in the model of a node and in the protocol.
 use Rattle.std.proofs.Common.{◌≡◌, ℕ, ◌==◌, true, ◌&&◌, ◌||◌, List, [], ◌∷◌, Option, Some, None, slice_get, refl, ap}
 use Rattle.std.proofs.lemmas.Bool.{and_from, or_left, or_right, eqb-true, eq-eqb, cond_both}
 use Rattle.craq_model.specs.Members as model
@@ -17,7 +17,7 @@ unfolding last_of is_last
 last_of-cons m [] id = refl
 last_of-cons m (k ∷ ms) id = last_of-cons k ms id
 
--- a member is last in the one where it is in the other
+-- a member is last in the model exactly if it is last in the protocol
 pub last_of-same : (ms : List ℕ) (id : ℕ) → protocol.is_member ms id ≡ true → (last_of ms == id) ≡ is_last ms id
 last_of-same [] id h = absurd (is_member_none id h)
 last_of-same (m ∷ ms) id h = last_of-cons m ms id

@@ -1,4 +1,4 @@
--- The lines that make no move of the protocol of their own, and stops.
+-- The lines that make no protocol move of their own, and stops.
 use Rattle.std.proofs.Common.{◌≡◌, ℕ, ◌+◌, ◌==◌, nat_lt, Bool, false, not, cond, ◌||◌, List, [], ◌∷◌, ◌++◌, Option, Some, None, Result, Ok, Err, refl, subst}
 use Rattle.std.proofs.lemmas.Bool.{cond_both}
 use Rattle.craq_names.specs.Limits.{greatest}

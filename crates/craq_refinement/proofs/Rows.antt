@@ -1,4 +1,4 @@
--- Entries in a row, and those of them above a position.
+-- Consecutive entries, and those of them above a position.
 use Rattle.std.proofs.Common.{◌≡◌, ℕ, zero, suc, ◌+◌, ◌<◌, ◌≤◌, nat_lt, true, List, [], ◌∷◌, length, drop, refl, sym, ap, subst, ◌∙◌, arith}
 use Rattle.std.proofs.lemmas.Bool.{cond_both, cond-true, ltb-true, ltb-false, lt-ltb}
 use Rattle.std.specs.List.{AllByRecursion}
@@ -21,7 +21,7 @@ all_above n before (e ∷ es) h p =
     let here : nat_lt n e.position ≡ true = lt-ltb n e.position (omega (arith, h, p.0)) in
     cond-true (nat_lt n e.position) (e ∷ entries_above n es) (entries_above n es) here ∙ ap (λ (l : List Entry). e ∷ l) (all_above n (suc before) es (omega (arith, h)) p.1)
 
--- those above a length, where the row begins right after it or before
+-- the entries above a length, if the list begins right after it or before
 pub placed_above : (n before : ℕ) (es : List Entry) → IsPlaced before es → first_position es ≤ n + 1 → IsPlaced n (entries_above n es)
 unfolding entries_above
 placed_above n before [] p h = tt

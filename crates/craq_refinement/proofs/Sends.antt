@@ -1,4 +1,4 @@
--- What a node sends, it may send in the protocol.
+-- The protocol allows each message that a node sends.
 use Rattle.std.proofs.Common.{◌≡◌, inl, inr, ℕ, ◌≤◌, true, List, [], ◌∷◌, map, length, take, Some, refl, ap, sym, subst, ◌∙◌}
 use Rattle.std.specs.List.{AllByRecursion}
 use Rattle.craq_names.proofs.Lists.{all_like}
@@ -31,7 +31,7 @@ pub record IsPartAfter (committed : List Entry) (part : StatePart) : Type 0 wher
   pub last : part.number ≤ part.count
   pub share : part_of part.position (after_entries opening_state committed) part.number ≡ part
 
--- the node may send this to that node
+-- the node may send this body to that node
 abbrev pub BodySendable : World Entry → ℕ → ℕ → Body → Type 0
 BodySendable w id to (bodies.Config members) = ⊥
 BodySendable w id to (bodies.Entry e) = (is_next (known_membership w id) id to ≡ true) × IsAt (w.history id) e
@@ -125,7 +125,7 @@ sends_one w id u m s =
     by_body m (bodies.VersionIs ticket version) s = nothing_sent w (record m { epoch = w.epoch id; sender = id; body = bodies.VersionIs ticket version }) tt
     by_body m (bodies.Blank count) s = nothing_sent w (record m { epoch = w.epoch id; sender = id; body = bodies.Blank count }) tt
 
--- what was said stays said
+-- the content of a sent message stays sent
 pub body_stays : (cs : List (List ℕ)) (old new : List (Message Entry)) → ((m : Message Entry) → Sent old m → Sent new m) → (epoch from to : ℕ) (b : Body)
     → BodyFollows cs old epoch from to b → BodyFollows cs new epoch from to b
 body_stays cs old new f epoch from to (bodies.Config members) a = a

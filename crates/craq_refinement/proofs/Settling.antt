@@ -115,7 +115,7 @@ becomes_ready {c} {w} {own} {v} {q} s r h m =
       member = λ t. m;
     }
 
--- a gathering that the node has no use for any more is dropped
+-- a gathering that the node no longer needs is dropped
 kept_gathering : {c : Chain} {w : World Entry} {own : List (Move Entry)} {v : World Entry} (q : Plain) → Stage c w own v q → Stage c w own v (without_reached q)
 unfolding without_reached
 kept_gathering {c} {w} {own} {v} q s =

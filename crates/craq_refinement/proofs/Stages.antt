@@ -28,7 +28,7 @@ use Rattle.craq_refinement.proofs.Lists.{all_at}
 use Rattle.craq_refinement.proofs.Worlds.{OnlyAt, only_self, gathered_later, others_follow}
 use Rattle.craq_refinement.proofs.Sends.{Sendable, AfterSends, body_stays, sends_all}
 
--- the chain after a turn of a node
+-- the chain after a step of a node
 abbrev pub moved : Chain → Turn → Chain
 moved c t = record c { nodes = set_node c.nodes t.0; messages = c.messages ++ sent_in t.1.outs; moves = c.moves + 1 }
 
@@ -43,7 +43,7 @@ pub record Changed (c : Chain) (w : World Entry) (own : List (Move Entry)) (v : 
   pub only : OnlyAt (id_of q) w v
   pub node : NodeFollows v (seen_of q)
 
--- likewise, and it runs
+-- the same for a node that runs
 pub record Stage (c : Chain) (w : World Entry) (own : List (Move Entry)) (v : World Entry) (q : Plain) : Type 0 where
   pub was : Plain
   pub at : node_at c.nodes (id_of q) ≡ Some was
@@ -107,7 +107,7 @@ changed_turn {Own} {c} {w} {own} {v} {q} f s line step sends =
     let Q : World Entry → Type 0 = λ x. Follows (moved c (q, step)) x in
     record { own = own; line = line; follows = subst Q (sym is) follows }
 
--- which the node may send
+-- and the node may send them
 pub stage_turn : {Own : List (Move Entry) → Type 0} {c : Chain} {w : World Entry} {own : List (Move Entry)} {v : World Entry} {q : Plain} → Follows c w → Stage c w own v q
     → Own own → (step : Step) → AllByRecursion (Sendable v (id_of q)) (sent_in step.outs) → TurnFollows Own c w (q, step)
 stage_turn {Own} {c} {w} {own} {v} {q} f s line step a =
@@ -124,7 +124,7 @@ pub ignored_follows : {Own : List (Move Entry) → Type 0} {c : Chain} {w : Worl
 unfolding sent_in
 ignored_follows f p at u line why = stage_turn f (stage_before f p at u) line (record { ticket = None; outs = []; ignored = Some why }) tt
 
--- ---- what a move of a chain is
+-- ---- the parts of a move of a chain
 
 pub record Took (c : Chain) (o : Option Plain) (e : Event) (x : Progress) : Type 0 where
   pub node : Plain
@@ -186,7 +186,7 @@ arrived c number m x h k =
       is = t.is ∙ sym (ap (λ (t : Turn). (moved c t, t.1)) same);
     }
 
--- what the message says was sent in the world
+-- the content of the message was sent in the world
 pub message_said : {c : Chain} {w : World Entry} → Follows c w → (number : ℕ) (m : LinkMessage) → message_at c.messages number ≡ Some m → MessageFollows w.memberships w.messages m
 message_said f zero m h = absurd (cc)
 message_said {c} {w} f (suc i) m h = all_at (MessageFollows w.memberships w.messages) c.messages i m h f.messages

@@ -1,4 +1,4 @@
--- What a node repeats at a tick it may send.
+-- A node may send the messages that it repeats at a tick.
 use Rattle.std.proofs.Common.{◌≡◌, ℕ, ◌+◌, ◌-◌, ◌*◌, ◌==◌, true, cond, List, [], ◌∷◌, ◌++◌, map, take, drop, length, Option, Some, None, refl, sym, subst, ◌∙◌, arith}
 use Rattle.std.proofs.lemmas.Bool.{cond_both}
 use Rattle.std.specs.List.{AllByRecursion, range_with_len}
@@ -24,7 +24,7 @@ use Rattle.craq_refinement.proofs.Rows.{placed_drop}
 use Rattle.craq_refinement.proofs.Worlds.{history_length}
 use Rattle.craq_refinement.proofs.Sends.{IsAt, BodySendable, Sendable}
 
--- each message among the outs may be sent
+-- each message among the outputs may be sent
 abbrev pub AllSendable : World Entry → ℕ → List Out → Type 0
 AllSendable v id os = AllByRecursion (Sendable v id) (sent_in os)
 
@@ -60,7 +60,7 @@ next_after {v} q n to h = let P : List ℕ → Type 0 = λ c. is_next c (id_of q
 pub next_before : {v : World Entry} (q : Plain) → NodeFollows v (seen_of q) → (to : ℕ) → predecessor q ≡ Some to → is_next (known_membership v (id_of q)) to (id_of q) ≡ true
 next_before {v} q n to h = let P : List ℕ → Type 0 = λ c. is_next c to (id_of q) ≡ true in subst P (sym n.members) (next_from_predecessor q.members (id_of q) to h)
 
--- the entries that a node holds stand at their positions
+-- the entries that a node holds are at their positions
 pub held_placed : {v : World Entry} (q : Plain) → NodeFollows v (seen_of q) → IsPlaced q.past.base q.past.entries
 held_placed {v} q n =
     let P : List Entry → Type 0 = λ l. IsPlaced 0 l in
@@ -74,7 +74,7 @@ entries_at {v} q n =
     let Q : List Entry → Type 0 = λ l. AllByRecursion (IsAt l) q.past.entries in
     subst Q n.history.whole (placed_entries n.history.front q.past.entries (subst R (sym n.history.count) (held_placed q n)))
 
--- entries in a row may be sent in runs
+-- consecutive entries may be sent in batches
 run_sendable : (v : World Entry) (id to : ℕ) → is_next (known_membership v id) id to ≡ true → (before : ℕ) (es : List Entry) → IsPlaced before es → AllByRecursion (IsAt (v.history id)) es
     → BodySendable v id to (run_body es)
 run_sendable v id to nx before [] p a = (nx, (before, p), a)

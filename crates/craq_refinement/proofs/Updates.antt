@@ -34,14 +34,14 @@ use Rattle.craq_refinement.proofs.Settling.{Uncommitted, committed_stage, other_
 use Rattle.craq_refinement.proofs.Here.{Here, here_node, ready_member}
 use Rattle.craq_refinement.proofs.Entries.{grown, grown_only, grown_node, newest_sendable}
 
--- a test by which an ask is refused
+-- a test by which a request is refused
 pub refused : {t : Turn} (b : Bool) (e : Refusal) (r : Result Turn Refusal) → cond b (Err e) r ≡ Ok t → (b ≡ false) × (r ≡ Ok t)
 refused {t} b e r h = cond_both b (Err e) r (λ (x : Result Turn Refusal). x ≡ Ok t → (b ≡ false) × (r ≡ Ok t)) (λ i k. absurd (cc)) (λ i k. (i, k)) h
 
 pub turn_same : (s t : Turn) (r : Result Turn Refusal) → r ≡ Ok s → r ≡ Ok t → s ≡ t
 turn_same s t r d e = cc
 
--- an accepted ask, whose own fields the protocol does not see
+-- an accepted request, whose own fields the protocol does not see
 pub accepts : {Own : List (Move Entry) → Type 0} {c : Chain} {w : World Entry} {own : List (Move Entry)} {v : World Entry} (q : Plain) → Follows c w → Stage c w own v q → Own own
     → (os : List Out) → AllSendable v (id_of q) os → TurnFollows Own c w (accepted_turn q os)
 accepts {Own} {c} {w} {own} {v} q f s line os a =
@@ -100,7 +100,7 @@ new_update {Own} {c} {w} p h r ready first e at line t k =
     replies q h.follows s line e.position e.reply sends (newest_sendable p (e ∷ []) (length_of p) p.past.acknowledged (at, tt) s.node) t i)
     k
 
--- what was asked before has its reply
+-- an update requested before has its reply
 pub old_update : {Own : List (Move Entry) → Type 0} {c : Chain} {w : World Entry} (p : Plain) → Here c w p → IsReached w → p.ready ≡ true → (position : ℕ) (reply : Reply)
     → Own [] → (t : Turn) → reply_turn (committed_if_last p) position reply [] ≡ Ok t → TurnFollows Own c w t
 old_update {Own} {c} {w} p h r ready position reply none t k =

@@ -1,4 +1,4 @@
--- Worlds that differ at one node alone.
+-- Worlds that differ only at one node.
 use Rattle.std.proofs.Common.{◌≡◌, ◌≢◌, ℕ, Bool, true, false, ◌&&◌, ◌==◌, List, length, Option, Some, None, refl, ap, sym, subst, ◌∙◌, ◌+◌, arith, length-append}
 use Rattle.std.proofs.lemmas.Bool.{cond_both}
 use Rattle.craq_names.proofs.Lists.{all_like}
@@ -54,18 +54,18 @@ only_trans a b = record {
   floor = λ n ne. b.floor n ne ∙ a.floor n ne;
 }
 
--- a history that is the same
+-- an equal history
 pub history_like : {base : ℕ} {state : State} {entries h k : List Entry} → IsHistory base state entries h → k ≡ h → IsHistory base state entries k
 history_like {base} {state} {entries} a e = let P : List Entry → Type 0 = λ l. IsHistory base state entries l in subst P (sym e) a
 
 pub placed_like : {h k : List Entry} → IsPlaced 0 h → k ≡ h → IsPlaced 0 k
 placed_like a e = let P : List Entry → Type 0 = λ l. IsPlaced 0 l in subst P (sym e) a
 
--- how long a node's history is
+-- the length of a node's history
 pub history_length : {base : ℕ} {state : State} {entries h : List Entry} → IsHistory base state entries h → length h ≡ (base + length entries)
 history_length {base} {state} {entries} {h} a = omega (arith, length-append a.front entries, ap length a.whole, a.count)
 
--- ---- what was sent stays sent
+-- ---- sent messages stay sent
 
 pub part_later : (old new : List (Message Entry)) → ((m : Message Entry) → Sent old m → Sent new m) → (epoch from to : ℕ) (part : StatePart) → PartFollows old epoch from to part → PartFollows new epoch from to part
 part_later old new kept epoch from to part f =
@@ -119,7 +119,7 @@ and_like : (a b c : Bool) → (a ≡ true → b ≡ c) → (a && b) ≡ (a && c)
 and_like true b c f = f refl
 and_like false b c f = refl
 
--- the node is a tail in the world where it is one
+-- the node is a tail exactly if it is one in the world
 pub is_tail-seen : (w : World Entry) (s : Seen) → NodeFollows w s → s.running ≡ true → (s.ready ≡ true → is_member s.members s.id ≡ true)
     → is_tail w s.id ≡ (s.ready && (last_of s.members == s.id))
 is_tail-seen w s n u h =

@@ -1,4 +1,4 @@
--- When a world of the protocol stands for a chain.
+-- The relation between a world of the protocol and the chain for which it stands.
 use Rattle.std.specs.Prelude.{◌≡◌, ℕ, suc, ◌≤◌, Bool, T, List, [], ◌∷◌, ◌++◌, map, length, Option, Some, None}
 use Rattle.std.specs.List.{AllByRecursion}
 use Rattle.std.specs.Ordering.{nat_cmp}
@@ -20,12 +20,12 @@ use Rattle.craq_protocol.specs.Members.{membership_of}
 use Rattle.craq_protocol.specs.Promises.{Sent}
 use Rattle.craq_runs.specs.Chain.{Chain, node_at}
 
--- the entries stand at their positions, after so many others
+-- the entries are at their positions, after this number of others
 abbrev pub IsPlaced : ℕ → List Entry → Type 0
 IsPlaced count [] = Unit {0}
 IsPlaced count (e ∷ es) = (e.position ≡ suc count) × IsPlaced (suc count) es
 
--- a base, the state after it and the entries that come then, in place of a whole history
+-- a base, the state after it and the entries that follow represent a whole history
 pub record IsHistory (base : ℕ) (state : State) (entries history : List Entry) : Type 0 where
   pub front : List Entry
   pub whole : front ++ entries ≡ history
@@ -36,7 +36,8 @@ pub record IsHistory (base : ℕ) (state : State) (entries history : List Entry)
 abbrev pub said : ℕ → ℕ → ℕ → machine.Body Entry → Message Entry
 said epoch from to body = record { epoch = epoch; from = from; to = to; body = body }
 
--- a part stands for a copy that was sent: it is the share of its number of the state after the copy's entries
+-- a part stands for a copy that was sent: it is the share of its number of the state after the
+-- copy's entries
 pub record PartFollows (messages : List (Message Entry)) (epoch from to : ℕ) (part : StatePart) : Type 0 where
   pub entries : List Entry
   pub count : length entries ≡ part.position
@@ -46,7 +47,7 @@ pub record PartFollows (messages : List (Message Entry)) (epoch from to : ℕ) (
   pub share : part_of part.position (after_entries opening_state entries) part.number ≡ part
   pub sent : Sent messages (said epoch from to (machine.Copy entries))
 
--- likewise, in some epoch and between some nodes
+-- the same in some epoch and between some nodes
 abbrev pub PartWasSent : List (Message Entry) → StatePart → Type 0
 PartWasSent messages part = (epoch : ℕ) × (from : ℕ) × (to : ℕ) × PartFollows messages epoch from to part
 
@@ -59,11 +60,12 @@ pub record IsGathered (messages : List (Message Entry)) (g : Gathering) : Type 0
   pub numbers_rise : T (is_sorted nat_cmp g.parts)
   pub parts : AllByRecursion (λ (held : ℕ × State). PartWasSent messages (held_part g held)) g.parts
 
+-- each part of the gathering, if there is one, was sent
 abbrev pub AreGathered : List (Message Entry) → Option Gathering → Type 0
 AreGathered messages None = Unit {0}
 AreGathered messages (Some g) = IsGathered messages g
 
--- what the protocol sees of a node, and what the node gathers
+-- the fields of a node that the protocol sees, and its gathering
 pub record Seen : Type 0 where
   pub id : ℕ
   pub running : Bool
@@ -74,6 +76,7 @@ pub record Seen : Type 0 where
   pub floor : Option ℕ
   pub gathering : Option Gathering
 
+-- the fields of this node that the protocol sees, and its gathering
 abbrev pub seen_of : Plain → Seen
 seen_of p =
     record {
@@ -87,7 +90,8 @@ seen_of p =
       gathering = p.gathering;
     }
 
--- the world has at the node's id what the node has; what the node knows by its state alone it knows to be committed
+-- the world agrees with the node at its id; the entries that the node knows only by their state it
+-- knows to be committed
 pub record NodeFollows (w : World Entry) (s : Seen) : Type 0 where
   pub running : w.running s.id ≡ s.running
   pub epoch : w.epoch s.id ≡ s.epoch
@@ -100,7 +104,7 @@ pub record NodeFollows (w : World Entry) (s : Seen) : Type 0 where
   pub floor : w.floor s.id ≡ s.floor
   pub gathering : AreGathered w.messages s.gathering
 
--- what a message of a chain says was sent in the world: a state stands for the entries that it is after
+-- the content of a chain's message was sent in the world: a state stands for the entries before it
 abbrev pub BodyFollows : List (List ℕ) → List (Message Entry) → ℕ → ℕ → ℕ → Body → Type 0
 BodyFollows memberships messages epoch from to (bodies.Config members) = (epoch ≤ length memberships) × (membership_of memberships epoch ≡ members)
 BodyFollows memberships messages epoch from to (bodies.Entry e) = Sent messages (said epoch from to (machine.Entry e.position e))
@@ -114,6 +118,7 @@ BodyFollows memberships messages epoch from to (bodies.Part part) = PartFollows 
 BodyFollows memberships messages epoch from to (bodies.Floor count) = Sent messages (said epoch from to (machine.Floor count))
 BodyFollows memberships messages epoch from to body = Unit {0}
 
+-- the content of the message was sent in the world
 abbrev pub MessageFollows : List (List ℕ) → List (Message Entry) → LinkMessage → Type 0
 MessageFollows memberships messages m = BodyFollows memberships messages m.epoch m.sender m.receiver m.body
 

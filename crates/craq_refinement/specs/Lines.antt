@@ -1,4 +1,4 @@
--- Which moves of the protocol each line of a node's step stands for.
+-- The protocol moves of each line of a node's step.
 use Rattle.std.specs.Prelude.{◌≡◌, ◌⊎◌, ℕ, List, [], ◌∷◌, ◌++◌, map}
 use Rattle.craq_commands.specs.declared.entry.Entry.{Entry}
 use Rattle.craq_model.specs.declared.message.Body.{Body}
@@ -9,7 +9,8 @@ use Rattle.craq_protocol.specs.Promises.{IsReached}
 use Rattle.craq_runs.specs.Chain.{Chain, Progress, sent_in}
 use Rattle.craq_refinement.specs.Follows.{Follows}
 
--- the moves that send what a message says; the protocol knows nothing of questions about versions, nor of who is not ready
+-- the moves that send a message's content; version queries and reports of unready nodes are no
+-- moves of the protocol
 abbrev pub moves_of_send : ℕ → ℕ → Body → List (Move Entry)
 moves_of_send from to (bodies.Entry e) = Send_entry from to e.position ∷ []
 moves_of_send from to (bodies.Batch es) = map (λ (e : Entry). Send_entry from to e.position) es
@@ -24,7 +25,8 @@ abbrev pub moves_of_sends : List LinkMessage → List (Move Entry)
 moves_of_sends [] = []
 moves_of_sends (m ∷ ms) = moves_of_send m.sender m.receiver m.body ++ moves_of_sends ms
 
--- after a step the world stands for the chain again, once it made the step's own moves and then sent what was sent
+-- after a step the world stands for the chain again, once it made the step's own moves and then
+-- sent the step's messages
 pub record StandsFor (Own : List (Move Entry) → Type 0) (w : World Entry) (x : Progress) : Type 0 where
   pub own : List (Move Entry)
   pub line : Own own
@@ -38,7 +40,8 @@ CanFollow w c = (moves : List (Move Entry)) × Follows c (after_moves w moves)
 abbrev pub IsFollowed : Chain → Type 0
 IsFollowed c = (w : World Entry) × IsReached w × Follows c w
 
--- a node takes an entry, a state or a floor, and may become ready by it; or it ignores it, or keeps it as a part of a state
+-- a node takes an entry, a state or a floor, and may become ready by it; or it ignores it, or keeps
+-- it as a part of a state
 abbrev pub IsTaking : ℕ → List (Move Entry) → Type 0
 IsTaking id own = (own ≡ []) ⊎ ((which : ℕ) × ((own ≡ Take id which ∷ []) ⊎ (own ≡ Take id which ∷ Become_ready id ∷ [])))
 
@@ -55,17 +58,19 @@ IsHearing id own = (own ≡ []) ⊎ ((which : ℕ) × (own ≡ Take id which ∷
 abbrev pub IsAdopting : ℕ → ℕ → List (Move Entry) → Type 0
 IsAdopting id epoch own = (own ≡ []) ⊎ (own ≡ Adopt id epoch ∷ [])
 
--- the head appends the entry of a new update; what was asked before has its reply already
+-- the head appends the entry of a new update; an update requested before already has its reply
 abbrev pub IsUpdating : ℕ → List (Move Entry) → Type 0
 IsUpdating id own = (own ≡ []) ⊎ ((e : Entry) × (own ≡ Append id e ∷ []))
 
--- a node stops; the master removes a member, or adds one
+-- a node stops
 abbrev pub IsStopping : ℕ → List (Move Entry) → Type 0
 IsStopping id own = own ≡ Stop id ∷ []
 
+-- the master removes a member
 abbrev pub IsRemoving : ℕ → List (Move Entry) → Type 0
 IsRemoving id own = own ≡ Remove id ∷ []
 
+-- the master adds a member
 abbrev pub IsJoining : ℕ → List (Move Entry) → Type 0
 IsJoining id own = own ≡ Join id ∷ []
 

@@ -1,4 +1,5 @@
-//! A chain's runs are runs of the protocol; what the laws of `lines` come to, move after move.
+//! States that a chain's runs are runs of the protocol; follows from the laws of `lines`, move
+//! after move.
 
 ghost use Rattle.std.specs.Prelude.{◌≡◌, ℕ, List, Ok};
 ghost use Rattle.craq_commands.specs.declared.entry.Entry.{Entry};
@@ -12,25 +13,27 @@ ghost use Rattle.craq_runs.specs.declared.run.Taken.{Taken};
 ghost use Rattle.craq_refinement.specs.Follows.{Follows};
 ghost use Rattle.craq_refinement.specs.Lines.{CanFollow, IsFollowed};
 
-/// The protocol's opening stands for a chain before any move.
+/// States that the protocol's opening stands for a chain before any move.
 pub fn opening_follows()
     ensures { (chain : ℕ) (members : List ℕ) → Follows (opening_chain chain members) (opening members) }
 {}
 
-/// Whatever move a chain takes, some moves of the protocol lead to a world that stands for it again.
+/// States that for each move of a chain some moves of the protocol lead to a world that stands for
+/// it again.
 pub fn every_move_follows()
     ensures { (c : Chain) (w : World Entry) (chosen : Move) (x : Progress) → Follows c w → IsReached w
         → chain_step c chosen ≡ Ok x → CanFollow w x.0 }
 {}
 
-/// Likewise for the moves that a chain takes one after the other.
+/// States the same for a list of moves that a chain takes one after the other.
 pub fn all_moves_follow()
     ensures { (moves : List Taken) (c : Chain) (w : World Entry) → Follows c w → IsReached w
         → AreTaken c moves → CanFollow w (after_moves c moves) }
 {}
 
-/// Each run of a chain leads to what some world stands for that the protocol reaches. So all that holds of the protocol at
-/// all times holds of the chain after each run.
+/// States that each run of a chain leads to a chain for which some reached world of the protocol
+/// stands. So each property that holds of the protocol at all times holds of the chain after each
+/// run.
 pub fn every_run_follows()
     ensures { (chain : ℕ) (run : Run) → IsRunOf chain run
         → IsFollowed (after_moves (opening_chain chain run.members) run.moves) }

@@ -1,4 +1,4 @@
--- A table of replies, once the place of one client is written.
+-- A table of replies after the slot of one client is written.
 use Rattle.std.proofs.Common.{◌≡◌, ◌<◌, ◌≤◌, ℕ, Bool, true, false, cond, [], ◌∷◌, length, Option, Some, None, refl, sym, ◌∙◌, ap, subst, arith, rules}
 use Rattle.std.specs.Prelude.{unwrap_or, is_some, ◌==◌}
 use Rattle.std.specs.Option.{option_and_then}
@@ -23,7 +23,7 @@ use Rattle.craq_replies.specs.Replies.{Entries, window_of, room_at, unless_empty
 abbrev pub place_of : Entries → ℕ → Option Held
 place_of es client = lookup (is_at (nat_cmp client)) es
 
--- one client has this place, and the others theirs
+-- one client has this slot, and every other client the slot it had
 abbrev pub IsPlaced : Entries → Entries → ℕ → Held → Type 0
 IsPlaced es gs client held = (q : ℕ) → place_of gs q ≡ cond (is_at (nat_cmp client) q) (Some held) (place_of es q)
 
@@ -34,7 +34,7 @@ found_is (e ∷ es) client = ap (cond (is_at (nat_cmp client) e.0) (Some e.1)) (
 found_after : (es gs : Entries) (client : ℕ) (held : Held) → IsPlaced es gs client held → (q : ℕ) → find nat_cmp q gs ≡ cond (is_at (nat_cmp client) q) (Some held) (find nat_cmp q es)
 found_after es gs client held at q = found_is gs q ∙ at q ∙ ap (cond (is_at (nat_cmp client) q) (Some held)) (sym (found_is es q))
 
--- what is kept for a client
+-- the replies kept for a client
 pub kept_found : (es : Entries) (client : ℕ) → IsStrictlySortedBy nat_cmp (keys_of es) → at_number (filled shown es) client ≡ option_and_then shown (place_of es client)
 kept_found es client rise = find_filled nat_cmp shown nat_cmp_total client es (is_sorted_of nat_cmp shown es rise) ∙ ap (option_and_then shown) (found_is es client)
 
@@ -45,7 +45,7 @@ kept_same : (es gs : Entries) (client : ℕ) (held : Held) → shown held ≡ op
 kept_same es gs client held same was is at =
     filled_same nat_cmp shown nat_cmp_total nat_cmp-IsAntisymmetric es gs client held (same ∙ sym (ap (option_and_then shown) (found_is es client))) was is (found_after es gs client held at)
 
--- what is kept in a place is what its client's window has
+-- the replies of a slot are its client's window
 unwrapped : (w : Window) → unwrap_or (unless_empty w) [] ≡ w
 unwrapped [] = refl
 unwrapped (k ∷ ks) = refl
@@ -60,25 +60,25 @@ pub some_shown : (w : Window) → 1 ≤ length w → unless_empty w ≡ Some w
 some_shown [] h = absurd (omega (arith, h))
 some_shown (k ∷ ks) h = refl
 
--- the table, once the reply to a client's number is kept in its place
+-- the table after the reply to a client's number is kept in its slot
 pub kept_more : (es gs : Entries) (client : ℕ) (old new : Held) (number : ℕ) (reply : Reply) → IsStrictlySortedBy nat_cmp (keys_of es) → IsStrictlySortedBy nat_cmp (keys_of gs) → Some old ≡ place_of es client → IsPlaced es gs client new → new.replies ≡ keep old.replies number reply → (table_of gs).kept ≡ put_number (table_of es).kept client (keep (window_of (table_of es) client) number reply)
 kept_more es gs client old new number reply rise rises was at is =
     let some : shown new ≡ Some (keep old.replies number reply) = ap unless_empty is ∙ some_shown (keep old.replies number reply) (some_kept old.replies number reply) in
     kept_put es gs client new (keep old.replies number reply) some rise rises at
     ∙ ap (λ (w : Window). put_number (filled shown es) client (keep w number reply)) (sym (window_here es client old rise was))
 
--- the table, once the first reply to a client is kept in a place of its own
+-- the table after the first reply to a client is kept in a new slot
 pub kept_first : (es gs : Entries) (client : ℕ) (new : Held) (number : ℕ) (reply : Reply) → IsStrictlySortedBy nat_cmp (keys_of es) → IsStrictlySortedBy nat_cmp (keys_of gs) → place_of es client ≡ None → IsPlaced es gs client new → new.replies ≡ keep [] number reply → (table_of gs).kept ≡ put_number (table_of es).kept client (keep (window_of (table_of es) client) number reply)
 kept_first es gs client new number reply rise rises none at is =
     let some : shown new ≡ Some (keep [] number reply) = ap unless_empty is ∙ some_shown (keep [] number reply) (some_kept [] number reply) in
     kept_put es gs client new (keep [] number reply) some rise rises at
     ∙ ap (λ (w : Window). put_number (filled shown es) client (keep w number reply)) (sym (no_window es client rise (sym none)))
 
--- the table, where the place of a client has the same replies
+-- the table after a slot with the same replies is written
 pub kept_stays : (es gs : Entries) (client : ℕ) (old new : Held) → IsStrictlySortedBy nat_cmp (keys_of es) → IsStrictlySortedBy nat_cmp (keys_of gs) → Some old ≡ place_of es client → IsPlaced es gs client new → new.replies ≡ old.replies → (table_of gs).kept ≡ (table_of es).kept
 kept_stays es gs client old new rise rises was at same = kept_same es gs client new (ap unless_empty same ∙ ap (option_and_then shown) was) rise rises at
 
--- the table, once there is an empty place more
+-- the table after an empty slot is inserted
 pub kept_placed : (es gs : Entries) (client : ℕ) (new : Held) → IsStrictlySortedBy nat_cmp (keys_of es) → IsStrictlySortedBy nat_cmp (keys_of gs) → place_of es client ≡ None → IsPlaced es gs client new → new.replies ≡ [] → (table_of gs).kept ≡ (table_of es).kept
 kept_placed es gs client new rise rises none at empty = kept_same es gs client new (ap unless_empty empty ∙ sym (ap (option_and_then shown) none)) rise rises at
 
@@ -88,7 +88,7 @@ abbrev pub room_in : Option Held → ℕ
 room_in None = 0
 room_in (Some held) = held.room
 
--- the room of a client is that of its place
+-- the room of a client is that of its slot
 pub room_found : (es : Entries) (client : ℕ) → room_at (table_of es) client ≡ room_in (place_of es client)
 room_found [] client = refl
 room_found (e ∷ es) client =
@@ -115,7 +115,7 @@ own_place client = ap is_eq (tied_itself nat_cmp_total client)
 pub room_here : (es gs : Entries) (client : ℕ) (held : Held) → IsPlaced es gs client held → room_at (table_of gs) client ≡ held.room
 room_here es gs client held at = room_written es gs client held at client ∙ ap (λ b. cond b held.room (room_at (table_of es) client)) (own_place client)
 
--- no client has less room, where the written place has no less
+-- no client loses room if the written slot has at least as much
 pub rooms_kept : (es gs : Entries) (client : ℕ) (held : Held) → room_at (table_of es) client ≤ held.room → IsPlaced es gs client held → KeepsRoom (table_of es) (table_of gs)
 rooms_kept es gs client held more at q =
     let P : ℕ → Type 0 = λ n. room_at (table_of es) q ≤ n in
@@ -125,7 +125,7 @@ rooms_kept es gs client held more at q =
     ] in
     subst P (sym (room_written es gs client held at q)) (split (is_at (nat_cmp client) q) refl)
 
--- no other client has less room
+-- no other client loses room
 pub others_kept : (es gs : Entries) (client : ℕ) (held : Held) → IsPlaced es gs client held → KeepsOthersRoom (table_of es) (table_of gs) client
 others_kept es gs client held at q other =
     let apart : is_at (nat_cmp client) q ≡ false = sym (is_eq_same client q) ∙ other in
@@ -135,14 +135,14 @@ others_kept es gs client held at q other =
 clash : true ≡ false → ⊥
 clash e = cc
 
--- a client without a place has no room
+-- a client without a slot has no room
 pub no_room : (es : Entries) (client : ℕ) → false ≡ is_some (place_of es client) → 0 < room_at (table_of es) client → ⊥
 no_room es client none room =
     let split : (o : Option Held) → false ≡ is_some o → 0 < room_in o → ⊥ = elim [ None ↦ λ e h. omega arith | Some held ↦ λ e h. clash (sym e) ] in
     let P : ℕ → Type 0 = λ n. 0 < n in
     split (place_of es client) none (subst P (room_found es client) room)
 
--- the room of a client that has a place
+-- the room of a client that has a slot
 pub room_old : (es : Entries) (client : ℕ) (old : Held) → Some old ≡ place_of es client → room_at (table_of es) client ≡ old.room
 room_old es client old was = room_found es client ∙ ap room_in (sym was)
 

@@ -1,7 +1,7 @@
--- What is kept for one client, with room for more.
+-- The replies kept for one client, with reserved room.
 use Rattle.std.specs.Prelude.{ℕ}
 use Rattle.craq_commands.specs.Kept.{Window}
 
 pub record Held : Type 0 where
   pub replies : Window
-  pub room : ℕ  -- how many more replies take no memory
+  pub room : ℕ  -- the number of further replies that need no allocation

@@ -1,4 +1,4 @@
-//! The kept replies of one client; `places` holds one such for each client.
+//! The kept replies of one client. `places` holds one for each client.
 ghost use Rattle.std.specs.Prelude.{◌≡◌, ◌<◌, ◌≤◌, ◌↔◌, [], length, IsOk, OnOk, OnErr, IsTrue};
 ghost use Rattle.craq_commands.specs.Kept.{keep};
 
@@ -7,7 +7,7 @@ use craq_names::RequestNo;
 use std::alloc::{AllocError, Global};
 use std::marker::Model;
 
-/// What is kept for one client.
+/// The replies kept for one client.
 #[derive(Drop)]
 pub struct HeldReplies {
     replies: Vec<Kept>,
@@ -25,7 +25,7 @@ impl Model for HeldReplies {
 }
 
 impl HeldReplies {
-    /// Nothing. It takes no memory.
+    /// Returns an empty list of replies. Allocates nothing.
     pub fn new(alloc: Global) -> Self
         ensures { result.replies ≡ [] }
     {
@@ -34,7 +34,7 @@ impl HeldReplies {
         }
     }
 
-    /// These replies, 8 at most, which come by rising number.
+    /// Makes a list of at most 8 replies, sorted by number.
     pub fn of(replies: Vec<Kept>) -> Self
         requires { length replies.items ≤ 8 }
         ensures { result.replies ≡ replies.items }
@@ -42,14 +42,14 @@ impl HeldReplies {
         HeldReplies { replies }
     }
 
-    /// Whether nothing is kept.
+    /// Returns true exactly if no reply is kept.
     pub fn is_empty(&self) -> bool
         ensures { IsTrue result ↔ (self.now.replies ≡ []) }
     {
         self.replies.is_empty()
     }
 
-    /// The replies with their numbers, by rising number: 8 at most.
+    /// Returns the replies with their numbers, sorted by number: at most 8.
     pub fn as_slice(&self) -> &[Kept]
         ensures value { result.now ≡ self.now.replies }
         ensures few { length self.now.replies ≤ 8 }
@@ -57,7 +57,8 @@ impl HeldReplies {
         self.replies.as_slice()
     }
 
-    /// Makes room for one more reply.
+    /// Reserves room for one more reply. Fails only when out of memory; the replies are unchanged
+    /// in either case.
     pub fn reserve(&mut self) -> Result<(), AllocError>
         ensures replies { self.new.replies ≡ self.old.replies }
         ensures room { self.old.room ≤ self.new.room }
@@ -67,7 +68,8 @@ impl HeldReplies {
         self.replies.reserve(1)
     }
 
-    /// Keeps the reply to a new number.
+    /// Keeps the reply to a new number; a ninth drops the reply to the smallest number. Fails only
+    /// when out of memory, and only if no room is reserved; the replies are unchanged on error.
     pub fn keep(&mut self, number: RequestNo, reply: Reply) -> Result<(), AllocError>
         ensures ok { OnOk result (self.new.replies ≡ keep self.old.replies number reply) }
         ensures err { OnErr result (self.new.replies ≡ self.old.replies) }

@@ -1,4 +1,5 @@
-//! The clients of a table that have replies, rising, each with its window; `ReplyTable::items` gives them.
+//! An iterator over the clients that have replies, ascending, each with its window.
+//! `ReplyTable::items` returns it.
 ghost use Rattle.std.specs.Prelude.{◌≡◌};
 ghost use Rattle.craq_names.specs.Places.{filled};
 ghost use Rattle.craq_replies.specs.Replies.{shown, shown_pair};
@@ -10,8 +11,8 @@ use craq_names::ClientId;
 use std::collections::btree_map::Iter;
 use std::marker::Model;
 
-/// What is kept of each client, by rising client: the numbers of its newest updates with the replies to
-/// them, by rising number.
+/// The kept replies by client, ascending. A client's window holds its newest request numbers with
+/// their replies, sorted by number.
 #[derive(Drop)]
 pub struct KeptReplies<'a> {
     places: Iter<'a, u64, HeldReplies>,
@@ -29,7 +30,7 @@ impl<'a> Model for KeptReplies<'a> {
 }
 
 impl<'a> KeptReplies<'a> {
-    /// What stands in these places.
+    /// Makes the iterator over these slots, without the empty ones.
     pub(crate) fn of(places: Iter<'a, u64, HeldReplies>) -> Self
         ensures { result ≡ filled shown places.entry }
     {

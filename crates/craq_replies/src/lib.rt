@@ -1,5 +1,5 @@
-//! The kept replies of a node, as a map from client to a window of numbers with their replies; `craq_settled` holds one.
-//! Code that runs in the program.
+//! A node's kept replies: a map from client to request numbers with replies, for `craq_settled`.
+//! Runs in the program.
 #![tactic(auto)]
 
 mod held;

@@ -1,4 +1,4 @@
-//! The places of a table, by client. A place without replies only has room. Called by `table`.
+//! The slots of a table, by client. A slot without replies only reserves room. `table` calls this.
 ghost use Rattle.std.specs.Prelude.{◌≡◌, ◌<◌, ◌≤◌, [], None, IsOk, IfOk, OnOk, OnErr, length};
 ghost use Rattle.std.specs.BTreeMap.{get, IsOrdered};
 ghost use Rattle.std.specs.Ordering.{nat_cmp};
@@ -12,10 +12,11 @@ use craq_names::{ClientId, RequestNo, copies_of};
 use std::alloc::{AllocError, Global};
 use std::collections::BTreeMap;
 
-/// The places of clients.
+/// The slots, by client.
 pub type Places = BTreeMap<u64, HeldReplies>;
 
-/// Puts in a place with these replies for a client. Where memory is refused the places stay.
+/// Inserts these 1 to 8 replies as a client's slot. Fails only when out of memory; the slots are
+/// unchanged on error.
 pub fn put_place(places: &mut Places, client: u64, replies: Vec<Kept>) -> Result<(), AllocError>
     requires few { length replies.items ≤ 8 }
     requires some { 1 ≤ length replies.items }
@@ -27,7 +28,7 @@ pub fn put_place(places: &mut Places, client: u64, replies: Vec<Kept>) -> Result
     Ok(())
 }
 
-/// Copies of what is kept, by rising client.
+/// Copies the kept replies, sorted by client. Fails only when out of memory.
 pub fn copies(alloc: Global, places: &Places) -> Result<Vec<(ClientId, Window)>, AllocError>
     ensures { IfOk result (λ kept. kept.items ≡ (table_of places.now.entries).kept) }
 {
@@ -41,7 +42,8 @@ pub fn copies(alloc: Global, places: &Places) -> Result<Vec<(ClientId, Window)>,
     Ok(kept)
 }
 
-/// Makes room for one more reply to a client.
+/// Reserves room for one more reply to a client. Fails only when out of memory; the kept replies
+/// are unchanged in either case.
 pub fn reserve_in(alloc: Global, places: &mut Places, client: u64) -> Result<(), AllocError>
     requires { IsOrdered nat_cmp places.old }
     ensures kept { (table_of places.new.entries).kept ≡ (table_of places.old.entries).kept }
@@ -56,7 +58,7 @@ pub fn reserve_in(alloc: Global, places: &mut Places, client: u64) -> Result<(),
     }
 }
 
-// Puts in a place with room for a reply for a client that has none.
+// Inserts a slot with room for a reply, for a client that has none.
 fn put_room(places: &mut Places, client: u64, mut held: HeldReplies) -> Result<(), AllocError>
     requires ordered { IsOrdered nat_cmp places.old }
     requires absent { get nat_cmp places.old client ≡ None }
@@ -71,7 +73,7 @@ fn put_room(places: &mut Places, client: u64, mut held: HeldReplies) -> Result<(
     Ok(())
 }
 
-/// Keeps the reply to a new number of a client.
+/// Keeps the reply to a client's new number.
 pub fn keep_in_place(
     alloc: Global,
     places: &mut Places,
@@ -92,7 +94,7 @@ pub fn keep_in_place(
     }
 }
 
-// Puts in a place with this reply for a client that has none.
+// Inserts a slot with this reply, for a client that has none.
 fn put_reply(
     places: &mut Places,
     client: u64,

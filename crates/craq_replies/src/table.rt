@@ -1,4 +1,4 @@
-//! `ReplyTable`: the kept replies by client. A held past has one.
+//! `ReplyTable`: the kept replies by client. A node's past holds one.
 ghost use Rattle.std.specs.Prelude.{◌≡◌, ◌<◌, ◌≤◌, [], IsOk, IfOk, OnOk, OnErr, length, map};
 ghost use Rattle.std.specs.List.Sorted.{IsStrictlySortedBy};
 ghost use Rattle.std.specs.Ordering.{nat_cmp};
@@ -16,8 +16,9 @@ use std::alloc::{AllocError, Global};
 use std::collections::BTreeMap;
 use std::marker::Model;
 
-/// The replies kept for clients: of each the 8 to its largest request numbers at most (this project's
-/// profile). A client for which only room was made has a place with nothing in it, which no call shows.
+/// The replies kept for clients: at most 8 for each, those to its largest request numbers (this
+/// project's profile). A client for which only room was reserved has an empty slot, which no call
+/// returns.
 #[derive(Drop)]
 pub struct ReplyTable {
     places: Places,
@@ -38,7 +39,7 @@ impl Model for ReplyTable {
 }
 
 impl ReplyTable {
-    /// No replies. It takes no memory.
+    /// Returns the empty table. Allocates nothing.
     pub fn new(alloc: Global) -> Self
         ensures { result.kept ≡ [] }
     {
@@ -48,8 +49,8 @@ impl ReplyTable {
         }
     }
 
-    /// What is known of a number of a client: its reply, that it is below all of a full window, or that it
-    /// is new. A number whose kept reply is itself `Stale` is kept. It takes no memory.
+    /// Looks up a client's request number: its kept reply, `Stale` if it is below all of a full
+    /// window, or `New`. A number whose kept reply is itself `Stale` is `Kept`. Allocates nothing.
     pub fn look(&self, client: ClientId, number: RequestNo) -> Said<'_>
         ensures told { told result ≡ said_of (window_of self.now client) number }
         ensures known { known_by result ≡ known_of (window_of self.now client) number }
@@ -60,7 +61,7 @@ impl ReplyTable {
         }
     }
 
-    /// What is kept for a client, by rising number: 8 replies at most. It takes no memory.
+    /// Returns the client's kept replies, sorted by number: at most 8. Allocates nothing.
     pub fn window(&self, client: ClientId) -> &[Kept]
         ensures window { result.now ≡ window_of self.now client }
         ensures few { length result.now ≤ 8 }
@@ -71,8 +72,8 @@ impl ReplyTable {
         }
     }
 
-    /// These replies, 1 to 8, which come by rising number, are what is kept for a client. Where memory is refused the
-    /// table stays.
+    /// Sets the client's kept replies to these 1 to 8, sorted by number. Fails only when out of
+    /// memory; the table is unchanged on error.
     pub fn put(&mut self, client: ClientId, replies: Vec<Kept>) -> Result<(), AllocError>
         requires few { length replies.items ≤ 8 }
         requires some { 1 ≤ length replies.items }
@@ -82,15 +83,15 @@ impl ReplyTable {
         put_place(&mut self.places, client.get(), replies)
     }
 
-    /// A copy of what is kept for each client, by rising client.
+    /// Copies the kept replies, sorted by client. Fails only when out of memory.
     pub fn copied(&self, alloc: Global) -> Result<Items<(ClientId, Window)>, AllocError>
         ensures { IfOk result (λ kept. kept ≡ self.now.kept) }
     {
         Ok(Items::of(copies(alloc, &self.places)?))
     }
 
-    /// Makes room for the next reply to a client, whose `keep` then takes no memory. What is kept stays in
-    /// either case.
+    /// Reserves room for the next reply to a client, whose `keep` then allocates nothing. Fails
+    /// only when out of memory; the kept replies are unchanged in either case.
     pub fn reserve(&mut self, client: ClientId) -> Result<(), AllocError>
         ensures kept { self.new.kept ≡ self.old.kept }
         ensures room { KeepsRoom self.old self.new }
@@ -100,8 +101,9 @@ impl ReplyTable {
         reserve_in(self.alloc, &mut self.places, client.get())
     }
 
-    /// Keeps the reply to a new number of a client; a ninth drops that to its smallest number. If memory is refused, what is
-    /// kept stays as it was; it is refused only where there is no room for the client.
+    /// Keeps the reply to a client's new number; a ninth drops the reply to its smallest number.
+    /// Fails only when out of memory, and only if no room is reserved for the client; the kept
+    /// replies are unchanged on error.
     pub fn keep(
         &mut self,
         client: ClientId,
@@ -116,7 +118,7 @@ impl ReplyTable {
         keep_in_place(self.alloc, &mut self.places, client.get(), number, reply)
     }
 
-    /// What is kept for each client, by rising client. It takes no memory.
+    /// Iterates over the kept replies, sorted by client. Allocates nothing.
     pub fn items(&self) -> KeptReplies<'_>
         ensures kept { result ≡ self.now.kept }
         ensures rising { IsStrictlySortedBy nat_cmp (map (λ k. k.0) result) }

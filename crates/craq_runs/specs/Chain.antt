@@ -1,4 +1,4 @@
--- A chain: its master, every node that ever was a member, and every message that was ever sent.
+-- A chain: its master, every node that was ever a member, and every message ever sent.
 use Rattle.std.specs.Prelude.{ℕ, zero, suc, ◌+◌, ◌==◌, nat_le, Bool, false, ◌||◌, ◌&&◌, not, if◌then◌else◌, List, [], ◌∷◌, ◌++◌, map, length, find, is_some, Option, Some, None, Result, Ok, Err, slice_get}
 use Rattle.craq_names.specs.Limits.{greatest, member_limit}
 use Rattle.craq_names.specs.declared.refusal.Refusal.{Refusal}
@@ -19,11 +19,11 @@ use Rattle.craq_runs.specs.declared.run.Move.TheVariants.{Ask, Deliver, Tick, St
 
 pub record Chain : Type 0 where
   pub chain : ℕ
-  pub epoch : ℕ  -- of the master's membership
+  pub epoch : ℕ  -- the epoch of the master's membership
   pub members : List ℕ
-  pub nodes : List Plain  -- each that ever was a member, in the order of joining
-  pub messages : List LinkMessage  -- each that was ever sent, that of number 1 first
-  pub moves : ℕ  -- how many were taken
+  pub nodes : List Plain  -- every node that was ever a member, in the order of joining
+  pub messages : List LinkMessage  -- every message ever sent, number 1 first
+  pub moves : ℕ  -- the number of accepted moves
 
 -- a chain before any move
 abbrev pub opening_chain : ℕ → List ℕ → Chain
@@ -37,16 +37,16 @@ opening_chain chain members =
       moves = 0;
     }
 
--- the node of an id
+-- the node with this id
 unfoldable pub node_at : List Plain → ℕ → Option Plain
 node_at nodes id = find (λ (p : Plain). id_of p == id) nodes
 
--- the nodes, with this one in place of that of its id
+-- the nodes, with this one replacing the one with its id
 unfoldable pub set_node : List Plain → Plain → List Plain
 set_node [] p = []
 set_node (q ∷ qs) p = if id_of q == id_of p then p ∷ qs else q ∷ set_node qs p
 
--- the message of a number, counted from 1
+-- the message of this number, counted from 1
 abbrev pub message_at : List LinkMessage → ℕ → Option LinkMessage
 message_at messages zero = None
 message_at messages (suc i) = slice_get messages i
@@ -57,11 +57,11 @@ sent_in [] = []
 sent_in (outs.Send to m ∷ os) = m ∷ sent_in os
 sent_in (outs.Answer ticket answer ∷ os) = sent_in os
 
--- a chain after a move, and the move's step
+-- a chain after a move, with the move's step
 abbrev pub Progress : Type 0
 Progress = Chain × Step
 
--- the master tells each member the membership
+-- the master sends the membership to each member
 abbrev pub config_to : Chain → ℕ → Out
 config_to c to =
     outs.Send to (record { chain = c.chain; sender = 0; receiver = to; stamp = 1; index = 0; epoch = c.epoch; body = Config c.members })
@@ -73,12 +73,12 @@ config_progress c = (c, record { ticket = None; outs = map (config_to c) c.membe
 abbrev pub next_epoch : Chain → List ℕ → Chain
 next_epoch c members = record c { epoch = c.epoch + 1; members = members }
 
--- a node's step, in its chain
+-- a node's step within its chain
 abbrev pub turn_progress : Chain → Result Turn Refusal → Result Progress Refusal
 turn_progress c (Ok t) = Ok (record c { nodes = set_node c.nodes t.0 }, t.1)
 turn_progress c (Err e) = Err e
 
--- something happens at a node
+-- an event at a node
 abbrev pub node_progress : Chain → Option Plain → Event → Result Progress Refusal
 node_progress c None e = Err refusals.WrongNode
 node_progress c (Some p) e = turn_progress c (node_step p e)
@@ -103,7 +103,7 @@ removal_progress c id =
     else if c.epoch == greatest then Err refusals.Exhausted
     else Ok (config_progress (next_epoch c (without c.members id)))
 
--- the chain with a new node
+-- the chain with a new node that is not ready
 abbrev pub with_node : Chain → ℕ → Chain
 with_node c id = record c { nodes = c.nodes ++ opening_joined (record { chain = c.chain; node = id }) ∷ [] }
 
@@ -114,7 +114,7 @@ join_progress c id =
     else if c.epoch == greatest then Err refusals.Exhausted
     else Ok (config_progress (next_epoch (with_node c id) (c.members ++ id ∷ [])))
 
--- what a move does, before it is counted
+-- the effect of a move, before it is numbered
 abbrev pub move_progress : Chain → Move → Result Progress Refusal
 move_progress c (Ask node ask) = node_progress c (node_at c.nodes node) (events.Ask ask)
 move_progress c (Deliver number) = arrival_progress c (message_at c.messages number)
@@ -123,11 +123,11 @@ move_progress c (Stop node) = node_progress c (node_at c.nodes node) events.Stop
 move_progress c (Remove node) = removal_progress c node
 move_progress c (Join node) = join_progress c node
 
--- the move and its messages can be numbered
+-- the move and its messages can still be numbered
 unfoldable pub numbers_left : Chain → Step → Bool
 numbers_left c step = not (c.moves == greatest) && nat_le (length c.messages + length (sent_in step.outs)) greatest
 
--- the move and its messages get their numbers
+-- the move and its messages are numbered
 abbrev pub counted_progress : Chain → Result Progress Refusal → Result Progress Refusal
 counted_progress c (Ok x) =
     if numbers_left c x.1
@@ -135,6 +135,6 @@ counted_progress c (Ok x) =
     else Err refusals.Exhausted
 counted_progress c (Err e) = Err e
 
--- one move of a chain: the chain after it and the step, or a refusal
+-- one move of a chain: the chain after it and its step, or a refusal
 unfoldable pub chain_step : Chain → Move → Result Progress Refusal
 chain_step c m = counted_progress c (move_progress c m)

@@ -1,4 +1,4 @@
--- Runs of values that the types allow.
+-- Runs whose values are within the limits of their types.
 use Rattle.std.specs.Prelude.{ℕ, ⊤, List, [], ◌∷◌}
 use Rattle.craq_commands.specs.Transaction.{IsWithinLimits}
 use Rattle.craq_commands.specs.declared.command.Command.{Command}
@@ -11,7 +11,7 @@ use Rattle.craq_runs.specs.declared.run.Run.{Run}
 use Rattle.craq_runs.specs.declared.run.Taken.{Taken}
 use Rattle.craq_runs.specs.Runs.{IsRunOf}
 
--- a transaction is within the limits of its type
+-- the command's transaction is within the limits of its type
 abbrev pub IsOfType : Command → Type 0
 IsOfType (Put object value) = ⊤
 IsOfType (TestAndSet object expect value) = ⊤
@@ -37,7 +37,8 @@ abbrev pub AreOfType : List Taken → Type 0
 AreOfType [] = ⊤
 AreOfType (t ∷ ts) = IsMoveOfType t.chosen × AreOfType ts
 
--- the run can happen in the chain of this id, and each transaction in it is within the limits of its type
+-- the run is possible in the chain with this id, and each transaction in it is within the limits of
+-- its type
 pub record IsTypedRunOf (chain : ℕ) (run : Run) : Type 0 where
   pub run_of : IsRunOf chain run
   pub typed : AreOfType run.moves

@@ -1,4 +1,4 @@
--- What a choice picks of all that may come next.
+-- Computes the element that a choice selects among all that are enabled.
 use Rattle.std.proofs.Common.{◌≡◌, ◌+◌, ◌-◌, ◌%◌, ◌<◌, ◌≤◌, ◌^◌, ◌++◌, ℕ, zero, suc, min, List, [], ◌∷◌, map, length, slice_get, option_map, Option, Some, inl, inr, sym, ap, arith, ◌∙◌, length-append, mod-eq_of_lt}
 use Rattle.std.specs.List.{range_with_len}
 use Rattle.std.proofs.lemmas.List.{length-map}
@@ -10,7 +10,7 @@ use Rattle.craq_script.specs.declared.line.Line.{Line}
 use Rattle.craq_script.specs.declared.line.Line.TheVariants as lines
 use Rattle.craq_schedules.specs.Drawn.{events, next_of, offers, picked, running_ids}
 
--- the arrivals stand first, and then the ticks
+-- the arrivals come first, then the ticks
 arrival_at : (first sent place : ℕ) (others : List Line) → place < sent → slice_get (map lines.Deliver (range_with_len first sent) ++ others) place ≡ Some (lines.Deliver (first + place))
 arrival_at first zero place others h = absurd (omega (arith, h))
 arrival_at first (suc sent) zero others h = let e : first ≡ first + 0 = omega arith in ap (λ n. Some (lines.Deliver n)) e
@@ -37,7 +37,7 @@ tick_at sent place running h =
 pub how_many : (sent : ℕ) (running : List ℕ) → length (events sent running) ≡ sent + length running
 how_many sent running = simp (length-append, length-map, length-range_with_len)
 
--- a count that no number can hold is as good as the greatest: no choice reaches it
+-- a count too large for 64 bits can be replaced by the greatest number: no choice reaches it
 pub same_place : (choice count counted : ℕ) → choice < 2 ^ 32 → counted ≡ min count (2 ^ 64 - 1) → choice % counted ≡ choice % count
 same_place choice count counted h e =
     elim (leb_tells count (2 ^ 64 - 1)) [
@@ -48,16 +48,16 @@ same_place choice count counted h e =
           mod-eq_of_lt below ∙ sym (mod-eq_of_lt within)
     ]
 
--- an event with the lines that are left after it
+-- an event, with the lines left after it
 abbrev pub beside : List Line → Line → Line × List Line
 beside left event = (event, left)
 
--- what a choice picks where no line is left
+-- the element that a choice selects if no line is left
 pub alone : (happening : List Line) (choice : ℕ) → picked (offers [] happening) choice ≡ option_map (λ event. (event, [])) (slice_get happening (choice % length happening))
 alone happening choice =
     ap (λ n. slice_get (offers [] happening) (choice % n)) (length-map happening (beside [])) ∙ slice_get-map (beside []) happening (choice % length happening)
 
--- what it picks where one is
+-- the element that a choice selects if a line is left
 pub line_first : (line : Line) (left happening : List Line) (choice : ℕ) → choice % (length happening + 1) ≡ 0 → picked (offers (line ∷ left) happening) choice ≡ Some (line, left)
 line_first line left happening choice h =
     let count : length (offers (line ∷ left) happening) ≡ length happening + 1 = omega (arith, length-map happening (beside (line ∷ left))) in
@@ -69,7 +69,7 @@ event_later line left happening choice place h p =
     let at : place ≡ suc (place - 1) = omega (arith, p) in
     ap (λ n. slice_get (offers (line ∷ left) happening) n) (ap (λ n. choice % n) count ∙ h ∙ at) ∙ slice_get-map (beside (line ∷ left)) happening (place - 1)
 
--- what is counted before a choice picks, by numbers that stop at the greatest
+-- the counts made before a choice selects, in numbers that saturate at the greatest
 pub record IsCounted (c : Chain) (choice wide sent counted : ℕ) (running : List ℕ) : Type 0 where
   pub is_wide : wide ≡ choice
   pub is_small : choice < 2 ^ 32
@@ -77,14 +77,14 @@ pub record IsCounted (c : Chain) (choice wide sent counted : ℕ) (running : Lis
   pub are_running : running ≡ running_ids c.nodes
   pub is_counted : counted ≡ min (sent + length running) (2 ^ 64 - 1)
 
--- what a choice picks, by these counts
+-- the element that a choice selects, by these counts
 pub none_left : (c : Chain) (lines : List Line) (choice wide sent counted : ℕ) (running : List ℕ) (event : Option Line) → IsCounted c choice wide sent counted running → length lines ≡ 0 → event ≡ slice_get (events sent running) (wide % counted) → next_of c lines choice ≡ option_map (beside lines) event
 none_left c (line ∷ left) choice wide sent counted running event k l e = absurd (omega (arith, l))
 none_left c [] choice wide sent counted running event k l e =
     let place : wide % counted ≡ choice % length (events sent running) = ap (λ n. n % counted) k.is_wide ∙ same_place choice (sent + length running) counted k.is_small k.is_counted ∙ ap (λ n. choice % n) (sym (how_many sent running)) in
     rw (← k.is_sent, ← k.are_running, e, place) (alone (events sent running) choice)
 
--- where a line is left there is one more
+-- with a line left, there is one more element
 place_of : (c : Chain) (choice wide sent counted most : ℕ) (running : List ℕ) → IsCounted c choice wide sent counted running → most ≡ min (counted + 1) (2 ^ 64 - 1) → choice % (length (events sent running) + 1) ≡ wide % most
 place_of c choice wide sent counted most running k m =
     let whole : most ≡ min (sent + length running + 1) (2 ^ 64 - 1) = omega (arith, k.is_counted, m) in

@@ -1,4 +1,4 @@
--- Ids that are put among rising ones, one after another.
+-- Relates ids inserted one after another to the ascending ids of the running nodes.
 use Rattle.std.proofs.Common.{◌≡◌, ◌+◌, ◌++◌, ◌<◌, ◌≤◌, ℕ, zero, suc, Bool, true, false, not, if◌then◌else◌, Option, None, Some, is_some, List, [], ◌∷◌, map, length, get_or, filter, drop, take, slice_index_or, refl, sym, ap, subst, arith, append-nil, ◌∙◌}
 use Rattle.std.specs.List.{AllZip}
 use Rattle.std.proofs.lemmas.Bool.Decides.{nat_tests}
@@ -19,12 +19,12 @@ after_lower id [] i h lower = absurd (omega (arith, h))
 after_lower id (other ∷ ids) zero h lower = grind (arith, nat_tests)
 after_lower id (other ∷ ids) (suc i) h lower = ap (λ rest. other ∷ rest) (after_lower id ids i (omega (arith, h)) lower)
 
--- two ids may be put in either order
+-- two ids may be inserted in either order
 swapped : (a b : ℕ) (ids : List ℕ) → with_id a (with_id b ids) ≡ with_id b (with_id a ids)
 swapped a b [] = grind (arith, nat_tests)
 swapped a b (id ∷ ids) = grind (arith, nat_tests, swapped a b ids)
 
--- one more at the end
+-- one more id at the end
 rising_more : (ids : List ℕ) (id : ℕ) → rising (ids ++ id ∷ []) ≡ with_id id (rising ids)
 rising_more [] id = refl
 rising_more (other ∷ ids) id = ap (λ rest. with_id other rest) (rising_more ids id) ∙ swapped other id (rising ids)
@@ -39,7 +39,7 @@ one_stopped ps p h =
     let kept : filter (λ (q : Plain). q.running) (ps ++ p ∷ []) ≡ filter (λ (q : Plain). q.running) ps = rw (filter-append, h) (append-nil _) in
     ap (λ qs. rising (map id_of qs)) kept
 
--- the node that a core stands for, the next after those before it
+-- the node that a core represents comes right after those before it
 pub record Here {C : Type 0} (R : C → Plain → Type 0) (ps : List Plain) (i : ℕ) (c : C) : Type 0 where
   pub node : Plain
   pub stands : R c node
@@ -55,14 +55,14 @@ node_here R (x ∷ cs) (p ∷ ps) (suc i) c h m is =
 node_here R [] (p ∷ ps) i c h m is = absurd h
 node_here R (x ∷ cs) [] i c h m is = absurd h
 
--- each core was seen, and so was each node
+-- after the last core, every node has been seen
 pub all_here : {C : Type 0} (R : C → Plain → Type 0) (cs : List C) (ps : List Plain) → AllZip R cs ps → take (length cs) ps ≡ ps
 all_here R [] [] h = refl
 all_here R (x ∷ cs) (p ∷ ps) h = ap (λ rest. p ∷ rest) (all_here R cs ps h.1)
 all_here R [] (p ∷ ps) h = absurd h
 all_here R (x ∷ cs) [] h = absurd h
 
--- a receipt misses exactly where the node runs
+-- there is no receipt exactly if the node runs
 pub receipt_tells : (running missing : Bool) (name : NodeName) (receipt : Option NodeName) → receipt ≡ (if running then None else Some name) → is_some receipt ≡ not missing → missing ≡ running
 receipt_tells true true name receipt e f = refl
 receipt_tells true false name receipt e f = let h : false ≡ true = ap is_some (sym e) ∙ f in cc

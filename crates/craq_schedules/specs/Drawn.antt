@@ -1,4 +1,4 @@
--- What a drawn schedule of a script prints.
+-- Defines the text printed for a drawn schedule of a script.
 use Rattle.std.specs.Prelude.{◌≡◌, ℕ, Bool, ◌%◌, nat_lt, if◌then◌else◌, List, [], ◌∷◌, ◌++◌, map, length, Option, Some, None, Result, slice_get}
 use Rattle.std.specs.List.{filter, range_with_len}
 use Rattle.craq_names.specs.declared.refusal.Refusal.{Refusal}
@@ -14,54 +14,55 @@ use Rattle.craq_play.specs.Moves.{move_of}
 use Rattle.craq_play.specs.Played.{after_line, line_text, opening}
 use Rattle.craq_schedules.specs.Verdicts.{answer_on, of_lines, verdict_text}
 
--- an id among rising ids
+-- ascending ids with one more id
 abbrev pub with_id : ℕ → List ℕ → List ℕ
 with_id id [] = id ∷ []
 with_id id (other ∷ others) = if nat_lt id other then id ∷ other ∷ others else other ∷ with_id id others
 
--- ids, the lowest first
+-- the ids in ascending order
 abbrev pub rising : List ℕ → List ℕ
 rising [] = []
 rising (id ∷ ids) = with_id id (rising ids)
 
--- the ids of the running nodes, rising
+-- the ids of the running nodes, in ascending order
 abbrev pub running_ids : List Plain → List ℕ
 running_ids nodes = rising (map id_of (filter (λ (p : Plain). p.running) nodes))
 
--- what may come at any time, after so many messages and with these nodes running: the arrival of each message, and a tick of
--- each node
+-- the events enabled after `sent` messages, with these nodes running: the arrival of each message,
+-- and a tick of each node
 abbrev pub events : ℕ → List ℕ → List Line
 events sent running = map lines.Deliver (range_with_len 1 sent) ++ map lines.Tick running
 
--- what may come next, each with the lines of the script that are left after it: the next line, if one is left, and the events
+-- all that is enabled next, each with the lines of the script left after it: the next line, if one
+-- is left, and the events
 abbrev pub offers : List Line → List Line → List (Line × List Line)
 offers [] happening = map (λ event. (event, [])) happening
 offers (line ∷ lines) happening = (line, lines) ∷ map (λ event. (event, line ∷ lines)) happening
 
--- the one that a choice picks, counted from 0; none of an empty list
+-- the element that a choice selects, counted from 0; none of an empty list
 abbrev pub picked : {X : Type 0} → List X → ℕ → Option X
 picked offered choice = slice_get offered (choice % length offered)
 
 abbrev pub next_of : Chain → List Line → ℕ → Option (Line × List Line)
 next_of c lines choice = picked (offers lines (events (length c.messages) (running_ids c.nodes))) choice
 
--- what is printed of the one that was picked, and then of the rest of the schedule
+-- the text of the selected element, followed by that of the rest of the schedule
 abbrev pub next_text : Chained → (Chained → List Line → List ℕ) → Option (Line × List Line) → List ℕ
 next_text w rest None = []
 next_text w rest (Some next) = line_text w (move_of next.0) ++ rest (after_line w (move_of next.0)) next.1
 
--- the one that was picked was played, which gives the chain after it, what is printed and the lines that are left
+-- the selected element was played: the chain after it, the text with its output, and the lines left
 abbrev pub IsPlayed : Chained → Chained → List ℕ → List ℕ → Option (Line × List Line) → Option (List Line) → Type 0
 IsPlayed old new before after None left = (left ≡ None) × (new ≡ old) × (after ≡ before)
 IsPlayed old new before after (Some next) left =
     (left ≡ Some next.1) × (new ≡ after_line old (move_of next.0)) × (after ≡ before ++ line_text old (move_of next.0))
 
--- what is printed of the choices, one after another
+-- the text of the choices, one after another
 abbrev pub choices_text : List ℕ → Chained → List Line → List ℕ
 choices_text [] w lines = []
 choices_text (choice ∷ choices) w lines = next_text w (choices_text choices) (next_of (chain_of w) lines choice)
 
--- the chain after the one that was picked, and then after the rest of the schedule
+-- the chain after the selected element and the rest of the schedule
 abbrev pub after_next : Chained → (Chained → List Line → Chained) → Option (Line × List Line) → Chained
 after_next w rest None = w
 after_next w rest (Some next) = rest (after_line w (move_of next.0)) next.1
@@ -71,11 +72,12 @@ abbrev pub after_choices : List ℕ → Chained → List Line → Chained
 after_choices [] w lines = w
 after_choices (choice ∷ choices) w lines = after_next w (after_choices choices) (next_of (chain_of w) lines choice)
 
--- what is printed of a schedule on a new chain of so many nodes: the choices, and then the verdict, as `holds` answers
+-- the text of a schedule on a new chain of `nodes` nodes: that of the choices, and then the verdict
+-- that `holds` returns
 abbrev pub drawn_text : (Run → Explanation → Bool) → ℕ → List ℕ → List Line → List ℕ
 drawn_text holds nodes choices lines =
     choices_text choices (opening nodes) lines ++ verdict_text (answer_on holds (after_choices choices (opening nodes) lines))
 
--- the same of a script, or which line is outside the grammar
+-- the text of a script's schedule, or the number of the first line outside the grammar
 abbrev pub drawn : (Run → Explanation → Bool) → ℕ → List ℕ → List ℕ → Result (List ℕ) Refusal
 drawn holds nodes choices script = of_lines (drawn_text holds nodes choices) (script_of script)

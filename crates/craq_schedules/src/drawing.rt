@@ -1,4 +1,4 @@
-//! `draw`: one schedule of a script, chosen by numbers; called by `craq_lab`.
+//! Plays one schedule of a script, drawn by numbers: `draw`, called by `craq_lab`.
 ghost use Rattle.std.specs.Prelude.{◌≡◌, ◌≤◌, ◌++◌, Bool, List, insert, length, slice_get, option_copied, IfOk, OnOk, string_bytes};
 ghost use Rattle.std.specs.List.{AllZip};
 ghost use Rattle.craq_model.specs.Plain.{Plain};
@@ -18,7 +18,7 @@ use craq_play::{opened, play_line};
 use craq_script::{Line, Script};
 use std::alloc::{AllocError, Global};
 
-/// Where an id goes among rising ids: before the first that is greater.
+/// Returns the index at which an id goes into ascending ids: before the first that is greater.
 fn place_among(ids: &[NodeId], id: NodeId) -> usize
     ensures within { result ≤ length ids.now }
     ensures place { insert ids.now result id ≡ with_id id ids.now }
@@ -31,7 +31,7 @@ fn place_among(ids: &[NodeId], id: NodeId) -> usize
     ids.len()
 }
 
-/// Puts an id among rising ids.
+/// Inserts an id into ascending ids. Fails only when out of memory.
 fn put_id(ids: &mut Vec<NodeId>, id: NodeId) -> Result<(), AllocError>
     ensures { OnOk result (ids.new.items ≡ with_id id ids.old.items) }
 {
@@ -40,7 +40,7 @@ fn put_id(ids: &mut Vec<NodeId>, id: NodeId) -> Result<(), AllocError>
     Ok(())
 }
 
-/// The ids of the running nodes, rising.
+/// Returns the ids of the running nodes in ascending order.
 fn running_of<C: Core>(alloc: Global, cores: &[C]) -> Result<Vec<NodeId>, AllocError>
     ensures { IfOk result (λ ids. (ps : List Plain) → AllZip C.represents cores.now ps → ids.items ≡ running_ids ps) }
 {
@@ -54,7 +54,8 @@ fn running_of<C: Core>(alloc: Global, cores: &[C]) -> Result<Vec<NodeId>, AllocE
     Ok(ids)
 }
 
-/// The event in this place, counted from 0: of each message that was sent the arrival, then of each running node a tick.
+/// Returns the event at this index, counted from 0: the arrival of each sent message, then a tick
+/// of each running node. `None` past the last one.
 fn event_at(sent: u64, running: &[NodeId], place: u64) -> Option<Line>
     ensures { result ≡ slice_get (events sent running.now) place }
 {
@@ -67,7 +68,7 @@ fn event_at(sent: u64, running: &[NodeId], place: u64) -> Option<Line>
     }
 }
 
-/// Plays an event as a line of a script, and prints what it did. It fails for want of memory alone.
+/// Plays an event as a line of a script, and prints what it did. Fails only when out of memory.
 fn play_event<C: Core>(
     alloc: Global,
     chain: &mut ChainCore<C>,
@@ -80,8 +81,10 @@ fn play_event<C: Core>(
     play_line(alloc, chain, text, &event)
 }
 
-/// Plays the one that a choice picks of all that may come next, and prints what it did: the next line, if one is left, then each
-/// event. Gives the lines that are left after it, or none where nothing may come. It fails for want of memory alone.
+/// Plays the event or line that a choice selects among all that are enabled, and prints what it
+/// did: the next line, if one is left, then each event.
+///
+/// Returns the lines left after it, or `None` if nothing is enabled. Fails only when out of memory.
 fn play_choice<'a, C: Core>(
     alloc: Global,
     chain: &mut ChainCore<C>,
@@ -121,8 +124,8 @@ fn play_choice<'a, C: Core>(
     }
 }
 
-/// Plays what the choices pick, one after another, until they are used up or nothing may come, and prints what it did. It fails
-/// for want of memory alone.
+/// Plays what the choices select, one after another, until they are used up or nothing is enabled.
+/// Prints what each did. Fails only when out of memory.
 fn play_choices<C: Core>(
     alloc: Global,
     chain: &mut ChainCore<C>,
@@ -143,7 +146,8 @@ fn play_choices<C: Core>(
     Ok(())
 }
 
-/// Plays the schedule that the choices draw, on a new chain of so many nodes. It fails for want of memory alone.
+/// Plays the schedule that the choices draw, on a new chain of `nodes` nodes. Fails only when out
+/// of memory.
 fn draw_lines<C: Core>(
     alloc: Global,
     nodes: u32,
@@ -160,14 +164,21 @@ fn draw_lines<C: Core>(
     Ok(text)
 }
 
-/// Plays one schedule of a script on one chain of the nodes from 1 to the count, 1 the head, and prints it, as `play` prints. At
-/// each choice there is a list of what may come next: the next line of the script, if one is left (`explain` is one, and a refused line
-/// is used up); the arrival of each message that was sent, from the first to the last; a tick of each running node, by rising id. The
-/// element at the choice modulo the list's length, counted from 0, is played; an empty list ends the schedule. Last comes what `check`
-/// says of the explanation: `valid true` or `valid false`. It is `valid true`, whatever was drawn, by the law `every_verdict_is_valid` of
+/// Plays one schedule of a script on one chain of the nodes 1 to `nodes`, with 1 as the head, and
+/// prints it as `play` does.
+///
+/// Each choice selects one of the enabled elements: the next line of the script, if one is left
+/// (`explain` is one, and a refused line is used up); the arrival of each message that was sent,
+/// from the first to the last; a tick of each running node, by ascending id. It selects the element
+/// at the choice modulo the number of elements, counted from 0. If nothing is enabled the schedule
+/// ends.
+///
+/// The last line is the verdict of `check` on the run's linearization witness: `valid true` or
+/// `valid false`. It is always `valid true`, by the law `every_verdict_is_valid` of
 /// `craq_verdicts`.
 ///
-/// `BadScript` with the first line that is outside the grammar; `Memory` where a growth was refused. (This project's profile.)
+/// `BadScript` with the first line outside the grammar; `Memory` when out of memory. (This
+/// project's profile.)
 pub fn draw<C: Core>(
     alloc: Global,
     nodes: u32,

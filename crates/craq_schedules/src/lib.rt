@@ -1,6 +1,6 @@
-//! Schedules of a script: one that numbers draw, and one for each move after which a node may stop; for `craq_lab`.
-//! A crate apart since `craq_play` plays a script's lines as they stand.
-//! Code that runs in the program.
+//! Plays schedules of a script, for `craq_lab`: one drawn by numbers, and one for each move after
+//! which a node stops.
+//! Runs in the program.
 #![tactic(auto)]
 
 mod drawing;

@@ -1,4 +1,4 @@
-//! `stops`: a script with a node that stops after each of its moves; called by `craq_lab`.
+//! Plays a script with a node that stops after each of its moves: `stops`, called by `craq_lab`.
 ghost use Rattle.std.specs.Prelude.{◌≡◌, ◌≤◌, ◌+◌, ◌++◌, Bool, length, IfOk, OnOk, string_bytes};
 ghost use Rattle.craq_runs.specs.declared.explanation.Explanation.{Explanation};
 ghost use Rattle.craq_runs.specs.declared.run.Run.{Run};
@@ -17,10 +17,10 @@ use craq_runs::Move;
 use craq_script::{Line, Script};
 use std::alloc::{AllocError, Global};
 
-/// The most messages that arrive after a removal.
+/// The largest number of messages that arrive after a removal.
 const MOST_DELIVERIES: u64 = 10_000;
 
-/// Takes a move; a refused one changes nothing. It fails for want of memory alone.
+/// Takes a move; a refused move changes nothing. Fails only when out of memory.
 fn take_move<C: Core>(
     alloc: Global,
     chain: &mut ChainCore<C>,
@@ -35,7 +35,8 @@ fn take_move<C: Core>(
     }
 }
 
-/// Takes the move that a line asks for, if it does; a refused line changes nothing. It fails for want of memory alone.
+/// Takes the move of a line, if it has one; a refused line changes nothing. Fails only when out of
+/// memory.
 fn take_line<C: Core>(
     alloc: Global,
     chain: &mut ChainCore<C>,
@@ -51,7 +52,7 @@ fn take_line<C: Core>(
     }
 }
 
-/// Takes the moves of lines, in order. It fails for want of memory alone.
+/// Takes the moves of the lines in order. Fails only when out of memory.
 fn take_lines<C: Core>(
     alloc: Global,
     chain: &mut ChainCore<C>,
@@ -65,10 +66,11 @@ fn take_lines<C: Core>(
     Ok(())
 }
 
-/// The chain after a script, on one chain of the nodes from 1 to the count, 1 the head. A refused line changes nothing, and `explain`
-/// is no move.
+/// Returns the chain after a script, on one chain of the nodes 1 to `nodes`, with 1 as the head. A
+/// refused line changes nothing, and `explain` is not a move.
 ///
-/// `BadScript` with the first line that is outside the grammar; `Memory` where a growth was refused. (This project's profile.)
+/// `BadScript` with the first line outside the grammar; `Memory` when out of memory. (This
+/// project's profile.)
 pub fn chain_after<C: Core>(
     alloc: Global,
     nodes: u32,
@@ -83,7 +85,8 @@ pub fn chain_after<C: Core>(
     Ok(chain)
 }
 
-/// Takes the moves of lines, in order, until so many were taken. It fails for want of memory alone.
+/// Takes the moves of the lines in order, until the run has `cut` moves. Fails only when out of
+/// memory.
 fn take_up_to<C: Core>(
     alloc: Global,
     chain: &mut ChainCore<C>,
@@ -101,7 +104,8 @@ fn take_up_to<C: Core>(
     Ok(())
 }
 
-/// Delivers the messages after the first so many, in the order sent, each once: until none is left, or so many arrived.
+/// Delivers the messages after the first `earlier`, in the order sent, each once: until none is
+/// left or `most` have arrived. Fails only when out of memory.
 fn deliver_after<C: Core>(
     alloc: Global,
     chain: &mut ChainCore<C>,
@@ -121,7 +125,8 @@ fn deliver_after<C: Core>(
     Ok(())
 }
 
-/// Stops a node and removes it, and delivers the messages that are sent from the removal on; none where it is refused.
+/// Stops a node, removes it, and delivers the messages sent from the removal on. If the removal is
+/// refused, delivers none. Fails only when out of memory.
 fn stop_and_remove<C: Core>(
     alloc: Global,
     chain: &mut ChainCore<C>,
@@ -138,7 +143,7 @@ fn stop_and_remove<C: Core>(
     }
 }
 
-/// Prints the line of a cut. It fails for want of memory alone.
+/// Prints the line of a cut. Fails only when out of memory.
 fn print_line(text: &mut String, cut: usize, verdict: Verdict) -> Result<(), AllocError>
     ensures { OnOk result (string_bytes text.new ≡ string_bytes text.old ++ cut_line cut verdict.committed verdict.is_valid) }
 {
@@ -147,8 +152,8 @@ fn print_line(text: &mut String, cut: usize, verdict: Verdict) -> Result<(), All
     print_verdict(text, verdict)
 }
 
-/// Plays a script up to a cut on a new chain of so many nodes, stops and removes the node, and prints the line of the cut. It
-/// fails for want of memory alone.
+/// Plays a script up to a cut on a new chain of `nodes` nodes, stops and removes the node, and
+/// prints the line of the cut. Fails only when out of memory.
 fn print_cut<C: Core>(
     alloc: Global,
     text: &mut String,
@@ -166,7 +171,7 @@ fn print_cut<C: Core>(
     print_line(text, cut, verdict_of(alloc, &chain)?)
 }
 
-/// Plays the cuts of a script on new chains of so many nodes. It fails for want of memory alone.
+/// Plays each cut of a script on a new chain of `nodes` nodes. Fails only when out of memory.
 fn stop_lines<C: Core>(
     alloc: Global,
     nodes: u32,
@@ -185,13 +190,20 @@ fn stop_lines<C: Core>(
     Ok(text)
 }
 
-/// For each number from 0 to that of the moves that a script takes: plays it up to so many taken moves, on a new chain of the nodes from
-/// 1 to the count; then the node stops and is removed, and each message that is sent from the removal on arrives once, by rising number, until
-/// none is left or 10,000 did. Where the removal is refused nothing is delivered; `explain` prints nothing. Prints a line for each
-/// number: `cut I committed L valid true` or `cut I committed L valid false`, with the number, how many updates are committed at the end,
-/// and what `check` says of the explanation. It is `valid true` each time, by the law `every_verdict_is_valid` of `craq_verdicts`.
+/// Plays a script once for each cut, a number from 0 to the number of moves that the script takes.
 ///
-/// `BadScript` with the first line that is outside the grammar; `Memory` where a growth was refused. (This project's profile.)
+/// For each cut it plays the script up to that many taken moves, on a new chain of the nodes 1 to
+/// `nodes`. Then the node stops and is removed. Each message sent from the removal on arrives once,
+/// by ascending number, until none is left or 10,000 have arrived. If the removal is refused
+/// nothing is delivered. `explain` prints nothing.
+///
+/// Prints a line for each cut: `cut I committed L valid true` or `cut I committed L valid false`,
+/// with the cut, the number of updates committed at the end, and the verdict of `check` on the
+/// linearization witness. The verdict is always `valid true`, by the law `every_verdict_is_valid`
+/// of `craq_verdicts`.
+///
+/// `BadScript` with the first line outside the grammar; `Memory` when out of memory. (This
+/// project's profile.)
 pub fn stops<C: Core>(
     alloc: Global,
     nodes: u32,

@@ -1,4 +1,5 @@
-//! What is printed of a run at its end: how much is committed, and what `check` answers; called by `draw` and `stops`.
+//! Prints the end of a run: the number of committed updates, and the verdict of `check`; called by
+//! `draw` and `stops`.
 ghost use Rattle.std.specs.Prelude.{◌≡◌, ◌++◌, Bool, length, IfOk, OnOk, string_bytes};
 ghost use Rattle.craq_runs.specs.declared.explanation.Explanation.{Explanation};
 ghost use Rattle.craq_runs.specs.declared.run.Run.{Run};
@@ -11,14 +12,15 @@ use craq_explain::explain_run_of;
 use craq_node::Core;
 use std::alloc::{AllocError, Global};
 
-/// What can be said of a run: how many updates are committed, and whether its explanation passes `check`.
+/// The verdict on a run: the number of committed updates, and whether its linearization witness
+/// passes `check`.
 #[derive(Clone, Copy, Debug)]
 pub(crate) struct Verdict {
     pub(crate) committed: u64,
     pub(crate) is_valid: bool,
 }
 
-/// What can be said of what has happened in a chain. It fails for want of memory alone.
+/// Computes the verdict on the run of a chain. Fails only when out of memory.
 pub(crate) fn verdict_of<C: Core>(
     alloc: Global,
     chain: &ChainCore<C>,
@@ -33,7 +35,7 @@ pub(crate) fn verdict_of<C: Core>(
     })
 }
 
-/// Prints what `check` says of the explanation. It fails for want of memory alone.
+/// Prints the verdict of `check` on the linearization witness. Fails only when out of memory.
 pub(crate) fn print_verdict(text: &mut String, verdict: Verdict) -> Result<(), AllocError>
     ensures { OnOk result (string_bytes text.new ≡ string_bytes text.old ++ verdict_text verdict.is_valid) }
 {

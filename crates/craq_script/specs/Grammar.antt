@@ -1,4 +1,5 @@
--- What a line of a script spells. Its words are parted by one or more spaces; each form of line is given by its words in order.
+-- Defines the grammar of a line: its words are separated by one or more spaces, and each form is
+-- given by its words in order.
 use Rattle.std.specs.Prelude.{ℕ, List, [], ◌∷◌, codes, Option, Some, None, option_map, if◌then◌else◌}
 use Rattle.craq_names.specs.Limits.{greatest}
 use Rattle.craq_names.specs.Maps.{same_bytes}
@@ -16,19 +17,19 @@ abbrev pub next : List (List ℕ) → Option (List ℕ × List (List ℕ))
 next [] = None
 next (word ∷ words) = Some (word, words)
 
--- x, where no word is left
+-- x, if no word is left
 abbrev pub at_the_end : {A : Type 0} → A → List (List ℕ) → Option A
 at_the_end x [] = Some x
 at_the_end x (word ∷ words) = None
 
--- the next word is a number that is at most so great
+-- the next word as a number of at most `most`, and the words after it
 unfoldable pub number_at : ℕ → List (List ℕ) → Option (ℕ × List (List ℕ))
 number_at most words = do
   word ← next words
   n ← number_up_to most word.0
   Some (n, word.1)
 
--- the next word is an object
+-- the next word as an object, and the words after it
 unfoldable pub object_at : List (List ℕ) → Option (ScriptObject × List (List ℕ))
 object_at words = do
   word ← next words
@@ -72,7 +73,8 @@ items_of (word ∷ words) = do
   items ← items_of words
   Some (item ∷ items)
 
--- the changes whose words are OBJECT VALUE, OBJECT BY, OBJECT VERSION VALUE, and items
+-- a change by its first word; the words after it are OBJECT VALUE, OBJECT BY, OBJECT VERSION VALUE,
+-- or items
 unfoldable pub change_of : List ℕ → List (List ℕ) → Option Change
 change_of kind words =
     if same_bytes kind (codes "put") then option_map (λ x. changes.Put x.0 x.1) (object_and_value words)
@@ -102,7 +104,7 @@ read_of words = do
   object ← object_at word.1
   at_the_end (lines.Read node.0 mode object.0) object.1
 
--- one number that is at most so great
+-- one number of at most `most`
 unfoldable pub number_alone : ℕ → List (List ℕ) → Option ℕ
 number_alone most words = do
   n ← number_at most words

@@ -1,4 +1,4 @@
--- What single words of a script spell. Characters are given by their codes.
+-- Defines the parse of single words. Characters are given by their codes.
 use Rattle.std.specs.Prelude.{ℕ, ◌+◌, ◌-◌, ◌*◌, ◌^◌, ◌==◌, ◌&&◌, ◌||◌, not, Bool, List, [], ◌∷◌, length, take, drop, codes, nat_le, Option, Some, None, option_map, if◌then◌else◌, slice_index}
 use Rattle.std.specs.List.{list_all, position}
 use Rattle.craq_names.specs.Limits.{greatest}
@@ -18,7 +18,7 @@ greatest_node = 2 ^ 32 - 1
 abbrev pub greatest_chain : ℕ
 greatest_chain = 2 ^ 16 - 1
 
--- what stands before the first such character, and what stands after it
+-- the text before the first c, and the text after it
 abbrev pub cut_at : ℕ → List ℕ → Option (List ℕ × List ℕ)
 cut_at c text = option_map (λ i. (take i text, drop (i + 1) text)) (position (λ x. x == c) text)
 
@@ -26,24 +26,24 @@ cut_at c text = option_map (λ i. (take i text, drop (i + 1) text)) (position (�
 abbrev pub is_digit : ℕ → Bool
 is_digit c = nat_le 48 c && nat_le c 57
 
--- one or more digits, the first of which is `0` in the word `0` alone
+-- one or more digits; only the word `0` begins with `0`
 abbrev pub is_decimal : List ℕ → Bool
 is_decimal word = not (length word == 0) && list_all is_digit word && (length word == 1 || not (slice_index word 0 == 48))
 
--- the number that digits go on to spell behind those that spelled n
+-- the number n, continued with decimal digits
 abbrev pub number_behind : ℕ → List ℕ → ℕ
 number_behind n [] = n
 number_behind n (digit ∷ digits) = number_behind (10 * n + (digit - 48)) digits
 
--- a number in decimal digits that is at most so great
+-- a number in decimal digits, of at most `most`
 unfoldable pub number_up_to : ℕ → List ℕ → Option ℕ
 number_up_to most word = if is_decimal word && nat_le (number_behind 0 word) most then Some (number_behind 0 word) else None
 
--- a letter, a digit, `_` or `-`
+-- an ASCII letter, a digit, `_` or `-`
 abbrev pub is_key_character : ℕ → Bool
 is_key_character c = is_digit c || (nat_le 65 c && nat_le c 90) || (nat_le 97 c && nat_le c 122) || c == 95 || c == 45
 
--- one or more characters of keys
+-- one or more characters allowed in keys
 unfoldable pub key_of : List ℕ → Option (List ℕ)
 key_of word = if not (length word == 0) && list_all is_key_character word then Some word else None
 
@@ -64,7 +64,7 @@ object_of word = object_in word (cut_at 47 word)
 abbrev pub hexadecimal : ℕ → Option ℕ
 hexadecimal c = if is_digit c then Some (c - 48) else if nat_le 97 c && nat_le c 102 then Some (c - 87) else None
 
--- two digits a byte, the higher first
+-- two digits for each byte, the higher first
 abbrev pub hexadecimal_bytes : List ℕ → Option (List ℕ)
 hexadecimal_bytes [] = Some []
 hexadecimal_bytes (high ∷ []) = None
@@ -74,7 +74,7 @@ hexadecimal_bytes (high ∷ low ∷ digits) = do
   bytes ← hexadecimal_bytes digits
   Some ((16 * h + l) ∷ bytes)
 
--- what begins with `0x` goes on with the bytes in hexadecimal digits; any other word is its own bytes
+-- after `0x`, bytes in hexadecimal digits; any other word stands for its own bytes
 unfoldable pub value_of : List ℕ → Option (List ℕ)
 value_of word =
     if same_bytes (take 2 word) (codes "0x") then hexadecimal_bytes (drop 2 word)
@@ -88,7 +88,7 @@ mode_of word =
     else (if same_bytes (take 8 word) (codes "bounded:") then option_map modes.Bounded (number_up_to greatest_node (drop 8 word))
     else None))
 
--- `OBJECT:VERSION` behind `c:`
+-- `OBJECT:VERSION`, after `c:`
 unfoldable pub compare_of : List ℕ → Option MiniItem
 compare_of text = do
   parts ← cut_at 58 text
@@ -96,13 +96,13 @@ compare_of text = do
   version ← number_up_to greatest parts.1
   Some (items.Compare object version)
 
--- `OBJECT` behind `r:`
+-- `OBJECT`, after `r:`
 unfoldable pub read_of : List ℕ → Option MiniItem
 read_of text = do
   object ← object_of text
   Some (items.Read object)
 
--- `OBJECT:VALUE` behind `w:`
+-- `OBJECT:VALUE`, after `w:`
 unfoldable pub write_of : List ℕ → Option MiniItem
 write_of text = do
   parts ← cut_at 58 text
@@ -110,7 +110,7 @@ write_of text = do
   value ← value_of parts.1
   Some (items.Write object value)
 
--- an item by what stands before and after its first colon
+-- an item, by the text before and after its first colon
 abbrev pub item_in : List ℕ × List ℕ → Option MiniItem
 item_in parts =
     if same_bytes parts.0 (codes "c") then compare_of parts.1

@@ -1,6 +1,6 @@
-//! The language of scripts: its lines, and exactly which texts spell them; for `craq_play` and `craq_schedules`, and
-//! for the command lines of `craq_line`. A crate apart since it stands on no node and no chain.
-//! Code that runs in the program.
+//! Parses the language of scripts, for `craq_play` and `craq_schedules`, and words of command
+//! lines, for `craq_line`. It depends on no node and no chain.
+//! Runs in the programs.
 #![tactic(auto)]
 
 mod line;

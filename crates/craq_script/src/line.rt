@@ -1,9 +1,10 @@
-//! `Line`: a line of a script as values; made by `reading`, and played by `craq_play` and `craq_schedules`.
+//! Defines `Line`, a parsed line of a script; made by `reading`, and played by `craq_play` and
+//! `craq_schedules`.
 use craq_commands::ReadMode;
 use craq_names::{ChainId, ClientId, Items, NodeId, Version};
 
-/// An object as a script names it: the key is one or more of letters, digits, `_` and `-`, and
-/// may be longer than keys may be.
+/// An object as a script names it: the key is one or more ASCII letters, digits, `_` and `-`. It
+/// may be longer than `Key` allows; the line is refused when played.
 #[derive(Debug, Drop)]
 pub struct ScriptObject {
     pub chain: ChainId,
@@ -22,44 +23,44 @@ pub enum MiniItem {
     Read {
         object: ScriptObject,
     },
-    /// `w:OBJECT:VALUE`: the object takes the value.
+    /// `w:OBJECT:VALUE`: the object gets the value.
     Write {
         object: ScriptObject,
         value: Items<u8>,
     },
 }
 
-/// What an update changes. Values may be longer than values may be, and a transaction may have
-/// too many items, none, or an object twice: a script may ask for what is refused.
+/// The change that an update makes. A value may be longer than `Value` allows. A transaction may
+/// have too many items, none, or an object twice. Such a line parses and is refused when played.
 #[derive(Debug, Drop)]
 pub enum Change {
-    /// `put`: the object takes the value.
+    /// `put`: the object gets the value.
     Put {
         object: ScriptObject,
         value: Items<u8>,
     },
-    /// `tas`: the object takes the value if it has the version.
+    /// `tas`: the object gets the value if it has the version.
     TestAndSet {
         object: ScriptObject,
         expect: Version,
         value: Items<u8>,
     },
-    /// `append`: the value is joined to the end of the object's.
+    /// `append`: the value is added at the end of the object's value.
     Append {
         object: ScriptObject,
         value: Items<u8>,
     },
-    /// `prepend`: the value is joined to the front of the object's.
+    /// `prepend`: the value is added at the front of the object's value.
     Prepend {
         object: ScriptObject,
         value: Items<u8>,
     },
-    /// `inc`: the object's number rises.
+    /// `inc`: adds to the object's number.
     Increment {
         object: ScriptObject,
         by: u64,
     },
-    /// `dec`: the object's number falls.
+    /// `dec`: subtracts from the object's number.
     Decrement {
         object: ScriptObject,
         by: u64,
@@ -70,8 +71,8 @@ pub enum Change {
     },
 }
 
-/// An update that a script's line asks of a node. The number may be 0, which is refused when the
-/// line is played.
+/// An update that a script's line requests from a node. The request number may be 0; the line is
+/// then refused when played.
 #[derive(Debug, Drop)]
 pub struct UpdateLine {
     pub node: NodeId,
@@ -83,11 +84,11 @@ pub struct UpdateLine {
 /// A line of a script.
 #[derive(Debug, Drop)]
 pub enum Line {
-    /// A client asks the node for an update.
+    /// A client requests an update from the node.
     Update {
         update: UpdateLine,
     },
-    /// A client asks the node to read the object.
+    /// A client requests a read of the object from the node.
     Read {
         node: NodeId,
         mode: ReadMode,
@@ -97,11 +98,11 @@ pub enum Line {
     Deliver {
         message: u64,
     },
-    /// The node repeats what it has to send; node 0 is the master.
+    /// The node resends what it has to send; node 0 is the master.
     Tick {
         node: NodeId,
     },
-    /// The node halts for good.
+    /// The node stops and never runs again.
     Stop {
         node: NodeId,
     },
@@ -109,10 +110,10 @@ pub enum Line {
     Remove {
         node: NodeId,
     },
-    /// The master lets the node join.
+    /// The master adds the node.
     Join {
         node: NodeId,
     },
-    /// What happened so far is explained.
+    /// The linearization witness of the run so far is printed.
     Explain,
 }

@@ -1,13 +1,14 @@
-//! Why a line was not read: it is outside the grammar, or there was no memory; also for the words of `craq_line`.
+//! Defines the errors of parsing a line: outside the grammar, or out of memory; `craq_line` uses
+//! them too.
 ghost use Rattle.std.specs.Prelude.{◌≡◌};
 ghost use Rattle.craq_script.specs.declared.misread.Misread.TheVariants.{Memory};
 
 use std::alloc::{AllocError, AllocFailed};
 
-/// Why a line, or a word of one, was not read.
+/// The reason that a line, or a word of it, was not parsed.
 #[derive(Clone, Copy, Debug, PartialEq, Eq)]
 pub enum Misread {
-    /// A growth was refused.
+    /// Out of memory.
     Memory,
     /// The text fits no form of the grammar.
     OutsideGrammar,

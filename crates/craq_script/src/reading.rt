@@ -1,4 +1,4 @@
-//! The words of a line as a `Line`, kind by kind; called by `script`.
+//! Parses the words of a line into a `Line`, kind by kind; called by `script`.
 ghost use Rattle.std.specs.Prelude.{◌≡◌, map};
 ghost use Rattle.craq_script.specs.Reading.{Gives};
 ghost use Rattle.craq_script.specs.Words.{greatest_node};
@@ -13,7 +13,7 @@ use crate::{Change, Line, MiniItem, Misread, UpdateLine};
 use craq_names::{ClientId, Items, NodeId, Version};
 use std::alloc::Global;
 
-/// OBJECT VERSION VALUE.
+/// Parses OBJECT VERSION VALUE.
 #[tactic(auto, unfolding(crate::specs::Grammar::test_and_set_of))]
 fn test_and_set_of(alloc: Global, words: &[&[u8]]) -> Result<Change, Misread>
     ensures { Gives (λ x. x) result (test_and_set_of (map (λ w. w.now) words.now)) }
@@ -28,7 +28,7 @@ fn test_and_set_of(alloc: Global, words: &[&[u8]]) -> Result<Change, Misread>
     })
 }
 
-/// An item of each word.
+/// Parses each word as an item of a transaction.
 fn items_of(alloc: Global, words: &[&[u8]]) -> Result<Items<MiniItem>, Misread>
     ensures { Gives (λ x. x) result (items_of (map (λ w. w.now) words.now)) }
 {
@@ -40,7 +40,7 @@ fn items_of(alloc: Global, words: &[&[u8]]) -> Result<Items<MiniItem>, Misread>
     Ok(Items::of(items))
 }
 
-/// A change, by the first word of its line and the words after NUMBER.
+/// Parses a change from the first word of its line and the words after NUMBER.
 #[tactic(auto, unfolding(crate::specs::Grammar::change_of))]
 fn change_of(alloc: Global, kind: &[u8], words: &[&[u8]]) -> Result<Change, Misread>
     ensures { Gives (λ x. x) result (change_of kind.now (map (λ w. w.now) words.now)) }
@@ -75,7 +75,7 @@ fn change_of(alloc: Global, kind: &[u8], words: &[&[u8]]) -> Result<Change, Misr
     Err(Misread::OutsideGrammar)
 }
 
-/// NODE CLIENT NUMBER and a change, behind the first word of the line.
+/// Parses NODE CLIENT NUMBER and a change, given the first word of the line.
 #[tactic(auto, unfolding(crate::specs::Grammar::update_of))]
 fn update_of(alloc: Global, kind: &[u8], words: &[&[u8]]) -> Result<Line, Misread>
     ensures { Gives (λ x. x) result (update_of kind.now (map (λ w. w.now) words.now)) }
@@ -93,7 +93,7 @@ fn update_of(alloc: Global, kind: &[u8], words: &[&[u8]]) -> Result<Line, Misrea
     Ok(Line::Update { update })
 }
 
-/// NODE MODE OBJECT.
+/// Parses NODE MODE OBJECT.
 #[tactic(auto, unfolding(crate::specs::Grammar::read_of))]
 fn read_of(alloc: Global, words: &[&[u8]]) -> Result<Line, Misread>
     ensures { Gives (λ x. x) result (read_of (map (λ w. w.now) words.now)) }
@@ -106,7 +106,7 @@ fn read_of(alloc: Global, words: &[&[u8]]) -> Result<Line, Misread>
     at_end(Line::Read { node, mode, object }, words)
 }
 
-/// NODE, the one word.
+/// Parses NODE, the only word.
 #[tactic(auto, unfolding(crate::specs::Grammar::number_alone))]
 fn node_of(words: &[&[u8]]) -> Result<NodeId, Misread>
     ensures { Gives (λ n. n) result (number_alone greatest_node (map (λ w. w.now) words.now)) }
@@ -115,7 +115,7 @@ fn node_of(words: &[&[u8]]) -> Result<NodeId, Misread>
     Ok(NodeId::new(node as u32))
 }
 
-/// A line by its first word and the words after it.
+/// Parses a line from its first word and the words after it.
 #[tactic(auto, unfolding(crate::specs::Grammar::line_of_kind))]
 fn line_of_kind(alloc: Global, kind: &[u8], words: &[&[u8]]) -> Result<Line, Misread>
     ensures { Gives (λ x. x) result (line_of_kind kind.now (map (λ w. w.now) words.now)) }
@@ -149,7 +149,7 @@ fn line_of_kind(alloc: Global, kind: &[u8], words: &[&[u8]]) -> Result<Line, Mis
     update_of(alloc, kind, words)
 }
 
-/// A line by its words.
+/// Parses a line from its words.
 #[tactic(auto, unfolding(crate::specs::Grammar::line_of_words))]
 pub(crate) fn line_of_words(alloc: Global, words: &[&[u8]]) -> Result<Line, Misread>
     ensures { Gives (λ x. x) result (line_of_words (map (λ w. w.now) words.now)) }

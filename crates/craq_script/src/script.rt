@@ -1,4 +1,4 @@
-//! `Script::read`: a text as the lines that it spells; the one call of the crate that programs need.
+//! Parses a text into lines: `Script::read`, the only call of the crate that programs need.
 ghost use Rattle.craq_script.specs.Texts.{script_of};
 
 use crate::Line;
@@ -6,7 +6,7 @@ use crate::text::{lines_of, parts_of};
 use craq_names::{Items, Refusal};
 use std::alloc::Global;
 
-/// A script: its lines in order, but for those that are skipped.
+/// A script: its lines in order, without the skipped ones.
 #[derive(Debug, Drop)]
 pub struct Script {
     pub lines: Items<Line>,
@@ -15,11 +15,11 @@ pub struct Script {
 impl Script {
     ghost use Rattle.craq_script.specs.Texts.{Reads};
 
-    /// The script that the text spells.
+    /// Parses the text as a script.
     ///
-    /// Lines are ended by line feeds; the last one may miss. Every line is printable ASCII. Empty
-    /// lines and lines whose first character is `#` are skipped, but counted. All others are
-    /// words parted by one or more spaces:
+    /// Line feeds end lines; the last one is optional. Every line is printable ASCII. Empty lines
+    /// and lines whose first character is `#` are skipped but counted. Every other line is a list
+    /// of words, separated by one or more spaces:
     ///
     /// | First word | Words after it |
     /// |---|---|
@@ -32,13 +32,14 @@ impl Script {
     /// | `tick`, `stop`, `remove`, `join` | NODE |
     /// | `explain` | none |
     ///
-    /// Numbers are decimal digits without a sign and without a leading zero, of 64 bits; NODE and
-    /// K are of 32 bits, chains of 16. OBJECT is KEY, of chain 0, or `CHAIN/KEY`; KEY is one or
-    /// more letters, digits, `_` and `-`. A VALUE that begins with `0x` goes on with an even
-    /// number of hexadecimal digits in lower case, and is these bytes; any other is its own bytes.
+    /// Numbers are decimal digits without a sign and without a leading zero, of 64 bits; NODE and K
+    /// are of 32 bits, chains of 16. OBJECT is KEY, of chain 0, or `CHAIN/KEY`; KEY is one or more
+    /// ASCII letters, digits, `_` and `-`. A VALUE that begins with `0x` goes on with an even
+    /// number of lower-case hexadecimal digits and stands for those bytes. Any other VALUE stands
+    /// for its own bytes.
     ///
-    /// `BadScript` with the first line that is none of these, counted from 1; `Memory` where a
-    /// growth was refused.
+    /// `BadScript` with the first line outside this grammar, counted from 1. `Memory` when out of
+    /// memory.
     #[tactic(auto, unfolding(crate::specs::Texts::script_of))]
     pub fn read(alloc: Global, text: &[u8]) -> Result<Self, Refusal>
         ensures { Reads (λ s. s.lines) result (script_of text.now) }

@@ -1,4 +1,5 @@
-//! Numbers, objects and values as words of a script; called by `reading` and `words`, and by `craq_line`.
+//! Parses numbers, objects and values from words; called by `reading` and `words`, and by
+//! `craq_line`.
 ghost use Rattle.std.specs.Prelude.{◌≡◌, ◌==◌, ◌<◌, ◌≤◌, ◌^◌, ◌+◌, ◌*◌, ◌-◌, IfOk, IfSome, SomeIff, option_map};
 ghost use Rattle.std.specs.List.{list_all, position};
 ghost use Rattle.craq_script.specs.Reading.{Gives};
@@ -9,20 +10,20 @@ use craq_commands::ReadMode;
 use craq_names::{ChainId, Items, Version};
 use std::alloc::Global;
 
-/// The greatest number of 16 bits.
+/// The greatest id of a chain: the greatest number of 16 bits.
 const GREATEST_CHAIN: u64 = 65535;
 
 /// The greatest id of a node: the greatest number of 32 bits.
 pub const GREATEST_NODE: u64 = 4294967295;
 
-/// The first place of the character.
+/// Returns the index of the first `at` in the text.
 fn place_of(text: &[u8], at: u8) -> Option<usize>
     ensures { result ≡ position (λ x. x == at) text.now }
 {
     text.iter().position(|c| *c == at)
 }
 
-/// What stands before the first such character, and after it.
+/// Splits the text at the first `at`: the bytes before it and after it. `None` if there is no `at`.
 fn cut(text: &[u8], at: u8) -> Option<(&[u8], &[u8])>
     ensures { option_map (λ x. (x.0.now, x.1.now)) result ≡ cut_at at text.now }
 {
@@ -32,14 +33,14 @@ fn cut(text: &[u8], at: u8) -> Option<(&[u8], &[u8])>
     }
 }
 
-/// Whether each character is a digit.
+/// Returns true if each character is a digit.
 fn are_digits(word: &[u8]) -> bool
     ensures { result ≡ list_all is_digit word.now }
 {
     word.iter().all(|c| b'0' <= *c && *c <= b'9')
 }
 
-/// Whether the word is decimal digits without a leading zero, or `0`.
+/// Returns true for `0` and for decimal digits without a leading zero.
 fn is_decimal(word: &[u8]) -> bool
     ensures { result ≡ is_decimal word.now }
 {
@@ -49,7 +50,8 @@ fn is_decimal(word: &[u8]) -> bool
     word.len() == 1 || word[0] != b'0'
 }
 
-/// The number of a word of decimal digits, where it is at most so great.
+/// Parses a word of decimal digits as a number of at most `most`; `OutsideGrammar` for any other
+/// word.
 #[tactic(auto, unfolding(crate::specs::Words::number_up_to))]
 pub fn number_up_to(most: u64, word: &[u8]) -> Result<u64, Misread>
     ensures value { Gives (λ n. n) result (number_up_to most word.now) }
@@ -68,7 +70,7 @@ pub fn number_up_to(most: u64, word: &[u8]) -> Result<u64, Misread>
     }
 }
 
-/// The number with one more digit behind it, where it is of 64 bits.
+/// Appends a decimal digit to the number; `None` if the result does not fit in 64 bits.
 fn with_digit(number: u64, digit: u8) -> Option<u64>
     ensures { SomeIff result (10 * number + (digit - 48) < 2 ^ 64) (10 * number + (digit - 48)) }
 {
@@ -79,7 +81,7 @@ fn with_digit(number: u64, digit: u8) -> Option<u64>
     }
 }
 
-/// The number that the digits spell, where it is of 64 bits.
+/// Returns the number that the decimal digits stand for; `None` if it does not fit in 64 bits.
 fn decimal_value(digits: &[u8]) -> Option<u64>
     ensures { SomeIff result (number_behind 0 digits.now < 2 ^ 64) (number_behind 0 digits.now) }
 {
@@ -103,14 +105,14 @@ fn is_key_character(c: u8) -> bool
         || c == b'-'
 }
 
-/// Whether each character is one of keys.
+/// Returns true if each character is allowed in keys.
 fn are_key_characters(word: &[u8]) -> bool
     ensures { result ≡ list_all is_key_character word.now }
 {
     word.iter().all(|c| is_key_character(*c))
 }
 
-/// The word, where it is one or more characters of keys.
+/// Copies the word if it is one or more characters allowed in keys; `OutsideGrammar` otherwise.
 #[tactic(auto, unfolding(crate::specs::Words::key_of))]
 fn key_of(alloc: Global, word: &[u8]) -> Result<Items<u8>, Misread>
     ensures { Gives (λ x. x) result (key_of word.now) }
@@ -121,7 +123,7 @@ fn key_of(alloc: Global, word: &[u8]) -> Result<Items<u8>, Misread>
     Ok(Items::of(Vec::from_slice(alloc, word)?))
 }
 
-/// The object that the word names.
+/// Parses the word as an object: `KEY` of chain 0, or `CHAIN/KEY`.
 #[tactic(auto, unfolding(crate::specs::Words::object_of))]
 pub fn object_of(alloc: Global, word: &[u8]) -> Result<ScriptObject, Misread>
     ensures { Gives (λ x. x) result (object_of word.now) }
@@ -145,7 +147,7 @@ pub fn object_of(alloc: Global, word: &[u8]) -> Result<ScriptObject, Misread>
     }
 }
 
-/// The number of a hexadecimal digit in lower case.
+/// Returns the number of a lower-case hexadecimal digit, or `None` for any other character.
 fn hexadecimal(c: u8) -> Option<u8>
     ensures value { result ≡ hexadecimal c }
     ensures bound { IfSome result (λ n. n < 16) }
@@ -159,7 +161,7 @@ fn hexadecimal(c: u8) -> Option<u8>
     None
 }
 
-/// The bytes of an even number of hexadecimal digits in lower case.
+/// Decodes an even number of lower-case hexadecimal digits into bytes.
 fn hexadecimal_bytes(alloc: Global, digits: &[u8]) -> Result<Items<u8>, Misread>
     ensures { Gives (λ x. x) result (hexadecimal_bytes digits.now) }
 {
@@ -181,7 +183,7 @@ fn hexadecimal_bytes(alloc: Global, digits: &[u8]) -> Result<Items<u8>, Misread>
     Ok(Items::of(bytes))
 }
 
-/// The bytes of a VALUE.
+/// Parses a VALUE into its bytes.
 #[tactic(auto, unfolding(crate::specs::Words::value_of))]
 pub fn value_of(alloc: Global, word: &[u8]) -> Result<Items<u8>, Misread>
     ensures { Gives (λ x. x) result (value_of word.now) }
@@ -195,7 +197,7 @@ pub fn value_of(alloc: Global, word: &[u8]) -> Result<Items<u8>, Misread>
     Ok(Items::of(Vec::from_slice(alloc, word)?))
 }
 
-/// The mode of a read.
+/// Parses the mode of a read.
 #[tactic(auto, unfolding(crate::specs::Words::mode_of))]
 pub fn mode_of(word: &[u8]) -> Result<ReadMode, Misread>
     ensures { Gives (λ x. x) result (mode_of word.now) }
@@ -213,7 +215,7 @@ pub fn mode_of(word: &[u8]) -> Result<ReadMode, Misread>
     Err(Misread::OutsideGrammar)
 }
 
-/// `OBJECT:VERSION`, as it stands behind `c:`.
+/// Parses `OBJECT:VERSION`, the text after `c:`.
 #[tactic(auto, unfolding(crate::specs::Words::compare_of))]
 fn compare_of(alloc: Global, text: &[u8]) -> Result<MiniItem, Misread>
     ensures { Gives (λ x. x) result (compare_of text.now) }
@@ -229,7 +231,7 @@ fn compare_of(alloc: Global, text: &[u8]) -> Result<MiniItem, Misread>
     })
 }
 
-/// `OBJECT`, as it stands behind `r:`.
+/// Parses `OBJECT`, the text after `r:`.
 #[tactic(auto, unfolding(crate::specs::Words::read_of))]
 fn read_of(alloc: Global, text: &[u8]) -> Result<MiniItem, Misread>
     ensures { Gives (λ x. x) result (read_of text.now) }
@@ -238,7 +240,7 @@ fn read_of(alloc: Global, text: &[u8]) -> Result<MiniItem, Misread>
     Ok(MiniItem::Read { object })
 }
 
-/// `OBJECT:VALUE`, as it stands behind `w:`.
+/// Parses `OBJECT:VALUE`, the text after `w:`.
 #[tactic(auto, unfolding(crate::specs::Words::write_of))]
 fn write_of(alloc: Global, text: &[u8]) -> Result<MiniItem, Misread>
     ensures { Gives (λ x. x) result (write_of text.now) }
@@ -251,7 +253,7 @@ fn write_of(alloc: Global, text: &[u8]) -> Result<MiniItem, Misread>
     Ok(MiniItem::Write { object, value })
 }
 
-/// An item of a transaction.
+/// Parses an item of a transaction.
 #[tactic(auto, unfolding(crate::specs::Words::item_of))]
 pub fn item_of(alloc: Global, word: &[u8]) -> Result<MiniItem, Misread>
     ensures { Gives (λ x. x) result (item_of word.now) }

@@ -1,4 +1,4 @@
-//! A text cut into lines and words; called by `script`.
+//! Splits a text into lines and words; called by `script`.
 ghost use Rattle.std.specs.Prelude.{◌≡◌, ◌==◌, ◌<◌, not, length, map, IfOk};
 ghost use Rattle.std.specs.List.{filter, slice_split};
 ghost use Rattle.craq_script.specs.Reading.{Gives};
@@ -9,14 +9,14 @@ use crate::{Line, Misread};
 use craq_names::{Items, Refusal};
 use std::alloc::{AllocError, Global};
 
-/// What stands before, between and after such characters.
+/// Splits the text at each `at`.
 pub(crate) fn parts_of(alloc: Global, text: &[u8], at: u8) -> Result<Vec<&[u8]>, AllocError>
     ensures { IfOk result (λ parts. map (λ x. x.now) parts.items ≡ slice_split (λ c. c == at) text.now) }
 {
     text.split(|c| *c == at).collect(alloc)
 }
 
-/// Those of the parts that are not empty.
+/// Returns the parts that are not empty.
 fn words_among<'a>(alloc: Global, parts: &[&'a [u8]]) -> Result<Vec<&'a [u8]>, AllocError>
     ensures { IfOk result (λ words. map (λ x. x.now) words.items ≡ filter (λ word. not (length word == 0)) (map (λ x. x.now) parts.now)) }
 {
@@ -29,7 +29,7 @@ fn words_among<'a>(alloc: Global, parts: &[&'a [u8]]) -> Result<Vec<&'a [u8]>, A
     Ok(words)
 }
 
-/// The words of a line.
+/// Returns the words of a line.
 fn words_of(alloc: Global, line: &[u8]) -> Result<Vec<&[u8]>, AllocError>
     ensures { IfOk result (λ words. map (λ x. x.now) words.items ≡ words_in line.now) }
 {
@@ -37,21 +37,21 @@ fn words_of(alloc: Global, line: &[u8]) -> Result<Vec<&[u8]>, AllocError>
     words_among(alloc, parts.as_slice())
 }
 
-/// Whether each character is printable ASCII.
+/// Returns true if each character is printable ASCII.
 fn is_printable(line: &[u8]) -> bool
     ensures { result ≡ is_printable line.now }
 {
     line.iter().all(|c| b' ' <= *c && *c <= b'~')
 }
 
-/// Whether the line is empty, or a comment.
+/// Returns true if the line is empty or a comment.
 fn is_skipped(line: &[u8]) -> bool
     ensures { result ≡ is_skipped line.now }
 {
     line.is_empty() || line[0] == b'#'
 }
 
-/// Whether no space stands at the front or at the end of a line that is not empty.
+/// Returns true if a line that is not empty neither begins nor ends with a space.
 fn is_trimmed(line: &[u8]) -> bool
     requires { 0 < length line.now }
     ensures { result ≡ is_trimmed line.now }
@@ -59,7 +59,7 @@ fn is_trimmed(line: &[u8]) -> bool
     line[0] != b' ' && line[line.len() - 1] != b' '
 }
 
-/// The line that the text spells.
+/// Parses the text as a line.
 #[tactic(auto, unfolding(crate::specs::Texts::line_of))]
 fn line_of(alloc: Global, text: &[u8]) -> Result<Line, Misread>
     requires { 0 < length text.now }
@@ -72,7 +72,7 @@ fn line_of(alloc: Global, text: &[u8]) -> Result<Line, Misread>
     line_of_words(alloc, words.as_slice())
 }
 
-/// The line that the text spells, or nothing where it is skipped.
+/// Parses the text as a line, or returns `None` if it is skipped.
 #[tactic(auto, unfolding(crate::specs::Texts::line_or_skip))]
 fn line_or_skip(alloc: Global, text: &[u8]) -> Result<Option<Line>, Misread>
     ensures { Gives (λ x. x) result (line_or_skip text.now) }
@@ -87,7 +87,8 @@ fn line_or_skip(alloc: Global, text: &[u8]) -> Result<Option<Line>, Misread>
     Ok(Some(line))
 }
 
-/// The lines that the texts spell.
+/// Parses the texts as lines, and leaves out the skipped ones. Fails with the first line that does
+/// not parse.
 pub(crate) fn lines_of(alloc: Global, texts: &[&[u8]]) -> Result<Items<Line>, Refusal>
     ensures { Reads (λ x. x) result (lines_from 1 (map (λ x. x.now) texts.now)) }
 {

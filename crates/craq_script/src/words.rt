@@ -1,4 +1,4 @@
-//! The next word of a line as what it has to be; called by `reading`.
+//! Parses the next word of a line as what the grammar needs there; called by `reading`.
 ghost use Rattle.std.specs.Prelude.{◌≡◌, ◌≤◌, map, IfOk};
 ghost use Rattle.craq_script.specs.Reading.{Gives};
 ghost use Rattle.craq_script.specs.Grammar.{next, at_the_end, number_at, number_alone, object_at, value_last, object_and_value, object_and_number};
@@ -8,7 +8,7 @@ use crate::{Misread, ScriptObject};
 use craq_names::Items;
 use std::alloc::Global;
 
-/// The first word, and the words after it.
+/// Returns the first word and the words after it.
 pub(crate) fn next_word<'a, 'b>(
     words: &'b [&'a [u8]],
 ) -> Result<(&'a [u8], &'b [&'a [u8]]), Misread>
@@ -20,7 +20,7 @@ pub(crate) fn next_word<'a, 'b>(
     }
 }
 
-/// The value, where no word is left.
+/// Returns the value if no word is left.
 pub(crate) fn at_end<T: Drop>(value: T, words: &[&[u8]]) -> Result<T, Misread>
     ensures { Gives (λ x. x) result (at_the_end value (map (λ w. w.now) words.now)) }
 {
@@ -31,7 +31,7 @@ pub(crate) fn at_end<T: Drop>(value: T, words: &[&[u8]]) -> Result<T, Misread>
     }
 }
 
-/// The number that the next word spells, and the words after it.
+/// Parses the next word as a number of at most `most`. Returns it and the words after it.
 #[tactic(auto, unfolding(crate::specs::Grammar::number_at))]
 pub(crate) fn next_number<'a, 'b>(
     most: u64,
@@ -45,7 +45,7 @@ pub(crate) fn next_number<'a, 'b>(
     Ok((number, words))
 }
 
-/// The number that the one word spells.
+/// Parses the only word as a number of at most `most`.
 #[tactic(auto, unfolding(crate::specs::Grammar::number_alone))]
 pub(crate) fn last_number(most: u64, words: &[&[u8]]) -> Result<u64, Misread>
     ensures value { Gives (λ n. n) result (number_alone most (map (λ w. w.now) words.now)) }
@@ -55,7 +55,7 @@ pub(crate) fn last_number(most: u64, words: &[&[u8]]) -> Result<u64, Misread>
     at_end(number, words)
 }
 
-/// The object that the next word names, and the words after it.
+/// Parses the next word as an object. Returns it and the words after it.
 #[tactic(auto, unfolding(crate::specs::Grammar::object_at))]
 pub(crate) fn next_object<'a, 'b>(
     alloc: Global,
@@ -68,7 +68,7 @@ pub(crate) fn next_object<'a, 'b>(
     Ok((object, words))
 }
 
-/// The bytes of VALUE, the one word.
+/// Parses the only word as a VALUE. Returns its bytes.
 #[tactic(auto, unfolding(crate::specs::Grammar::value_last))]
 pub(crate) fn last_value(alloc: Global, words: &[&[u8]]) -> Result<Items<u8>, Misread>
     ensures { Gives (λ x. x) result (value_last (map (λ w. w.now) words.now)) }
@@ -78,7 +78,7 @@ pub(crate) fn last_value(alloc: Global, words: &[&[u8]]) -> Result<Items<u8>, Mi
     at_end(value, words)
 }
 
-/// OBJECT VALUE.
+/// Parses OBJECT VALUE.
 #[tactic(auto, unfolding(crate::specs::Grammar::object_and_value))]
 pub(crate) fn object_and_value(
     alloc: Global,
@@ -91,7 +91,7 @@ pub(crate) fn object_and_value(
     Ok((object, value))
 }
 
-/// OBJECT and a number of 64 bits.
+/// Parses OBJECT and a number of 64 bits.
 #[tactic(auto, unfolding(crate::specs::Grammar::object_and_number))]
 pub(crate) fn object_and_number(
     alloc: Global,

@@ -1,4 +1,4 @@
--- What a master's cell keeps, it keeps after one more step.
+-- One more step preserves the invariants of a master's cell.
 use Rattle.std.proofs.Common.{◌≡◌, ◌<◌, ◌≤◌, ℕ, ◌-◌, ◌++◌, List, [], ◌∷◌, length, Option, Some, None, Result, Ok, Err, refl, sym, ap, subst, arith}
 use Rattle.std.specs.Prelude.{slice_get, ⊤}
 use Rattle.std.specs.Option.{option_map}
@@ -17,7 +17,7 @@ use Rattle.craq_seat.specs.Numbered.{CanBeSent}
 use Rattle.craq_seat.proofs.Spoken.{book_can_send}
 use Rattle.craq_seat.proofs.Taking.{cell_of, from_one, last_more, stamps_more, stands_more}
 
--- a master stays its chain's
+-- a master keeps its chain's id
 abbrev IsOf : ℕ → Result (Mastered × Step) Refusal → Type 0
 IsOf chain (Ok t) = t.0.chain ≡ chain
 IsOf chain (Err e) = ⊤
@@ -41,7 +41,7 @@ own_chain m n event step h = subst (IsOf m.chain) h (book_of m event)
 opening_stays : (o : Opening) (m n : Mastered) (event : BookEvent) (step : Step) → o ≡ book_opening m.chain (members_of o.config) → book_step m event ≡ Ok (n, step) → o ≡ book_opening n.chain (members_of o.config)
 opening_stays o m n event step k h = subst (λ chain. o ≡ book_opening chain (members_of o.config)) (sym (own_chain m n event step h)) k
 
--- it speaks as node 0
+-- it sends as node 0
 can_send : (o : Opening) (m n : Mastered) (event : BookEvent) (step : Step) (stamp : ℕ) → o ≡ book_opening m.chain (members_of o.config) → book_step m event ≡ Ok (n, step) → IsMastered n → 1 ≤ stamp → CanBeSent (record { node = o.name.node; stamp = stamp }) step.outs
 can_send o m n event step stamp k h mastered one =
     let zero : o.name.node ≡ 0 = ap (λ (x : Opening). x.name.node) k in

@@ -1,4 +1,4 @@
--- What a cell keeps, it keeps after one more step.
+-- One more step preserves the invariants of a node's cell.
 use Rattle.std.proofs.Common.{◌≡◌, ◌<◌, ◌≤◌, ℕ, ◌-◌, ◌++◌, List, [], ◌∷◌, length, Option, Some, None, Ok, refl, subst, arith, ◌∙◌}
 use Rattle.std.specs.Prelude.{slice_get}
 use Rattle.std.specs.Option.{option_map}
@@ -19,7 +19,7 @@ use Rattle.craq_seat.specs.Stamps.{event_stamp, next_stamp}
 use Rattle.craq_seat.proofs.Sending.{node_can_send}
 use Rattle.craq_seat.proofs.Taking.{cell_of, from_one, last_more, stamps_more, stands_more}
 
--- a core took its step as each plain node does that it stands for
+-- a core took the step of each plain node that it stands for
 abbrev Goes : {C : Type 0} → (C → Plain → Type 0) → C → C → Event → Step → Type 0
 Goes R c d event step = (p : Plain) → R c p → (q : Plain) × (node_step p event ≡ Ok (q, step)) × R d q
 

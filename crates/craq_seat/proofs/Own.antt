@@ -1,4 +1,4 @@
--- Steps that answer nobody, or only the ask that they accept.
+-- Steps that answer no call, or only the request that they accept.
 use Rattle.std.proofs.Common.{◌≡◌, ◌∙◌, append-nil, ℕ, ◌++◌, List, [], ◌∷◌, Option, Some, None, Result, Ok, Err, false, refl, sym, ap, subst, arith, rules}
 use Rattle.std.specs.Prelude.{Vec, IfOk}
 use Rattle.std.specs.List.{list_any}
@@ -12,33 +12,33 @@ use Rattle.craq_seat.specs.declared.calls.Call.{Call}
 use Rattle.craq_seat.specs.declared.journal.Receipt.{Receipt}
 use Rattle.craq_seat.specs.Calls.{AnswersItself, Called, ServesAsked, accepted, all_answered, answered_call, answers_to, call_under, called_in, is_answer, waiting_after}
 
--- where no out is an answer, no ticket is answered
+-- if no output is a reply, no ticket is answered
 none_answers : (os : List Out) (ticket : ℕ) → list_any is_answer os ≡ false → list_any (answers_to ticket) os ≡ false
 none_answers [] ticket none = refl
 none_answers (outs.Send to m ∷ os) ticket none = none_answers os ticket none
 none_answers (outs.Answer t a ∷ os) ticket none = search rules
 
--- and all calls wait on
+-- then all calls wait on
 pub all_wait : (calls : List Call) (os : List Out) → list_any is_answer os ≡ false → waiting_after calls os ≡ calls
 all_wait [] os none = refl
 all_wait (call ∷ calls) os none = rw (none_answers os call.ticket none) (ap (λ (rest : List Call). call ∷ rest) (all_wait calls os none))
 
--- under a ticket that no call has, the calls after them are looked for
+-- under a ticket that no call has, the search goes on in the calls after them
 under_more : (calls more : List Call) (ticket : ℕ) → call_under calls ticket ≡ None → call_under (calls ++ more) ticket ≡ call_under more ticket
 under_more [] more ticket free = refl
 under_more (call ∷ calls) more ticket free = grind (arith, under_more calls more ticket)
 
--- calls that do not have the ticket wait on
+-- calls without the ticket wait on
 others_wait : (calls : List Call) (more : List Call) (ticket : ℕ) (answer : Answer) → call_under calls ticket ≡ None → waiting_after (calls ++ more) (outs.Answer ticket answer ∷ []) ≡ calls ++ waiting_after more (outs.Answer ticket answer ∷ [])
 others_wait [] more ticket answer free = refl
 others_wait (call ∷ calls) more ticket answer free = grind (arith, others_wait calls more ticket answer)
 
--- the accepted one does not wait
+-- the accepted request does not wait
 own_goes : (asked : Option Ask) (ticket : ℕ) (receipt : Receipt) (pass : ℕ) (answer : Answer) → waiting_after (accepted asked (Some ticket) receipt pass) (outs.Answer ticket answer ∷ []) ≡ []
 own_goes None ticket receipt pass answer = refl
 own_goes (Some ask) ticket receipt pass answer = grind arith
 
--- and has the receipt
+-- and it has the receipt
 own_answered : (asked : Option Ask) (ticket : ℕ) (receipt : Receipt) (pass : ℕ) (answer : Answer) → answered_call (call_under (accepted asked (Some ticket) receipt pass) ticket) receipt answer ≡ all_answered (accepted asked (Some ticket) receipt pass) receipt answer
 own_answered None ticket receipt pass answer = refl
 own_answered (Some ask) ticket receipt pass answer = grind arith
@@ -59,7 +59,7 @@ served calls asked receipt pass ticket answer (Ok receipts) free is =
     (is ∙ sym (own_called calls asked ticket receipt pass answer free), own_waits calls asked ticket receipt pass answer free)
 served calls asked receipt pass ticket answer (Err e) free is = own_alone calls ticket answer free
 
--- so the calls of such a step are served
+-- so the calls of such a step are answered
 pub own_served : (calls : List Call) (asked : Option Ask) (its : Option ℕ) (os : List Out) (receipt : Receipt) (pass : ℕ) (answer : Answer) (result : Result (Vec Called Global) AllocError) → AnswersItself calls its os answer → IfOk result (λ receipts. receipts.items ≡ all_answered (accepted asked its receipt pass) receipt answer) → ServesAsked calls calls (Ok asked) its receipt pass os result
 own_served calls asked its os receipt pass answer result own is =
     rw (own.its, own.alone) (served calls asked receipt pass own.own answer result own.free (subst (λ (t : Option ℕ). IfOk result (λ receipts. receipts.items ≡ all_answered (accepted asked t receipt pass) receipt answer)) own.its is))

@@ -1,4 +1,4 @@
--- What a node sends is from it, to the receivers that its messages name.
+-- A node's messages are from it, to the receivers that they name.
 use Rattle.std.proofs.Common.{◌≡◌, ℕ, ◌==◌, true, cond, List, [], ◌∷◌, ◌++◌, map, Option, Some, None, Result, Ok, Err, refl, subst, arith}
 use Rattle.std.specs.Prelude.{⊤}
 use Rattle.std.proofs.lemmas.Bool.{cond_both}
@@ -178,7 +178,7 @@ body_says p m (bodies.Copy position state) = grind (arith, copy_says p m.sender 
 body_says p m (bodies.Part part) = grind (arith, part_says p m.sender part)
 body_says p m (bodies.Floor count) = grind (arith, floor_says p m.sender count)
 
--- ---- asks
+-- ---- requests
 
 abbrev pub Gives : ℕ → Result Turn Refusal → Type 0
 Gives id (Ok t) = Says id t
@@ -216,7 +216,7 @@ ask_says : (p : Plain) (ask : Ask) → Gives (id_of p) (ask_turn p ask)
 unfolding ask_turn
 ask_says p ask = grind (arith, accepted_says p ask)
 
--- ---- whatever happens
+-- ---- every event
 
 event_says : (p : Plain) (e : Event) → Gives (id_of p) (event_turn p e)
 event_says p (events.Ask ask) = ask_says p ask

@@ -1,4 +1,4 @@
--- What a step sends can be numbered and spelled.
+-- The messages of a step can be numbered and encoded.
 use Rattle.std.proofs.Common.{◌≡◌, ◌≤◌, ◌+◌, ◌^◌, ℕ, List, [], ◌∷◌, length, Result, Ok, Err, true, cond, refl, subst, arith}
 use Rattle.std.specs.Prelude.{count_by}
 use Rattle.std.specs.List.{AllByRecursion}
@@ -19,7 +19,7 @@ use Rattle.craq_seat.specs.declared.journal.Receipt.{Receipt}
 use Rattle.craq_seat.specs.Numbered.{AreFrom, CanBeSent, named, numbered_from}
 use Rattle.craq_seat.proofs.Senders.{sends_from}
 
--- ---- how many
+-- ---- their number
 
 counted_first : (o : Out) (os : List Out) → length (sent_in (o ∷ os)) ≡ cond (is_send o) (1 + length (sent_in os)) (length (sent_in os))
 unfolding sent_in
@@ -45,7 +45,7 @@ node_fits : (p q : Plain) (e : Event) (s : Step) → node_step p e ≡ Ok (q, s)
 unfolding node_step
 node_fits p q e s h = grind (arith, within (event_turn p e) q s)
 
--- ---- the outs of a node's step
+-- ---- the outputs of a node's step
 
 pub node_can_send : (p q : Plain) (e : Event) (s : Step) (stamp : ℕ) → node_step p e ≡ Ok (q, s) → 1 ≤ stamp → AreSpelled s.outs → CanBeSent (record { node = id_of p; stamp = stamp }) s.outs
 node_can_send p q e s stamp h one spelled =

@@ -1,4 +1,4 @@
--- What a master tells is what it does, and can be spelled.
+-- The messages of a master announce its membership and have an encoding.
 use Rattle.std.proofs.Common.{◌≡◌, ◌≤◌, ◌+◌, ◌++◌, ◌==◌, ◌||◌, not, ◌&&◌, List, [], ◌∷◌, ℕ, suc, Bool, true, false, if◌then◌else◌, map, length, Result, Ok, Err, refl, sym, ap, subst, arith, inl, inr, ◌∙◌}
 use Rattle.std.specs.Prelude.{⊤, nat_le, IsOk}
 use Rattle.craq_names.specs.Limits.{greatest, member_limit}
@@ -18,7 +18,7 @@ use Rattle.craq_seat.specs.declared.journal.BookEvent.TheVariants.{Join, Remove,
 use Rattle.craq_seat.specs.Books.{Turns, book_step, tells}
 use Rattle.craq_seat.specs.Numbered.{AreFrom, CanBeSent}
 
--- the membership that a step leads to is what it tells
+-- the membership that a step leads to is the one that it announces
 abbrev IsTold : Result (Mastered × Step) Refusal → Type 0
 IsTold (Ok t) = t.1 ≡ told_step t.0.chain t.0.epoch t.0.members
 IsTold (Err e) = ⊤
@@ -32,7 +32,7 @@ book_told m (Join id) = told_by (joined m id)
 book_told m (Remove stopped stop) = told_by (removed m stopped)
 book_told m Tick = refl
 
--- ---- it can be spelled
+-- ---- each message has an encoding
 
 from_master : (chain epoch : ℕ) (members ids : List ℕ) → AreFrom 0 (map (told chain epoch members) ids)
 from_master chain epoch members [] = tt
@@ -56,7 +56,7 @@ book_can_send m n event step stamp h k one =
       few = omega (arith, counted, limit);
     })
 
--- ---- what is worked out before the master changes is its step, or its refusal
+-- ---- the step computed before the master changes is its step, or its refusal
 
 no_err : (A : Type 0) (x : Refusal) → IsOk {T = A} (Err x) → ⊥
 no_err A x h = cc
@@ -96,6 +96,6 @@ removal_told m n stopped step s h =
     let is = step_of (length m.members == 1) (m.epoch == greatest) LastNode Exhausted (told_step m.chain (m.epoch + 1) (without m.members stopped.node)) step s in
     rw (h, is, removal_made m n stopped h) refl
 
--- a refusal that is passed on, of a master that is as it was
+-- a refusal is passed on, and the master is unchanged
 pub turned : (old new : Mastered) (r : Result Step Refusal) (e : Refusal) (wanted : Result (Mastered × Step) Refusal) → (x : Refusal) × (r ≡ Err x) × (x ≡ e) → new ≡ old → Refuses e wanted → Turns old new r wanted
 turned old new r e wanted p same h = subst (λ s. Turns old new s wanted) (sym (p.1 ∙ ap Err p.2)) (h, same)

@@ -1,4 +1,4 @@
--- A master's step, and what its cell keeps.
+-- A master's step, and the invariants of its cell.
 use Rattle.std.specs.Prelude.{◌≡◌, ℕ, List, [], Option, Some, None, IfSome, Result, Ok, Err}
 use Rattle.craq_names.specs.Order.{Refuses}
 use Rattle.craq_names.specs.declared.refusal.Refusal.{Refusal}
@@ -16,23 +16,24 @@ use Rattle.craq_seat.specs.Journal.{IsStamped, Stands}
 use Rattle.craq_seat.specs.Numbered.{CanBeSent}
 use Rattle.craq_seat.specs.Stamps.{book_stamp}
 
--- each member of the membership is told it, or the refusal stays
+-- the master sends the membership to each member, or the refusal stays
 abbrev pub tells : Result Mastered Refusal → Result (Mastered × Step) Refusal
 tells (Ok m) = Ok (m, told_step m.chain m.epoch m.members)
 tells (Err e) = Err e
 
--- one step of a master: the next membership, or the present one again, is told to each of its members
+-- one step of a master: sends the next membership, or the present one again, to each member
 abbrev pub book_step : Mastered → BookEvent → Result (Mastered × Step) Refusal
 book_step m (Join id) = tells (joined m id)
 book_step m (Remove stopped stop) = tells (removed m stopped)
 book_step m Tick = tells (Ok m)
 
--- the master took the wanted step, or it was refused as wanted, or for want of memory where a step is wanted, and is as it was
+-- the master took the wanted step; or it is unchanged and was refused as wanted, or out of memory
+-- where a step is wanted
 abbrev pub Turns : Mastered → Mastered → Result Step Refusal → Result (Mastered × Step) Refusal → Type 0
 Turns old new (Ok step) wanted = wanted ≡ Ok (new, step)
 Turns old new (Err e) wanted = Refuses e wanted × (new ≡ old)
 
--- how a master's cell is opened: as node 0, with the first membership, before any stamp
+-- a master's cell is opened as node 0, with the first membership, before any stamp
 abbrev pub book_opening : ℕ → List ℕ → Opening
 book_opening chain members =
     record {
@@ -50,10 +51,10 @@ members_of (Some config) = config.members
 abbrev pub first_master : Opening → Mastered
 first_master o = masters.opened o.name.chain (members_of o.config)
 
--- what a master's cell keeps
+-- the invariants of a master's cell
 pub record IsBook (c : Celled Mastered BookEvent) : Type 0 where
   pub opening : c.opening ≡ book_opening c.inside.chain (members_of c.opening.config)
   pub first : IsMembership (members_of c.opening.config)
   pub stands : Stands (λ (m n : Mastered). m ≡ n) book_step (first_master c.opening) c.inside c.journal
   pub stamps : IsStamped book_stamp 0 c.journal c.stamp
-  pub sends : IfSome c.last (λ step. CanBeSent (receipt_of c) step.outs)  -- what the last step sends can be numbered and spelled
+  pub sends : IfSome c.last (λ step. CanBeSent (receipt_of c) step.outs)  -- the last step's messages can be numbered and encoded

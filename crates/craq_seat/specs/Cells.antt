@@ -10,12 +10,12 @@ use Rattle.craq_seat.specs.declared.journal.Record.{Record}
 use Rattle.craq_seat.specs.Journal.{Stepping}
 use Rattle.craq_seat.specs.Stamps.{next_stamp}
 
--- a node or a master, or what stands for it, with its stamp and its journal
+-- a node or a master, or a core that stands for one, with its stamp and its journal
 pub record Celled (N E : Type 0) : Type 0 where
   pub opening : Opening
   pub inside : N
-  pub stamp : ℕ  -- of the last step; the opening's where there is none
-  pub journal : Option (List (Record E))  -- where one is kept
+  pub stamp : ℕ  -- of the last step; the opening's if there is none
+  pub journal : Option (List (Record E))  -- if one is kept
   pub last : Option Step  -- the last step
 
 -- a cell before its first step
@@ -39,7 +39,7 @@ with_record c inside r =
       last = Some r.step;
     }
 
--- what names the last step
+-- the receipt of the last step
 abbrev pub receipt_of : {N E : Type 0} → Celled N E → Receipt
 receipt_of c = record { node = c.opening.name.node; stamp = c.stamp }
 
@@ -53,20 +53,22 @@ abbrev pub stamped : {N E : Type 0} → Stepping N E → Celled N E → E → �
 stamped step c event pass (Ok stamp) = recorded c stamp event pass (step c.inside event)
 stamped step c event pass (Err e) = Err e
 
--- one step of a cell on an event that bears a stamp and with a pass that is shown: the cell after it, or a refusal
+-- one step of a cell on an event with its stamp and a pass: the cell after it, or a refusal
 unfoldable pub cell_step : {N E : Type 0} → Stepping N E → Celled N E → E → ℕ → ℕ → Result (Celled N E) Refusal
 cell_step step c event borne pass = stamped step c event pass (next_stamp c.stamp pass borne)
 
--- where a cell can want memory: once there is a stamp, at once for its journal, and without one where the step inside can
+-- where memory can run out: once there is a stamp, always with a journal, and without one where the
+-- step inside can
 abbrev pub CanWant : {N E : Type 0} → Celled N E → ℕ → ℕ → Type 0 → Type 0
 CanWant c borne pass inside = IsOk (next_stamp c.stamp pass borne) × (IsSome c.journal ⊎ inside)
 
--- the step was taken, and the receipt names it; or it was refused as wanted, or for want of memory where that can come,
--- and nothing changed
+-- the step was taken, and the receipt names it; or nothing changed, and it was refused as wanted,
+-- or out of memory where that can come
 abbrev pub Takes : {N E : Type 0} → Celled N E → Celled N E → Result Receipt Refusal → Type 0 → Result (Celled N E) Refusal → Type 0
 Takes old new (Ok receipt) can wanted = (wanted ≡ Ok new) × (receipt ≡ receipt_of new)
 Takes old new (Err e) can wanted = RefusesWhere can e wanted × (new ≡ old)
 
--- the same of a cell whose core stands for a plain node, and then for the plain node after it
+-- the same for a cell whose core stands for a plain node, and afterwards for the plain node's
+-- successor
 abbrev pub TakesFor : {C N E : Type 0} → (C → N → Type 0) → Celled C E → Celled N E → Result Receipt Refusal → Type 0 → Result (Celled N E) Refusal → Type 0
 TakesFor {C} {N} represents now old result can wanted = (n : N) × Takes old (with_inside now n) result can wanted × represents now.inside n

@@ -1,4 +1,4 @@
--- What a node's cell keeps, whatever is done with it.
+-- The invariants of a node's cell.
 use Rattle.std.specs.Prelude.{◌≡◌, ◌-◌, List, Option, Some, None, IfSome, Vec, length, slice_get}
 use Rattle.std.specs.Option.{option_map}
 use Rattle.std.specs.declared.alloc.Global.{Global}
@@ -13,19 +13,19 @@ use Rattle.craq_seat.specs.Journal.{IsStamped, Stands}
 use Rattle.craq_seat.specs.Numbered.{CanBeSent}
 use Rattle.craq_seat.specs.Stamps.{event_stamp}
 
--- the records of a journal, without where they lie in memory
+-- the records of a journal, without their memory
 abbrev pub records_of : {E : Type 0} → Option (Vec (Record E) Global) → Option (List (Record E))
 records_of None = None
 records_of (Some v) = Some v.items
 
--- the last step: of the journal, or without one that which is kept in its place
+-- the last step: of the journal, or without one the step that is kept instead
 abbrev pub last_of : {E : Type 0} → Option (Vec (Record E) Global) → Option Step → Option Step
 last_of None kept = kept
 last_of (Some v) kept = option_map (λ r. r.step) (slice_get v.items (length v.items - 1))
 
--- what a node's cell keeps
+-- the invariants of a node's cell
 pub record IsKept {C : Type 0} (represents : C → Plain → Type 0) (c : Celled C Event) : Type 0 where
   pub stands : Stands represents node_step (opening_of c.opening.name c.opening.config) c.inside c.journal
   pub named : (p : Plain) × represents c.inside p × (p.name ≡ c.opening.name)  -- it is the node that was opened
   pub stamps : IsStamped event_stamp c.opening.stamp c.journal c.stamp
-  pub sends : IfSome c.last (λ step. CanBeSent (receipt_of c) step.outs)  -- what the last step sends can be numbered and spelled
+  pub sends : IfSome c.last (λ step. CanBeSent (receipt_of c) step.outs)  -- the last step's messages can be numbered and encoded

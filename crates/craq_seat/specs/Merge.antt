@@ -12,38 +12,42 @@ use Rattle.craq_seat.specs.declared.journal.BookEvent.{BookEvent}
 use Rattle.craq_seat.specs.declared.journal.BookEvent.TheVariants as books
 use Rattle.craq_seat.specs.declared.journal.Record.{Record}
 
--- what is kept of a chain: its first members, the master's journal, and that of each node that ever was a member
+-- the journals of a chain: its first members, the master's journal, and that of each node that ever
+-- was a member
 pub record Journals : Type 0 where
   pub members : List ℕ
   pub book : List (Record BookEvent)
   pub nodes : List (ℕ × List (Record Event))  -- by the nodes' ids
 
--- what happened: at a node, or at the master
+-- an event at a node, or at the master
 pub data Happening : Type 0 where
   AtNode : (event : Event) → Happening
   AtMaster : (event : BookEvent) → Happening
 
 -- a step of a chain
 pub record Line : Type 0 where
-  pub node : ℕ  -- that took it; 0: the master
+  pub node : ℕ  -- the node that took it; 0: the master
   pub stamp : ℕ
   pub event : Happening
   pub step : Step
 
+-- the line of a node's record
 abbrev pub node_line : ℕ → Record Event → Line
 node_line node r = record { node = node; stamp = r.stamp; event = AtNode r.event; step = r.step }
 
+-- the line of a master's record
 abbrev pub book_line : Record BookEvent → Line
 book_line r = record { node = 0; stamp = r.stamp; event = AtMaster r.event; step = r.step }
 
+-- the lines of all records: the master's, then each node's
 abbrev pub all_lines : Journals → List Line
 all_lines j = map book_line j.book ++ flat_map (λ n. map (node_line n.0) n.1) j.nodes
 
--- a line stands before another
+-- one line precedes another
 abbrev pub IsBefore : Line → Line → Type 0
 IsBefore a b = (a.stamp < b.stamp) ⊎ ((a.stamp ≡ b.stamp) × (a.node < b.node))
 
--- each line stands before the next
+-- each line precedes the next
 abbrev pub AreInOrder : List Line → Type 0
 AreInOrder [] = ⊤
 AreInOrder (a ∷ []) = ⊤
@@ -54,14 +58,14 @@ pub record IsMerge (j : Journals) (lines : List Line) : Type 0 where
   pub all : IsPermutation (all_lines j) lines
   pub order : AreInOrder lines
 
--- the number of a message, from 1, among all that were sent in these steps: after those of earlier steps, and
--- after those before it in its own
+-- the number of a message, from 1, among all messages sent in these steps: after those of earlier
+-- steps, and after those before it in its own
 unfoldable pub number_among : List Line → LinkMessage → ℕ
 number_among [] m = 0
 number_among (l ∷ ls) m =
     if (l.node == m.sender) && (l.stamp == m.stamp) then m.index + 1 else length (sent_in l.step.outs) + number_among ls m
 
--- what happened, as a move of a run whose steps are these
+-- the event as a move of the run that these steps make
 abbrev pub move_among : List Line → ℕ → Happening → Move
 move_among lines node (AtNode (events.Ask ask)) = moves.Ask node ask
 move_among lines node (AtNode (events.Deliver m)) = moves.Deliver (number_among lines m)
@@ -71,7 +75,7 @@ move_among lines node (AtMaster (books.Join id)) = moves.Join id
 move_among lines node (AtMaster (books.Remove stopped stop)) = moves.Remove stopped.node
 move_among lines node (AtMaster books.Tick) = moves.Tick 0
 
--- the run that the steps are, from the first members
+-- the run of these steps, from the first members
 abbrev pub run_of : List ℕ → List Line → Run
 run_of members lines =
     record {

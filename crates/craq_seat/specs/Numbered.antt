@@ -11,18 +11,18 @@ use Rattle.craq_seat.specs.declared.journal.Receipt.{Receipt}
 abbrev pub named : Receipt → ℕ → LinkMessage → LinkMessage
 named receipt index m = record m { sender = receipt.node; stamp = receipt.stamp; index = index }
 
--- the messages in order, with indexes from this on
+-- the messages in order, with indexes from this one on
 abbrev pub numbered_from : ℕ → Receipt → List LinkMessage → List LinkMessage
 numbered_from index receipt [] = []
 numbered_from index receipt (m ∷ ms) = named receipt index m ∷ numbered_from (index + 1) receipt ms
 
--- each message of the outs is from this node, and goes to the receiver that it names
+-- each message of the outputs is from this node, and goes to the receiver that it names
 abbrev pub AreFrom : ℕ → List Out → Type 0
 AreFrom id [] = ⊤
 AreFrom id (outs.Send to m ∷ os) = (m.sender ≡ id) × (m.receiver ≡ to) × AreFrom id os
 AreFrom id (outs.Answer ticket answer ∷ os) = AreFrom id os
 
--- the outs of the step that a receipt names: numbered, each message among them can be spelled
+-- each message of the outputs, numbered under the step's receipt, has an encoding
 pub record CanBeSent (receipt : Receipt) (os : List Out) : Type 0 where
   pub stamp : 1 ≤ receipt.stamp
   pub senders : AreFrom receipt.node os

@@ -8,20 +8,20 @@ use Rattle.craq_model.specs.declared.ask.Event.TheVariants as events
 use Rattle.craq_seat.specs.declared.journal.BookEvent.{BookEvent}
 use Rattle.craq_seat.specs.declared.journal.BookEvent.TheVariants as books
 
--- the stamp that an event bears: a message has that of its sending
+-- the stamp of an event: a message has that of its sending
 abbrev pub event_stamp : Event → ℕ
 event_stamp (events.Ask ask) = 0
 event_stamp (events.Deliver m) = m.stamp
 event_stamp events.Tick = 0
 event_stamp events.Stop = 0
 
--- the same at a master: a removal has that of the stop
+-- the stamp of a master's event: a removal has that of the stop
 abbrev pub book_stamp : BookEvent → ℕ
 book_stamp (books.Join id) = 0
 book_stamp (books.Remove stopped stop) = stop.stamp
 book_stamp books.Tick = 0
 
--- the largest stamp that a cell has seen: its own, the pass that is shown, and that of the event
+-- the largest stamp that a cell has seen: its own, the pass, and that of the event
 abbrev pub largest : ℕ → ℕ → ℕ → ℕ
 largest own pass borne = max (max own pass) borne
 

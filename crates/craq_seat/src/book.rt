@@ -1,5 +1,5 @@
-//! `BookCell`: a chain's master as node 0, whose steps bear stamps and stand in a journal; for `craq_workers`,
-//! `craq_locked` and the audit.
+//! `BookCell`: a chain's master as node 0, whose steps have stamps and are recorded in a journal;
+//! used by `craq_workers`, `craq_locked` and the audit.
 ghost use Rattle.std.specs.Prelude.{◌≡◌, ◌⊎◌, ◌↔◌, Err, IfOk, IfErr, IfSome, OnOk};
 ghost use Rattle.std.specs.Option.{option_copied};
 ghost use Rattle.craq_epochs.specs.Mastered as masters;
@@ -18,8 +18,8 @@ use craq_names::{ChainId, Copied, NodeId, NodeName, Pass, Refusal, Stamp};
 use std::alloc::Global;
 use std::marker::Model;
 
-/// A chain's master as node 0, with a stamp for each of its steps and, where one is kept, a journal of them:
-/// replaying the journal from the opening gives the master.
+/// A chain's master as node 0, with a stamp for each of its steps and, if one is kept, a journal of
+/// them. Replaying the journal from the opening gives the master.
 #[derive(Drop)]
 pub struct BookCell {
     opening: Opening,
@@ -44,11 +44,11 @@ impl Model for BookCell {
 }
 
 impl BookCell {
-    /// The master of a chain whose first membership, of epoch 1, has these members, head first, in a cell that
-    /// keeps a journal or none, at stamp 0.
+    /// Opens the master of a chain at stamp 0, in a cell with or without a journal. Its first
+    /// membership, of epoch 1, has these members, head first.
     ///
-    /// `BadConfig` exactly where they are no membership: 1 to 8 ids from 1, none twice. `Memory` where a
-    /// growth was refused, and they are one.
+    /// `BadConfig` exactly if they are no membership (1 to 8 ids from 1, none twice). `Memory` if
+    /// they are one and an allocation failed.
     pub fn open(
         alloc: Global,
         chain: ChainId,
@@ -78,16 +78,17 @@ impl BookCell {
         })
     }
 
-    /// One step of the master, under the next stamp: 1 above the largest of the cell's stamp, the pass and, for
-    /// a removal, the stamp of the stop (this project's profile). The master makes the next membership, or on a
-    /// tick keeps the present one, and tells it to each of its members. The step is what `last` then lends, and
-    /// the journal has just it in addition.
+    /// Takes one step of the master under the next stamp: 1 above the largest of the cell's stamp,
+    /// the pass and, for a removal, the stamp of the stop (this project's profile). The master
+    /// makes the next membership, or on a tick keeps the present one, and sends it to each member.
+    /// `last` then lends the step, and the journal has exactly that step in addition.
     ///
-    /// Refused, with nothing changed, for the first of these that applies: `Exhausted` where that largest stamp
-    /// is 2^64 - 1; `Memory` where a journal is kept and there is no room for the step in it; a join as `UsedId`
-    /// where the id is 0 or ever was a member, `ChainFull` where there are 8 members; a removal as `NotMember`
-    /// where the stopped node is no member of this chain, `LastNode` where it is the only one; either then as
-    /// `Exhausted` in the last epoch; `Memory` where a growth was refused.
+    /// Refused, with nothing changed, for the first of these that applies: `Exhausted` if that
+    /// largest stamp is 2^64 - 1; `Memory` if a journal is kept and has no room for the step; a
+    /// join as `UsedId` if the id is 0 or ever was a member, or `ChainFull` if there are 8 members;
+    /// a removal as `NotMember` if the stopped node is no member of this chain, or `LastNode` if it
+    /// is the only one; a join or a removal as `Exhausted` in the last epoch; `Memory` if an
+    /// allocation failed.
     pub fn take(&mut self, alloc: Global, event: BookEvent, pass: Pass) -> Result<Receipt, Refusal>
         ensures step { TakesTurn self.old self.new event pass result }
         ensures kept { IsBook self.new }
@@ -118,8 +119,8 @@ impl BookCell {
         }
     }
 
-    /// The last step, if there was one. Under its receipt (`numbered`) all that it sends has a spelling. It takes
-    /// no memory.
+    /// Returns the last step, if there was one. Each message that it sends has an encoding under
+    /// the step's receipt (`numbered`). Never allocates.
     pub fn last(&self) -> Option<&Step>
         ensures value { option_copied result ≡ self.now.last }
         ensures sends { IfSome self.now.last (λ step. CanBeSent (receipt_of self.now) step.outs) }
@@ -133,7 +134,7 @@ impl BookCell {
         }
     }
 
-    /// The journal, where one is kept. It takes no memory.
+    /// Returns the journal, if one is kept. Never allocates.
     pub fn journal(&self) -> Option<&[Record<BookEvent>]>
         ensures value { option_copied result ≡ self.now.journal }
         ensures kept { IsBook self.now }
@@ -144,28 +145,28 @@ impl BookCell {
         }
     }
 
-    /// The stamp of the last step; 0 where there is none. It takes no memory.
+    /// Returns the stamp of the last step, 0 if there is none. Never allocates.
     pub fn stamp(&self) -> Stamp
         ensures { result ≡ self.now.stamp }
     {
         self.stamp
     }
 
-    /// How the cell was opened. It takes no memory.
+    /// Returns the cell's opening. Never allocates.
     pub fn opening(&self) -> &Opening
         ensures { result.now ≡ self.now.opening }
     {
         &self.opening
     }
 
-    /// The present membership. It takes no memory.
+    /// Returns the present membership. Never allocates.
     pub fn config(&self) -> &Config
         ensures { result.now ≡ record { epoch = self.now.inside.epoch; members = self.now.inside.members } }
     {
         self.master.config()
     }
 
-    /// The ids that ever were members, in the order of joining. It takes no memory.
+    /// Returns the ids that ever were members, in the order of joining. Never allocates.
     pub fn used(&self) -> &[NodeId]
         ensures { result.now ≡ self.now.inside.used }
     {

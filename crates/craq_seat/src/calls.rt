@@ -1,4 +1,4 @@
-//! Calls that wait at a desk, and their receipts once a step answers them; called by `desk`.
+//! Calls that wait at a desk, and their receipts once a step answers them; used by `desk`.
 ghost use Rattle.std.specs.Prelude.{◌≡◌, ◌++◌, [], if◌then◌else◌, IfOk, IfSome, OnErr, OnOk};
 ghost use Rattle.std.specs.List.{list_any};
 ghost use Rattle.std.specs.Option.{option_copied};
@@ -10,8 +10,8 @@ use craq_names::{Copied, Pass, Ticket};
 use std::alloc::{AllocError, Global};
 use std::marker::Model;
 
-/// An ask that a node accepted and has not answered: the step that accepted it, its ticket there, and the pass
-/// that was shown with it.
+/// A request that a node accepted and has not answered: the step that accepted it, its ticket
+/// there, and the pass that came with it.
 #[derive(Debug, Drop)]
 pub struct Call {
     pub asked: Receipt,
@@ -31,7 +31,7 @@ impl Copied for Call {
     }
 }
 
-/// A call with its answer and the step that gave it: what a desk, which alone makes these, tells of both.
+/// A call with its reply and the step that gave it. Only a desk makes these.
 #[derive(Debug, Drop)]
 pub struct CallReceipt {
     call: Call,
@@ -48,42 +48,42 @@ impl Model for CallReceipt {
 }
 
 impl CallReceipt {
-    /// The step that accepted the ask.
+    /// Returns the receipt of the step that accepted the request.
     pub fn asked(&self) -> Receipt
         ensures { result ≡ self.now.call.asked }
     {
         self.call.asked
     }
 
-    /// The step that answered it.
+    /// Returns the receipt of the step that answered it.
     pub fn answered(&self) -> Receipt
         ensures { result ≡ self.now.answered }
     {
         self.answered
     }
 
-    /// The ask's ticket at its node.
+    /// Returns the request's ticket at its node.
     pub fn ticket(&self) -> Ticket
         ensures { result ≡ self.now.call.ticket }
     {
         self.call.ticket
     }
 
-    /// The pass that was shown with the ask.
+    /// Returns the pass that came with the request.
     pub fn pass(&self) -> Pass
         ensures { result ≡ self.now.call.pass }
     {
         self.call.pass
     }
 
-    /// What was asked.
+    /// Returns the request.
     pub fn ask(&self) -> &Ask
         ensures { result.now ≡ self.now.call.ask }
     {
         &self.call.ask
     }
 
-    /// What was answered.
+    /// Returns the reply.
     pub fn answer(&self) -> &Answer
         ensures { result.now ≡ self.now.answer }
     {
@@ -91,7 +91,7 @@ impl CallReceipt {
     }
 }
 
-/// What an event asks, if it does, as a value of its own.
+/// Copies the request of an event, if it is one. Fails only when out of memory.
 pub(crate) fn ask_of(alloc: Global, event: &Event) -> Result<Option<Ask>, AllocError>
     ensures { IfOk result (λ ask. ask ≡ ask_of event.now) }
 {
@@ -103,7 +103,7 @@ pub(crate) fn ask_of(alloc: Global, event: &Event) -> Result<Option<Ask>, AllocE
     }
 }
 
-/// The call that waits under this ticket.
+/// Returns the call that waits under this ticket.
 fn call_under(calls: &[Call], ticket: Ticket) -> Option<&Call>
     ensures { option_copied result ≡ call_under calls.now ticket }
 {
@@ -115,7 +115,7 @@ fn call_under(calls: &[Call], ticket: Ticket) -> Option<&Call>
     None
 }
 
-/// The call receipts of the outs, in order.
+/// Returns the call receipts of the outputs, in order.
 fn called_in(
     alloc: Global,
     calls: &[Call],
@@ -142,7 +142,7 @@ fn called_in(
     Ok(receipts)
 }
 
-/// The call that waits under this ticket, which waits no more.
+/// Removes the call that waits under this ticket and returns it.
 fn take_call(waiting: &mut Vec<Call>, ticket: Ticket) -> Option<Call>
     ensures call { result ≡ call_under waiting.old.items ticket }
     ensures others { waiting.new.items ≡ without_call waiting.old.items ticket }
@@ -157,7 +157,7 @@ fn take_call(waiting: &mut Vec<Call>, ticket: Ticket) -> Option<Call>
     None
 }
 
-/// The call that waits under this ticket, as a value of its own.
+/// Copies the call that waits under this ticket.
 fn copy_of_call(alloc: Global, waiting: &[Call], ticket: Ticket) -> Result<Option<Call>, AllocError>
     ensures { IfOk result (λ call. call ≡ call_under waiting.now ticket) }
 {
@@ -167,7 +167,8 @@ fn copy_of_call(alloc: Global, waiting: &[Call], ticket: Ticket) -> Result<Optio
     }
 }
 
-/// The call under this ticket: it waits no more, and is moved, unless a later out answers it too.
+/// Returns the call under this ticket. Moves it out of the waiting calls, unless a later output
+/// answers it too; then copies it.
 fn call_for(
     alloc: Global,
     waiting: &mut Vec<Call>,
@@ -184,7 +185,7 @@ fn call_for(
     }
 }
 
-/// The receipt of the call that an out answers, if one waits for it, behind the others.
+/// Appends the receipt of the call that an output answers, if one waits for it.
 fn answer_call(
     alloc: Global,
     waiting: &mut Vec<Call>,
@@ -211,8 +212,8 @@ fn answer_call(
     Ok(())
 }
 
-/// The call receipts of the outs, in order. A call goes from those that wait into the last of its receipts; those before have
-/// copies of it.
+/// Returns the call receipts of the outputs, in order. Moves each waiting call into the last of its
+/// receipts; earlier receipts get copies.
 fn take_answered(
     alloc: Global,
     waiting: &mut Vec<Call>,
@@ -234,7 +235,7 @@ fn take_answered(
     Ok(receipts)
 }
 
-/// Whether one of the outs answers the ticket.
+/// Returns true if one of the outputs answers the ticket.
 fn is_answered(outs: &[Out], ticket: Ticket) -> bool
     ensures { result ≡ list_any (answers_to ticket) outs.now }
 {
@@ -248,14 +249,14 @@ fn is_answered(outs: &[Out], ticket: Ticket) -> bool
     false
 }
 
-/// Whether one of the outs is an answer.
+/// Returns true if one of the outputs is a reply.
 fn answers_any(outs: &[Out]) -> bool
     ensures { result ≡ list_any is_answer outs.now }
 {
     outs.iter().any(|out| matches!(out, Out::Answer { .. }))
 }
 
-/// Removes the calls that an out answers.
+/// Removes the calls that an output answers.
 fn forget_answered(waiting: &mut Vec<Call>, outs: &[Out])
     ensures { waiting.new.items ≡ waiting_after waiting.old.items outs.now }
 {
@@ -264,7 +265,7 @@ fn forget_answered(waiting: &mut Vec<Call>, outs: &[Out])
     }
 }
 
-/// The accepted ask waits from now on, if there is one.
+/// Adds the accepted request, if there is one, to the waiting calls.
 fn accept(
     waiting: &mut Vec<Call>,
     asked: Option<Ask>,
@@ -291,7 +292,8 @@ fn accept(
     Ok(())
 }
 
-/// The accepted ask waits, and the call receipts of the step are made. Without memory nothing changes.
+/// Adds the accepted request to the waiting calls and makes the call receipts of the step.
+/// Unchanged when out of memory.
 fn answer_calls(
     alloc: Global,
     waiting: &mut Vec<Call>,
@@ -313,7 +315,8 @@ fn answer_calls(
     receipts
 }
 
-/// The answer of a step that only answers the ask that it accepts, under a ticket that no waiting call has.
+/// Returns the reply of a step whose only output answers the request that it accepts, under a
+/// ticket that no waiting call has.
 fn own_answer<'a>(waiting: &[Call], step: &'a Step) -> Option<&'a Answer>
     ensures { IfSome result (λ answer. AnswersItself waiting.now step.now.ticket step.now.outs answer.now) }
 {
@@ -329,7 +332,8 @@ fn own_answer<'a>(waiting: &[Call], step: &'a Step) -> Option<&'a Answer>
     }
 }
 
-/// The receipt of an ask that is answered in the step that accepts it, so that its call need not wait.
+/// Returns the receipt of a request that the same step accepts and answers, so that its call need
+/// not wait.
 fn answer_own(
     alloc: Global,
     asked: Option<Ask>,
@@ -363,8 +367,8 @@ fn answer_own(
     Ok(receipts)
 }
 
-/// The calls of a step that accepts no ask: each that it answers has its receipt and waits no more. Without memory the calls
-/// that the step answers are dropped.
+/// Answers the waiting calls of a step that accepts no request: each call that it answers gets its
+/// receipt and waits no more. When out of memory, the calls that the step answers are dropped.
 fn serve_waiting(
     alloc: Global,
     waiting: &mut Vec<Call>,
@@ -378,7 +382,8 @@ fn serve_waiting(
     receipts
 }
 
-/// The calls of a step that accepts an ask, which waits from now on, unless the step answers it and nothing else.
+/// Answers the calls of a step that accepts a request. The request waits from now on, unless
+/// answering it is the step's only output.
 fn serve_accepted(
     alloc: Global,
     waiting: &mut Vec<Call>,
@@ -405,8 +410,9 @@ fn serve_accepted(
     }
 }
 
-/// The calls of a step: the accepted ask waits from now on, and each waiting call that the step answers has its
-/// receipt and waits no more. Without memory the calls that the step accepts or answers are dropped.
+/// Answers the calls of a step: the accepted request waits from now on, and each waiting call that
+/// the step answers gets its receipt and waits no more. When out of memory, the calls that the step
+/// accepts or answers are dropped.
 pub(crate) fn serve(
     alloc: Global,
     waiting: &mut Vec<Call>,

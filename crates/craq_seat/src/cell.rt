@@ -1,5 +1,5 @@
-//! `Cell`: a node whose steps bear stamps and, where one is kept, stand in a journal; called by `desk`, and read by
-//! the audit.
+//! `Cell`: a node whose steps have stamps and, if a journal is kept, are recorded in it; used by
+//! `desk` and by the audit.
 ghost use Rattle.std.specs.Prelude.{◌≡◌, ◌<◌, IfOk, IfErr, IfSome, IsNone, IsOk, OnOk, vec_capacity, vec_len};
 ghost use Rattle.std.specs.Option.{option_copied};
 ghost use Rattle.craq_model.specs.Plain.{Plain};
@@ -20,7 +20,7 @@ use craq_node::Core;
 use std::alloc::{AllocError, Global};
 use std::marker::Model;
 
-/// A node with a stamp for each of its steps and, where one is kept, a journal of them: replaying the
+/// A node with a stamp for each of its steps and, if one is kept, a journal of them. Replaying the
 /// journal from the opening gives the node that the core stands for.
 #[derive(Drop)]
 pub struct Cell<C: Core> {
@@ -43,7 +43,7 @@ impl<C: Core> Model for Cell<C> {
     ghost invariant = { λ c. IsKept C.represents (record { opening = c.opening; inside = c.core; stamp = c.stamp; journal = records_of c.journal; last = last_of c.journal c.last }) };
 }
 
-/// The membership in memory of its own, if there is one.
+/// Copies the membership, if there is one. Fails only when out of memory.
 fn copy_of(alloc: Global, config: Option<&Config>) -> Result<Option<Config>, AllocError>
     ensures { IfOk result (λ copy. copy ≡ option_copied config.entry) }
 {
@@ -53,7 +53,8 @@ fn copy_of(alloc: Global, config: Option<&Config>) -> Result<Option<Config>, All
     }
 }
 
-/// A step of the core, once there is room for its record in the journal. The journal stays as it is.
+/// Takes a step of the core after making room for its record in the journal. The journal keeps its
+/// records.
 fn noted_step<C: Core>(
     alloc: Global,
     core: &mut C,
@@ -72,9 +73,10 @@ fn noted_step<C: Core>(
 }
 
 impl<C: Core> Cell<C> {
-    /// A node before its first step, in a cell that keeps a journal or none and whose stamps exceed this one.
-    /// With a membership, which has epoch 1 and the node in it: a ready member with an empty history. Without
-    /// one: a node that joins later, and is not ready. It is refused for want of memory alone (`Memory`).
+    /// Opens a node before its first step, in a cell with or without a journal whose stamps exceed
+    /// this one. With a membership, which has epoch 1 and contains the node: a ready member with an
+    /// empty history. Without one: a node that joins later and is not ready. Fails only when out of
+    /// memory (`Memory`).
     pub fn open(
         alloc: Global,
         name: NodeName,
@@ -102,15 +104,15 @@ impl<C: Core> Cell<C> {
         })
     }
 
-    /// One step of the node, under the next stamp: 1 above the largest of the cell's stamp, the pass and, for
-    /// a delivery, the message's stamp (this project's profile). The step is the node's own, for each plain node
-    /// that the core stands for; it is what `last` then lends, and the journal has just it in addition. A
-    /// delivered message has to have a spelling.
+    /// Takes one step of the node under the next stamp: 1 above the largest of the cell's stamp,
+    /// the pass and, for a delivery, the message's stamp (this project's profile). The step is the
+    /// node's own, for each plain node that the core stands for. `last` then lends it, and the
+    /// journal has exactly that step in addition. A delivered message must have an encoding.
     ///
-    /// Refused, with nothing changed, for the first of these that applies: `Exhausted` where that largest stamp
-    /// is 2^64 - 1; `Memory` where a journal is kept and there is no room for the step in it; what the node's own
-    /// step is refused for (`Core::step`), its want of memory last. Without a journal a stop of a running node and a
-    /// message that is ignored take no memory.
+    /// Refused, with nothing changed, for the first of these that applies: `Exhausted` if that
+    /// largest stamp is 2^64 - 1; `Memory` if a journal is kept and has no room for the step; each
+    /// refusal of the node's own step (`Core::step`), its `Memory` last. Without a journal, a stop
+    /// of a running node and an ignored message never allocate.
     pub fn take(&mut self, alloc: Global, event: Event, pass: Pass) -> Result<Receipt, Refusal>
         requires { CanArrive event }
         ensures step { (p : Plain) → C.represents self.old.inside p → TakesEvent C.represents self.new (with_inside self.old p) event pass result }
@@ -157,8 +159,8 @@ impl<C: Core> Cell<C> {
         }
     }
 
-    /// The last step, if there was one. Under its receipt (`numbered`) all that it sends has a spelling. It takes
-    /// no memory.
+    /// Returns the last step, if there was one. Each message that it sends has an encoding under
+    /// the step's receipt (`numbered`). Never allocates.
     pub fn last(&self) -> Option<&Step>
         ensures value { option_copied result ≡ self.now.last }
         ensures sends { IfSome self.now.last (λ step. CanBeSent (receipt_of self.now) step.outs) }
@@ -172,7 +174,7 @@ impl<C: Core> Cell<C> {
         }
     }
 
-    /// The journal, where one is kept. It takes no memory.
+    /// Returns the journal, if one is kept. Never allocates.
     pub fn journal(&self) -> Option<&[Record<Event>]>
         ensures value { option_copied result ≡ self.now.journal }
         ensures kept { IsKept C.represents self.now }
@@ -183,21 +185,21 @@ impl<C: Core> Cell<C> {
         }
     }
 
-    /// The stamp of the last step; the opening's where there is none. It takes no memory.
+    /// Returns the stamp of the last step, or the opening's if there is none. Never allocates.
     pub fn stamp(&self) -> Stamp
         ensures { result ≡ self.now.stamp }
     {
         self.stamp
     }
 
-    /// How the cell was opened. It takes no memory.
+    /// Returns the cell's opening. Never allocates.
     pub fn opening(&self) -> &Opening
         ensures { result.now ≡ self.now.opening }
     {
         &self.opening
     }
 
-    /// The node's switch, stopped exactly where the node does not run. It takes no memory.
+    /// Returns the node's switch, stopped exactly if the node does not run. Never allocates.
     pub fn switch(&self) -> &Switch
         ensures { (p : Plain) → C.represents self.now.inside p → result.now ≡ record { name = p.name; running = p.running } }
     {

@@ -1,4 +1,5 @@
-//! `Desk`: a cell and the calls that wait at it, of which it tells the answers; for `craq_workers` and `craq_locked`.
+//! `Desk`: a cell and its pending calls, whose replies it returns; used by `craq_workers` and
+//! `craq_locked`.
 ghost use Rattle.std.specs.Prelude.{◌≡◌, [], IfOk, IfSome, IsNone, IsOk, OnErr};
 ghost use Rattle.craq_model.specs.Plain.{Plain};
 ghost use Rattle.craq_node.specs.Represented.{CanArrive, IsFree};
@@ -16,7 +17,7 @@ use craq_node::Core;
 use std::alloc::{AllocError, Global};
 use std::marker::Model;
 
-/// A node's cell and the calls that wait at it. It alone makes call receipts.
+/// A node's cell and the calls that wait at it. Only a desk makes call receipts.
 #[derive(Drop)]
 pub struct Desk<C: Core> {
     cell: Cell<C>,
@@ -32,7 +33,7 @@ impl<C: Core> Model for Desk<C> {
 }
 
 impl<C: Core> Desk<C> {
-    /// The desk of a cell, at which no call waits yet. It takes no memory.
+    /// Makes the desk of a cell, without waiting calls. Never allocates.
     pub fn new(alloc: Global, cell: Cell<C>) -> Self
         ensures { result ≡ record { cell = cell; waiting = [] } }
     {
@@ -42,17 +43,18 @@ impl<C: Core> Desk<C> {
         }
     }
 
-    /// The cell. It takes no memory.
+    /// Returns the cell. Never allocates.
     pub fn cell(&self) -> &Cell<C>
         ensures { result.now ≡ self.now.cell }
     {
         &self.cell
     }
 
-    /// One step of the cell, as `Cell::take` has it and refused as there, with nothing changed. An ask that the
-    /// node accepts is a call, which waits from then on; the call receipts are those of the step's answers to
-    /// waiting calls, in the step's order, and a call that is answered waits no more. Where memory is refused
-    /// after the step, the inner result says so, and the calls that the step accepted or answered are dropped.
+    /// Takes one step of the cell, with the result of `Cell::take`; on its refusals nothing is
+    /// changed. A request that the node accepts becomes a waiting call. Returns the receipts of the
+    /// step's replies to waiting calls, in the step's order; an answered call waits no more. If
+    /// memory runs out after the step, the inner result is an error, and the calls that the step
+    /// accepted or answered are dropped.
     pub fn take(
         &mut self,
         alloc: Global,

@@ -1,8 +1,8 @@
-//! What `craq_workers` and `craq_locked` run and `craq_audit` merges; a crate apart since it starts no threads.
-//! Cells: a node, or a chain's master as node 0, whose steps bear stamps and, where a journal is kept, stand in it;
-//! desks, which tell each caller the answer to its ask; and seats, which are desks under a lock. A stamp is the
-//! number of a step in a logical clock: it is above that of every step that may have caused it.
-//! Code that runs in the program.
+//! Journaled nodes and masters (cells), pending-call tables (desks), desks with a lock (seats).
+//! Runs in the program, in `craq_workers` and `craq_locked`; starts no threads.
+//!
+//! A stamp numbers a step in a logical clock: it is above that of every step that may have caused
+//! it. `craq_audit` reads the journals.
 #![tactic(auto)]
 
 mod book;

@@ -1,4 +1,4 @@
-//! The steps of a master, with what each tells; called by `book`.
+//! The steps of a master, with the messages of each; used by `book`.
 ghost use Rattle.std.specs.Prelude.{◌≡◌, Ok};
 ghost use Rattle.craq_epochs.specs.Mastered.{IsMastered, joined, removed};
 ghost use Rattle.craq_seat.specs.Books.{Turns, book_step, tells};
@@ -10,8 +10,8 @@ use craq_model::Step;
 use craq_names::{NodeId, Refusal};
 use std::alloc::Global;
 
-/// A new node joins after the last member, and all of them are told. What is told is made first, so that a
-/// growth that is refused changes nothing.
+/// Adds a new node after the last member and sends the membership to all of them. Makes the
+/// messages first, so that a failed allocation changes nothing.
 #[tactic(auto, unfolding(craq_epochs::specs::Mastered::joined))]
 fn join(alloc: Global, master: &mut Master, id: NodeId) -> Result<Step, Refusal>
     ensures { Turns master.old master.new result (tells (joined master.old id)) }
@@ -24,7 +24,8 @@ fn join(alloc: Global, master: &mut Master, id: NodeId) -> Result<Step, Refusal>
     Ok(step)
 }
 
-/// A stopped member goes, and the others are told. What is told is made first, likewise.
+/// Removes a stopped member and sends the membership to the others. Makes the messages first, so
+/// that a failed allocation changes nothing.
 #[tactic(auto, unfolding(craq_epochs::specs::Mastered::removed))]
 fn remove(alloc: Global, master: &mut Master, stopped: StopReceipt) -> Result<Step, Refusal>
     ensures { Turns master.old master.new result (tells (removed master.old stopped)) }
@@ -39,7 +40,7 @@ fn remove(alloc: Global, master: &mut Master, stopped: StopReceipt) -> Result<St
     Ok(step)
 }
 
-/// What happens at a master.
+/// Applies an event to a master.
 fn act(alloc: Global, master: &mut Master, event: BookEvent) -> Result<Step, Refusal>
     ensures { Turns master.old master.new result (book_step master.old event) }
 {
@@ -50,8 +51,8 @@ fn act(alloc: Global, master: &mut Master, event: BookEvent) -> Result<Step, Ref
     }
 }
 
-/// As `act`; `config` shows that the master has a membership afterwards. Refused as `BookCell::take` says, with nothing
-/// changed.
+/// Applies an event as `act` does; `config` then shows that the master has a membership. Refused as
+/// `BookCell::take` says, with nothing changed.
 pub(crate) fn turn(alloc: Global, master: &mut Master, event: BookEvent) -> Result<Step, Refusal>
     ensures step { Turns master.old master.new result (book_step master.old event) }
     ensures mastered { IsMastered master.new }

@@ -1,4 +1,5 @@
-//! `numbered`: the messages of a step, each under the step's receipt and its index; called by `craq_locked`.
+//! `numbered`: the messages of a step, each under the step's receipt and its index; used by
+//! `craq_locked`.
 ghost use Rattle.std.specs.Prelude.{◌≡◌, ◌≤◌, ◌^◌, length, IfOk};
 ghost use Rattle.std.specs.List.{AllByRecursion};
 ghost use Rattle.craq_model.specs.Spelled.{IsSpelled};
@@ -10,7 +11,7 @@ use craq_model::{LinkMessage, Out, Step};
 use craq_names::Copied;
 use std::alloc::{AllocError, Global};
 
-/// The message as a value of its own, named by its sender, stamp and index.
+/// Copies the message and names the copy by its sender, stamp and index.
 fn named(
     alloc: Global,
     message: &LinkMessage,
@@ -30,7 +31,7 @@ fn named(
     })
 }
 
-/// The messages among outs, in order, each named by its sender, stamp and index.
+/// Copies the messages among the outputs, in order, each named by its sender, stamp and index.
 #[tactic(auto, unfolding(craq_runs::specs::Chain::sent_in))]
 fn named_in(alloc: Global, outs: &[Out], receipt: Receipt) -> Result<Vec<LinkMessage>, AllocError>
     requires { length (sent_in outs.now) ≤ 2 ^ 32 }
@@ -46,9 +47,9 @@ fn named_in(alloc: Global, outs: &[Out], receipt: Receipt) -> Result<Vec<LinkMes
     Ok(messages)
 }
 
-/// The messages that a step sends, in order. Each has the receipt's node as its sender and the receipt's stamp,
-/// and its index among them, from 0; where the receipt is that of a cell's last step, each has a spelling. It
-/// fails for want of memory alone.
+/// Copies the messages that a step sends, in order. Each has the receipt's node as its sender, the
+/// receipt's stamp, and its index among them, from 0. If the receipt is that of a cell's last step,
+/// each has an encoding. Fails only when out of memory.
 #[tactic(auto, using(crate::proofs::Sending::sent_spelled))]
 pub fn numbered(
     alloc: Global,

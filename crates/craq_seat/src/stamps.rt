@@ -1,4 +1,4 @@
-//! The stamp of the next step; called by `cell` and `book`.
+//! The stamp of the next step; used by `cell` and `book`.
 ghost use Rattle.std.specs.Prelude.{◌≡◌};
 ghost use Rattle.craq_seat.specs.Stamps.{book_stamp, event_stamp, next_stamp};
 
@@ -6,7 +6,7 @@ use crate::BookEvent;
 use craq_model::Event;
 use craq_names::{Pass, Refusal, Stamp};
 
-/// The stamp that an event bears: a message's own, else 0.
+/// Returns the stamp of an event: a message's own, else 0.
 pub(crate) fn event_stamp(event: &Event) -> Stamp
     ensures { result ≡ event_stamp event.now }
 {
@@ -18,7 +18,7 @@ pub(crate) fn event_stamp(event: &Event) -> Stamp
     }
 }
 
-/// The stamp that an event of a master bears: for a removal that of the stop, else 0.
+/// Returns the stamp of an event of a master: for a removal that of the stop, else 0.
 pub(crate) fn book_stamp(event: &BookEvent) -> Stamp
     ensures { result ≡ book_stamp event.now }
 {
@@ -29,8 +29,8 @@ pub(crate) fn book_stamp(event: &BookEvent) -> Stamp
     }
 }
 
-/// The stamp of a cell's next step: 1 above the largest of the cell's own, the pass and what the event bears
-/// (this project's profile). `Exhausted` exactly where that largest is 2^64 - 1.
+/// Returns the stamp of a cell's next step: 1 above the largest of the cell's own, the pass and the
+/// event's (this project's profile). `Exhausted` exactly if that largest is 2^64 - 1.
 #[tactic(auto, unfolding(crate::specs::Stamps::next_stamp))]
 pub(crate) fn next_stamp(own: Stamp, pass: Pass, borne: Stamp) -> Result<Stamp, Refusal>
     ensures { result ≡ next_stamp own pass borne }

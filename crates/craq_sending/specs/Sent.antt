@@ -1,5 +1,7 @@
 -- Encoded messages on their way to nodes.
-use Rattle.std.specs.Prelude.{◌≡◌, ◌<◌, ◌≤◌, ◌^◌, ◌++◌, ⊤, ℕ, List, [], ◌∷◌, length}
+use Rattle.std.specs.Prelude.{◌≡◌, ◌<◌, ◌≤◌, ◌^◌, ◌++◌, ⊤, ℕ, Bool, false, nat_le, List, [], ◌∷◌, filter, length}
+use Rattle.std.specs.List.{list_any}
+use Rattle.craq_commands.specs.declared.entry.Entry.{Entry}
 use Rattle.craq_model.specs.declared.message.Body.{Body}
 use Rattle.craq_model.specs.declared.message.Body.TheVariants as bodies
 use Rattle.craq_model.specs.declared.message.LinkMessage.{LinkMessage}
@@ -48,6 +50,43 @@ acknowledged (bodies.Copy position s) = 0
 acknowledged (bodies.Floor count) = 0
 acknowledged (bodies.Part p) = 0
 acknowledged (bodies.Batch es) = 0
+
+-- the position of the entry that a message brings; 0 of a message that brings none, or several
+abbrev pub entry_position : Body → ℕ
+entry_position (bodies.Config members) = 0
+entry_position (bodies.Entry e) = e.position
+entry_position (bodies.Ack position) = 0
+entry_position (bodies.Query ticket k) = 0
+entry_position (bodies.VersionIs ticket version) = 0
+entry_position (bodies.Blank count) = 0
+entry_position (bodies.Copy position s) = 0
+entry_position (bodies.Floor count) = 0
+entry_position (bodies.Part p) = 0
+entry_position (bodies.Batch es) = 0
+
+-- the position of the entry that a step sends, if it sends one message and does nothing else
+abbrev pub lone_position : List Out → ℕ
+lone_position [] = 0
+lone_position (outs.Send to m ∷ []) = entry_position m.body
+lone_position (outs.Answer ticket answer ∷ []) = 0
+lone_position (o ∷ p ∷ os) = 0
+
+-- a message brings an entry of this position or a later one
+abbrev pub brings_from : ℕ → Body → Bool
+brings_from first (bodies.Config members) = false
+brings_from first (bodies.Entry e) = nat_le first e.position
+brings_from first (bodies.Ack position) = false
+brings_from first (bodies.Query ticket k) = false
+brings_from first (bodies.VersionIs ticket version) = false
+brings_from first (bodies.Blank count) = false
+brings_from first (bodies.Copy position s) = false
+brings_from first (bodies.Floor count) = false
+brings_from first (bodies.Part p) = false
+brings_from first (bodies.Batch es) = list_any (λ (e : Entry). nat_le first e.position) es
+
+-- those of some messages that bring an entry of this position or a later one, and no others
+abbrev pub entries_from : ℕ → List LinkMessage → List LinkMessage
+entries_from first ms = filter (λ (m : LinkMessage). brings_from first m.body) ms
 
 -- an acknowledgement makes another one needless: it is of the same chain, between the same two nodes, under the same membership, and
 -- acknowledges as much

@@ -1,6 +1,7 @@
-//! What a step sends as bytes: each message of its outs, named by the step's receipt and encoded where it lies; whether it does
-//! nothing but send one; and the acknowledgement of a step that does nothing else, to be encoded later. For `craq_workers`; a
-//! crate apart, since it needs neither threads nor a store.
+//! Encodes what a step sends: all its messages, or those alone that bring entries. Tells the two
+//! kinds of steps that can wait: one that only sends an entry, and one that only acknowledges
+//! (`LoneAck`), which can be encoded after later steps. For `craq_workers`; a crate apart, since it
+//! needs neither threads nor a store.
 //! Code that runs in the programs.
 #![tactic(auto)]
 
@@ -8,4 +9,4 @@ mod lone_ack;
 mod sending;
 
 pub use lone_ack::LoneAck;
-pub use sending::{Kind, Sent, encode_sent, only_sends};
+pub use sending::{Kind, Sent, encode_entries, encode_sent, lone_entry};

@@ -1,5 +1,5 @@
-//! `LoneAck`: the acknowledgement of a step that does nothing else, which can be encoded after later steps; called by the
-//! turns of `craq_workers`.
+//! `LoneAck`: the acknowledgement of a step that does nothing else. It can be encoded after later
+//! steps; called by the batches of `craq_workers`.
 ghost use Rattle.std.specs.Prelude.{◌≡◌, ◌∷◌, [], IfOk, IfSome, IsNone};
 ghost use Rattle.craq_runs.specs.Chain.{sent_in};
 ghost use Rattle.craq_model.specs.Spelled.{IsSpelled};
@@ -15,8 +15,9 @@ use craq_wire::encode;
 use std::alloc::{AllocError, Global};
 use std::marker::Model;
 
-/// An acknowledgement that is all that a step does, under the step's receipt. A contract sees the message. It has no drop: whoever
-/// has one encodes it, or lets it give way to one that makes it needless.
+/// The acknowledgement of a step that does nothing else, under the step's receipt. A contract sees
+/// the message. It has no drop: its holder encodes it, or lets it give way to one that makes it
+/// needless.
 pub struct LoneAck {
     chain: ChainId,
     sender: NodeId,
@@ -38,7 +39,7 @@ impl Model for LoneAck {
     ghost invariant = { λ a. IsSpelled (record { chain = a.chain; sender = a.sender; receiver = a.receiver; stamp = a.stamp; index = 0; epoch = a.epoch; body = bodies.Ack a.position }) };
 }
 
-/// A message under this receipt as the first of its step, if it is an acknowledgement.
+/// Returns a message as the first of the step with this receipt, if it is an acknowledgement.
 fn ack_under(message: &LinkMessage, receipt: Receipt) -> Option<LoneAck>
     requires { IsSpelled (named receipt 0 message.now) }
     ensures some { IfSome result (λ ack. (kind_of message.now.body ≡ kinds.Ack) × (ack ≡ named receipt 0 message.now)) }
@@ -57,7 +58,7 @@ fn ack_under(message: &LinkMessage, receipt: Receipt) -> Option<LoneAck>
     }
 }
 
-/// The acknowledgement that an out sends, if it does.
+/// Returns the acknowledgement that an out sends, if it does.
 #[tactic(auto, unfolding(craq_runs::specs::Chain::sent_in))]
 fn ack_in(out: &Out, receipt: Receipt) -> Option<LoneAck>
     requires { CanAdd receipt 0 out.now }
@@ -71,8 +72,8 @@ fn ack_in(out: &Out, receipt: Receipt) -> Option<LoneAck>
 }
 
 impl LoneAck {
-    /// That of a step which sends an acknowledgement and does nothing else, under this receipt; none of any other step. It takes
-    /// no memory.
+    /// Returns the acknowledgement of a step that does nothing else, under this receipt, and `None`
+    /// for any other step. Takes no memory.
     pub fn of(step: &Step, receipt: Receipt) -> Option<Self>
         requires { CanBeSent receipt step.now.outs }
         ensures some { IfSome result (λ ack. OnlySends kinds.Ack step.now.outs × (numbered_from 0 receipt (sent_in step.now.outs) ≡ ack ∷ [])) }
@@ -84,7 +85,8 @@ impl LoneAck {
         }
     }
 
-    /// Gives way to another, where that makes it needless; else it is still there. It takes no memory.
+    /// Drops this acknowledgement if `later` makes it needless, and else gives it back. Takes no
+    /// memory.
     pub fn give_way(self, later: &LoneAck) -> Option<Self>
         ensures gone { IsNone result → MakesNeedless later.now self }
         ensures stays { IfSome result (λ ack. (ack ≡ self) × ¬ (MakesNeedless later.now self)) }
@@ -105,7 +107,7 @@ impl LoneAck {
         Some(self)
     }
 
-    /// The acknowledgement as bytes. It fails for want of memory alone.
+    /// Encodes the acknowledgement. Fails only when out of memory.
     pub fn encode(self, alloc: Global) -> Result<Sent, AllocError>
         ensures { IfOk result (λ sent. IsSentAs sent self) }
     {

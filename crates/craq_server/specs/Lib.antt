@@ -1,3 +1,4 @@
+pub mod Listening
 pub mod Places
 pub mod Refusing
 pub mod Status

@@ -1,53 +1,85 @@
-//! `accept`: the connections of a listener served, at most so many at once, each on a thread of its own or all by a few threads
-//! (`crews`); for programs that serve.
-ghost use Rattle.std.specs.Prelude.{◌≡◌};
+//! `accept`: serves the connections of a listener to a store, each on a thread of its own.
+//! `accept_with` serves them as a `Serving` says, also by a few threads (`crews`).
+ghost use Rattle.std.specs.Prelude.{◌≡◌, ◌⊎◌, [], false, IfErr, IfOk};
 
 use crate::connections::Connections;
 use crate::crews::{Crowds, serve_by_threads};
 use crate::door::{ServedStore, Visit};
+use crate::listening::{Attempt, try_accept, wait_for_connection};
 use crate::logging::Log;
 use crate::passes::Passes;
 use crate::runtime::ServerRuntime;
-use crate::socket_buffers::bound_buffers;
-use crate::turning::turn_away;
+use crate::socket_options::prepare;
 use craq_door::CallDoor;
 use craq_front::{Stream, serve};
+use craq_names::Refusal;
 use craq_node::Core;
 use craq_seat::CallReceipt;
 use craq_workers::{Gate, Store};
 use std::alloc::{AllocError, Global};
 use std::net::{TcpListener, TcpStream};
+use std::sync::atomic::{AtomicU64, Ordering};
 use std::sync::{Arc, Mutex, Wait};
 use std::thread;
 use std::thread::Scope;
 use std::time::Duration;
 
-/// How long a listener that fails is left alone.
+/// The pause after an error of the listener that may pass, and between two looks at connections
+/// that are ending, in milliseconds.
 const PAUSE_MILLISECONDS: u64 = 10;
 
-/// How connections are served.
+/// The number of such pauses that open connections get once the listener has failed: 5 seconds.
+const GRACE_PAUSES: u32 = 500;
+
+/// The way in which connections are served.
 #[derive(Clone, Copy, Debug)]
 pub struct Serving {
-    /// Whether the receipts of calls are kept.
+    /// True where the receipts of calls are kept.
     pub keeps: bool,
-    /// After how many connections no more are taken, those counted too that were turned away; 0 where there is no end.
+    /// The number of connections after which no more are taken, those included that were turned
+    /// away; 0 for no end.
     pub connections: u32,
-    /// By how many threads all connections are served, of which `craqd` asks for 64 at most; 0 where each connection has a thread
-    /// of its own.
+    /// The number of threads that serve all connections (`craqd` asks for 64 at most); 0 for a
+    /// thread for each connection.
     pub threads: u32,
-    /// After how many seconds without a byte a connection is ended; 0 where it is not.
+    /// The seconds without a byte after which a connection is ended; 0 for never.
     pub idle: u32,
-    /// What is told meanwhile.
+    /// The most that a pass may lie above the largest pass that was returned (`Exhausted` above
+    /// it); 0 for no such bound.
+    pub most_leap: u32,
+    /// The log.
     pub log: Log,
 }
 
-/// What came of serving.
+/// The outcome of serving.
 #[derive(Drop)]
 pub struct Served {
     /// The receipts of all calls where they are kept, by order of connection and then of calls.
     pub receipts: Vec<Vec<CallReceipt>>,
-    /// Whether some connection found no thread or no memory, and was ended at once.
+    /// True where some connection was ended at once because the process was out of memory or threads.
     pub lacked: bool,
+    /// True where the listener failed for a reason that lasts, so that no more connections were taken.
+    pub listener_failed: bool,
+}
+
+/// The outcome of taking connections.
+#[derive(Clone, Copy, Debug)]
+pub(crate) struct Taken {
+    /// True where some connection was ended at once because the process was out of memory or threads.
+    pub(crate) lacked: bool,
+    /// True where the listener failed for a reason that lasts.
+    pub(crate) listener_failed: bool,
+}
+
+/// The outcome of a look for the next connection.
+#[derive(Drop)]
+pub(crate) enum Next {
+    /// A connection.
+    Connection(TcpStream),
+    /// None: the server is to end.
+    End,
+    /// None: the listener failed for a reason that lasts.
+    ListenerFailed,
 }
 
 /// The connections of a listener to a store.
@@ -58,13 +90,16 @@ pub(crate) struct Server<'a, R, C: Core, G: Gate> {
     store: &'a Store<C, G>,
     pub(crate) serving: Serving,
     pub(crate) connections: &'a Connections,
-    /// The passes that were told on all connections.
+    /// The passes that were returned on all connections.
     pub(crate) passes: Passes,
-    /// The receipts of each connection that has ended, by order of connection; none of those that have not.
+    /// The number of connections that were turned away.
+    turned_away: AtomicU64,
+    /// The receipts of each connection that has ended, by order of connection; none of those that
+    /// have not.
     receipts: Mutex<Vec<Vec<CallReceipt>>>,
 }
 
-/// A stream whose reads and writes end it after so many seconds; 0 where they wait.
+/// Makes reads and writes of a stream fail after `seconds` without a byte; with 0 they wait.
 fn set_patience(stream: &TcpStream, seconds: u32) {
     if seconds > 0 {
         let limit = Duration::from_secs(u64::from(seconds));
@@ -79,14 +114,13 @@ where
     C: Core,
     G: Gate,
 {
-    /// A connection is over, and its place is free.
+    /// Logs that a connection is over, and frees its place.
     fn leave(&self, place: usize) {
         self.serving.log.ended(&self.rt, place);
         self.connections.leave(&self.rt, place);
     }
 
-    /// A connection that was served has ended: the receipts of its calls go to their place, where they are kept, and its own place is
-    /// free.
+    /// Takes the receipts of a connection that has ended, where they are kept, and frees its place.
     pub(crate) fn ended(&self, place: usize, receipts: usize, calls: Vec<CallReceipt>) {
         if let Some(kept) = self.receipts.lock(&self.rt).get_mut(receipts) {
             *kept = calls;
@@ -101,7 +135,7 @@ where
     C: Core + Send + 'static,
     G: Gate + Send + Sync + 'static,
 {
-    /// The server of a store. It takes no memory.
+    /// Makes the server of a store. Takes no memory.
     pub(crate) fn new(
         rt: R,
         alloc: Global,
@@ -115,32 +149,46 @@ where
             store,
             serving,
             connections,
-            passes: Passes::new(),
+            passes: Passes::new(serving.most_leap),
+            turned_away: AtomicU64::new(0),
             receipts: Mutex::new(Vec::new(alloc)),
         }
     }
 
-    /// The next connection, for which the system holds a bounded number of bytes; none where the server is to end. One for
-    /// which it takes no bound is closed. A listener that fails is asked again after a pause, until it gives one: what it
-    /// lacks comes free where a connection ends.
-    pub(crate) fn next_connection(&self, listener: &TcpListener) -> Option<TcpStream> {
+    /// Returns the next connection, with its socket's options set (`prepare`). A connection whose
+    /// options the system refuses is closed. The listener does not block. An error that may pass,
+    /// as no free descriptor, is followed by a pause of 10 milliseconds and another try.
+    pub(crate) fn next_connection(&self, listener: &TcpListener) -> Next {
         for _ in self.rt.forever() {
-            let accepted = listener.accept();
+            let waited = wait_for_connection(listener);
             if self.connections.is_ending(&self.rt) {
-                drop(accepted);
                 break;
             }
-            if let Ok((stream, _)) = accepted
-                && bound_buffers(&stream)
-            {
-                return Some(stream);
+            match try_accept(listener) {
+                Attempt::Connection(stream) if prepare(&stream) => return Next::Connection(stream),
+                Attempt::Failed => return Next::ListenerFailed,
+                Attempt::NoneYet if waited => (),
+                _ => thread::sleep(&self.rt, Duration::from_millis(PAUSE_MILLISECONDS)),
+            }
+        }
+        Next::End
+    }
+
+    /// Ends the connections that are open once the listener has failed: what they brought before is
+    /// still answered, and those that are open 5 seconds later are cut.
+    pub(crate) fn end_open(&self) {
+        self.connections.end(&self.rt);
+        for _pause in 0..GRACE_PAUSES {
+            if self.connections.is_idle(&self.rt) {
+                break;
             }
             thread::sleep(&self.rt, Duration::from_millis(PAUSE_MILLISECONDS));
         }
-        None
+        self.connections.cut(&self.rt);
     }
 
-    /// The place of a new connection's receipts, where they are kept.
+    /// Makes room for a new connection's receipts, where they are kept, and returns its index.
+    /// Fails only when out of memory.
     pub(crate) fn new_receipts(&self) -> Result<usize, AllocError> {
         if !self.serving.keeps {
             return Ok(0);
@@ -150,25 +198,27 @@ where
         Ok(receipts.len().saturating_sub(1))
     }
 
-    /// A new connection has a place from now on, where there is one; else it is turned away. It ends at once where there is no
-    /// memory.
+    /// Gives a new connection a place. Where none is free the connection is closed without a reply,
+    /// counted and logged, and the result is `None`. Fails only when out of memory; the connection
+    /// is then closed.
     pub(crate) fn admit(
         &self,
         stream: TcpStream,
     ) -> Result<Option<(Arc<TcpStream>, usize)>, AllocError> {
         let stream = Arc::new(self.alloc, stream)?;
         let shared = Arc::try_clone(&stream)?;
-        let Some(place) = self.connections.enter(&self.rt, shared) else {
-            self.serving.log.turned_away(&self.rt, &stream);
-            let _ = turn_away(self.alloc, &mut &*stream);
+        let Some(place) = self.connections.enter(&self.rt, shared)? else {
+            let count = self.turned_away.fetch_add(1, Ordering::SeqCst);
+            let count = count.saturating_add(1);
+            self.serving.log.turned_away(&self.rt, &stream, count);
             return Ok(None);
         };
         self.serving.log.begun(&self.rt, place, &stream);
         Ok(Some((stream, place)))
     }
 
-    /// After a connection was admitted. Where nobody could begin to serve it its place is free again; where the server is to end
-    /// meanwhile it is ended too.
+    /// Finishes the admission of a connection: frees its place where `begun` failed, and ends it
+    /// where the server is to end by now.
     pub(crate) fn after_admission(
         &self,
         place: usize,
@@ -182,7 +232,7 @@ where
         begun
     }
 
-    /// The store, as the doors of connections call it.
+    /// Returns the store as the request handlers of connections call it.
     pub(crate) fn callee(&self) -> ServedStore<'_, R, C, G> {
         ServedStore {
             rt: self.rt,
@@ -192,7 +242,8 @@ where
         }
     }
 
-    /// Serves a client to the end of its stream, and gives the receipts of its calls, where they are kept.
+    /// Serves a client to the end of its stream. Returns the receipts of its calls, where they are
+    /// kept.
     fn serve_client(&self, stream: &TcpStream, place: usize) -> Vec<CallReceipt> {
         let _ = stream.set_nodelay(true);
         set_patience(stream, self.serving.idle);
@@ -208,14 +259,14 @@ where
         door.calls.into_receipts()
     }
 
-    /// Serves a connection to its end. Its receipts are then at their place, where they are kept, and its own place is free.
+    /// Serves a connection to its end, hands its receipts over and frees its place.
     fn attend(&self, stream: Arc<TcpStream>, place: usize, receipts: usize) {
         let calls = self.serve_client(&stream, place);
         self.ended(place, receipts, calls);
         drop(stream);
     }
 
-    /// A connection that has a place is served on a thread of its own. It ends at once where there is no memory for that.
+    /// Begins a thread that serves a connection. Fails where there is no thread or no memory.
     fn begin<'s, E>(
         &'s self,
         scope: &Scope<'s, E>,
@@ -228,7 +279,8 @@ where
         Ok(())
     }
 
-    /// A connection is served where there is a place; else it is turned away. It ends at once where there is no memory.
+    /// Serves a connection on a thread of its own where there is a place; else it is turned away.
+    /// Fails where there is no thread or no memory; the connection is then closed.
     fn take_in<'s, E>(&'s self, scope: &Scope<'s, E>, stream: TcpStream) -> Result<(), AllocError> {
         let Some((stream, place)) = self.admit(stream)? else {
             return Ok(());
@@ -237,35 +289,45 @@ where
         self.after_admission(place, begun)
     }
 
-    /// Takes in so many connections, or without end where that is 0, until the server is to end. Tells whether some
-    /// connection was ended for want of memory.
-    fn take_all<'s, E>(&'s self, scope: &Scope<'s, E>, listener: &TcpListener) -> bool {
+    /// Takes in as many connections as `Serving` says, until the server is to end or its listener
+    /// has failed.
+    fn take_all<'s, E>(&'s self, scope: &Scope<'s, E>, listener: &TcpListener) -> Taken {
         let mut left = self.serving.connections;
         let mut lacked = false;
         for _ in self.rt.forever() {
-            let Some(stream) = self.next_connection(listener) else {
-                break;
-            };
-            if self.take_in(scope, stream).is_err() {
-                lacked = true;
+            match self.next_connection(listener) {
+                Next::Connection(stream) => {
+                    lacked = self.take_in(scope, stream).is_err() || lacked;
+                }
+                Next::End => break,
+                Next::ListenerFailed => {
+                    self.end_open();
+                    return Taken {
+                        lacked,
+                        listener_failed: true,
+                    };
+                }
             }
             if left == 1 {
                 break;
             }
             left = left.saturating_sub(1);
         }
-        lacked
+        Taken {
+            lacked,
+            listener_failed: false,
+        }
     }
 
-    /// Takes connections in and waits until all have ended. Tells whether some connection was ended for want of memory.
-    fn serve_all(&self, listener: &TcpListener) -> bool {
+    /// Takes connections in and waits until all have ended.
+    fn serve_all(&self, listener: &TcpListener) -> Taken {
         self.connections.begin(&self.rt);
         thread::scope(thread::scope_env(), &self.rt, |scope| {
             self.take_all(scope, listener)
         })
     }
 
-    /// The receipts of all connections, by order of connection.
+    /// Returns the receipts of all connections, by order of connection.
     pub(crate) fn into_receipts(self) -> Vec<Vec<CallReceipt>> {
         let Server {
             rt: _,
@@ -274,24 +336,30 @@ where
             serving: _,
             connections: _,
             passes: _,
+            turned_away: _,
             receipts,
         } = self;
         receipts.into_inner()
     }
 }
 
-/// Serves the connections of a listener to a store, each until the client ends it, at most as many at once as `connections`
-/// has places: one more is told `Refused(PendingFull)` and closed at once. It comes back once so many connections were made
-/// as the `Serving` of `crowds` says, or `connections` are to end, and all are over.
+/// Serves the connections of a listener to a store, each until its client ends it, at most as many
+/// at once as `connections` has places. One more is closed without a reply. Returns once as many
+/// connections were made as the `Serving` of `crowds` says, or `connections` are to end, or the
+/// listener has failed, and all connections are over.
 ///
-/// Where `crowds` are of some threads that serve all connections, the connections are handed to these in turn; else each has a
-/// thread of its own. It fails where one of those few threads cannot be made, or what it needs, and then no connection was taken.
+/// Where `crowds` has threads, they serve all connections in turn; else each connection has a
+/// thread of its own. Fails where one of those threads cannot be made; no connection was taken
+/// then.
 ///
-/// A listener that fails is asked again every 10 milliseconds until it gives a connection; those that are open are served
-/// meanwhile. A connection that finds no thread or no memory is ended at once, and the answer tells so. In each direction of a
-/// connection the system is asked to hold 65,536 bytes, what a client has not taken or the server has not read; where it
-/// refuses that, the connection is closed and counts among none.
-pub fn accept<'x, R, C, G>(
+/// The listener is made non-blocking. An error of it that may pass, as no free descriptor or an
+/// aborted connection, is followed by a pause of 10 milliseconds and another try. After an error
+/// that lasts (`Served::listener_failed`) what the open connections brought is still answered, and
+/// those that are open 5 seconds later are cut. A connection for which there is no thread or no
+/// memory is closed at once (`Served::lacked`). The system is asked to hold at most 65,536 bytes in
+/// each direction of a connection and to probe silent peers (`prepare`); a connection for which it
+/// refuses that is closed and not counted.
+pub fn accept_with<'x, R, C, G>(
     rt: R,
     alloc: Global,
     store: &'x Store<C, G>,
@@ -306,14 +374,97 @@ where
 {
     let Crowds { serving, all } = crowds;
     let server = Server::new(rt, alloc, store, serving, connections);
-    let lacked = if all.is_empty() {
+    let taken = if listener.set_nonblocking(true).is_err() {
+        Ok(Taken {
+            lacked: false,
+            listener_failed: true,
+        })
+    } else if all.is_empty() {
         Ok(server.serve_all(listener))
     } else {
         serve_by_threads(&server, listener, all)
     };
     connections.finish(&rt);
+    let Taken {
+        lacked,
+        listener_failed,
+    } = taken?;
     Ok(Served {
-        lacked: lacked?,
         receipts: server.into_receipts(),
+        lacked,
+        listener_failed,
     })
+}
+
+/// Appends the receipts of all connections, in order.
+fn joined(alloc: Global, parts: Vec<Vec<CallReceipt>>) -> Result<Vec<CallReceipt>, AllocError> {
+    let mut all = Vec::new(alloc);
+    for mut part in parts {
+        all.append(&mut part)?;
+    }
+    Ok(all)
+}
+
+/// Returns the receipts of serving, or why serving failed.
+fn receipts_of(alloc: Global, served: Served) -> Result<Vec<CallReceipt>, Refusal>
+    ensures err { IfErr result (λ e. (e ≡ Refusal.Memory) ⊎ (e ≡ Refusal.Io)) }
+{
+    let Served {
+        receipts,
+        lacked,
+        listener_failed,
+    } = served;
+    if listener_failed {
+        return Err(Refusal::Io);
+    }
+    if lacked {
+        return Err(Refusal::Memory);
+    }
+    Ok(joined(alloc, receipts)?)
+}
+
+/// Serves the next `connections` connections of a listener to a store (0: without end), each on a
+/// thread of its own and until its client ends it. Returns once all of them are over: with the
+/// receipts of their calls, by connection and then by order, where the store keeps journals; with
+/// none where it keeps none.
+///
+/// - `Memory` where the process was out of memory, or out of threads for a connection.
+/// - `Io` where the listener failed for a reason that lasts. Errors that may pass, as no free
+///   descriptor or an aborted connection, are waited out with pauses of 10 milliseconds.
+///
+/// After a refusal all connections are over, and their receipts are lost. The listener is
+/// non-blocking from then on. `accept_with` has more options.
+pub fn accept<R, C, G>(
+    rt: R,
+    alloc: Global,
+    store: &Store<C, G>,
+    listener: &TcpListener,
+    connections: u32,
+) -> Result<Vec<CallReceipt>, Refusal>
+where
+    R: ServerRuntime,
+    C: Core + Send + 'static,
+    G: Gate + Send + Sync + 'static,
+    ensures err { IfErr result (λ e. (e ≡ Refusal.Memory) ⊎ (e ≡ Refusal.Io)) }
+    ensures none { store.now.journals ≡ false → IfOk result (λ receipts. receipts.items ≡ []) }
+{
+    let keeps = store.has_journals();
+    let serving = Serving {
+        keeps,
+        connections,
+        threads: 0,
+        idle: 0,
+        most_leap: 0,
+        log: Log::Silent,
+    };
+    let crowds = Crowds::threadless(alloc, serving);
+    let open = Connections::new(alloc, 0)?;
+    let served = accept_with(rt, alloc, store, listener, &open, crowds)?;
+    let receipts = receipts_of(alloc, served)?;
+    if keeps {
+        Ok(receipts)
+    } else {
+        drop(receipts);
+        Ok(Vec::new(alloc))
+    }
 }

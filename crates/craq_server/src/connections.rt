@@ -1,35 +1,38 @@
-//! `Connections`: those of a server that are open, each at a place, so that they are limited in number and can be ended, and
-//! how far the server has come; shared by `accept`, the threads that serve them and whoever waits for the server or ends it.
+//! `Connections`: the open connections of a server, each at a place, and the server's progress.
+//! Shared by `accept`, the threads that serve them, and those that wait for the server or end it.
 use crate::places::Places;
 use std::alloc::{AllocError, Global};
 use std::net::{Shutdown, TcpStream};
 use std::sync::{Arc, Condvar, Mutex, Wait};
 
-/// How far a server has come.
+/// The progress of a server.
 #[derive(Clone, Copy, Debug, Drop)]
 struct Progress {
-    /// Whether all that it needs has been made, and it takes connections in.
+    /// True where it has all that it needs and takes connections in.
     has_begun: bool,
-    /// Whether it is to end.
+    /// True where it is to end.
     is_ending: bool,
-    /// Whether it takes no connection any more, and all are over.
+    /// True where it takes no more connections and all are over.
     is_over: bool,
 }
 
-/// The connections of a server that are open.
+/// The open connections of a server.
 #[derive(Drop)]
 pub struct Connections {
-    /// How far the server has come.
+    /// The progress of the server.
     progress: Mutex<Progress>,
-    /// Told whenever it has come further.
+    /// Notified at each progress.
     changed: Condvar,
-    /// Each connection that is open, at its place. So many can be open as there are places.
+    /// The open connections, each at its place.
     places: Mutex<Places>,
+    /// True where there are never more places than at first.
+    is_bounded: bool,
 }
 
 impl Connections {
-    /// Room for so many open connections, none of which is open yet; where that is 0 each one that comes is turned away. It fails
-    /// for want of memory alone.
+    /// Makes places for at most `most` open connections, or with 0 for as many as come: the
+    /// system's limit of descriptors then bounds them. None is open yet. Fails only when out of
+    /// memory.
     pub fn new(alloc: Global, most: u32) -> Result<Self, AllocError> {
         let places = Places::new(alloc, most)?;
         Ok(Connections {
@@ -40,27 +43,30 @@ impl Connections {
             }),
             changed: Condvar::new(),
             places: Mutex::new(places),
+            is_bounded: most > 0,
         })
     }
 
-    /// Whether the server is to end.
+    /// Returns whether the server is to end.
     pub fn is_ending<R: Wait>(&self, rt: &R) -> bool {
         self.progress.lock(rt).is_ending
     }
 
-    /// The server has all that it needs, and takes connections in from now on.
+    /// Notes that the server has all that it needs and takes connections in from now on.
     pub(crate) fn begin<R: Wait>(&self, rt: &R) {
         self.progress.lock(rt).has_begun = true;
         self.changed.notify_all();
     }
 
-    /// The server takes no connection any more, and all are over; or it lacked what it needs.
+    /// Notes that the server takes no more connections and all are over, or that it could not
+    /// begin.
     pub(crate) fn finish<R: Wait>(&self, rt: &R) {
         self.progress.lock(rt).is_over = true;
         self.changed.notify_all();
     }
 
-    /// Waits until the server takes connections in, or lacked what it needs. Tells whether it takes them.
+    /// Waits until the server takes connections in or could not begin. Returns whether it takes
+    /// them.
     pub fn wait_for_begin<R: Wait>(&self, rt: &R) -> bool {
         let progress = self.progress.lock(rt);
         let progress = self
@@ -69,7 +75,7 @@ impl Connections {
         progress.has_begun
     }
 
-    /// Waits until the server is to end, or is over.
+    /// Waits until the server is to end or is over.
     pub fn wait_for_end<R: Wait>(&self, rt: &R) {
         let progress = self.progress.lock(rt);
         let progress = self
@@ -78,17 +84,32 @@ impl Connections {
         drop(progress);
     }
 
-    /// Takes in a connection, where there is a place, and gives the place. It takes no memory.
-    pub(crate) fn enter<R: Wait>(&self, rt: &R, stream: Arc<TcpStream>) -> Option<usize> {
-        self.places.lock(rt).enter(stream)
+    /// Gives a connection a free place and returns it; `None` where no place is free and there are
+    /// no more. Takes memory only where the places are not bounded. Fails only when out of memory;
+    /// no place is taken then.
+    pub(crate) fn enter<R: Wait>(
+        &self,
+        rt: &R,
+        stream: Arc<TcpStream>,
+    ) -> Result<Option<usize>, AllocError> {
+        let mut places = self.places.lock(rt);
+        if !self.is_bounded {
+            places.make_room()?;
+        }
+        Ok(places.enter(stream))
     }
 
-    /// The connection at a place is over, and the place is free.
+    /// Frees the place of a connection that is over.
     pub(crate) fn leave<R: Wait>(&self, rt: &R, place: usize) {
         self.places.lock(rt).leave(place);
     }
 
-    /// Shuts each connection that is open.
+    /// Returns whether no connection is open.
+    pub(crate) fn is_idle<R: Wait>(&self, rt: &R) -> bool {
+        self.places.lock(rt).are_free()
+    }
+
+    /// Shuts each open connection down.
     fn shut_all<R: Wait>(&self, rt: &R, how: Shutdown) {
         let places = self.places.lock(rt);
         for stream in places.as_slice().iter().flatten() {
@@ -96,15 +117,16 @@ impl Connections {
         }
     }
 
-    /// From now on no connection is taken in, and those that are open bring no more: what they brought before is still
-    /// answered. Whoever waits for a next connection has to be woken by one.
+    /// Ends the server in order: no connection is taken in from now on, and those that are open
+    /// bring no more; what they brought before is still answered. The accepting thread sees this
+    /// within 100 milliseconds.
     pub fn end<R: Wait>(&self, rt: &R) {
         self.progress.lock(rt).is_ending = true;
         self.changed.notify_all();
         self.shut_all(rt, Shutdown::Read);
     }
 
-    /// Each connection that is still open is over, whatever is still to be written.
+    /// Ends each connection that is still open, whatever is still to be written to it.
     pub fn cut<R: Wait>(&self, rt: &R) {
         self.shut_all(rt, Shutdown::Both);
     }

@@ -1,8 +1,8 @@
-//! `Crowds`, what serving needs that is made before it begins, for programs that serve; and the connections of a listener served by a
-//! few threads, each of which serves many; called by `accepting`.
-ghost use Rattle.std.specs.Prelude.{◌≡◌, IfOk, length};
+//! `Crowds`: the event loops of a server, made before serving starts. And serving by a few threads,
+//! an event loop each; called by `accepting`.
+ghost use Rattle.std.specs.Prelude.{◌≡◌, [], IfOk, length};
 
-use crate::accepting::{Server, Serving};
+use crate::accepting::{Next, Server, Serving, Taken};
 use crate::door::ServedStore;
 use crate::runtime::ServerRuntime;
 use craq_door::{CallTaker, Permit, Question, Reached};
@@ -20,19 +20,19 @@ use std::sync::{Arc, Mutex, Wait};
 use std::thread;
 use std::thread::Scope;
 
-/// What one thread of connections reaches.
+/// The backend of one event loop.
 #[derive(Drop)]
 struct Crew<'s, 'a, R: Wait, C: Core, G: Gate> {
     server: &'s Server<'a, R, C, G>,
     callee: ServedStore<'s, R, C, G>,
     letters: Arc<Letterbox>,
-    /// The connections that were handed to the thread, and that it has not taken in.
+    /// The connections that were handed to the thread and are not taken in yet.
     inbox: Mutex<Vec<Arrival>>,
-    /// Whether no more are handed to it.
+    /// True where no more connections are handed to it.
     over: AtomicBool,
-    /// The thread's connections, until it begins.
+    /// The event loop, until the thread begins.
     crowd: Mutex<Option<Crowd>>,
-    /// The largest number of seconds that the clock told.
+    /// The largest number of seconds that the clock gave.
     latest: AtomicU64,
 }
 
@@ -136,7 +136,8 @@ where
     C: Core + Send + 'static,
     G: Gate + Send + Sync + 'static,
 {
-    /// What a thread reaches that is woken as this crowd is. It fails for want of memory, or where the system refuses it.
+    /// Makes what a thread with this event loop reaches. Fails when out of memory, or where the
+    /// system refuses a wake-up.
     fn new(server: &'s Server<'a, R, C, G>, crowd: Crowd) -> Result<Self, AllocError> {
         let letters = Letterbox::new(server.alloc, Some(crowd.waker()?));
         Ok(Crew {
@@ -150,7 +151,7 @@ where
         })
     }
 
-    /// A connection is handed to the thread.
+    /// Hands a connection to the thread and wakes it. Fails only when out of memory.
     fn hand(&self, stream: Arc<TcpStream>, place: usize) -> Result<(), AllocError> {
         let receipts = self.server.new_receipts()?;
         let arrival = Arrival {
@@ -163,8 +164,8 @@ where
         Ok(())
     }
 
-    /// A connection is handed to the thread where there is a place; else it is turned away. It ends at once where there is
-    /// no memory.
+    /// Hands a connection to the thread where there is a place; else it is turned away. Fails only
+    /// when out of memory; the connection is then closed.
     fn take_in(&self, stream: TcpStream) -> Result<(), AllocError> {
         let Some((stream, place)) = self.server.admit(stream)? else {
             return Ok(());
@@ -173,20 +174,20 @@ where
         self.server.after_admission(place, handed)
     }
 
-    /// No more connections are handed to the thread.
+    /// Has the thread end once its connections are over.
     fn end(&self) {
         self.over.store(true, Ordering::SeqCst);
         self.letters.nudge(&self.server.rt);
     }
 }
 
-/// Hands out so many connections, or without end where that is 0, to the threads in turn, until the server is to end. Tells
-/// whether some connection was ended for want of memory.
+/// Hands connections to the threads in turn, as many as `Serving` says, until the server is to end
+/// or its listener has failed.
 fn deal<'s, 'a, R, C, G>(
     server: &'s Server<'a, R, C, G>,
     crews: &[Crew<'s, 'a, R, C, G>],
     listener: &TcpListener,
-) -> bool
+) -> Taken
 where
     R: ServerRuntime,
     C: Core + Send + 'static,
@@ -196,14 +197,21 @@ where
     let mut lacked = false;
     let mut turn = 0usize;
     for _ in server.rt.forever() {
-        let Some(stream) = server.next_connection(listener) else {
-            break;
-        };
         if turn >= crews.len() {
             turn = 0;
         }
-        if let Some(crew) = crews.get(turn) {
-            lacked = crew.take_in(stream).is_err() || lacked;
+        match (server.next_connection(listener), crews.get(turn)) {
+            (Next::Connection(stream), Some(crew)) => {
+                lacked = crew.take_in(stream).is_err() || lacked;
+            }
+            (Next::ListenerFailed, _) => {
+                server.end_open();
+                return Taken {
+                    lacked,
+                    listener_failed: true,
+                };
+            }
+            _ => break,
         }
         turn = turn.saturating_add(1);
         if left == 1 {
@@ -211,10 +219,14 @@ where
         }
         left = left.saturating_sub(1);
     }
-    lacked
+    Taken {
+        lacked,
+        listener_failed: false,
+    }
 }
 
-/// How connections are served, and a crowd for each thread that serves many of them: what has to be there before `accept` begins.
+/// The way in which connections are served, and an event loop for each thread that serves many of them: what
+/// `accept_with` needs before it begins.
 #[derive(Drop)]
 pub struct Crowds {
     pub(crate) serving: Serving,
@@ -222,8 +234,9 @@ pub struct Crowds {
 }
 
 impl Crowds {
-    /// What the threads need that serve connections as `serving` says: a file descriptor of an epoll set and some memory each; nothing
-    /// where each connection has a thread of its own. It fails for want of memory, or where the system refuses it.
+    /// Makes an event loop for each thread that `serving` asks for: a descriptor of an epoll set
+    /// and some memory each; none where each connection has a thread of its own. Fails when out of
+    /// memory, or where the system gives no more descriptors.
     pub fn new(net: &impl Net, alloc: Global, serving: Serving) -> Result<Self, AllocError>
         ensures { IfOk result (λ crowds. (crowds.serving ≡ serving) × (length crowds.all.items ≡ serving.threads)) }
     {
@@ -233,9 +246,20 @@ impl Crowds {
         }
         Ok(Crowds { serving, all })
     }
+
+    /// Makes what a thread for each connection needs beforehand, which is nothing.
+    pub(crate) fn threadless(alloc: Global, serving: Serving) -> Self
+        ensures serving { result.serving ≡ serving }
+        ensures none { result.all.items ≡ [] }
+    {
+        Crowds {
+            serving,
+            all: Vec::new(alloc),
+        }
+    }
 }
 
-/// The threads of connections of a server.
+/// The threads that serve a server's connections.
 #[derive(Drop)]
 struct Crews<'s, 'a, R: Wait, C: Core, G: Gate> {
     server: &'s Server<'a, R, C, G>,
@@ -248,7 +272,7 @@ where
     C: Core + Send + 'static,
     G: Gate + Send + Sync + 'static,
 {
-    /// Serves the connections of the thread until no more come and all have ended.
+    /// Runs the event loop until no more connections come and all have ended.
     fn attend(&self) {
         let crowd = self.crowd.lock(&self.server.rt).take();
         if let Some(crowd) = crowd {
@@ -256,7 +280,7 @@ where
         }
     }
 
-    /// The thread begins to serve. It fails where there is no thread.
+    /// Begins the thread. Fails where there is no thread.
     fn begin<'e, E>(&'e self, scope: &Scope<'e, E>) -> Result<(), AllocError> {
         let thread = scope.spawn(move || self.attend())?;
         drop(thread);
@@ -270,7 +294,7 @@ where
     C: Core + Send + 'static,
     G: Gate + Send + Sync + 'static,
 {
-    /// All threads begin, as far as there are threads. Tells whether all did.
+    /// Begins all threads, as far as the system gives them. Returns whether all began.
     fn begin_all<'e, E>(&'e self, scope: &Scope<'e, E>) -> bool {
         let mut begun = true;
         for crew in self.all.as_slice() {
@@ -279,40 +303,39 @@ where
         begun
     }
 
-    /// The threads begin, serve and are told to end: whether some connection was ended for want of memory. It fails where
-    /// some thread did not begin, and then no connection was taken.
+    /// Begins the threads, hands connections to them, and has them end. Fails where some thread did
+    /// not begin; no connection was taken then.
     fn serve<'e, E>(
         &'e self,
         scope: &Scope<'e, E>,
         listener: &TcpListener,
-    ) -> Result<bool, AllocError> {
-        let begun = self.begin_all(scope);
-        let mut lacked = false;
-        if begun {
+    ) -> Result<Taken, AllocError> {
+        let mut taken = Err(AllocError);
+        if self.begin_all(scope) {
             self.server.connections.begin(&self.server.rt);
-            lacked = deal(self.server, self.all.as_slice(), listener);
+            taken = Ok(deal(self.server, self.all.as_slice(), listener));
         }
         for crew in self.all.as_slice() {
             crew.end();
         }
-        if begun { Ok(lacked) } else { Err(AllocError) }
+        taken
     }
 
-    /// The same, until all threads have ended.
-    fn serve_all(&self, listener: &TcpListener) -> Result<bool, AllocError> {
+    /// Serves as `serve` does, and waits until all threads have ended.
+    fn serve_all(&self, listener: &TcpListener) -> Result<Taken, AllocError> {
         thread::scope(thread::scope_env(), &self.server.rt, |scope| {
             self.serve(scope, listener)
         })
     }
 }
 
-/// Serves the connections of a listener by a thread for each crowd. It fails where a thread cannot be made, or what it needs, and
-/// then no connection was taken. Tells whether some connection was ended for want of memory.
+/// Serves the connections of a listener by a thread for each event loop. Fails where a thread, or
+/// what it needs, cannot be made; no connection was taken then.
 pub(crate) fn serve_by_threads<'a, R, C, G>(
     server: &Server<'a, R, C, G>,
     listener: &TcpListener,
     crowds: Vec<Crowd>,
-) -> Result<bool, AllocError>
+) -> Result<Taken, AllocError>
 where
     R: ServerRuntime,
     C: Core + Send + 'static,

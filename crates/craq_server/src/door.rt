@@ -1,5 +1,5 @@
-//! `ServedStore`: a store that runs, as the doors of connections call it, and `Visit`, one connection's way to it; made by `accepting`
-//! and `crews`.
+//! `ServedStore`: a running store as the request handlers of connections call it, and `Visit`, one
+//! connection's access to it; made by `accepting` and `crews`.
 ghost use Rattle.std.specs.Prelude.{◌<◌, IfErr, IfOk, length};
 ghost use Rattle.craq_calls.specs.Calls.{IsCallOf};
 ghost use Rattle.craq_server.specs.Refusing.{RefusesServed};
@@ -20,8 +20,8 @@ use craq_workers::{Gate, Store};
 use std::alloc::{AllocError, Global};
 use std::sync::{Arc, Wait};
 
-/// A store that runs, as the doors of connections call it. An ask whose pass leaps too far (`Passes`) is refused
-/// (`Exhausted`) and asks no node.
+/// A running store as the request handlers of connections call it. A request whose pass lies too
+/// far above the largest returned (`Passes`) is refused `Exhausted` and reaches no node.
 #[derive(Drop)]
 pub(crate) struct ServedStore<'a, R: Wait, C: Core, G: Gate> {
     pub(crate) rt: R,
@@ -30,7 +30,8 @@ pub(crate) struct ServedStore<'a, R: Wait, C: Core, G: Gate> {
     pub(crate) passes: &'a Passes,
 }
 
-/// The store, as the door of one connection calls it, which waits for each answer; and what is told of the calls that are refused.
+/// The store as the request handler of one connection calls it: it waits for each reply and logs
+/// each refusal.
 #[derive(Drop)]
 pub(crate) struct Visit<'a, R: Wait, C: Core, G: Gate> {
     pub(crate) callee: ServedStore<'a, R, C, G>,
@@ -75,7 +76,7 @@ where
     C: Core,
     G: Gate,
 {
-    /// The chains and their members. It fails for want of memory alone.
+    /// Returns the chains and their members as JSON. Fails only when out of memory.
     pub(crate) fn status(&self) -> Result<Text, AllocError>
         ensures { IfOk result (λ text. TellsStatus self.now.store.now text) }
     {
@@ -84,8 +85,8 @@ where
         Ok(Text::of(text))
     }
 
-    /// Asks a node, with this pass: the answer, and the receipt of the call. Refused as the store refuses the call, or
-    /// (`Exhausted`) for the pass.
+    /// Asks a node with this pass. Returns the reply and the receipt of the call. Refused as the
+    /// store refuses the call, or `Exhausted` for the pass.
     fn ask(&self, node: NodeName, pass: Pass, ask: Ask) -> Result<(Answer, CallReceipt), Refusal>
         ensures called { IfOk result (λ r. IsCallOf node ask pass r.0 r.1) }
         ensures refused { IfErr result (λ e. RefusesServed (length self.now.store.now.names) node ask e) }
@@ -100,14 +101,14 @@ where
         Ok(answered)
     }
 
-    /// The answer of a call is about to be told, with its client's pass after it.
+    /// Notes the pass of a reply that is about to go out.
     pub(crate) fn told(&self, receipt: &CallReceipt) {
         self.passes.tell(pass_after(receipt.pass(), receipt));
     }
 
-    /// Makes a call without waiting: its receipt where it is in hand, or none, and then a letter with this token comes. A call
-    /// whose pass leaps too far is refused (`Exhausted`), else as `Store::submit` is. `few` tells that the caller has few asks at
-    /// hand.
+    /// Makes a call without waiting. Returns its receipt where it is answered at once, else `None`,
+    /// and then a completion with this token comes. Refused `Exhausted` for the pass, else as
+    /// `Store::submit` is. `few` says that the caller has few requests at hand.
     pub(crate) fn submit(
         &self,
         question: &Question,

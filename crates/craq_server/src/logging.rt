@@ -1,19 +1,19 @@
-//! `Log`: what a server tells of its connections and refusals while it serves; for whoever accepts connections and for their doors.
+//! `Log`: the log of a server's connections and refusals; for `accepting` and the request handlers.
 use craq_names::Refusal;
 use std::net::TcpStream;
 
-/// What a server tells while it serves. A line that standard error does not take is lost. Where that is a pipe that is full,
-/// whoever tells a line waits until it is read.
+/// The log of a server. A line that standard error does not take is lost. Where standard error is a
+/// full pipe, the thread that logs waits until the pipe is read.
 #[derive(Clone, Copy, Debug)]
 pub enum Log {
-    /// Nothing.
+    /// No log.
     Silent,
-    /// On standard error, a line each: which connection begins at which place, which is turned away, what is refused to the
-    /// connection of a place, and when it ends.
+    /// A line on standard error for each connection that begins, is turned away or ends, and for
+    /// each call that is refused.
     Lines,
 }
 
-/// Tells which connection has a place from now on, and of which peer; it says `nowhere` if that has already gone.
+/// Logs that a connection has a place, and its peer: `nowhere` if the peer has already gone.
 fn tell_begun<R: Eprint>(rt: &R, place: usize, stream: &TcpStream) {
     let _ = match stream.peer_addr() {
         Ok(peer) => eprintln!(rt; "connection {place} from {peer}"),
@@ -21,16 +21,16 @@ fn tell_begun<R: Eprint>(rt: &R, place: usize, stream: &TcpStream) {
     };
 }
 
-/// Tells which connection is turned away.
-fn tell_turned_away<R: Eprint>(rt: &R, stream: &TcpStream) {
+/// Logs that a connection is turned away, with the number of those turned away so far.
+fn tell_turned_away<R: Eprint>(rt: &R, stream: &TcpStream, count: u64) {
     let _ = match stream.peer_addr() {
-        Ok(peer) => eprintln!(rt; "connection from {peer} turned away"),
-        Err(_) => eprintln!(rt; "connection from nowhere turned away"),
+        Ok(peer) => eprintln!(rt; "connection from {peer} turned away, {count} so far"),
+        Err(_) => eprintln!(rt; "connection from nowhere turned away, {count} so far"),
     };
 }
 
 impl Log {
-    /// A connection has a place from now on.
+    /// Logs that a connection has a place from now on.
     pub(crate) fn begun<R: Eprint>(self, rt: &R, place: usize, stream: &TcpStream) {
         match self {
             Log::Silent => (),
@@ -38,7 +38,7 @@ impl Log {
         }
     }
 
-    /// The connection of a place is over.
+    /// Logs that the connection of a place is over.
     pub(crate) fn ended<R: Eprint>(self, rt: &R, place: usize) {
         match self {
             Log::Silent => (),
@@ -48,15 +48,15 @@ impl Log {
         }
     }
 
-    /// A connection is turned away.
-    pub(crate) fn turned_away<R: Eprint>(self, rt: &R, stream: &TcpStream) {
+    /// Logs that a connection is turned away, the `count`th one.
+    pub(crate) fn turned_away<R: Eprint>(self, rt: &R, stream: &TcpStream, count: u64) {
         match self {
             Log::Silent => (),
-            Log::Lines => tell_turned_away(rt, stream),
+            Log::Lines => tell_turned_away(rt, stream, count),
         }
     }
 
-    /// A call of the connection of a place is refused.
+    /// Logs that a call of the connection of a place is refused.
     pub(crate) fn refused<R: Eprint>(self, rt: &R, place: usize, refusal: Refusal) {
         match self {
             Log::Silent => (),

@@ -1,63 +1,70 @@
-//! `Passes`: which passes a server takes, by the largest that it told; shared by the doors of its connections.
-ghost use Rattle.std.specs.Prelude.{◌+◌, ◌<◌, ◌≤◌, ◌↔◌, ℕ, IsTrue};
+//! `Passes`: the passes that a server takes, by the largest that it returned; shared by the request
+//! handlers of its connections.
+ghost use Rattle.std.specs.Prelude.{◌≡◌, ◌⊎◌, ◌+◌, ◌/◌, ◌<◌, ◌≤◌, ◌↔◌, ℕ, IsTrue};
 
 use craq_names::{Pass, Stamp};
 use std::sync::atomic::{AtomicU64, Ordering};
 
-/// How far above the largest pass that is known to be told a pass may stand.
-pub(crate) const MOST_LEAP: u64 = 1_048_576;
-
-/// How far above what is known a pass may be told before it is made known.
-const MOST_LAG: u64 = 524_288;
-
-/// Whether a pass is taken, where `told` is the largest that is known to be told: where it is at most 1,048,576 above. A
-/// node counts on from a pass that it is shown, so one that is taken brings it at most so far.
-pub(crate) fn is_taken(told: Pass, shown: Pass) -> bool
-    ensures { IsTrue result ↔ (shown ≤ told + MOST_LEAP) }
+/// Returns whether a pass is taken, where `known` is the largest that is known to be returned: one
+/// that lies at most `leap` above it, or any where `leap` is 0. A node counts on from a pass that
+/// it is shown, so one that is taken brings it at most that far.
+pub(crate) fn is_taken(known: Pass, leap: u32, shown: Pass) -> bool
+    ensures { IsTrue result ↔ ((leap ≡ 0) ⊎ (shown ≤ known + leap)) }
 {
-    let told = told.stamp().get();
+    let known = known.stamp().get();
     let shown = shown.stamp().get();
-    shown <= told || shown - told <= MOST_LEAP
+    leap == 0 || shown <= known || shown - known <= u64::from(leap)
 }
 
-/// Whether a pass that is about to be told has to be made known before, where `known` is: one that is more than 524,288 above.
-fn is_news(known: u64, told: u64) -> bool
-    ensures { IsTrue result ↔ (known + MOST_LAG < told) }
+/// Returns whether a pass that is about to be returned has to be made known before: where it lies
+/// more than half of `leap` above `known`.
+fn is_news(known: u64, leap: u32, returned: u64) -> bool
+    ensures { IsTrue result ↔ (known + leap / 2 < returned) }
 {
-    known < told && told - known > MOST_LAG
+    known < returned && returned - known > u64::from(leap / 2)
 }
 
-/// What a server knows of the passes that it told: `tell` keeps it no more than 524,288 below any of them, so that each of
-/// them is taken. That is read and not proved, since no contract sees what an atomic number holds; which passes are taken
-/// where so much is known, the contract of `is_taken` says.
+/// The passes that a server returned. `tell` keeps `known` at most half of `leap` below any of
+/// them, so that each of them is taken. That is reviewed and not proved, since no contract sees
+/// what an atomic number holds; which passes are taken where a pass is known, `is_taken` says.
 #[derive(Drop)]
 pub(crate) struct Passes {
-    /// No pass was told that is more than 524,288 above.
+    /// A pass that was returned, or 0. No pass was returned that lies more than half of `leap`
+    /// above.
     known: AtomicU64,
+    /// The most that a pass may lie above `known`; 0 for no bound.
+    leap: u32,
 }
 
 impl Passes {
-    /// No pass was told.
-    pub(crate) fn new() -> Self {
+    /// Makes the record of a server that has returned no pass.
+    pub(crate) fn new(leap: u32) -> Self
+        ensures { result.leap ≡ leap }
+    {
         Passes {
             known: AtomicU64::new(0),
+            leap,
         }
     }
 
-    /// Whether the pass is taken, by the largest that is known to be told (`is_taken`): one of at most 1,048,576 always is.
+    /// Returns whether the pass is taken, by the largest that is known to be returned (`is_taken`).
+    /// One of at most `leap` always is, and each where `leap` is 0.
     pub(crate) fn takes(&self, pass: Pass) -> bool
-        ensures { (known : ℕ) × (IsTrue result ↔ (pass ≤ known + MOST_LEAP)) }
+        ensures { (known : ℕ) × (IsTrue result ↔ ((self.now.leap ≡ 0) ⊎ (pass ≤ known + self.now.leap))) }
     {
         let known = Stamp::new(self.known.load(Ordering::SeqCst));
-        is_taken(Pass::of(known), pass)
+        is_taken(Pass::of(known), self.leap, pass)
     }
 
-    /// A pass is about to be told: to be called before the reply that bears it goes out, since a client that has the reply may show
-    /// the pass at once, on any connection.
+    /// Notes a pass that is about to be returned. To be called before the reply with it goes out:
+    /// its client may show the pass at once, on any connection.
     pub(crate) fn tell(&self, pass: Pass) {
-        let told = pass.stamp().get();
-        if is_news(self.known.load(Ordering::SeqCst), told) {
-            self.known.fetch_max(told, Ordering::SeqCst);
+        if self.leap == 0 {
+            return;
+        }
+        let returned = pass.stamp().get();
+        if is_news(self.known.load(Ordering::SeqCst), self.leap, returned) {
+            self.known.fetch_max(returned, Ordering::SeqCst);
         }
     }
 }

@@ -1,13 +1,14 @@
-//! `Places`: those that connections have while they are open, so many in all; kept by `connections`, under its lock.
-ghost use Rattle.std.specs.Prelude.{◌≡◌, ◌<◌, None, Some, IfOk, IfSome, position, set, length, replicate};
-ghost use Rattle.craq_server.specs.Places.{is_free};
+//! `Places`: the places of open connections; kept by `connections` under its lock.
+ghost use Rattle.std.specs.Prelude.{◌≡◌, ◌<◌, ◌↔◌, None, Some, IfOk, IfSome, IsTrue, OnErr, OnOk, position, set, length, replicate};
+ghost use Rattle.std.specs.List.{All};
+ghost use Rattle.craq_server.specs.Places.{IsFree, is_free, with_room};
 
 use std::alloc::{AllocError, Global};
 use std::marker::Model;
 use std::net::TcpStream;
 use std::sync::Arc;
 
-/// So many places, each with the connection that has it, or free. A contract sees them as a list of these.
+/// Places, each with the connection that has it, or free. A contract sees them as a list of these.
 #[derive(Drop)]
 pub(crate) struct Places {
     places: Vec<Option<Arc<TcpStream>>>,
@@ -24,7 +25,7 @@ impl Model for Places {
     ghost view = { λ p. p.places.items };
 }
 
-/// Whether no connection has the place.
+/// Returns whether no connection has the place.
 fn is_free(at: &Option<Arc<TcpStream>>) -> bool
     ensures { result ≡ is_free at.now }
 {
@@ -32,7 +33,7 @@ fn is_free(at: &Option<Arc<TcpStream>>) -> bool
 }
 
 impl Places {
-    /// So many places, each of them free. It fails for want of memory alone.
+    /// Makes `most` free places. Fails only when out of memory.
     pub(crate) fn new(alloc: Global, most: u32) -> Result<Self, AllocError>
         ensures { IfOk result (λ places. places ≡ replicate most None) }
     {
@@ -43,7 +44,7 @@ impl Places {
         Ok(Places { places })
     }
 
-    /// The first free place, if there is one.
+    /// Returns the first free place, if there is one.
     fn first_free(&self) -> Option<usize>
         ensures first { result ≡ position is_free self.now }
         ensures bound { IfSome result (λ place. place < length self.now) }
@@ -51,8 +52,20 @@ impl Places {
         self.places.iter().position(|at| is_free(at))
     }
 
-    /// A connection has the first free place from now on: that place; none where no place is free, and the connection is let go.
-    /// It takes no memory.
+    /// Makes a free place behind the others where none is free. Fails only when out of memory;
+    /// unchanged then.
+    pub(crate) fn make_room(&mut self) -> Result<(), AllocError>
+        ensures made { OnOk result (self.new ≡ with_room self.old) }
+        ensures err { OnErr result (self.new ≡ self.old) }
+    {
+        if self.first_free().is_none() {
+            self.places.push(None)?;
+        }
+        Ok(())
+    }
+
+    /// Gives the first free place to a connection and returns it; `None` where no place is free,
+    /// and the connection is dropped. Takes no memory.
     pub(crate) fn enter(&mut self, stream: Arc<TcpStream>) -> Option<usize>
         ensures first { result ≡ position is_free self.old }
         ensures taken { IfSome result (λ place. self.new ≡ set self.old place (Some stream)) }
@@ -63,7 +76,7 @@ impl Places {
         Some(place)
     }
 
-    /// The place is free from now on; of another number than a place has, nothing changes.
+    /// Frees a place. Unchanged where there is no place of this number.
     pub(crate) fn leave(&mut self, place: usize)
         ensures { self.new ≡ set self.old place None }
     {
@@ -72,7 +85,14 @@ impl Places {
         }
     }
 
-    /// Each place.
+    /// Returns whether each place is free.
+    pub(crate) fn are_free(&self) -> bool
+        ensures { IsTrue result ↔ All IsFree self.now }
+    {
+        self.places.iter().all(|at| is_free(at))
+    }
+
+    /// Lends each place.
     pub(crate) fn as_slice(&self) -> &[Option<Arc<TcpStream>>]
         ensures { result.now ≡ self.now }
     {

@@ -1,10 +1,10 @@
-//! `ServerRuntime`: what a server needs of the runtime; for `accepting`, `crews` and programs that serve.
+//! `ServerRuntime`: the handles that a server needs; for `accepting`, `crews` and programs that
+//! serve.
 use std::sync::Wait;
 use std::thread::Threads;
 use std::time::Clock;
 
-/// A runtime that a server can run on: with threads and locks, a clock, and a standard error that takes lines. Each one that has these is
-/// one.
+/// A runtime that a server can run on: one with threads, locks, a clock and a standard error.
 pub trait ServerRuntime: Eprint + Clock + Threads + Wait + Copy + Drop + Send + Sync + 'static {}
 
 impl<R: Eprint + Clock + Threads + Wait + Copy + Drop + Send + Sync + 'static> ServerRuntime

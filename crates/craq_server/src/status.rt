@@ -1,4 +1,4 @@
-//! `status_text`: the chains of a store and their members as JSON; for the door of a connection.
+//! `status_text`: the chains of a store and their members as JSON; public, and for `door`.
 ghost use Rattle.std.specs.Prelude.{◌≡◌, IfOk, map, string_bytes};
 ghost use Rattle.serde_json.specs.View.{view};
 ghost use Rattle.craq_server.specs.Status.{members_data, chain_data, status_data, status_text};
@@ -8,7 +8,7 @@ use craq_workers::ChainStatus;
 use serde_json::{Value, json};
 use std::alloc::{AllocError, Global};
 
-/// The ids of members as a JSON array.
+/// Returns the ids of members as a JSON array. Fails only when out of memory.
 fn members_value(alloc: Global, members: &[NodeId]) -> Result<Value, AllocError>
     ensures { IfOk result (λ v. view v ≡ members_data members.now) }
 {
@@ -20,7 +20,8 @@ fn members_value(alloc: Global, members: &[NodeId]) -> Result<Value, AllocError>
     Ok(Value::Array(items))
 }
 
-/// A chain as a JSON object of its epoch, its members and its name.
+/// Returns a chain as a JSON object of its epoch, its members and its name. Fails only when out of
+/// memory.
 fn chain_value(alloc: Global, chain: &ChainStatus) -> Result<Value, AllocError>
     ensures { IfOk result (λ v. view v ≡ chain_data chain.now) }
 {
@@ -30,7 +31,7 @@ fn chain_value(alloc: Global, chain: &ChainStatus) -> Result<Value, AllocError>
     json!(in alloc; {"epoch": epoch, "members": members, "name": name})
 }
 
-/// The chains as JSON objects.
+/// Returns the chains as JSON objects. Fails only when out of memory.
 fn chain_values(alloc: Global, chains: &[ChainStatus]) -> Result<Vec<Value>, AllocError>
     ensures { IfOk result (λ values. map view values.items ≡ map chain_data chains.now) }
 {
@@ -41,7 +42,7 @@ fn chain_values(alloc: Global, chains: &[ChainStatus]) -> Result<Vec<Value>, All
     Ok(items)
 }
 
-/// The chains as a JSON object.
+/// Returns the chains as one JSON object. Fails only when out of memory.
 #[tactic(auto, unfolding(crate::specs::Status::status_data))]
 fn status_value(alloc: Global, chains: &[ChainStatus]) -> Result<Value, AllocError>
     ensures { IfOk result (λ v. view v ≡ status_data chains.now) }
@@ -50,10 +51,13 @@ fn status_value(alloc: Global, chains: &[ChainStatus]) -> Result<Value, AllocErr
     json!(in alloc; {"chains": chains})
 }
 
-/// The status of a store as compact JSON: an object with the one member `chains`, an array of objects with the members
-/// `epoch`, `members` and `name`, one for each chain, in the order given. It fails for want of memory alone.
+/// Returns the status of a store as compact JSON: an object with the one member `chains`, an array
+/// of objects with the members `epoch`, `members` and `name`, one for each chain, in the order
+/// given.
+///
+/// `AllocError` (refusal 14) where a growth was refused; nothing else fails.
 #[tactic(auto, using(crate::proofs::Floats::none_in), unfolding(crate::specs::Status::status_text))]
-pub(crate) fn status_text(alloc: Global, chains: &[ChainStatus]) -> Result<String, AllocError>
+pub fn status_text(alloc: Global, chains: &[ChainStatus]) -> Result<String, AllocError>
     ensures { IfOk result (λ text. string_bytes text ≡ status_text chains.now) }
 {
     let value = status_value(alloc, chains)?;

@@ -1,4 +1,4 @@
--- Entries that are applicable, and that write each object once, write the next versions.
+-- Applicable entries that write each object at most once write the next versions.
 use Rattle.std.proofs.Common.{◌≡◌, ℕ, ◌+◌, ◌==◌, Bool, true, false, ◌&&◌, cond, List, [], ◌∷◌, ◌++◌, map, refl, sym, ◌∙◌, ap, subst}
 use Rattle.std.specs.List.{AllByRecursion, IsDistinct, list_all}
 use Rattle.std.proofs.lemmas.Bool.{and_parts, eqb-true}
@@ -17,7 +17,7 @@ use Rattle.craq_settled.specs.Followed.{AreNext, AreNextVersions}
 use Rattle.craq_settled.proofs.Following.{next_join}
 use Rattle.craq_settled.proofs.Placing.{clash, same_is}
 
--- an object that is written already is not among those of the other writes
+-- an object that one write names is not named by the others
 none_of_others : (ws : List Write) (key q : List ℕ) → same_bytes key q ≡ true → AllByRecursion (λ y. same_bytes key y ≡ false) (map (λ (w : Write). w.key) ws) → values_in ws q ≡ []
 unfolding values_in
 none_of_others [] key q same others = refl

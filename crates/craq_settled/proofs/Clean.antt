@@ -1,4 +1,4 @@
--- The clean version of each object, once the versions of one are changed.
+-- The clean version of each object after the versions of one are changed.
 use Rattle.std.proofs.Common.{◌≡◌, ℕ, zero, Bool, true, false, cond, List, [], ◌∷◌, length, Option, Some, refl, sym, ◌∙◌, ap, subst, arith}
 use Rattle.std.specs.Prelude.{unwrap_or, if◌then◌else◌, nat_le}
 use Rattle.std.specs.Ordering.{eq_by_cmp}
@@ -20,7 +20,7 @@ IsClean h = h.clean ≡ settled_version h.versions
 abbrev number : Option (ℕ × List ℕ) → ℕ
 number o = (unwrap_or o (0, [])).0
 
--- what is held of each key, once one is written
+-- the versions of each key after one is written
 held_changed : (t u : Placed) (key : List ℕ) (h : Held Place) → u.objects ≡ put_key t.objects key h → (q : List ℕ) → held_at u q ≡ cond (same_bytes key q) h (held_at t q)
 held_changed t u key h is q =
     let split : (b : Bool) → unwrap_or (cond b (Some h) (at_key t.objects q)) nothing ≡ cond b h (held_at t q) = elim [ true ↦ refl | false ↦ refl ] in
@@ -28,7 +28,7 @@ held_changed t u key h is q =
     ∙ ap (λ (o : Option (Held Place)). unwrap_or o nothing) (find-put key_cmp nat_list_cmp_total q key h t.objects)
     ∙ split (eq_by_cmp key_cmp q key) ∙ ap (λ b. cond b h (held_at t q)) (same_either_way key q)
 
--- a key is written of which the clean version is the settled one
+-- a key is written whose clean version is the settled one
 placed_put : (t u : Placed) (key : List ℕ) (h : Held Place) → u.objects ≡ put_key t.objects key h → IsClean h → IsPlaced t → IsPlaced u
 placed_put t u key h is its was = record {
   rising = rising_put t u key h is was.rising;
@@ -43,7 +43,7 @@ placed_same t u is was = record {
   clean = λ q. subst IsClean (ap (λ (m : List (List ℕ × Held Place)). unwrap_or (at_key m q) nothing) (sym is)) (was.clean q);
 }
 
--- an object of one version is put in, which is settled
+-- an object of one settled version is inserted
 pub placed_first : (t u : Placed) (key : List ℕ) (version : ℕ) (value : List ℕ) → u.objects ≡ put_key t.objects key (only_clean version (Settled value)) → IsPlaced t → IsPlaced u
 placed_first t u key version value is was = placed_put t u key (only_clean version (Settled value)) is refl was
 
@@ -57,7 +57,7 @@ placed_pushed t u key n at is was =
     let same : IsClean (pushed (held_at t key) n (Written at)) = was.clean key ∙ sym (ap number (settled_more (versions_of t key) n at)) in
     placed_put t u key (pushed (held_at t key) n (Written at)) is same was
 
--- where one version is left that is not the settled one, none is clean
+-- the settled version stays the clean one after the newest later version is removed
 clean_left : (vs : List (ℕ × Place)) → has_some (later_in vs) ≡ true → clean_without vs (settled_version vs) ≡ settled_version vs
 clean_left [] some = absurd (clash (sym some))
 clean_left (v ∷ vs) some = split v.0 v.1 vs some
@@ -71,7 +71,7 @@ clean_left (v ∷ vs) some = split v.0 v.1 vs some
     split n (Settled value) [] some = absurd (clash (sym some))
     split n (Settled value) (w ∷ ws) some = ap (λ (b : Bool). if b then zero else n) (le_false (length ((n, Settled value) ∷ w ∷ ws)) 1 (omega arith))
 
--- the newest of the later versions is taken back
+-- the newest later version is removed
 pub placed_popped : (t u : Placed) (key : List ℕ) → IsRising u → IsPopped t u key → has_some (later_of t key) ≡ true → IsPlaced t → IsPlaced u
 placed_popped t u key rise at some was =
     let popped_clean : IsClean (popped (held_at t key)) =

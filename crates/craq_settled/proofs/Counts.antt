@@ -1,4 +1,4 @@
--- How many versions writes give an object, as they are gone through.
+-- The number of versions that a prefix of writes gives an object.
 use Rattle.std.proofs.Common.{◌≡◌, ℕ, zero, suc, ◌+◌, ◌-◌, ◌<◌, ◌≤◌, Bool, true, false, cond, List, [], ◌∷◌, length, take, get_or, refl, sym, ◌∙◌, ap, arith, add-one}
 use Rattle.std.proofs.lemmas.List.{length-take-le}
 use Rattle.std.specs.Prelude.{if◌then◌else◌}
@@ -8,7 +8,7 @@ use Rattle.craq_model.specs.Past.{values_in}
 use Rattle.craq_settled.specs.declared.places.Place.{Place}
 use Rattle.craq_settled.specs.Placed.{count_of}
 
--- the first of some writes gives one, or none
+-- the first write gives one version, or none
 pub count_first : (w : Write) (ws : List Write) (key : List ℕ) → count_of (w ∷ ws) key ≡ (if same_bytes w.key key then 1 else 0) + count_of ws key
 unfolding values_in
 count_first w ws key =
@@ -45,7 +45,7 @@ take_fewer (suc m) zero l few = absurd (omega (arith, few))
 take_fewer (suc m) (suc n) [] few = refl
 take_fewer (suc m) (suc n) (r ∷ l) few = ap (λ (t : List (ℕ × Place)). r ∷ t) (take_fewer m n l (omega (arith, few)))
 
--- so many of the newest are gone, and then some more
+-- some of the newest are dropped, and then some more
 pub gone_twice : (l r : List (ℕ × Place)) (k c : ℕ) → r ≡ take (length l - k) l → take (length r - c) r ≡ take (length l - (k + c)) l
 gone_twice l r k c is =
     let n : ℕ = length l - k in

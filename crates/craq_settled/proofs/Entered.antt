@@ -1,4 +1,4 @@
--- Where entries give an object a version, as they are gone through.
+-- The versions that a prefix of entries gives an object.
 use Rattle.std.proofs.Common.{◌≡◌, ℕ, zero, suc, ◌+◌, ◌-◌, ◌<◌, ◌≤◌, List, [], ◌∷◌, ◌++◌, length, take, drop, get_or, refl, sym, ◌∙◌, ap, arith, append_assoc, length-append}
 use Rattle.std.proofs.lemmas.List.{append-nil, get_or-drop, length-drop, take-append-le}
 use Rattle.craq_commands.specs.declared.entry.Entry.{Entry}
@@ -22,7 +22,7 @@ entered_to_suc base (d ∷ es) (suc n) e key low is =
     ap (λ (l : List (ℕ × Place)). first ++ l) (entered_to_suc (base + 1) es n e key (omega (arith, low)) is ∙ ap (λ (p : ℕ). written_after (base + 1) (take n es) key ++ written_in p 0 e.writes key) there)
     ∙ sym (append_assoc first (written_after (base + 1) (take n es) key) (written_in (base + suc n + 1) 0 e.writes key))
 
--- nothing more is listed
+-- nothing more is indexed
 pub listed_still : (ps qs : Placed) (s : Suffixed) (done : ℕ) → AreListed ps s done → KeepsLater ps qs → AreListed qs s done
 listed_still ps qs s done listed kept = record {
   from = listed.from;
@@ -34,7 +34,7 @@ first_in_row : (front : List Entry) (n : ℕ) (e : Entry) → 0 < length front �
 first_in_row [] n e some is row = absurd (omega (arith, some))
 first_in_row (d ∷ ds) n e some is row = ap (λ (x : Entry). x.position) is ∙ row.0
 
--- one more entry is listed
+-- one more entry is indexed
 pub listed_next : (ps qs : Placed) (s : Suffixed) (done : ℕ) (front : List Entry) (e : Entry) → AreListed ps s done → done < length_of s → front ≡ drop (done - s.base) s.entries → AreInRow (done + 1) front → e ≡ get_or front 0 e
     → ((q : List ℕ) → later_of qs q ≡ later_of ps q ++ written_in e.position 0 e.writes q) → AreListed qs s e.position
 listed_next ps qs s done front e listed low rest row is more =
@@ -60,7 +60,7 @@ listed_next ps qs s done front e listed low rest row is more =
           ∙ ap (λ (m : ℕ). written_after s.base (take m s.entries) q) one;
     }
 
--- and it is the next one
+-- the indexed entry is the next one
 pub listed_later : (s : Suffixed) (done : ℕ) (front : List Entry) (e : Entry) → s.base ≤ done → done < length_of s → front ≡ drop (done - s.base) s.entries → AreInRow (done + 1) front → e ≡ get_or front 0 e → e.position ≡ done + 1
 listed_later s done front e from low rest row is =
     let n : ℕ = done - s.base in
@@ -68,7 +68,7 @@ listed_later s done front e from low rest row is =
     let some : 0 < length front = omega arith in
     first_in_row front (done + 1) e some is row
 
--- what was listed is, where more entries come after
+-- the index stays true when more entries follow
 pub listed_before : (ps : Placed) (s t : Suffixed) (more : List Entry) (done : ℕ) → t.base ≡ s.base → t.entries ≡ s.entries ++ more → AreListed ps s done → AreListed ps t done
 listed_before ps s t more done base entries listed =
     let from = listed.from in
@@ -85,7 +85,7 @@ listed_before ps s t more done base entries listed =
       later = λ q. listed.later q ∙ ap (λ (b : ℕ). written_after b (take (done - s.base) s.entries) q) (sym base) ∙ ap (λ (l : List Entry). written_after t.base l q) taken;
     }
 
--- what was listed is, where the entries stay
+-- the index stays true when the entries are unchanged
 pub listed_same : (ps : Placed) (s t : Suffixed) (done : ℕ) → t.base ≡ s.base → t.entries ≡ s.entries → AreListed ps s done → AreListed ps t done
 listed_same ps s t done base entries listed = listed_before ps s t [] done base (entries ∙ sym (append-nil s.entries)) listed
 
@@ -94,7 +94,7 @@ unfolding written_after
 none_of_none zero base key = refl
 none_of_none (suc n) base key = refl
 
--- without entries nothing is listed
+-- without entries the index is empty
 pub none_listed : (ps : Placed) (s : Suffixed) (listed : ℕ) → s.base ≡ listed → s.entries ≡ [] → ((q : List ℕ) → later_of ps q ≡ []) → AreListed ps s listed
 none_listed ps s listed base none empty =
     let from : s.base ≤ listed = omega (arith, base) in

@@ -1,4 +1,4 @@
--- The state once entries are folded into it.
+-- The state after entries are applied to it.
 use Rattle.std.proofs.Common.{◌≡◌, ◌<◌, ◌≤◌, ℕ, zero, suc, ◌+◌, ◌-◌, List, [], ◌∷◌, length, get_or, take, drop, unwrap_or, refl, sym, ap, ◌∙◌, arith, drop-drop}
 use Rattle.std.specs.Prelude.{Result, Ok, Err, IsOk, OnOk, true, false}
 use Rattle.craq_names.specs.Maps.{at_number, put_number}
@@ -12,7 +12,7 @@ use Rattle.craq_log.specs.Suffixed.{Suffixed, IsFirstOf}
 use Rattle.craq_settled.specs.Folded.{AreFolded}
 use Rattle.craq_settled.specs.Placed.{state_at}
 
--- what holds where a call succeeds, once it did
+-- a fact that holds if a call succeeds, when it did
 pub when_ok : {T E P : Type 0} (r : Result T E) → IsOk r → OnOk r P → P
 when_ok (Ok x) h p = p
 when_ok (Err e) h p = absurd (not_ok h)
@@ -20,7 +20,7 @@ when_ok (Err e) h p = absurd (not_ok h)
     not_ok : false ≡ true → ⊥
     not_ok h = cc
 
--- what an entry's writes and its reply make of a state
+-- a state with an entry's writes and its reply
 pub after_is : (m n : Objects) (kept more : List (ℕ × Window)) (e : Entry) → n ≡ with_writes m e.writes → more ≡ put_number kept e.client (keep (unwrap_or (at_number kept e.client) []) e.number e.reply)
     → state_at n more ≡ after_entry (state_at m kept) e
 unfolding after_entry kept_with window_of
@@ -36,7 +36,7 @@ in_parts s es zero m = let k : m ≡ 0 + m = omega arith in ap (λ (i : ℕ). af
 in_parts s [] (suc n) m = ap (after_entries s) (take_nothing m ∙ sym (take_nothing (suc n + m)))
 in_parts s (e ∷ es) (suc n) m = let k : suc (n + m) ≡ suc n + m = omega arith in in_parts (after_entry s e) es n m ∙ ap (λ (i : ℕ). after_entries s (take i (e ∷ es))) k
 
--- the first is folded
+-- the first entry is applied
 pub one_folded : (s t : State) (old new : Suffixed) (e : Entry) → t ≡ after_entry s e → IsFirstOf e old new → AreFolded s old t new
 one_folded s t old new e one first =
     let base = first.base in
@@ -46,11 +46,11 @@ one_folded s t old new e one first =
       entries = ap (λ (l : List Entry). drop 1 l) (sym first.entries) ∙ ap (λ (i : ℕ). drop i old.entries) k;
     }
 
--- the entry that is taken out is the one that was looked at
+-- the removed entry is the one that was examined
 pub taken_is : (old new : Suffixed) (first entry : Entry) → take 1 old.entries ≡ first ∷ [] → IsFirstOf entry old new → entry ≡ first
 taken_is old new first entry looked is = ap (λ (l : List Entry). get_or l 0 entry) (sym (ap (λ (l : List Entry). take 1 l) is.entries) ∙ looked)
 
--- more are folded
+-- more entries are applied
 pub more_folded : (s t u : State) (old mid new : Suffixed) → old.base ≤ mid.base → mid.base ≤ new.base → AreFolded s old t mid → AreFolded t mid u new → AreFolded s old u new
 more_folded s t u old mid new low high before after =
     let k : (mid.base - old.base) + (new.base - mid.base) ≡ new.base - old.base = omega arith in

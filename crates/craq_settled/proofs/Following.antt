@@ -1,4 +1,4 @@
--- Versions that follow one another, as entries are listed, folded and appended.
+-- Consecutive versions as entries are indexed, applied and appended.
 use Rattle.std.proofs.Common.{◌≡◌, ◌⊎◌, inl, inr, ℕ, zero, suc, ◌+◌, ◌-◌, ◌<◌, ◌≤◌, Bool, true, false, cond, List, [], ◌∷◌, ◌++◌, length, take, drop, drop-cons, get_or, Option, Some, None, unwrap_or, refl, sym, ◌∙◌, ap, subst, arith, add-one}
 use Rattle.std.specs.List.{AllByRecursion, last_or}
 use Rattle.std.specs.Prelude.{if◌then◌else◌}
@@ -37,7 +37,7 @@ unfolding last_value
 next_join o [] ys first second = second
 next_join o (x ∷ xs) ys first second = (first.0, next_join x xs ys first.1 second)
 
--- the first of some writes gives the next version
+-- the first write gives the next version
 next_write : (n : ℕ) (w : Write) (ws : List Write) → AreNext n (values_in (w ∷ ws) w.key) → w.version ≡ n + 1
 unfolding values_in
 next_write n w ws h =
@@ -48,7 +48,7 @@ follows : (version : ℕ) (o : Option (ℕ × Place)) → version ≡ number_of 
 follows version None is = tt
 follows version (Some v) is = is
 
--- so it can be pushed
+-- the next version can be pushed
 can_push : (vs : List (ℕ × Place)) (version : ℕ) → version ≡ newest_version vs + 1 → CanPush vs version
 can_push vs version is = let one : 1 ≤ version = omega (arith, is) in (one, follows version (newest_of vs) is)
 
@@ -71,7 +71,7 @@ next_after vs us p w ws q is h =
     ] in
     split (same_bytes w.key q) is h
 
--- and the other writes give the next ones then
+-- after that, the other writes give the next versions
 pub next_pushed : (vs us : List (ℕ × Place)) (p : Place) (ws : List Write) (i : ℕ) (w : Write) (q : List ℕ) → i < length ws → w ≡ get_or ws i w → us ≡ vs ++ (if same_bytes w.key q then (w.version, p) ∷ [] else []) → AreNext (newest_version vs) (values_in (drop i ws) q) → AreNext (newest_version us) (values_in (drop (i + 1) ws) q)
 next_pushed vs us p ws i w q low is more h = next_after vs us p w (drop (i + 1) ws) q more (subst (λ (l : List Write). AreNext (newest_version vs) (values_in l q)) (rest_is ws i w low is) h)
 
@@ -79,7 +79,7 @@ first_of_front : (front : List Entry) (e : Entry) → 0 < length front → e ≡
 first_of_front [] e some is = absurd (omega (arith, some))
 first_of_front (d ∷ ds) e some is = (ds, ap (λ (x : Entry). x ∷ ds) (sym is))
 
--- the next entry gives the versions that come after those that are listed
+-- the next entry gives the versions after the indexed ones
 pub next_listed : (t : Placed) (s : Suffixed) (done : ℕ) (front : List Entry) (e : Entry) → IsRising t → AreListed t s done → ((q : List ℕ) → AreNext (version_of (objects_of t) q) (values_after s.entries q)) → front ≡ drop (done - s.base) s.entries → 0 < length front → e ≡ get_or front 0 e
     → (q : List ℕ) → AreNext (newest_version (versions_of t q)) (values_in e.writes q)
 unfolding values_after
@@ -108,7 +108,7 @@ first_is : (es : List Entry) (e : Entry) → take 1 es ≡ e ∷ [] → es ≡ e
 first_is [] e is = cc
 first_is (d ∷ ds) e is = let same : d ≡ e = cc in ap (λ (x : Entry). x ∷ ds) same
 
--- the later versions begin with those that the first entry gives, where it is listed
+-- the later versions start with those of the first entry, if it is indexed
 pub ready_listed : (t : Placed) (s : Suffixed) (done : ℕ) (e : Entry) → AreListed t s done → s.base < done → take 1 s.entries ≡ e ∷ [] → (q : List ℕ) → CanFold (values_in e.writes q) (versions_of t q)
 unfolding written_after
 ready_listed t s done e listed more is q =
@@ -144,7 +144,7 @@ front_is es n e none is =
     let long : length (drop n es) ≡ suc (length (drop 1 es)) = ap length all in
     (omega (arith, long), sym (ap (λ (l : List Entry). get_or l 0 e) all))
 
--- where nothing is listed, it gives the next versions of objects that are there
+-- if nothing is indexed, the first entry gives the next versions of existing objects
 pub ready_next : (t : Placed) (s : Suffixed) (done : ℕ) (e : Entry) → IsRising t → AreListed t s done → done ≤ s.base → ((q : List ℕ) → AreNext (version_of (objects_of t) q) (values_after s.entries q)) → take 1 s.entries ≡ e ∷ [] → AllByRecursion (λ (w : Write). 2 ≤ w.version) e.writes
     → (q : List ℕ) → CanFold (values_in e.writes q) (versions_of t q)
 ready_next t s done e rise listed low next is high q =
@@ -164,7 +164,7 @@ starts_with w ws l h =
     let split : (b : Bool) → b ≡ true → Begins (cond b ((w.version, w.value) ∷ values_in ws w.key) (values_in ws w.key)) l → StartsAt w.version l = elim [ true ↦ λ e h. inner l h | false ↦ λ e h. cc ] in
     split (same_bytes w.key w.key) (own w.key) h
 
--- the first write's version can be settled
+-- the version of the first write can be settled
 pub settles_next : (w : Write) (ws : List Write) (vs : List (ℕ × Place)) → CanFold (values_in (w ∷ ws) w.key) vs → SettlesNext vs w.version
 settles_next w ws vs (inl begins) = inl (starts_with w ws (later_in vs) begins)
 settles_next w ws vs (inr after) = inr (after.0, is_next (newest_of vs) w.version after.1 (next_write (newest_version vs) w ws after.2))
@@ -182,7 +182,7 @@ settled_alone us rest version p values is none one later next =
     let number : version ≡ newest_version us = sym (ap newest_version alone) in
     inr (later, subst (λ (n : ℕ). 1 ≤ n) number one, subst (λ (n : ℕ). AreNext n values) number next)
 
--- and then those of the other writes can
+-- after that, those of the other writes can be settled
 pub folds_on : (w : Write) (ws : List Write) (q : List ℕ) (vs us ks : List (ℕ × Place)) (bytes : List ℕ) → us ≡ (if same_bytes w.key q then versions_settled ks w.version (Settled bytes) else vs) → later_in us ≡ drop (if same_bytes w.key q then 1 else 0) (later_in vs)
     → CanFold (values_in (w ∷ ws) q) vs → CanFold (values_in ws q) us
 unfolding values_in
@@ -199,7 +199,7 @@ folds_on w ws q vs us ks bytes is later (inr after) =
     ] in
     split (same_bytes w.key q) is later after.2
 
--- the entries that are left give the next versions once the first is folded
+-- the remaining entries give the next versions after the first is applied
 pub next_folded : (m n : Objects) (kept more : List (ℕ × Window)) (old new : Suffixed) (e : Entry) → state_at n more ≡ after_entry (state_at m kept) e → IsFirstOf e old new → ((q : List ℕ) → AreNext (version_of m q) (values_after old.entries q)) → (q : List ℕ) → AreNext (version_of n q) (values_after new.entries q)
 next_folded m n kept more old new e is first next q =
     let o : ℕ × List ℕ = object_of m q in
@@ -222,10 +222,10 @@ pub next_none : (s : State) (es : List Entry) → es ≡ [] → AreNextVersions 
 unfolding values_after
 next_none s es none q = subst (λ (l : List Entry). AreNext (version_of s.objects q) (values_after l q)) (sym none) tt
 
--- nothing is folded
+-- nothing is applied
 pub next_of_same : (m n : Objects) (es : List Entry) → n ≡ m → ((q : List ℕ) → AreNext (version_of m q) (values_after es q)) → (q : List ℕ) → AreNext (version_of n q) (values_after es q)
 next_of_same m n es same next q = subst (λ (x : Objects). AreNext (version_of x q) (values_after es q)) (sym same) (next q)
 
--- the entries stay
+-- the entries are unchanged
 pub next_same : (s : State) (es fs : List Entry) → fs ≡ es → AreNextVersions s es → AreNextVersions s fs
 next_same s es fs same next q = subst (λ (l : List Entry). AreNext (version_of s.objects q) (values_after l q)) (sym same) (next q)

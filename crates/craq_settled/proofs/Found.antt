@@ -1,4 +1,4 @@
--- The newest of what is written, and the newest that is not above a bound.
+-- The newest written version, and the newest within a bound.
 use Rattle.std.proofs.Common.{◌≡◌, ℕ, ◌+◌, ◌-◌, ◌<◌, ◌≤◌, Bool, true, false, cond, List, [], ◌∷◌, ◌++◌, map, take, drop, Option, Some, None, unwrap_or, refl, sym, ◌∙◌, ap, subst, append_assoc, arith}
 use Rattle.std.proofs.lemmas.List.{take-append-drop}
 use Rattle.std.specs.List.{AllZip, last_or}
@@ -22,7 +22,7 @@ none_last : (x : ℕ × Place) (xs : List (ℕ × Place)) → last_or (Some x) x
 none_last x [] h = clash x h
 none_last x (y ∷ xs) h = none_last y xs h
 
--- what is given stands there
+-- a given value stands at its location
 stands : (s : Suffixed) (v : ℕ × Place) (value : ℕ × List ℕ) → IsGiven s v value → Stands s v value
 stands s v value h =
     let split : (p : Place) → GivenThere s v.0 p value → StandsThere s v.0 p value = elim [ Settled bytes ↦ λ h. absurd h | Written at ↦ λ h. h ] in
@@ -35,7 +35,7 @@ last_from s x r v [] (u ∷ vs) h one all = absurd all
 last_from s x r v (y ∷ xs) [] h one all = absurd all
 last_from s x r v (y ∷ xs) (u ∷ vs) h one all = last_from s y r u xs vs h (stands s y u all.0) all.1
 
--- the newest of some versions has the last value
+-- the newest version has the last value
 pub newest_stands : (s : Suffixed) (vs : List (ℕ × Place)) (r : ℕ × Place) (values : List (ℕ × List ℕ)) → Some r ≡ newest_of vs → AllZip (IsGiven s) (later_in vs) values → Stands s r (last_value (unwrap_or (settled_in vs) (0, [])) values)
 unfolding last_value
 newest_stands s [] r values h all = absurd (clash r h)
@@ -46,7 +46,7 @@ newest_stands s (v ∷ vs) r values h all = split v.0 v.1 vs values h all
     split n (Written at) vs [] h all = absurd all
     split n (Written at) vs (u ∷ us) h all = last_from s (n, Written at) r u vs us h (stands s (n, Written at) u all.0) all.1
 
--- where there are no versions, nothing is given
+-- without versions no value is given
 pub newest_none : (s : Suffixed) (vs : List (ℕ × Place)) (values : List (ℕ × List ℕ)) → None ≡ newest_of vs → AllZip (IsGiven s) (later_in vs) values → (0, []) ≡ last_value (unwrap_or (settled_in vs) (0, [])) values
 unfolding last_value
 newest_none s [] [] h all = refl
@@ -68,7 +68,7 @@ newest_number s vs values all =
     ] in
     split (newest_of vs) refl
 
--- where entries write the versions whose values stand in these places
+-- the references to the entries that write these versions
 abbrev pub ref_before : Place → List WriteRef → List WriteRef
 ref_before (Settled bytes) rs = rs
 ref_before (Written at) rs = at ∷ rs
@@ -89,7 +89,7 @@ refs_of_later s (v ∷ vs) (u ∷ us) all =
     let split : (p : Place) → GivenThere s v.0 p u → AllZip (Gives s) (ref_before p (refs_in (places_in vs))) (u ∷ us) = elim [ Settled bytes ↦ λ h. absurd h | Written at ↦ λ h. (h.1, rest) ] in
     split v.1 all.0
 
--- they give the values of the later versions
+-- the references give the values of the later versions
 pub refs_given : (s : Suffixed) (vs : List (ℕ × Place)) (values : List (ℕ × List ℕ)) → AllZip (IsGiven s) (later_in vs) values → AllZip (Gives s) (refs_in (places_in vs)) values
 refs_given s [] values all = refs_of_later s [] values all
 refs_given s (v ∷ vs) values all = split v.0 v.1 vs all
@@ -98,7 +98,7 @@ refs_given s (v ∷ vs) values all = split v.0 v.1 vs all
     split n (Settled bytes) vs all = refs_of_later s vs values all
     split n (Written at) vs all = refs_of_later s ((n, Written at) ∷ vs) values all
 
--- the values of entries one after another
+-- the values of concatenated entries
 pub values-append : (es fs : List Entry) (key : List ℕ) → values_after (es ++ fs) key ≡ values_after es key ++ values_after fs key
 unfolding values_after
 values-append [] fs key = refl
@@ -107,31 +107,31 @@ values-append (e ∷ es) fs key = ap (λ (l : List (ℕ × List ℕ)). values_in
 pub values_split : (n : ℕ) (es : List Entry) (key : List ℕ) → values_after (take n es) key ++ values_after (drop n es) key ≡ values_after es key
 values_split n es key = sym (values-append (take n es) (drop n es) key) ∙ ap (λ (l : List Entry). values_after l key) (take-append-drop n es)
 
--- what is found among the first entries, and then among the others
+-- a search among the first entries, and then among the others
 pub found_after : (n : ℕ) (es : List Entry) (key : List ℕ) (o found : ℕ × List ℕ) → found ≡ last_value o (values_after (take n es) key) → last_value found (values_after (drop n es) key) ≡ last_value o (values_after es key)
 found_after n es key o found is =
     ap (λ (x : ℕ × List ℕ). last_value x (values_after (drop n es) key)) is
     ∙ sym (last_value-append o (values_after (take n es) key) (values_after (drop n es) key))
     ∙ ap (λ (vs : List (ℕ × List ℕ)). last_value o vs) (values_split n es key)
 
--- where the first entries give an object nothing
+-- the first entries give the object no value
 pub none_before : (n : ℕ) (es : List Entry) (key : List ℕ) → values_after (take n es) key ≡ [] → values_after (drop n es) key ≡ values_after es key
 none_before n es key none = ap (λ (vs : List (ℕ × List ℕ)). vs ++ values_after (drop n es) key) (sym none) ∙ values_split n es key
 
--- the next version is above the bound
+-- the next version is above the bound: the search ends
 pub within_ends : (bound : ℕ) (found v t : ℕ × List ℕ) (vs rest more : List (ℕ × List ℕ)) → vs ≡ v ∷ rest → nat_le v.0 bound ≡ false → newest_within bound found (vs ++ more) ≡ t → found ≡ t
 unfolding newest_within
 within_ends bound found v t vs rest more is above goes =
     sym (ap (λ (b : Bool). cond b (newest_within bound v (rest ++ more)) found) above) ∙ sym (ap (λ (l : List (ℕ × List ℕ)). newest_within bound found (l ++ more)) is) ∙ goes
 
--- or it is not
+-- the next version is within the bound: the search goes on
 pub within_next : (bound : ℕ) (found v w t : ℕ × List ℕ) (vs rest more : List (ℕ × List ℕ)) → vs ≡ v ∷ rest → nat_le v.0 bound ≡ true → w ≡ v → newest_within bound found (vs ++ more) ≡ t → newest_within bound w (rest ++ more) ≡ t
 unfolding newest_within
 within_next bound found v w t vs rest more is below same goes =
     ap (λ (x : ℕ × List ℕ). newest_within bound x (rest ++ more)) same
     ∙ sym (ap (λ (b : Bool). cond b (newest_within bound v (rest ++ more)) found) below) ∙ sym (ap (λ (l : List (ℕ × List ℕ)). newest_within bound found (l ++ more)) is) ∙ goes
 
--- the first of the places gives the first of the values
+-- the first reference gives the first value
 pub first_given : (s : Suffixed) (x : WriteRef) (all xs : List WriteRef) (vs : List (ℕ × List ℕ)) → all ≡ x ∷ xs → AllZip (Gives s) all vs → (v : ℕ × List ℕ) × (rest : List (ℕ × List ℕ)) × (vs ≡ v ∷ rest) × Gives s x v × AllZip (Gives s) xs rest
 first_given s x all xs vs is every =
     let split : (us : List (ℕ × List ℕ)) → AllZip (Gives s) (x ∷ xs) us → (v : ℕ × List ℕ) × (rest : List (ℕ × List ℕ)) × (us ≡ v ∷ rest) × Gives s x v × AllZip (Gives s) xs rest = elim [
@@ -146,11 +146,11 @@ above_bound v version above h = grind (arith, h)
 pub within_bound : (v version above : ℕ) → v - version ≤ above → nat_le v (version + above) ≡ true
 within_bound v version above h = grind (arith, h)
 
--- a settled place gives nothing more
+-- a settled location gives no later value
 pub settled_given : (s : Suffixed) (p : Place) (bytes : List ℕ) (all rest : List Place) (vs : List (ℕ × List ℕ)) → p ≡ Settled bytes → all ≡ p ∷ rest → AllZip (Gives s) (refs_in all) vs → AllZip (Gives s) (refs_in rest) vs
 settled_given s p bytes all rest vs is step every = subst (λ (l : List WriteRef). AllZip (Gives s) l vs) (ap refs_in step ∙ ap (λ (x : Place). ref_before x (refs_in rest)) is) every
 
--- a written one gives the first of the values
+-- a written location gives the first value
 pub written_given : (s : Suffixed) (p : Place) (at : WriteRef) (all rest : List Place) (vs : List (ℕ × List ℕ)) → p ≡ Written at → all ≡ p ∷ rest → AllZip (Gives s) (refs_in all) vs
     → (v : ℕ × List ℕ) × (more : List (ℕ × List ℕ)) × (vs ≡ v ∷ more) × Gives s at v × AllZip (Gives s) (refs_in rest) more
 written_given s p at all rest vs is step every = first_given s at (refs_in all) (refs_in rest) vs (ap refs_in step ∙ ap (λ (x : Place). ref_before x (refs_in rest)) is) every

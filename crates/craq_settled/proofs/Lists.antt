@@ -1,4 +1,4 @@
--- Lists that are gone through, and maps by rising key that are made of them.
+-- Prefixes of lists, and sorted maps made from them.
 use Rattle.std.proofs.Common.{◌≡◌, ℕ, zero, suc, ◌+◌, ◌<◌, Bool, true, false, cond, ◌&&◌, T, List, [], ◌∷◌, ◌++◌, length, take, drop, get_or, Option, Some, None, refl, sym, ◌∙◌, ap, subst, arith, add-one, append_assoc, drop-cons}
 use Rattle.std.proofs.lemmas.List.{take-append-drop}
 use Rattle.std.specs.List.{AllByRecursion}
@@ -26,7 +26,7 @@ module _ {K X : Type 0} (R : K → K → Ordering) (o : IsTotalOrder R) where
   below_last q k x [] ys h = first _ _ h
   below_last q k x (e ∷ xs) ys h = below_last q k x xs ys (second _ _ h)
 
-  -- what comes after all keys of a map is put at its end
+  -- an item after all keys of a map is inserted at its end
   pub put_last : (xs ys : List (K × X)) (k : K) (x : X) → T (is_sorted R (xs ++ (k, x) ∷ ys)) → put R k x xs ≡ xs ++ (k, x) ∷ []
   put_last [] ys k x h = refl
   put_last (e ∷ xs) ys k x h =
@@ -34,14 +34,14 @@ module _ {K X : Type 0} (R : K → K → Ordering) (o : IsTotalOrder R) where
       let above : R k e.0 ≡ Greater = o.antisymm k e.0 ∙ ap ordering_reverse below in
       ap (λ r. by_order r ((k, x) ∷ e ∷ xs) ((e.0, x) ∷ xs) (e ∷ put R k x xs)) above ∙ ap (λ (l : List (K × X)). e ∷ l) (put_last xs ys k x (second _ _ h))
 
-  -- one more of the items that are left, of a list by rising key
+  -- one more of the remaining items of a sorted list
   pub put_one : (xs rest ys zs all : List (K × X)) (k : K) (x : X) → xs ++ rest ≡ all → rest ≡ (k, x) ∷ ys → T (is_sorted R all) → zs ≡ put R k x xs → zs ++ ys ≡ all
   put_one xs rest ys zs all k x moved step h is =
       let P : List (K × X) → Type 0 = λ l. T (is_sorted R l) in
       let whole : xs ++ (k, x) ∷ ys ≡ all = ap (λ (l : List (K × X)). xs ++ l) (sym step) ∙ moved in
       ap (λ (l : List (K × X)). l ++ ys) (is ∙ put_last xs ys k x (subst P (sym whole) h)) ∙ append_assoc xs ((k, x) ∷ []) ys ∙ whole
 
-  -- one more of a list by rising key
+  -- one more item of a sorted list
   pub put_next : (es : List (K × X)) (i : ℕ) (e : K × X) → i < length es → e ≡ get_or es i e → T (is_sorted R es) → put R e.0 e.1 (take i es) ≡ take (i + 1) es
   put_next es i e below is h =
       let rest : drop i es ≡ e ∷ drop (suc i) es = drop-cons es i e below ∙ ap (λ (x : K × X). x ∷ drop (suc i) es) (sym is) in
@@ -63,6 +63,6 @@ all_to_suc P Q [] i x is more last h = tt
 all_to_suc P Q (y ∷ xs) zero x is more last h = (subst Q is last, take_none Q xs)
 all_to_suc P Q (y ∷ xs) (suc i) x is more last h = (more y h.0, all_to_suc P Q xs i x is more last h.1)
 
--- a fact of each up to one more
+-- a fact of each item of a prefix, for one more
 pub all_to_next : {A : Type 0} (P Q : A → Type 0) (xs : List A) (i : ℕ) (x : A) → x ≡ get_or xs i x → ((y : A) → P y → Q y) → Q x → AllByRecursion P (take i xs) → AllByRecursion Q (take (i + 1) xs)
 all_to_next P Q xs i x is more last h = rw add-one (all_to_suc P Q xs i x is more last h)

@@ -1,4 +1,4 @@
--- What is given where the versions of objects say so.
+-- The values at the locations that an object's versions name.
 use Rattle.std.proofs.Common.{◌≡◌, ℕ, zero, suc, ◌+◌, ◌-◌, Bool, true, false, cond, List, [], ◌∷◌, ◌++◌, take, Some, None, refl, sym, ◌∙◌, ap, subst, arith}
 use Rattle.std.specs.List.{AllZip}
 use Rattle.std.specs.Prelude.{slice_get}
@@ -17,7 +17,7 @@ zip-append s [] ys (u ∷ us) vs first second = absurd first
 zip-append s (x ∷ xs) ys [] vs first second = absurd first
 zip-append s (x ∷ xs) ys (u ∷ us) vs first second = (first.0, zip-append s xs ys us vs first.1 second)
 
--- the writes of an entry, from an index on
+-- the writes of an entry from an index on
 seen_in : (s : Suffixed) (k : ℕ) (e : Entry) (p i : ℕ) (ws : List Write) (key : List ℕ) → p ≡ s.base + k + 1 → slice_get s.entries k ≡ Some e → ((j : ℕ) (w : Write) → slice_get ws j ≡ Some w → slice_get e.writes (i + j) ≡ Some w)
     → AllZip (IsGiven s) (written_in p i ws key) (values_in ws key)
 unfolding written_in values_in
@@ -57,13 +57,13 @@ got_of_taken (suc n) [] j e h = cc
 got_of_taken (suc n) (d ∷ es) zero e h = h
 got_of_taken (suc n) (d ∷ es) (suc j) e h = got_of_taken n es j e h
 
--- the first of the entries
+-- a prefix of the entries
 pub seen : (s : Suffixed) (n : ℕ) (key : List ℕ) → AllZip (IsGiven s) (written_after s.base (take n s.entries) key) (values_after (take n s.entries) key)
 seen s n key =
     let none : s.base ≡ s.base + 0 = omega arith in
     seen_after s s.base 0 (take n s.entries) key none (λ j e h. let same : j ≡ 0 + j = omega arith in subst (λ (m : ℕ). slice_get s.entries m ≡ Some e) same (got_of_taken n s.entries j e h))
 
--- of an object whose versions are these
+-- an object with these versions
 pub seen_listed : (t : Placed) (s : Suffixed) (listed : ℕ) (key : List ℕ) (vs : List (ℕ × Place)) → AreListed t s listed → vs ≡ versions_of t key → AllZip (IsGiven s) (later_in vs) (values_after (take (listed - s.base) s.entries) key)
 seen_listed t s listed key vs are is =
     let n : ℕ = listed - s.base in
@@ -74,6 +74,6 @@ none_of_none : (s : Suffixed) (vs : List (ℕ × List ℕ)) → AllZip (IsGiven 
 none_of_none s [] all = refl
 none_of_none s (v ∷ vs) all = absurd all
 
--- of one that has none
+-- an object without versions
 pub none_listed_of : (t : Placed) (s : Suffixed) (listed : ℕ) (key : List ℕ) → AreListed t s listed → [] ≡ versions_of t key → values_after (take (listed - s.base) s.entries) key ≡ []
 none_listed_of t s listed key are none = none_of_none s (values_after (take (listed - s.base) s.entries) key) (seen_listed t s listed key [] are none)

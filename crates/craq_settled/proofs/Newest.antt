@@ -1,4 +1,4 @@
--- The newest version that entries give an object, once the newest of them are looked at.
+-- The newest version that entries give an object, found by a scan from the end.
 use Rattle.std.proofs.Common.{◌≡◌, ℕ, suc, ◌+◌, ◌<◌, Bool, true, false, cond, List, [], ◌∷◌, ◌++◌, length, take, drop, get_or, drop-cons, Option, Some, None, refl, sym, ◌∙◌, ap, add-one}
 use Rattle.std.proofs.lemmas.List.{append-nil, take-append-drop}
 use Rattle.std.specs.List.{last_or}
@@ -40,7 +40,7 @@ written-append (w ∷ ws) us key =
     ] in
     split (same_bytes w.key key)
 
--- of no writes, or no entries
+-- no writes, or no entries, remain
 pub no_writes : (ws : List Write) (key : List ℕ) → values_in (drop (length ws) ws) key ≡ []
 unfolding values_in
 no_writes [] key = refl
@@ -51,7 +51,7 @@ unfolding values_after
 no_entries [] key = refl
 no_entries (e ∷ es) key = no_entries es key
 
--- what the writes from one on give an object, which those after it give nothing
+-- the versions of writes from an index on, when those after it give the object none
 written_from : (ws : List Write) (i k : ℕ) (w : Write) (key : List ℕ) (b : Bool) → k ≡ suc i → i < length ws → w ≡ get_or ws i w → values_in (drop k ws) key ≡ [] → same_bytes w.key key ≡ b → values_in (drop i ws) key ≡ cond b ((w.version, w.value) ∷ []) []
 unfolding values_in
 written_from ws i k w key b next below is none same =
@@ -60,11 +60,11 @@ written_from ws i k w key b next below is none same =
     ∙ ap (λ (l : List (ℕ × List ℕ)). cond (same_bytes w.key key) ((w.version, w.value) ∷ l) l) rest
     ∙ ap (λ (c : Bool). cond c ((w.version, w.value) ∷ []) []) same
 
--- it does not write the object
+-- the write does not write the object
 pub write_passed : (ws : List Write) (i k : ℕ) (w : Write) (key : List ℕ) → k ≡ suc i → i < length ws → w ≡ get_or ws i w → values_in (drop k ws) key ≡ [] → same_bytes w.key key ≡ false → values_in (drop i ws) key ≡ []
 write_passed ws i k w key next below is none same = written_from ws i k w key false next below is none same
 
--- it is the last that writes it
+-- the write is the last that writes the object
 pub write_found : (ws : List Write) (i k : ℕ) (w : Write) (key : List ℕ) → k ≡ suc i → i < length ws → w ≡ get_or ws i w → values_in (drop k ws) key ≡ [] → same_bytes w.key key ≡ true → Some (w.version, w.value) ≡ newest_of (values_in ws key)
 write_found ws i k w key next below is none same =
     let first : List (ℕ × List ℕ) = values_in (take i ws) key in
@@ -73,7 +73,7 @@ write_found ws i k w key next below is none same =
     ∙ ap (λ (l : List (ℕ × List ℕ)). newest_of (first ++ l)) (written_from ws i k w key true next below is none same)
     ∙ last_append None first ((w.version, w.value) ∷ []))
 
--- what the entries from one on give an object, which those after it give nothing
+-- the versions of entries from an index on, when those after it give the object none
 entries_from : (es : List Entry) (i k : ℕ) (e : Entry) (key : List ℕ) → k ≡ suc i → i < length es → e ≡ get_or es i e → values_after (drop k es) key ≡ [] → values_after (drop i es) key ≡ values_in e.writes key
 unfolding values_after
 entries_from es i k e key next below is none =
@@ -81,11 +81,11 @@ entries_from es i k e key next below is none =
     ap (λ (l : List Entry). values_after l key) (drop-cons es i e below ∙ ap (λ (x : Entry). x ∷ drop (suc i) es) (sym is))
     ∙ ap (λ (l : List (ℕ × List ℕ)). values_in e.writes key ++ l) rest ∙ append-nil (values_in e.writes key)
 
--- it does not write the object
+-- the entry does not write the object
 pub entry_passed : (es : List Entry) (i k : ℕ) (e : Entry) (key : List ℕ) → k ≡ suc i → i < length es → e ≡ get_or es i e → values_after (drop k es) key ≡ [] → newest_of (values_in e.writes key) ≡ None → values_after (drop i es) key ≡ []
 entry_passed es i k e key next below is none absent = entries_from es i k e key next below is none ∙ last_none (values_in e.writes key) absent
 
--- it is the last that writes it
+-- the entry is the last that writes the object
 pub entry_found : (es : List Entry) (i k : ℕ) (e : Entry) (key : List ℕ) (found : ℕ × List ℕ) → k ≡ suc i → i < length es → e ≡ get_or es i e → values_after (drop k es) key ≡ [] → newest_of (values_in e.writes key) ≡ Some found → Some found ≡ newest_of (values_after es key)
 entry_found es i k e key found next below is none some =
     let first : List (ℕ × List ℕ) = values_after (take i es) key in
@@ -105,13 +105,13 @@ last_found o found (v ∷ vs) h = last_from v found vs h
     last_from v found [] h = same v found h
     last_from v found (w ∷ vs) h = last_from w found vs h
 
--- what the entries after the first give an object last is what all give it
+-- the last value of the later entries is the last value of all
 pub late_is_newest : (n : ℕ) (es : List Entry) (key : List ℕ) (o found : ℕ × List ℕ) → Some found ≡ newest_of (values_after (drop n es) key) → found ≡ last_value o (values_after es key)
 late_is_newest n es key o found some =
     let first : ℕ × List ℕ = last_value o (values_after (take n es) key) in
     sym (last_found first found (values_after (drop n es) key) (sym some)) ∙ found_after n es key o first refl
 
--- where they give it nothing, it is what the first give it
+-- if the later entries give none, the first entries decide
 pub none_late : (n : ℕ) (es : List Entry) (key : List ℕ) (o found : ℕ × List ℕ) → None ≡ newest_of (values_after (drop n es) key) → found ≡ last_value o (values_after (take n es) key) → found ≡ last_value o (values_after es key)
 unfolding last_value
 none_late n es key o found none is =

@@ -1,4 +1,4 @@
--- Objects of a table, once the versions of one are changed.
+-- Objects of a table after the versions of one are changed.
 use Rattle.std.proofs.Common.{◌≡◌, ◌⊎◌, inl, inr, ℕ, zero, suc, ◌+◌, ◌-◌, ◌<◌, ◌≤◌, Bool, true, false, cond, T, List, [], ◌∷◌, ◌++◌, length, map, take, drop, Option, Some, None, refl, sym, ◌∙◌, ap, subst, arith, rules}
 use Rattle.std.specs.Prelude.{unwrap_or, is_some, IsSome, if◌then◌else◌, nat_le}
 use Rattle.std.specs.Option.{option_and_then}
@@ -20,7 +20,7 @@ use Rattle.craq_settled.specs.declared.places.Place.TheVariants.{Settled, Writte
 use Rattle.craq_settled.specs.declared.places.WriteRef.{WriteRef}
 use Rattle.craq_settled.specs.Placed.{Placed, shown, has_some, later_from, later_in, later_of, objects_of, settled_in, settled_version, versions_of, IsPlaced, IsRising, KeepsLater, SettlesNext, StartsAt}
 
--- one key has these versions, and the others theirs
+-- one key has these versions, and every other key the ones it had
 abbrev pub IsChanged : Placed → Placed → List ℕ → List (ℕ × Place) → Type 0
 IsChanged t u key vs = (q : List ℕ) → versions_of u q ≡ cond (same_bytes key q) vs (versions_of t q)
 
@@ -35,14 +35,14 @@ equal Less p = cc
 equal Equal p = refl
 equal Greater p = cc
 
--- keys of the same bytes are one
+-- keys with the same bytes are equal
 pub same_is : (key q : List ℕ) → same_bytes key q ≡ true → key ≡ q
 same_is key q same = exact key q (equal (key_cmp key q) (sym (texts_ties key q) ∙ same))
 
 pub own : (key : List ℕ) → same_bytes key key ≡ true
 own key = texts_ties key key ∙ ap is_eq (tied_itself nat_list_cmp_total key)
 
--- two ways to compare keys, in either order
+-- the two tests of equal keys agree, in either order
 pub same_either_way : (key q : List ℕ) → eq_by_cmp key_cmp q key ≡ same_bytes key q
 same_either_way key q = (eq_by_cmp_equiv nat_list_cmp_total).symm q key ∙ sym (texts_ties key q)
 
@@ -72,7 +72,7 @@ later_same t u is q = ap later_in (versions_same t u is q)
 pub objects_same : (t u : Placed) → u.objects ≡ t.objects → objects_of u ≡ objects_of t
 objects_same t u is = search (rules, is)
 
--- what is settled of a key
+-- the settled object of a key
 pub object_found : (t : Placed) (key : List ℕ) → IsRising t → at_key (objects_of t) key ≡ settled_in (versions_of t key)
 object_found t key rise =
     let split : (o : Option (Held Place)) → option_and_then shown o ≡ settled_in (unwrap_or o nothing).versions = elim [ None ↦ refl | Some h ↦ refl ] in
@@ -82,7 +82,7 @@ pub object_here : (t : Placed) (key : List ℕ) → IsRising t → unwrap_or (se
 unfolding object_of
 object_here t key rise = sym (ap (λ (o : Option (ℕ × List ℕ)). unwrap_or o (0, [])) (object_found t key rise))
 
--- what a look-up finds
+-- the result of a look-up
 pub found_here : (t : Placed) (key : List ℕ) (list : Versions Place) → Some (held_in list) ≡ at_key t.objects key → list.versions ≡ versions_of t key
 found_here t key list is = ap (λ (o : Option (Held Place)). (unwrap_or o nothing).versions) is
 
@@ -95,12 +95,12 @@ listed_here t key list rise is = ap (λ (vs : List (ℕ × Place)). unwrap_or (s
 pub absent_here : (t : Placed) (key : List ℕ) → IsRising t → None ≡ at_key t.objects key → (0, []) ≡ object_of (objects_of t) key
 absent_here t key rise is = ap (λ (vs : List (ℕ × Place)). unwrap_or (settled_in vs) (0, [])) (none_here t key is) ∙ object_here t key rise
 
--- the objects, where it is known what is settled of each key
+-- objects are equal if the settled object of each key is
 objects_are : (t : Placed) (m : Objects) → IsRising t → T (is_sorted key_cmp m) → ((q : List ℕ) → settled_in (versions_of t q) ≡ at_key m q) → objects_of t ≡ m
 objects_are t m rise sorted each =
     same_entries key_cmp nat_list_cmp_total exact (objects_of t) m (is_sorted_filled key_cmp shown t.objects rise) sorted (λ q. object_found t q rise ∙ each q)
 
--- they stay where what is settled does
+-- the objects are unchanged if each settled object is
 pub objects_stay : (t u : Placed) → IsRising t → IsRising u → ((q : List ℕ) → settled_in (versions_of u q) ≡ settled_in (versions_of t q)) → objects_of u ≡ objects_of t
 objects_stay t u was is each = objects_are u (objects_of t) is (is_sorted_filled key_cmp shown t.objects was) (λ q. each q ∙ sym (object_found t q was))
 
@@ -112,7 +112,7 @@ objects_put t u key vs object has was is at =
     let split : (b : Bool) → settled_in (cond b vs (versions_of t q)) ≡ cond b (Some object) (at_key (objects_of t) q) = elim [ true ↦ has | false ↦ sym (object_found t q was) ] in
     ap settled_in (at q) ∙ split (same_bytes key q) ∙ ap (λ b. cond b (Some object) (at_key (objects_of t) q)) (sym (same_either_way key q)) ∙ sym (find-put key_cmp nat_list_cmp_total q key object (objects_of t)))
 
--- what is settled of each key, once the versions of one are changed behind the settled one
+-- the settled object of each key after versions behind the settled one are changed
 pub settled_changed : (t u : Placed) (key : List ℕ) (vs : List (ℕ × Place)) → settled_in vs ≡ settled_in (versions_of t key) → IsChanged t u key vs → (q : List ℕ) → settled_in (versions_of u q) ≡ settled_in (versions_of t q)
 settled_changed t u key vs same at q =
     let split : (b : Bool) → same_bytes key q ≡ b → settled_in (cond b vs (versions_of t q)) ≡ settled_in (versions_of t q) = elim [
@@ -121,7 +121,7 @@ settled_changed t u key vs same at q =
     ] in
     ap settled_in (at q) ∙ split (same_bytes key q) refl
 
--- the later versions of each key then
+-- the later versions of each key after that
 pub later_changed : (t u : Placed) (key : List ℕ) (vs : List (ℕ × Place)) (f : List (ℕ × Place) → List (ℕ × Place)) → IsChanged t u key vs → later_in vs ≡ f (later_of t key) → (q : List ℕ) → later_of u q ≡ cond (same_bytes key q) (f (later_of t q)) (later_of t q)
 later_changed t u key vs f at is q =
     let split : (b : Bool) → same_bytes key q ≡ b → later_in (cond b vs (versions_of t q)) ≡ cond b (f (later_of t q)) (later_of t q) = elim [
@@ -130,7 +130,7 @@ later_changed t u key vs f at is q =
     ] in
     ap later_in (at q) ∙ split (same_bytes key q) refl
 
--- the oldest of them is gone
+-- the oldest later version is dropped
 pub oldest_gone : (b : Bool) (l : List (ℕ × Place)) → cond b (drop 1 l) l ≡ drop (if b then 1 else 0) l
 oldest_gone true l = refl
 oldest_gone false l = refl
@@ -139,12 +139,12 @@ all_taken : (l : List (ℕ × Place)) → take (length l) l ≡ l
 all_taken [] = refl
 all_taken (r ∷ l) = ap (λ (t : List (ℕ × Place)). r ∷ t) (all_taken l)
 
--- the newest is gone
+-- the newest later version is dropped
 pub newest_gone : (b : Bool) (l : List (ℕ × Place)) → cond b (take (length l - 1) l) l ≡ take (length l - (if b then 1 else 0)) l
 newest_gone true l = refl
 newest_gone false l = let all : length l ≡ length l - 0 = omega arith in sym (all_taken l) ∙ ap (λ n. take n l) all
 
--- none is
+-- no later version is dropped
 pub none_gone : (l : List (ℕ × Place)) → l ≡ take (length l - 0) l
 none_gone l = newest_gone false l
 
@@ -152,7 +152,7 @@ pub none_more : (l : List (ℕ × Place)) → l ≡ l ++ []
 none_more [] = refl
 none_more (r ∷ l) = ap (λ (t : List (ℕ × Place)). r ∷ t) (none_more l)
 
--- there is one more
+-- one later version is added
 one_more : (b : Bool) (x : ℕ × Place) (l : List (ℕ × Place)) → cond b (l ++ x ∷ []) l ≡ l ++ (if b then x ∷ [] else [])
 one_more true x l = refl
 one_more false x l = none_more l
@@ -171,7 +171,7 @@ later_more (v ∷ vs) n at =
     let split : (p : Place) → later_from p (v ∷ (vs ++ x ∷ [])) (vs ++ x ∷ []) ≡ later_from p (v ∷ vs) vs ++ x ∷ [] = elim [ Settled value ↦ refl | Written r ↦ refl ] in
     split v.1
 
--- a later version is added to those of a key
+-- a later version is appended to those of a key
 pub versions_pushed : (t u : Placed) (key : List ℕ) (n : ℕ) (at : WriteRef) → u.objects ≡ put_key t.objects key (pushed (held_at t key) n (Written at)) → (q : List ℕ) → versions_of u q ≡ versions_of t q ++ (if same_bytes key q then (n, Written at) ∷ [] else [])
 versions_pushed t u key n at is q =
     let x : ℕ × Place = (n, Written at) in
@@ -191,7 +191,7 @@ objects_pushed t u key n at rise is =
     let h : Held Place = pushed (held_at t key) n (Written at) in
     objects_stay t u rise (rising_put t u key h is rise) (settled_changed t u key h.versions (settled_more (versions_of t key) n at) (changed t u key h is))
 
--- the newest version of a key is taken back
+-- the newest version of a key is removed
 abbrev pub IsPopped : Placed → Placed → List ℕ → Type 0
 IsPopped t u key = (q : List ℕ) → held_at u q ≡ (if same_bytes key q then popped (held_at t q) else held_at t q)
 
@@ -210,7 +210,7 @@ written_taken : (k n : ℕ) (at : WriteRef) (vs : List (ℕ × Place)) → (sett
 written_taken zero n at vs = (refl, refl)
 written_taken (suc k) n at vs = (refl, refl)
 
--- what is settled stays, and of the later versions the newest is gone
+-- the settled version stays, and the newest later version is dropped
 pub without_is : (vs : List (ℕ × Place)) → has_some (later_in vs) ≡ true → (settled_in (without_newest vs) ≡ settled_in vs) × (later_in (without_newest vs) ≡ take (length (later_in vs) - 1) (later_in vs))
 without_is [] some = absurd (clash (sym some))
 without_is (v ∷ vs) some = split v.0 v.1 vs some
@@ -236,7 +236,7 @@ none_taken zero [] e = refl
 none_taken (suc n) [] e = refl
 none_taken n (v ∷ l) e = absurd (clash e)
 
--- none is gone where the key has no later versions
+-- nothing is dropped if the key has no later versions
 pub nothing_popped : (t : Placed) (key : List ℕ) → has_some (later_of t key) ≡ false → (q : List ℕ) → later_of t q ≡ take (length (later_of t q) - (if same_bytes key q then 1 else 0)) (later_of t q)
 nothing_popped t key none q =
     let l : List (ℕ × Place) = later_of t q in
@@ -268,7 +268,7 @@ from_next v (w ∷ vs) row =
     let next : w.0 ≡ v.0 + 1 = row.0 in
     ap (λ t. cond t (v ∷ versions_from (w ∷ vs) (v.0 + 1)) (versions_from (w ∷ vs) (v.0 + 1))) (le_false (v.0 + 1) v.0 (omega arith)) ∙ from_low (v.0 + 1) w vs row.1 (omega (arith, next))
 
--- the later versions, once the oldest of them is settled
+-- the later versions after the oldest of them is settled
 without_oldest : (vs : List (ℕ × Place)) (version : ℕ) → AreConsecutive vs → StartsAt version (later_in vs) → versions_from vs (version + 1) ≡ drop 1 (later_in vs)
 without_oldest [] version row starts = absurd starts
 without_oldest (v ∷ vs) version row starts = split v.0 v.1 vs row starts
@@ -295,7 +295,7 @@ holds_oldest (v ∷ vs) version starts = split v.0 v.1 vs starts
         let either : (b : Bool) → is_some (cond b (Some (Settled value)) (at_number (w ∷ ws) version)) ≡ true = elim [ true ↦ refl | false ↦ rest ] in
         either (eq_by_cmp nat_cmp version n)
 
--- the later versions, once the next one is settled
+-- the later versions after the next one is settled
 without_settled : (vs : List (ℕ × Place)) (version : ℕ) → AreConsecutive vs → SettlesNext vs version → versions_from vs (version + 1) ≡ drop 1 (later_in vs)
 without_settled vs version row (inl starts) = without_oldest vs version row starts
 without_settled [] version row (inr after) = absurd after.1
@@ -314,7 +314,7 @@ pub can_settle : (vs : List (ℕ × Place)) (version : ℕ) → SettlesNext vs v
 can_settle vs version (inl starts) = inl (holds_oldest vs version starts)
 can_settle vs version (inr after) = inr after.1
 
--- it is settled
+-- the next version is settled
 pub later_settled : (t u : Placed) (key : List ℕ) (version : ℕ) (value : List ℕ) → u.objects ≡ put_key t.objects key (settled_as (held_at t key) version (Settled value)) → AreVersions (held_at t key).versions (held_at t key).clean → SettlesNext (versions_of t key) version
     → (q : List ℕ) → later_of u q ≡ drop (if same_bytes key q then 1 else 0) (later_of t q)
 later_settled t u key version value is row starts q =
@@ -326,7 +326,7 @@ objects_settled t u key version value rise is =
     let h : Held Place = settled_as (held_at t key) version (Settled value) in
     objects_put t u key h.versions (version, value) refl rise (rising_put t u key h is rise) (changed t u key h is)
 
--- an object of one version is put in, which is settled
+-- an object of one settled version is inserted
 pub objects_first : (t u : Placed) (key : List ℕ) (version : ℕ) (value : List ℕ) → IsRising t → u.objects ≡ put_key t.objects key (only_clean version (Settled value)) → objects_of u ≡ put_key (objects_of t) key (version, value)
 objects_first t u key version value rise is =
     let h : Held Place = only_clean version (Settled value) in
@@ -341,7 +341,7 @@ later_first t u key version value is q h =
 empty_at : (m : List (List ℕ × Held Place)) (q : List ℕ) → m ≡ [] → (unwrap_or (at_key m q) nothing).versions ≡ []
 empty_at m q none = ap (λ (x : List (List ℕ × Held Place)). (unwrap_or (at_key x q) nothing).versions) none
 
--- a new table
+-- the empty table
 pub new_is_empty : (t : Placed) → t.objects ≡ [] → (objects_of t ≡ []) × ((q : List ℕ) → later_of t q ≡ []) × IsPlaced t
 new_is_empty t none =
     let rising : IsRising t = subst (λ (m : List (List ℕ × Held Place)). T (is_sorted key_cmp m)) (sym none) tt in

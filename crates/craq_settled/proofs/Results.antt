@@ -1,4 +1,4 @@
--- What follows of what holds where a call succeeds, or where it fails.
+-- Consequences of facts about a call's success or failure.
 use Rattle.std.proofs.Common.{◌≡◌, true, false}
 use Rattle.std.specs.Prelude.{Result, Ok, Err, OnErr, OnOk}
 use Rattle.std.specs.Result.{is_err}

@@ -1,4 +1,4 @@
--- Room, as entries are listed and folded.
+-- Room as entries are indexed and applied.
 use Rattle.std.proofs.Common.{◌≡◌, inl, inr, ℕ, zero, suc, ◌+◌, ◌<◌, ◌≤◌, ◌==◌, Bool, true, false, List, [], ◌∷◌, ◌++◌, length, take, drop, get_or, refl, sym, ◌∙◌, ap, subst, arith, drop-drop, length-append, rules}
 use Rattle.std.specs.Prelude.{if◌then◌else◌}
 use Rattle.craq_names.specs.Maps.{same_bytes}
@@ -40,7 +40,7 @@ take_all zero (w ∷ ws) low = absurd (omega (arith, low))
 take_all (suc n) [] low = refl
 take_all (suc n) (w ∷ ws) low = ap (λ (l : List Write). w ∷ l) (take_all n ws (omega (arith, low)))
 
--- all of them
+-- all of the writes
 pub room_all : (a b : ℕ) (ws : List Write) (i : ℕ) (q : List ℕ) → i ≤ length ws → length ws ≤ i → a ≤ b + count_of (take i ws) q → a ≤ b + count_of ws q
 room_all a b ws i q high low room = subst (λ (l : List Write). a ≤ b + count_of l q) (take_all i ws low) room
 
@@ -66,7 +66,7 @@ room_left t u ws i w low is all before =
     let was = before q in
     omega (arith, more, few, has, was)
 
--- the versions that the first of some entries gives
+-- the versions of the first entry
 first_values : (es : List Entry) (e : Entry) (q : List ℕ) → 0 < length es → e ≡ get_or es 0 e → length (values_after (take 1 es) q) ≡ count_of e.writes q
 unfolding values_after
 first_values [] e q some is = absurd (omega (arith, some))
@@ -94,7 +94,7 @@ parts n m es q next =
     ∙ ap (λ (l : List Entry). length (values_after (take 1 (drop n es)) q) + length (values_after l q)) (drop-drop 1 n es)
     ∙ ap (λ (k : ℕ). length (values_after (take 1 (drop n es)) q) + length (values_after (drop k es) q)) (omega (arith, next))
 
--- where there is room for all of some entries there is for the first, and then for the others
+-- room for all entries is room for the first, and then for the others
 pub room_of_first : (t : Placed) (n : ℕ) (es : List Entry) → HasRoomForVersions t.rooms (drop n es) → HasRoomForVersions t.rooms (take 1 (drop n es))
 room_of_first t n es has q =
     let all = parts n (1 + n) es q refl in
@@ -108,7 +108,7 @@ room_of_rest t u n m es next has kept q =
     let left = kept q in
     omega (arith, all, room, left)
 
--- some entries have a first one
+-- a nonempty list of entries has a first one
 pub first_some : (es : List Entry) → 1 ≤ length es → (e : Entry) × (take 1 es ≡ e ∷ [])
 first_some [] some = absurd (omega (arith, some))
 first_some (e ∷ es) some = (e, refl)
@@ -116,14 +116,14 @@ first_some (e ∷ es) some = (e, refl)
 same_first : (x y : Entry) → x ∷ [] ≡ y ∷ [] → x ≡ y
 same_first x y e = cc
 
--- the first of some entries can be folded without more room
+-- the first entry can be applied without more room
 pub foldable_first : (base listed n : ℕ) (es : List Entry) (e : Entry) → 0 < n → take 1 es ≡ e ∷ [] → AreFoldable base listed (take n es) → IsFoldable base listed e
 unfolding AreFoldable
 foldable_first base listed zero es e some is all = absurd (omega (arith, some))
 foldable_first base listed (suc n) [] e some is all = cc
 foldable_first base listed (suc n) (d ∷ es) e some is all = subst (λ (x : Entry). IsFoldable base listed x) (same_first d e is) all.0
 
--- and so they stay, as more is listed
+-- this stays so as more is indexed
 later_foldable : (base listed now : ℕ) (es : List Entry) → listed ≤ now → AreFoldable base listed es → AreFoldable base now es
 unfolding AreFoldable
 later_foldable base listed now [] more all = tt
@@ -135,7 +135,7 @@ none_taken : (n : ℕ) → take {A = Entry} n [] ≡ []
 none_taken zero = refl
 none_taken (suc n) = refl
 
--- the others, once it is
+-- the other entries can be applied after the first
 pub foldable_rest : (base next listed now n m : ℕ) (es fs : List Entry) → next ≡ base + 1 → listed ≤ now → n ≡ suc m → fs ≡ drop 1 es → AreFoldable base listed (take n es) → AreFoldable next now (take m fs)
 unfolding AreFoldable
 foldable_rest base next listed now n m [] fs here more one is all =
@@ -148,7 +148,7 @@ foldable_rest base next listed now n m (e ∷ es) fs here more one is all =
 own_client : (client : ℕ) → (client == client) ≡ true
 own_client client = search rules
 
--- there is room for the reply of the first
+-- there is room for the reply of the first entry
 pub reply_first : (t : Replies) (n : ℕ) (es : List Entry) (e : Entry) → 0 < n → take 1 es ≡ e ∷ [] → HasRoomForReplies t (take n es) → 0 < replies.room_at t e.client
 unfolding replies_to
 reply_first t zero es e some is all = absurd (omega (arith, some))
@@ -166,7 +166,7 @@ no_replies u m fs none =
     let empty : HasRoomForReplies u [] = λ client. (omega arith, omega arith) in
     subst (λ (l : List Entry). HasRoomForReplies u l) (sym (ap (λ (l : List Entry). take m l) none ∙ none_taken m)) empty
 
--- and for those of the others, once it is kept
+-- there is room for the replies of the others after that
 pub reply_rest : (t u : Replies) (n m : ℕ) (es fs : List Entry) → n ≡ suc m → fs ≡ drop 1 es → ((e : Entry) → take 1 es ≡ e ∷ [] → KeepsOthersRoom t u e.client) → HasRoomForReplies t (take n es) → HasRoomForReplies u (take m fs)
 unfolding replies_to
 reply_rest t u n m [] fs one is kept all = no_replies u m fs is

@@ -1,4 +1,4 @@
--- The later versions of objects, once the entries that write them are folded.
+-- The later versions of objects after the entries that write them are applied.
 use Rattle.std.proofs.Common.{◌≡◌, ℕ, zero, suc, ◌+◌, ◌-◌, ◌≤◌, List, [], ◌∷◌, ◌++◌, length, take, drop, refl, sym, ◌∙◌, ap, arith, drop-drop, length-append, length-drop, append_assoc}
 use Rattle.std.proofs.Math.Seq.{drop-append_seam, drop-nil}
 use Rattle.std.proofs.lemmas.List.{append-nil}
@@ -14,18 +14,18 @@ use Rattle.craq_settled.specs.Placed.{Placed, KeepsLater, LaterWithout, count_of
 use Rattle.craq_settled.proofs.Counts.{count_first, count_none}
 use Rattle.craq_settled.proofs.Written.{length_written}
 
--- the first of the writes that are left is settled
+-- the first of the remaining writes is settled
 pub write_settled : (a b c : List (ℕ × Place)) (rest left : List Write) (w : Write) (key : List ℕ) → rest ≡ w ∷ left → drop (count_of rest key) b ≡ a → c ≡ drop (if same_bytes w.key key then 1 else 0) b → drop (count_of left key) c ≡ a
 write_settled a b c rest left w key step before now =
     let one : ℕ = (if same_bytes w.key key then 1 else 0) in
     ap (λ (l : List (ℕ × Place)). drop (count_of left key) l) now ∙ drop-drop (count_of left key) one b
     ∙ ap (λ (n : ℕ). drop n b) (sym (count_first w left key)) ∙ ap (λ (ws : List Write). drop (count_of ws key) b) (sym step) ∙ before
 
--- no write is left
+-- no write remains
 pub writes_settled : (a b : List (ℕ × Place)) (rest : List Write) (key : List ℕ) → rest ≡ [] → drop (count_of rest key) b ≡ a → b ≡ a
 writes_settled a b rest key none all = ap (λ (n : ℕ). drop n b) (sym (count_none key)) ∙ ap (λ (ws : List Write). drop (count_of ws key) b) (sym none) ∙ all
 
--- the first is
+-- the first entry is applied
 pub first_settled : (ps qs : Placed) (old new : Suffixed) (e : Entry) → IsFirstOf e old new → LaterWithout e.writes ps qs → LaterAreSettled ps old qs new
 unfolding values_after
 first_settled ps qs old new e first without key =
@@ -40,7 +40,7 @@ take_nothing : (n : ℕ) → take {A = Entry} n [] ≡ []
 take_nothing zero = refl
 take_nothing (suc n) = refl
 
--- of the first m of some entries, without what the first n of them write
+-- the versions of the first m entries, without those of the first n
 written_left : (base : ℕ) (es : List Entry) (n m : ℕ) (key : List ℕ) → n ≤ length es → drop (length (values_after (take n es) key)) (written_after base (take m es) key) ≡ written_after (base + n) (take (m - n) (drop n es)) key
 unfolding written_after values_after
 written_left base es zero m key few =
@@ -62,7 +62,7 @@ written_left base (e ∷ es) (suc n) (suc m) key few =
     ∙ written_left (base + 1) es n m key (omega (arith, few))
     ∙ ap (λ (b : ℕ). written_after b (take (m - n) (drop n es)) key) there ∙ ap (λ (k : ℕ). written_after (base + suc n) (take k (drop n es)) key) left
 
--- what is listed once entries are folded
+-- the index after entries are applied
 pub listed_left : (ps qs : Placed) (old new : Suffixed) (listed now : ℕ) → old.base ≤ new.base → new.base ≤ length_of old → new.base ≤ now → now ≤ length_of old → now - new.base ≡ listed - new.base → new.entries ≡ drop (new.base - old.base) old.entries
     → AreListed ps old listed → LaterAreSettled ps old qs new → AreListed qs new now
 listed_left ps qs old new listed now low high from to same left before settled =
@@ -85,7 +85,7 @@ listed_left ps qs old new listed now low high from to same left before settled =
           ∙ ap (λ (es : List Entry). written_after new.base (take (now - new.base) es) key) (sym left);
     }
 
--- the entries once the first is taken out
+-- the entries after the first is removed
 pub left_is : (old new : Suffixed) (e : Entry) → IsFirstOf e old new → new.entries ≡ drop (new.base - old.base) old.entries
 left_is old new e first =
     let base = first.base in

@@ -1,4 +1,4 @@
--- Where writes give an object a version, as they are gone through.
+-- The versions that a prefix of writes gives an object, with their locations.
 use Rattle.std.proofs.Common.{◌≡◌, ℕ, zero, suc, ◌+◌, ◌-◌, ◌<◌, Bool, true, false, cond, List, [], ◌∷◌, ◌++◌, length, take, get_or, refl, sym, ◌∙◌, ap, arith, add-one, append_assoc, length-append}
 use Rattle.std.specs.Prelude.{if◌then◌else◌}
 use Rattle.craq_names.specs.Maps.{same_bytes}
@@ -37,7 +37,7 @@ written_to_suc p k (v ∷ ws) (suc i) w key low is =
     ∙ sym (append_assoc (one_at p k v key) (written_in p (k + 1) (take i ws) key) (one_at p (k + suc i) w key))
     ∙ ap (λ (l : List (ℕ × Place)). l ++ one_at p (k + suc i) w key) (sym (written_first p k v (take i ws) key))
 
--- one more write is listed
+-- one more write is indexed
 pub written_next : (a b c : List (ℕ × Place)) (p : ℕ) (ws : List Write) (i : ℕ) (w : Write) (key : List ℕ) → i < length ws → w ≡ get_or ws i w → b ≡ a ++ written_in p 0 (take i ws) key → c ≡ b ++ one_at p i w key → c ≡ a ++ written_in p 0 (take (i + 1) ws) key
 written_next a b c p ws i w key low is before more =
     let here : 0 + i ≡ i = omega arith in
@@ -57,7 +57,7 @@ take_front : (l r : List (ℕ × Place)) → take (length l) (l ++ r) ≡ l
 take_front [] r = refl
 take_front (x ∷ l) r = ap (λ (t : List (ℕ × Place)). x ∷ t) (take_front l r)
 
--- what was listed is taken back
+-- the indexed versions are removed
 pub taken_back : (a b c : List (ℕ × Place)) (p : ℕ) (ws : List Write) (key : List ℕ) → b ≡ a ++ written_in p 0 ws key → c ≡ take (length b - count_of ws key) b → c ≡ a
 taken_back a b c p ws key before is =
     let w : List (ℕ × Place) = written_in p 0 ws key in

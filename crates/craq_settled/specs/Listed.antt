@@ -1,4 +1,4 @@
--- Where entries write objects.
+-- The index of entries' writes.
 use Rattle.std.specs.Prelude.{◌≡◌, ℕ, ◌+◌, ◌-◌, ◌≤◌, if◌then◌else◌, List, [], ◌∷◌, ◌++◌, Some, drop, length, slice_get, take}
 use Rattle.craq_names.specs.Maps.{same_bytes}
 use Rattle.craq_commands.specs.declared.entry.Entry.{Entry}
@@ -10,31 +10,31 @@ use Rattle.craq_settled.specs.declared.places.Place.TheVariants.{Settled, Writte
 use Rattle.craq_settled.specs.declared.places.WriteRef.{WriteRef}
 use Rattle.craq_settled.specs.Placed.{Placed, later_of}
 
--- the version that a write gives, and where it stands
+-- the version that a write gives, and its location
 abbrev pub version_at : ℕ → ℕ → Write → ℕ × Place
 version_at position index w = (w.version, Written (record { position = position; index = index }))
 
--- the versions that the writes of an entry give an object, from the write of an index on, and where they stand
+-- the versions that an entry's writes from an index on give an object, and their locations
 unfoldable pub written_in : ℕ → ℕ → List Write → List ℕ → List (ℕ × Place)
 written_in position index [] key = []
 written_in position index (w ∷ ws) key = if same_bytes w.key key then version_at position index w ∷ written_in position (index + 1) ws key else written_in position (index + 1) ws key
 
--- those that entries after a position give it
+-- the versions that entries after a position give an object, and their locations
 unfoldable pub written_after : ℕ → List Entry → List ℕ → List (ℕ × Place)
 written_after base [] key = []
 written_after base (e ∷ es) key = written_in (base + 1) 0 e.writes key ++ written_after (base + 1) es key
 
--- the later versions of each object are those that the entries up to a position give it
+-- each object's later versions are those that the entries up to a position give it
 pub record AreListed (ps : Placed) (entries : Suffixed) (listed : ℕ) : Type 0 where
   pub from : entries.base ≤ listed
   pub to : listed ≤ length_of entries
   pub later : (key : List ℕ) → later_of ps key ≡ written_after entries.base (take (listed - entries.base) entries.entries) key
 
--- of each object the versions are gone that the entries up to the newer base give it
+-- from each object's later versions those are dropped that the entries up to the new base give it
 abbrev pub LaterAreSettled : Placed → Suffixed → Placed → Suffixed → Type 0
 LaterAreSettled ps old qs new = (key : List ℕ) → later_of qs key ≡ drop (length (values_after (take (new.base - old.base) old.entries) key)) (later_of ps key)
 
--- this version and value are written there, in an entry that so many stand before
+-- this version and value are written there, in an entry after `earlier` others
 pub record Gives (s : Suffixed) (at : WriteRef) (value : ℕ × List ℕ) : Type 0 where
   pub earlier : ℕ
   pub entry : Entry
@@ -48,7 +48,7 @@ abbrev pub StandsThere : Suffixed → ℕ → Place → ℕ × List ℕ → Type
 StandsThere s version (Settled bytes) value = (version, bytes) ≡ value
 StandsThere s version (Written at) value = (version ≡ value.0) × Gives s at value
 
--- this version and value are those whose value stands there
+-- this version has this value at its location
 abbrev pub Stands : Suffixed → ℕ × Place → ℕ × List ℕ → Type 0
 Stands s v value = StandsThere s v.0 v.1 value
 
@@ -56,6 +56,6 @@ abbrev pub GivenThere : Suffixed → ℕ → Place → ℕ × List ℕ → Type 
 GivenThere s version (Settled bytes) value = ⊥
 GivenThere s version (Written at) value = (version ≡ value.0) × Gives s at value
 
--- an entry gives this version and value, and the value stands there
+-- an entry gives this version and value, at this location
 abbrev pub IsGiven : Suffixed → ℕ × Place → ℕ × List ℕ → Type 0
 IsGiven s v value = GivenThere s v.0 v.1 value

@@ -1,4 +1,4 @@
--- Objects by key, each with its versions, and where their values stand.
+-- Objects by key, each with its versions and the locations of their values.
 use Rattle.std.specs.Prelude.{◌≡◌, ◌⊎◌, ℕ, ◌-◌, Bool, true, false, T, List, [], ◌∷◌, Option, None, Some, drop, length, take, unwrap_or}
 use Rattle.std.specs.FinMap.Entries.{is_sorted}
 use Rattle.craq_names.specs.Maps.{key_cmp}
@@ -13,16 +13,16 @@ use Rattle.craq_versions.specs.Versions.{newest_of, IsNext}
 use Rattle.craq_settled.specs.declared.places.Place.{Place}
 use Rattle.craq_settled.specs.declared.places.Place.TheVariants.{Settled, Written}
 
--- versions by rising key
+-- versions, sorted by key
 abbrev pub Placed : Type 0
 Placed = Table Place
 
--- a version and its value, where it is settled
+-- a version and its value, if it is settled
 abbrev pub settled_there : ℕ → Place → Option (ℕ × List ℕ)
 settled_there version (Settled value) = Some (version, value)
 settled_there version (Written at) = None
 
--- the settled version and its value: the first may be settled
+-- the settled version and its value: only the first may be settled
 abbrev pub settled_in : List (ℕ × Place) → Option (ℕ × List ℕ)
 settled_in [] = None
 settled_in (v ∷ vs) = settled_there v.0 v.1
@@ -43,7 +43,7 @@ has_some (v ∷ vs) = true
 abbrev pub shown : Held Place → Option (ℕ × List ℕ)
 shown h = settled_in h.versions
 
--- the objects whose settled versions stand in the table
+-- the objects of the settled versions
 abbrev pub objects_of : Placed → Objects
 objects_of t = filled shown t.objects
 
@@ -51,7 +51,7 @@ objects_of t = filled shown t.objects
 abbrev pub state_at : Objects → List (ℕ × Window) → State
 state_at objects kept = record { objects = objects; kept = kept }
 
--- the settled version, 0 where none is settled
+-- the settled version, 0 if none is settled
 abbrev pub settled_version : List (ℕ × Place) → ℕ
 settled_version vs = (unwrap_or (settled_in vs) (0, [])).0
 
@@ -59,7 +59,7 @@ settled_version vs = (unwrap_or (settled_in vs) (0, [])).0
 abbrev pub versions_of : Placed → List ℕ → List (ℕ × Place)
 versions_of t key = (held_at t key).versions
 
--- those after the settled one
+-- the versions of an object after the settled one
 abbrev pub later_of : Placed → List ℕ → List (ℕ × Place)
 later_of t key = later_in (versions_of t key)
 
@@ -67,40 +67,41 @@ abbrev pub number_of : Option (ℕ × Place) → ℕ
 number_of None = 0
 number_of (Some v) = v.0
 
--- the newest of some versions, 0 where there is none
+-- the newest version, 0 if there is none
 abbrev pub newest_version : List (ℕ × Place) → ℕ
 newest_version vs = number_of (newest_of vs)
 
--- the first of some versions is this one
+-- the first version is this one
 abbrev pub StartsAt : ℕ → List (ℕ × Place) → Type 0
 StartsAt version [] = ⊥
 StartsAt version (v ∷ vs) = v.0 ≡ version
 
--- the version can be settled: it is the oldest of the later ones or, where there are none, comes after the settled one
+-- the version can be settled: it is the oldest later one or, without later ones, the next after the
+-- settled one
 abbrev pub SettlesNext : List (ℕ × Place) → ℕ → Type 0
 SettlesNext vs version = StartsAt version (later_in vs) ⊎ ((later_in vs ≡ []) × IsNext version (newest_of vs))
 
--- each key stands once, and in order
+-- the keys are strictly increasing
 abbrev pub IsRising : Placed → Type 0
 IsRising t = T (is_sorted key_cmp t.objects)
 
--- each key stands once, and in order, and of each object the settled version is the clean one
+-- the keys are strictly increasing, and each object's settled version is the clean one
 pub record IsPlaced (t : Placed) : Type 0 where
   pub rising : IsRising t
   pub clean : (key : List ℕ) → (held_at t key).clean ≡ settled_version (versions_of t key)
 
--- each object has the later versions that it had
+-- each object keeps its later versions
 abbrev pub KeepsLater : Placed → Placed → Type 0
 KeepsLater t u = (key : List ℕ) → later_of u key ≡ later_of t key
 
--- how many versions writes give an object
+-- the number of versions that writes give an object
 abbrev pub count_of : List Write → List ℕ → ℕ
 count_of ws key = length (values_in ws key)
 
--- of each object the oldest of its later versions are gone, as many as these writes give it
+-- from each object's later versions, as many of the oldest are dropped as these writes give it
 abbrev pub LaterWithout : List Write → Placed → Placed → Type 0
 LaterWithout ws t u = (key : List ℕ) → later_of u key ≡ drop (count_of ws key) (later_of t key)
 
--- the newest of them are gone
+-- from each object's later versions, as many of the newest are dropped as these writes give it
 abbrev pub LaterTakenBack : List Write → Placed → Placed → Type 0
 LaterTakenBack ws t u = (key : List ℕ) → later_of u key ≡ take (length (later_of t key) - count_of ws key) (later_of t key)

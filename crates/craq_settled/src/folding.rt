@@ -1,4 +1,4 @@
-//! Folds entries into objects and kept replies; called by `held`.
+//! Applies entries to objects and kept replies. `held` calls this.
 ghost use Rattle.std.specs.Prelude.{◌≡◌, ◌↔◌, ℕ, ◌+◌, ◌-◌, ◌<◌, ◌≤◌, List, [], ◌∷◌, IsOk, IsTrue, OnOk, OnErr, length, max, take};
 ghost use Rattle.std.specs.List.{AllByRecursion};
 ghost use Rattle.craq_commands.specs.declared.entry.Entry.{Entry};
@@ -24,8 +24,8 @@ use craq_replies::ReplyTable;
 use craq_versions::ObjectTable;
 use std::alloc::{AllocError, Global};
 
-/// Settles what is written of objects, whose next versions these are, in order. Their values are moved, and it takes no
-/// memory.
+/// Settles these writes, whose versions are their objects' next, in order. Moves their values and
+/// allocates nothing.
 fn settle_objects(table: &mut ObjectTable<Place>, writes: Items<Write>)
     requires placed { IsPlaced table.old }
     requires ready { (q : List ℕ) → CanFold (values_in writes q) (versions_of table.old q) }
@@ -43,7 +43,8 @@ fn settle_objects(table: &mut ObjectTable<Place>, writes: Items<Write>)
     }
 }
 
-/// Folds an entry of which there is room for the versions and for the reply: its values are moved. It takes no memory.
+/// Applies an entry for which there is room for the versions and the reply. Moves its values and
+/// allocates nothing.
 fn fold_one(table: &mut ObjectTable<Place>, replies: &mut ReplyTable, entry: Entry)
     requires placed { IsPlaced table.old }
     requires ready { (q : List ℕ) → CanFold (values_in entry.writes q) (versions_of table.old q) }
@@ -64,7 +65,7 @@ fn fold_one(table: &mut ObjectTable<Place>, replies: &mut ReplyTable, entry: Ent
     replies.keep(client, number, reply).unwrap();
 }
 
-/// The first of some entries.
+/// Returns the first of some entries.
 fn first_of(entries: &Suffix) -> &Entry
     requires { 1 ≤ length entries.now.entries }
     ensures { take 1 entries.now.entries ≡ result.now ∷ [] }
@@ -72,7 +73,8 @@ fn first_of(entries: &Suffix) -> &Entry
     &entries.from(entries.base())[0]
 }
 
-/// Whether each write is of an object that was there before: its version is not the first.
+/// Returns true exactly if each write is of an object that existed before: its version is not the
+/// first.
 fn are_rewrites(writes: &[Write]) -> bool
     ensures { IsTrue result ↔ AllByRecursion (λ (w : Write). 2 ≤ w.version) writes.now }
 {
@@ -84,9 +86,9 @@ fn are_rewrites(writes: &[Write]) -> bool
     true
 }
 
-/// Makes sure that the first of some entries can be folded without memory: there is room for its reply, and it is listed
-/// or writes objects that have versions. If memory is refused, what is seen stays as it was; it is refused only where one of
-/// the two did not hold before.
+/// Ensures that the first entry can be applied without allocation: there is room for its reply, and
+/// it is indexed or writes only objects that have versions. Fails only when out of memory, and only
+/// if one of the two did not hold before; the visible content is unchanged in either case.
 fn make_room(
     table: &mut ObjectTable<Place>,
     replies: &mut ReplyTable,
@@ -118,7 +120,7 @@ fn make_room(
     list_next(table, entries, listed)
 }
 
-/// The later of two positions.
+/// Returns the later of two positions.
 fn later(position: Seq, other: Seq) -> Seq
     ensures { result ≡ max position other }
 {
@@ -129,8 +131,9 @@ fn later(position: Seq, other: Seq) -> Seq
     }
 }
 
-/// Folds the first of some entries, and takes it out. If memory is refused, the entries stay as they were; it is refused only
-/// where there is no room for its reply, or where it is not listed and writes an object that has no versions.
+/// Applies the first entry and removes it. Fails only when out of memory, and only if there is no
+/// room for its reply, or it is not indexed and writes an object that has no versions; the entries
+/// are unchanged on error.
 fn fold_first(
     alloc: Global,
     table: &mut ObjectTable<Place>,
@@ -160,9 +163,10 @@ fn fold_first(
     Ok(())
 }
 
-/// Folds entries in order, up to a position, and takes them out. It stops at the first growth that is refused: the entries
-/// from that one on stay, and the next call begins with it. None is refused where each client has one of them at most, with
-/// room for its reply, and each is listed or writes objects that have versions.
+/// Applies entries in order, up to a position, and removes them. Stops at the first failed
+/// allocation: that entry and those after it stay, and the next call begins with it. Does not fail
+/// if each client has at most one of them, with room for its reply, and each is indexed or writes
+/// only objects that have versions.
 pub fn fold(
     alloc: Global,
     table: &mut ObjectTable<Place>,

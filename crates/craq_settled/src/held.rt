@@ -1,4 +1,5 @@
-//! `HeldPast`, what a past that forgets holds. `craq_list` calls it, and else only tests do.
+//! `HeldPast`: the storage behind the compacting history. `craq_list` calls it, and otherwise only
+//! tests do.
 ghost use Rattle.std.specs.Prelude.{◌≡◌, ◌+◌, ◌-◌, ◌<◌, ◌≤◌, ◌^◌, ◌++◌, T, ℕ, List, [], IfOk, OnOk, OnErr, drop, length, max, nat_le, take, if◌then◌else◌};
 ghost use Rattle.std.specs.List.{AllByRecursion};
 ghost use Rattle.std.specs.Ordering.{nat_cmp};
@@ -26,9 +27,10 @@ use craq_versions::ObjectTable;
 use std::alloc::{AllocError, Global};
 use std::marker::Model;
 
-/// What is held of a past: the state after its first entries, whose objects are found by key and whose kept replies by
-/// client, in a time that grows with the logarithm of how many there are; and the entries after them. The versions of an
-/// object say where the entries up to some position write it; those after that position are looked through.
+/// The storage of a compacted past: the state after its first entries, and the entries after them.
+/// Objects are found by key and kept replies by client, in logarithmic time. An object's versions
+/// say which of the entries up to some position write it; the entries after that position are
+/// scanned.
 #[derive(Drop)]
 pub struct HeldPast {
     table: ObjectTable<Place>,
@@ -51,7 +53,7 @@ impl Model for HeldPast {
     ghost invariant = { λ h. IsPlaced h.table × AreListed h.table h.entries h.listed × AreNextVersions (state_at (objects_of h.table) h.replies.kept) h.entries.entries };
 }
 
-/// The kept replies, which come by rising client, moved into a table.
+/// Moves the kept replies, sorted by client, into a table. Fails only when out of memory.
 fn replies_placed(alloc: Global, kept: Items<(ClientId, Window)>) -> Result<ReplyTable, AllocError>
     requires rising { T (is_sorted nat_cmp kept) }
     requires some { AllByRecursion (λ (k : ℕ × Window). 1 ≤ length k.1) kept }
@@ -65,7 +67,7 @@ fn replies_placed(alloc: Global, kept: Items<(ClientId, Window)>) -> Result<Repl
 }
 
 impl HeldPast {
-    /// Nothing yet. It takes no memory.
+    /// Returns the empty past. Allocates nothing.
     pub fn new(alloc: Global) -> Self
         ensures base { result.base ≡ 0 }
         ensures state { result.state ≡ opening_state }
@@ -80,8 +82,9 @@ impl HeldPast {
         }
     }
 
-    /// A state after so many entries, and no entries after it. Its keys rise, and their versions are from 1 on; its clients
-    /// rise and have replies each. It is moved into maps.
+    /// Makes the past of a state after this many entries, without entries after it. The state's
+    /// keys are strictly increasing, with versions from 1 on; its clients are strictly increasing
+    /// and have replies. The state is moved into maps. Fails only when out of memory.
     pub fn of(alloc: Global, base: Seq, state: State) -> Result<Self, AllocError>
         requires keys { T (is_sorted key_cmp state.objects) }
         requires versions { AllByRecursion (λ (o : List ℕ × (ℕ × List ℕ)). 1 ≤ o.1.0) state.objects }
@@ -101,21 +104,21 @@ impl HeldPast {
         })
     }
 
-    /// How many entries are folded into the state.
+    /// Returns the number of entries that are applied to the state.
     pub fn base(&self) -> Seq
         ensures { result ≡ self.now.base }
     {
         self.entries.base()
     }
 
-    /// How many entries the past has.
+    /// Returns the number of entries of the past.
     pub fn len(&self) -> Seq
         ensures { result ≡ length_of self.now }
     {
         self.entries.len()
     }
 
-    /// The entries after a position, one after another. It takes no memory.
+    /// Returns the entries after a position, in order. Allocates nothing.
     pub fn from(&self, position: Seq) -> &[Entry]
         requires held { self.now.base ≤ position }
         requires known { position ≤ length_of self.now }
@@ -125,8 +128,8 @@ impl HeldPast {
         self.entries.from(position)
     }
 
-    /// The version and value of an object after the entries that are folded; version 0 and no bytes where it is absent. It
-    /// takes no memory.
+    /// Returns an object's version and value after the applied entries; version 0 and no bytes if
+    /// it is absent. Allocates nothing.
     pub fn settled(&self, key: &Key) -> (Version, &[u8])
         ensures object { (result.0, result.1.now) ≡ object_of self.now.state.objects key.now }
         ensures short { length result.1.now ≤ 4096 }
@@ -134,7 +137,7 @@ impl HeldPast {
         object_in(&self.table, key)
     }
 
-    /// The newest version and value of an object: those after all entries. It takes no memory.
+    /// Returns an object's newest version and value: those after all entries. Allocates nothing.
     pub fn newest(&self, key: &Key) -> (Version, &[u8])
         ensures object { (result.0, result.1.now) ≡ object_of (after_entries self.now.state self.now.entries).objects key.now }
         ensures short { length result.1.now ≤ 4096 }
@@ -142,8 +145,9 @@ impl HeldPast {
         self.seen(key).newest
     }
 
-    /// The settled version of an object, after the entries that are folded, and its newest one, after all entries, each with
-    /// its value; version 0 and no bytes where it is absent. The object is looked up once. It takes no memory.
+    /// Returns an object's settled version, after the applied entries, and its newest one, after
+    /// all entries, with their values; version 0 and no bytes if it is absent. Looks the object up
+    /// once. Allocates nothing.
     #[tactic(auto, using(craq_plain::proofs::Scans::last_of_values))]
     pub fn seen(&self, key: &Key) -> Seen<'_>
         ensures settled { (result.settled.0, result.settled.1.now) ≡ object_of self.now.state.objects key.now }
@@ -154,8 +158,8 @@ impl HeldPast {
         seen_in(&self.table, &self.entries, self.listed, key)
     }
 
-    /// The newest version of an object, from the settled one on, that is at most so many above a version (a sum above
-    /// 2^64 - 1 bounds nothing). It takes no memory.
+    /// Returns an object's newest version, from the settled one on, that is at most `version +
+    /// above`. A sum above 2^64 - 1 does not limit it. Allocates nothing.
     pub fn within(&self, key: &Key, version: u64, above: u64) -> (Version, &[u8])
         ensures object { (result.0, result.1.now) ≡ newest_within (version + above) (object_of self.now.state.objects key.now) (values_after self.now.entries key.now) }
         ensures short { length result.1.now ≤ 4096 }
@@ -163,8 +167,8 @@ impl HeldPast {
         within_in(&self.table, &self.entries, self.listed, key, version, above)
     }
 
-    /// What is kept for a client after the entries that are folded, by rising number: 8 replies at most. It takes no
-    /// memory.
+    /// Returns the client's retained replies after the applied entries, sorted by number: at most
+    /// 8. Allocates nothing.
     #[tactic(auto, unfolding(craq_commands::specs::SingleCopy::window_of))]
     pub fn window(&self, client: ClientId) -> &[Kept]
         ensures window { result.now ≡ window_of self.now.state client }
@@ -173,10 +177,11 @@ impl HeldPast {
         self.replies.window(client)
     }
 
-    /// More entries, at the positions that come next, which write the next versions of their objects. Where memory is
-    /// refused for them the past stays. Where it is refused for the lists of the objects that they write, the next call
-    /// lists them; what is seen is the same. Where there is room in these lists, of more than 64 entries all but the last 4 are
-    /// listed then.
+    /// Appends entries at the next positions, which write the next versions of their objects. Fails
+    /// only when out of memory; the past is unchanged on error. If only the index cannot be
+    /// extended, the call succeeds and the next one extends it, without any visible difference. If
+    /// there is room in the index and more than 64 entries are held, all but the last 4 are
+    /// indexed.
     pub fn append(&mut self, entries: Items<Entry>) -> Result<(), AllocError>
         requires fits { length_of self.old + length entries < 2 ^ 64 }
         requires in_row { AreInRow (length_of self.old + 1) entries }
@@ -193,9 +198,9 @@ impl HeldPast {
         Ok(())
     }
 
-    /// Folds the entries up to a position into the state, in order: the state is then that after them, and none of them is
-    /// held. Their values are moved. It stops at the first growth that is refused: the entries before that one are folded,
-    /// the others are held as they were, and the next call begins with it.
+    /// Applies the entries up to a position to the state, in order, and drops them. Moves their
+    /// values. Stops at the first failed allocation: the entries before it are applied, the others
+    /// are held as they were, and the next call begins with it.
     pub fn fold(&mut self, position: Seq) -> Result<(), AllocError>
         requires from { self.old.base ≤ position }
         requires to { position ≤ length_of self.old }
@@ -216,7 +221,7 @@ impl HeldPast {
         )
     }
 
-    /// The state after the entries that are folded, as a value of its own.
+    /// Returns a copy of the state after the applied entries. Fails only when out of memory.
     pub fn copied(&self, alloc: Global) -> Result<State, AllocError>
         ensures { IfOk result (λ s. s ≡ self.now.state) }
     {

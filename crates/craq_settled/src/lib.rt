@@ -1,5 +1,5 @@
-//! What a node holds of the past that it does not forget: the state after the entries that it has folded, in maps,
-//! the entries after them, and where these write each object; called by `craq_list`. Code that runs in the program.
+//! The storage of a compacting past: a state in maps, the entries after it, an index of writes.
+//! Runs in the program; `craq_list` calls it.
 #![tactic(auto)]
 
 mod folding;

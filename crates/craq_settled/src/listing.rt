@@ -1,4 +1,4 @@
-//! Says in the table where entries write objects; called by `held` and `folding`.
+//! Indexes the entries' writes in the table. `held` and `folding` call this.
 ghost use Rattle.std.specs.Prelude.{◌≡◌, ℕ, ◌+◌, ◌-◌, ◌<◌, ◌≤◌, List, [], ◌∷◌, ◌++◌, IsOk, OnOk, OnErr, if◌then◌else◌, length, nat_le, drop, max, take};
 ghost use Rattle.craq_names.specs.Maps.{same_bytes};
 ghost use Rattle.craq_model.specs.Past.{values_in, values_after};
@@ -19,14 +19,16 @@ use craq_names::{Key, Seq, Version};
 use craq_versions::ObjectTable;
 use std::alloc::AllocError;
 
-/// Of so many entries or fewer none needs to be listed: most of them are folded before that pays.
+/// Up to this many entries, none is indexed: most are applied before that pays.
 pub const FEW_ENTRIES: usize = 64;
 
-/// Of more entries at most so many are not listed, while memory is there: a look at so few costs less than a look-up.
+/// Of more entries, at most this many stay unindexed while memory suffices: a scan of so few costs
+/// less than a look-up.
 pub const MOST_UNLISTED: u64 = 4;
 
-/// One more version of an object, the next, which is written there. It looks the object up once, or twice where it is new.
-/// If memory is refused, the versions stay as they were; it is refused only where there is no room.
+/// Appends an object's next version, which is written there. Looks the object up once, or twice if
+/// it is new. Fails only when out of memory, and only if no room is reserved; the versions are
+/// unchanged on error.
 fn push_version(
     table: &mut ObjectTable<Place>,
     key: &Key,
@@ -46,7 +48,7 @@ fn push_version(
     table.push(key, version, Place::Written(at))
 }
 
-/// Whether an object has versions after the settled one.
+/// Returns true exactly if an object has versions after the settled one.
 fn has_later_in(table: &ObjectTable<Place>, key: &Key) -> bool
     ensures { result ≡ has_some (later_of table.now key.now) }
 {
@@ -56,7 +58,7 @@ fn has_later_in(table: &ObjectTable<Place>, key: &Key) -> bool
     }
 }
 
-/// Takes the newest of the later versions of an object back.
+/// Removes an object's newest later version.
 fn pop_version(table: &mut ObjectTable<Place>, key: &Key)
     requires { IsPlaced table.old }
     ensures objects { objects_of table.new ≡ objects_of table.old }
@@ -68,7 +70,7 @@ fn pop_version(table: &mut ObjectTable<Place>, key: &Key)
     }
 }
 
-/// Takes back as many of the later versions of each object as these writes give it.
+/// Removes as many of each object's later versions as these writes give it.
 fn unlist(table: &mut ObjectTable<Place>, writes: &[Write])
     requires { IsPlaced table.old }
     ensures objects { objects_of table.new ≡ objects_of table.old }
@@ -80,8 +82,8 @@ fn unlist(table: &mut ObjectTable<Place>, writes: &[Write])
     }
 }
 
-/// Says in the table where an entry writes each object, of which it writes the next version. If memory is refused, the
-/// versions stay as they were; it is refused only where there is no room for them.
+/// Indexes an entry's writes, each of its object's next version. Fails only when out of memory, and
+/// only if no room is reserved for them; the versions are unchanged on error.
 pub fn list_writes(
     table: &mut ObjectTable<Place>,
     position: Seq,
@@ -107,8 +109,9 @@ pub fn list_writes(
     Ok(())
 }
 
-/// Says in the table where the next entry writes each object, and keeps the position up to which all entries are listed.
-/// If memory is refused, the versions stay as they were; it is refused only where there is no room for them.
+/// Indexes the writes of the next entry, and advances the position up to which all entries are
+/// indexed. Fails only when out of memory, and only if no room is reserved; the versions are
+/// unchanged on error.
 pub fn list_next(
     table: &mut ObjectTable<Place>,
     entries: &Suffix,
@@ -132,7 +135,8 @@ pub fn list_next(
     Ok(())
 }
 
-/// Up to which position entries are to be listed: none of few, and of more all but the last few.
+/// Returns the position up to which entries are to be indexed: none if there are few, else all but
+/// the last few.
 fn most_listed(entries: &Suffix) -> u64
     ensures { result ≡ (if nat_le (length entries.now.entries) FEW_ENTRIES then entries.now.base else length_of entries.now - MOST_UNLISTED) }
 {
@@ -144,9 +148,9 @@ fn most_listed(entries: &Suffix) -> u64
     }
 }
 
-/// Says in the table where entries write each object: of more than few entries, all but the last few. It stops at the first growth
-/// that is refused: the entries before that one are listed, and the next call begins with it. Where there is room for all versions
-/// none is refused. It keeps the position up to which all are listed.
+/// Indexes the entries' writes: all but the last few if there are more than few. Stops at the first
+/// failed allocation: the entries before it are indexed, and the next call begins with it. Does not
+/// fail if there is room for all versions. Keeps the position up to which all entries are indexed.
 pub fn list_entries(
     table: &mut ObjectTable<Place>,
     entries: &Suffix,

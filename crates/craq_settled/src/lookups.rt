@@ -1,4 +1,5 @@
-//! What stands for an object, by its versions and by the entries that are not listed; called by `held`.
+//! Look-ups of an object in its versions and in the entries that are not indexed. `held` calls
+//! this.
 ghost use Rattle.std.specs.Prelude.{◌≡◌, ℕ, ◌+◌, ◌-◌, ◌≤◌, List, [], IfSome, drop, length, take, unwrap_or};
 ghost use Rattle.std.specs.Option.{option_map};
 ghost use Rattle.std.specs.List.{AllZip};
@@ -19,7 +20,7 @@ use craq_names::{Key, Seq, Version};
 use craq_plain::lookups::object_up_to;
 use craq_versions::{ObjectTable, VersionList};
 
-/// The version and value that are written there.
+/// Returns the version and value written there.
 fn written<'a>(entries: &'a Suffix, at: &WriteRef) -> (Version, &'a [u8])
     requires { (given : ℕ × List ℕ) × Gives entries.now at.now given }
     ensures object { (given : ℕ × List ℕ) → Gives entries.now at.now given → (result.0, result.1.now) ≡ given }
@@ -31,7 +32,7 @@ fn written<'a>(entries: &'a Suffix, at: &WriteRef) -> (Version, &'a [u8])
     (write.version, write.value.as_slice())
 }
 
-/// A version and its value, which stands there.
+/// Returns a version with its value, which stands there.
 fn value_at<'a>(entries: &'a Suffix, version: Version, place: &'a Place) -> (Version, &'a [u8])
     requires { (given : ℕ × List ℕ) × Stands entries.now (version, place.now) given }
     ensures object { (given : ℕ × List ℕ) → Stands entries.now (version, place.now) given → (result.0, result.1.now) ≡ given }
@@ -43,26 +44,28 @@ fn value_at<'a>(entries: &'a Suffix, version: Version, place: &'a Place) -> (Ver
     }
 }
 
-/// The newest of some versions, with its value; version 0 and no bytes where there is none.
+/// Returns the newest version with its value; version 0 and no bytes if there is none.
 fn newest_of<'a>(entries: &'a Suffix, list: &'a VersionList<Place>) -> (Version, &'a [u8])
     requires { (values : List (ℕ × List ℕ)) × AllZip (IsGiven entries.now) (later_in list.now.versions) values }
     ensures object { (values : List (ℕ × List ℕ)) → AllZip (IsGiven entries.now) (later_in list.now.versions) values → (result.0, result.1.now) ≡ last_value (unwrap_or (settled_in list.now.versions) (0, [])) values }
     ensures short { length result.1.now ≤ 4096 }
 {
-    match list.newest() {
+    match list.last() {
         None => (Version::new(0), &[]),
         Some(found) => value_at(entries, found.0, found.1),
     }
 }
 
-/// The settled version of an object and its newest one, each with its value; version 0 and no bytes where there is none.
+/// An object's settled and newest version, with their values; version 0 and no bytes if there is
+/// none.
 #[derive(Clone, Copy)]
 pub struct Seen<'a> {
     pub settled: (Version, &'a [u8]),
     pub newest: (Version, &'a [u8]),
 }
 
-/// What is seen of an object after the listed entries. It looks the object up once.
+/// Returns an object's settled and newest version after the indexed entries. Looks the object up
+/// once.
 fn seen_listed<'a>(
     table: &'a ObjectTable<Place>,
     entries: &'a Suffix,
@@ -88,14 +91,15 @@ fn seen_listed<'a>(
     }
 }
 
-/// Whether two keys have the same bytes. Their order tells it by words of 8 bytes, which costs less than `==`.
+/// Returns true exactly if two keys have the same bytes. Compares words of 8 bytes, which costs
+/// less than `==`.
 fn are_same(key: &Key, other: &Key) -> bool
     ensures { result ≡ same_bytes key.now other.now }
 {
     key.cmp(other).is_eq()
 }
 
-/// The version and value that the last of the writes of an object gives it, where there is one.
+/// Returns the version and value of the last of these writes to an object, `None` if there is none.
 fn last_written<'a>(writes: &'a [Write], key: &Key) -> Option<(Version, &'a [u8])>
     ensures object { option_map (λ found. (found.0, found.1.now)) result ≡ newest_of (values_in writes.now key.now) }
     ensures short { IfSome result (λ found. length found.1.now ≤ 4096) }
@@ -109,7 +113,8 @@ fn last_written<'a>(writes: &'a [Write], key: &Key) -> Option<(Version, &'a [u8]
     None
 }
 
-/// The newest version that entries give an object, with its value, where one of them does. It looks at the newest first.
+/// Returns the newest version and value that these entries give an object, `None` if there is none.
+/// Scans the newest first.
 fn newest_past<'a>(entries: &'a [Entry], key: &Key) -> Option<(Version, &'a [u8])>
     ensures object { option_map (λ found. (found.0, found.1.now)) result ≡ newest_of (values_after entries.now key.now) }
     ensures short { IfSome result (λ found. length found.1.now ≤ 4096) }
@@ -123,8 +128,8 @@ fn newest_past<'a>(entries: &'a [Entry], key: &Key) -> Option<(Version, &'a [u8]
     None
 }
 
-/// What is seen of an object after all entries. It looks at the entries that are not listed, then looks the object up once,
-/// and takes no memory.
+/// Returns an object's settled and newest version after all entries. Scans the entries that are not
+/// indexed, then looks the object up once. Allocates nothing.
 pub fn seen_in<'a>(
     table: &'a ObjectTable<Place>,
     entries: &'a Suffix,
@@ -147,8 +152,8 @@ pub fn seen_in<'a>(
     }
 }
 
-/// The newest of some versions and of those in the entries that are not listed, from the settled one on, that is at most so
-/// many above a version, with its value.
+/// Returns the newest version that is at most the bound, with its value, from the settled one on:
+/// among these versions and those in the entries that are not indexed.
 fn within_list<'a>(
     list: &'a VersionList<Place>,
     entries: &'a Suffix,
@@ -179,8 +184,8 @@ fn within_list<'a>(
     object_up_to(last, bytes, entries.from(listed), key, version, above)
 }
 
-/// The newest version and value of an object, from the settled ones on, that is at most so many above a version (a sum
-/// above 2^64 - 1 bounds nothing). It takes no memory.
+/// Returns an object's newest version, from the settled one on, that is at most `version + above`,
+/// with its value. A sum above 2^64 - 1 does not limit it. Allocates nothing.
 pub fn within_in<'a>(
     table: &'a ObjectTable<Place>,
     entries: &'a Suffix,

@@ -1,4 +1,4 @@
-//! Objects by key, each with its versions; called by `held` and `folding`.
+//! Objects by key, each with its versions. `held` and `folding` call this.
 ghost use Rattle.std.specs.Prelude.{◌≡◌, ◌≤◌, ℕ, List, [], T, IfOk, OnOk, drop, if◌then◌else◌, length};
 ghost use Rattle.std.specs.List.{AllByRecursion};
 ghost use Rattle.std.specs.FinMap.Entries.{is_sorted};
@@ -13,7 +13,8 @@ use craq_names::{Copied, Items, Key, Value, Version};
 use craq_versions::ObjectTable;
 use std::alloc::{AllocError, Global};
 
-/// The settled version and value of an object; version 0 and no bytes where it is absent. It takes no memory.
+/// Returns an object's settled version and value; version 0 and no bytes if it is absent. Allocates
+/// nothing.
 pub fn object_in<'a>(table: &'a ObjectTable<Place>, key: &Key) -> (Version, &'a [u8])
     requires { IsPlaced table.now }
     ensures object { (result.0, result.1.now) ≡ object_of (objects_of table.now) key.now }
@@ -25,8 +26,8 @@ pub fn object_in<'a>(table: &'a ObjectTable<Place>, key: &Key) -> (Version, &'a 
     }
 }
 
-/// Settles the next version of an object, the oldest of its later ones where there are some; its value is moved here. It
-/// looks the object up once, and takes no memory.
+/// Settles an object's next version: the oldest of its later ones, if there are some. The value is
+/// moved here. Looks the object up once. Allocates nothing.
 pub fn settle_object(table: &mut ObjectTable<Place>, key: &Key, version: Version, value: Value)
     requires placed { IsPlaced table.old }
     requires next { SettlesNext (versions_of table.old key.now) version }
@@ -38,7 +39,8 @@ pub fn settle_object(table: &mut ObjectTable<Place>, key: &Key, version: Version
     table.settle_as(key, version, Place::Settled(value));
 }
 
-/// Puts in an object of one version, which is settled, in place of the versions that the key has.
+/// Inserts an object of one settled version, replacing the key's versions. Fails only when out of
+/// memory.
 fn put_object(
     table: &mut ObjectTable<Place>,
     key: Key,
@@ -54,7 +56,7 @@ fn put_object(
     table.put_clean(key, version, Place::Settled(value))
 }
 
-/// Copies of the objects, by rising key.
+/// Copies the objects, sorted by key. Fails only when out of memory.
 pub fn objects_copied(
     alloc: Global,
     table: &ObjectTable<Place>,
@@ -70,7 +72,7 @@ pub fn objects_copied(
     Ok(Items::of(objects))
 }
 
-/// The objects, which come by rising key, moved into a table.
+/// Moves the objects, sorted by key, into a table. Fails only when out of memory.
 pub fn objects_placed(
     alloc: Global,
     objects: Items<(Key, (Version, Value))>,

@@ -1,4 +1,4 @@
-//! Where the value of a version stands; called by `lookups`, `listing` and `objects`.
+//! The location of a version's value. `lookups`, `listing` and `objects` call this.
 ghost use Rattle.std.specs.Prelude.{◌≡◌, ◌≤◌, [], length, unwrap_or, if◌then◌else◌};
 ghost use Rattle.std.specs.Option.{option_map};
 ghost use Rattle.craq_settled.specs.Placed.{has_some, later_in, settled_in};
@@ -6,23 +6,24 @@ ghost use Rattle.craq_settled.specs.Placed.{has_some, later_in, settled_in};
 use craq_names::{Seq, Value, Version};
 use craq_versions::VersionList;
 
-/// Which write of which entry: the position of the entry, and the index of the write among the entry's writes, from 0.
+/// A reference to a write: the position of its entry, and its index among the entry's writes, from
+/// 0.
 #[derive(Clone, Copy, Debug, Drop)]
 pub struct WriteRef {
     pub position: Seq,
     pub index: usize,
 }
 
-/// Where the value of a version stands: the settled version of an object has it here, a later one in the entry that writes
-/// it, and nowhere else. A later version is dirty until its entry is known to be committed (clean and dirty versions as in
-/// the USENIX ATC 2009 paper).
+/// The location of a version's value. The settled version has it here; a later version has it in
+/// the entry that writes it, and nowhere else. A later version is dirty until its entry is known to
+/// be committed (clean and dirty versions as in the USENIX ATC 2009 paper).
 #[derive(Drop)]
 pub enum Place {
     Settled(Value),
     Written(WriteRef),
 }
 
-/// The settled version and its value, where there is one.
+/// Returns the settled version and its value, `None` if there is none.
 pub fn settled_of(list: &VersionList<Place>) -> Option<(Version, &Value)>
     ensures { option_map (λ found. (found.0, found.1.now)) result ≡ settled_in list.now.versions }
 {
@@ -35,7 +36,7 @@ pub fn settled_of(list: &VersionList<Place>) -> Option<(Version, &Value)>
     }
 }
 
-/// The settled version and its value; version 0 and no bytes where there is none.
+/// Returns the settled version and its value; version 0 and no bytes if there is none.
 pub fn settled_object(list: &VersionList<Place>) -> (Version, &[u8])
     ensures object { (result.0, result.1.now) ≡ unwrap_or (settled_in list.now.versions) (0, []) }
     ensures short { length result.1.now ≤ 4096 }
@@ -46,7 +47,7 @@ pub fn settled_object(list: &VersionList<Place>) -> (Version, &[u8])
     }
 }
 
-/// Whether there are versions after the settled one.
+/// Returns true exactly if there are versions after the settled one.
 pub fn has_later(list: &VersionList<Place>) -> bool
     ensures { result ≡ has_some (later_in list.now.versions) }
 {

@@ -1,4 +1,4 @@
--- Each answer of a node's step is owed to its ask.
+-- Each reply of a node's step has the properties that its request demands.
 use Rattle.std.proofs.Common.{◌≡◌, ⊎_elim, ℕ, ◌-◌, ◌≤◌, true, List, length, Some, ap, sym, subst, ◌∙◌, arith}
 use Rattle.std.proofs.Math.Seq.{take-length}
 use Rattle.craq_commands.specs.declared.entry.Entry.{Entry}
@@ -40,13 +40,13 @@ Questions b sender ticket key = AskedRead b sender ticket key
 abbrev pub Versions : Account → World Entry → ℕ → ℕ → ℕ → Type 0
 Versions b v receiver ticket version = ToldVersion b v receiver ticket version (length v.log)
 
--- an answer is owed by the ask that it is
+-- an answer holds for the request of its ticket
 pub owed_by : (b : Account) (v : World Entry) (position : List ℕ → ℕ) (id ticket : ℕ) (answer : Answer) (ask : Asked) (kind : Ask) → ask_with b.asks id ticket ≡ Some ask → ask.ask ≡ kind → Owed b v position id ticket ask kind answer
     → IsAnswer b v position id ticket answer
 owed_by b v position id ticket answer ask kind found is o =
     let P : Ask → Type 0 = λ k. Owed b v position id ticket ask k answer in record { ask = ask; is_ask = found; owed = subst P (sym is) o }
 
--- a due update is answered, once its place is committed at a node that holds the log
+-- a pending update is answered, once its place is committed at a node that holds the log
 update_answered : (b : Account) (v : World Entry) (position : List ℕ → ℕ) (id : ℕ) (u : WaitingUpdate) → (d : DueUpdate b v id u) → IsPrefix v.log (v.history id) → d.place.position ≤ length v.log → u.position ≤ v.acknowledged id
     → IsAnswer b v position id u.ticket (answers.Update u.reply)
 update_answered b v position id u d l le known =
@@ -61,7 +61,7 @@ update_answered b v position id u d l le known =
       is_known = d.is_newest;
     })
 
--- no ask has more before it than are committed
+-- the number committed before a request is at most the length of the log
 pub before_log : (b : Account) (v : World Entry) → Known b v → (ask : Asked) → before b ask ≤ length v.log
 before_log b v k ask =
     let l : AreLens b.chain.moves b.lens (numbers_of b.asks b.committed) = k.lens in
@@ -101,7 +101,7 @@ tail_object b v id q key h u t =
     let o : Holds b.asks v q (v.history id) = at_holds b v id q h in
     ap (λ l. object_of (after_entries opening_state l).objects key) (take-length v.log ∙ sym (at_tail b v id q h u t)) ∙ sym (ap (λ (s : State). object_of s.objects key) o.newest_is)
 
--- with no word of a tail a read stands after all that is committed
+-- without a report of a tail, a read is placed after all that is committed
 pub may_answer : (b : Account) (v : World Entry) (id : ℕ) (q : Plain) (position : List ℕ → ℕ) → At b v id q → q.running ≡ true → ((key : List ℕ) → position key ≡ length v.log)
     → MayAnswer (DueUpdate b v id) (DueRead b v id) (Answered b v position id) (Questions b) (Versions b v) q
 may_answer b v id q position h u last =

@@ -1,4 +1,4 @@
--- What a node does with an ask, in the account and the world after it.
+-- The effect of a request at a node, in the account and the world after it.
 use Rattle.std.proofs.Common.{◌≡◌, ◌⊎◌, inl, inr, ⊎_elim, ℕ, ◌+◌, ◌-◌, ◌≤◌, ◌==◌, max, Bool, true, false, ◌&&◌, List, [], ◌∷◌, ◌++◌, length, slice_index, Option, Some, None, Ok, refl, ap, sym, subst, ◌∙◌, arith}
 use Rattle.std.specs.Prelude.{⊤}
 use Rattle.std.specs.List.{AllByRecursion}
@@ -54,11 +54,11 @@ use Rattle.craq_strong_answers.proofs.Served.{IsDueAt, Served}
 use Rattle.craq_strong_answers.proofs.Answering.{Answered, Questions, Versions, owed_by, before_log, At, at_node, at_holds, at_running, may_answer}
 use Rattle.craq_strong_answers.proofs.Hearing.{holds_same}
 
--- the move that asks
+-- the move of a request
 abbrev pub asking : ℕ → Ask → Step → Taken
 asking node ask step = record { chosen = moves.Ask node ask; step = step }
 
--- ---- what the account has of a new ask
+-- ---- a new request in the account
 
 pub new_asked : (a : Account) (w : World Entry) (node : ℕ) (ask : Ask) (x : Progress) (step : Step) → Known a w → (t : TookAsk a.chain node ask x step)
     → ask_with (next_account a (asking node ask step) x).asks node (t.here.was.last_ticket + 1) ≡ Some (record { move = a.chain.moves + 1; node = node; ticket = step.ticket; ask = ask })
@@ -66,7 +66,7 @@ unfolding account_with
 new_asked a w node ask x step k t =
     new_ask_found a.chain.nodes node (a.chain.moves + 1) (t.here.was.last_ticket + 1) step.ticket ask t.here.was a.asks t.here.at (omega arith) t.ticket k.ticketed
 
--- before it stood what was committed
+-- the number committed before a new request is the length of the log
 pub before_new : (a b : Account) (w v : World Entry) (ask : Asked) → Known a w → GoesOn a b w v → ask.move ≡ a.chain.moves + 1 → before b ask ≡ length w.log
 before_new a b w v ask k g is =
     let l : AreLens a.chain.moves a.lens (numbers_of a.asks a.committed) = k.lens in
@@ -182,7 +182,7 @@ asks_update a w v node u x step position k s n g t h runs last waits =
 
 -- ---- reads
 
--- a read leaves the history
+-- a read keeps the history
 read_leaves : (p : Plain) (mode : ReadMode) (object : ObjectId) (t : Turn) → ask_turn p (asks.Read mode object) ≡ Ok t → SameHistory p t.0 × (p.ready ≡ true)
 read_leaves p mode object t does =
     let r : ReadGives (λ u. ⊤) (λ r. ⊤) (λ t a. ⊤) (λ a b c. ⊤) (λ a b c. ⊤) p t =

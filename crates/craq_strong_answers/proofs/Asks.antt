@@ -1,4 +1,4 @@
--- What a step answers and asks on, and what waits after it: asks.
+-- The replies, queries and waiting requests after a step: requests.
 use Rattle.std.proofs.Common.{◌≡◌, ℕ, ◌+◌, ◌==◌, nat_le, Bool, true, false, not, cond, ◌||◌, List, [], ◌∷◌, ◌++◌, Option, Some, None, Result, Ok, Err, refl, subst}
 use Rattle.std.proofs.lemmas.Bool.{cond_both, leb-true, not-false}
 use Rattle.craq_names.specs.Limits.{greatest}
@@ -58,7 +58,7 @@ module _ (P : WaitingUpdate → Type 0) (R : WaitingRead → Type 0) (G : ℕ �
       (λ e k. replies p w position reply sends a new ready t k m)
       h
 
-  -- what has to be known of an update that is asked
+  -- the conditions for an update that is requested
   pub record MayReply (p : Plain) (u : Update) : Type 0 where
     pub old : (reply : Reply) → said (newest p) u.client u.number ≡ Some reply → P (record { ticket = p.last_ticket + 1; position = position_of p u.client; reply = reply })
     pub new : said (newest p) u.client u.number ≡ None → P (record { ticket = p.last_ticket + 1; position = (entry_for p u).position; reply = (entry_for p u).reply })
@@ -83,13 +83,13 @@ module _ (P : WaitingUpdate → Type 0) (R : WaitingRead → Type 0) (G : ℕ �
           replies_after (with_entry p e) (like_waits P R G Q V p (with_entry p e) w refl refl refl) e.position e.reply (to_neighbour (successor p) entries)
           (told_neighbour G Q V (successor p) entries (λ to. told_sends G Q V p to (entry_bodies (e ∷ [])) (says_entry_bodies G Q V (id_of p) to (e ∷ [])))) (new.new is) ready t g.1 m
 
-  -- what has to be known of a read that is asked, by its mode
+  -- the conditions for a read that is requested, by its mode
   abbrev pub MayRead : Plain → ReadMode → List ℕ → Type 0
   MayRead p Eventual key = G (p.last_ticket + 1) (read_answer (newest_object p key))
   MayRead p (Bounded k) key = G (p.last_ticket + 1) (read_answer (object_within p key ((clean_object p key).0 + k)))
   MayRead p Strong key = (is_clean p key ≡ true → G (p.last_ticket + 1) (read_answer (newest_object p key))) × R (record { ticket = p.last_ticket + 1; key = key })
 
-  -- a read leaves the history
+  -- a read keeps the history
   pub record ReadGives (p : Plain) (t : Turn) : Type 0 where
     pub gives : Gives P R G Q V t
     pub same : SameHistory p t.0

@@ -1,4 +1,4 @@
--- What clients were told in a run, move by move.
+-- The replies to clients in a run, move by move.
 use Rattle.std.proofs.Common.{◌≡◌, ◌⊎◌, inl, inr, ℕ, suc, ◌+◌, ◌≤◌, ◌==◌, List, [], ◌∷◌, ◌++◌, map, length, slice_index, Option, Some, Ok, refl, ap, sym, subst, ◌∙◌, arith, append-nil}
 use Rattle.std.specs.List.{AllByRecursion, AllZip}
 use Rattle.std.proofs.lemmas.Bool.{cond_both}
@@ -48,7 +48,7 @@ pub record Clients (a : Account) (w : World Entry) (receivers : List ℕ) (given
   pub placed : AllZip (Explains a) (strong_of a.asks given) a.places
   pub once : (id : ℕ) → Once a.chain.nodes id given
 
--- to whom outs are sent
+-- the receivers of outputs
 sent_to : (b : Account) (v : World Entry) (position : List ℕ → ℕ) (id : ℕ) (os : List Out) → AllTold (IsAnswered b v position id) (Questions b) (Versions b v) os → receivers_in os ≡ map (λ (m : LinkMessage). m.receiver) (sent_in os)
 unfolding receivers_in sent_in
 sent_to b v position id [] a = refl
@@ -88,7 +88,7 @@ committed_grows {a} {b} {w} {v} k n later =
     let Q : List Entry → Type 0 = λ l. IsPrefix l v.log in
     subst P (sym n.committed) (subst Q (sym k.committed) later.log)
 
--- the answers of a move
+-- the replies of a move
 abbrev pub new_answers : Account → Taken → List Answered
 new_answers a t = answers_in (a.chain.moves + 1) (place_of a.chain t.chosen) t.step.outs
 

@@ -1,4 +1,4 @@
--- What a step answers and asks on, and what waits after it, line by line.
+-- The replies, queries and waiting requests after a step, line by line.
 use Rattle.std.proofs.Common.{◌≡◌, ℕ, ◌+◌, ◌≤◌, ◌==◌, nat_le, nat_lt, max, Bool, true, false, not, cond, ◌&&◌, ◌||◌, List, [], ◌∷◌, ◌++◌, map, filter, find, is_some, Option, Some, None, refl, sym, subst}
 use Rattle.std.specs.Prelude.{⊤}
 use Rattle.std.specs.List.{AllByRecursion}
@@ -28,7 +28,7 @@ use Rattle.craq_model.specs.Settle.{Turn, turn_with, turn_ignoring, read_answer,
 use Rattle.craq_model.specs.Deliveries.{config_turn, are_applicable, forwarding_turn, taken_entries_turn, first_position, final_position, entries_above, entries_turn, due_updates, later_updates, acknowledgement_turn, ack_turn, query_turn, read_with, reads_without, answering_version, told_version_turn, version_turn, fill_bodies, blank_turn, with_copy, copy_turn, gathered_turn, gathering_turn, is_outdated, part_turn, floor_turn, turn_in_epoch, body_turn}
 use Rattle.craq_strong_answers.proofs.Outs.{Says, AllTold, told_both, told_answers, told_sends, told_neighbour, says_entry_bodies, says_copy_bodies, says_catch_up, told_tick}
 
--- what passes a test, passes it
+-- a property of each element that passes a test
 pub all_passing : {A : Type 0} (P S : A → Type 0) (test : A → Bool) (xs : List A) → ((x : A) → P x → test x ≡ true → S x) → AllByRecursion P xs → AllByRecursion S (filter test xs)
 all_passing P S test [] f a = tt
 all_passing {A} P S test (x ∷ xs) f a =
@@ -50,19 +50,19 @@ all_sorted S [] a = tt
 all_sorted S (g ∷ gs) a = all_inserted S g (by_ticket gs) a.0 (all_sorted S gs a.1)
 
 module _ (P : WaitingUpdate → Type 0) (R : WaitingRead → Type 0) (G : ℕ → Answer → Type 0) (Q : ℕ → ℕ → List ℕ → Type 0) (V : ℕ → ℕ → ℕ → Type 0) where
-  -- what waits, and what a turn told
+  -- the requests that wait, and the content of a step's outputs
   pub record Gives (t : Turn) : Type 0 where
     pub updates : AllByRecursion P t.0.waiting_updates
     pub reads : AllByRecursion R t.0.waiting_reads
     pub told : AllTold G Q V t.1.outs
 
-  -- what a node may answer after its step
+  -- the replies that a node may give after its step
   pub record MayAnswer (q : Plain) : Type 0 where
     pub tail_updates : is_tail q ≡ true → (u : WaitingUpdate) → P u → G u.ticket (answers.Update u.reply)
     pub tail_reads : is_tail q ≡ true → (r : WaitingRead) → R r → G r.ticket (read_answer (newest_object q r.key))
     pub acknowledged : q.ready ≡ true → (u : WaitingUpdate) → P u → u.position ≤ q.past.acknowledged → G u.ticket (answers.Update u.reply)
 
-  -- what waits at a node, and the questions about it
+  -- the requests that wait at a node, and the queries about them
   pub record Waits (p : Plain) : Type 0 where
     pub updates : AllByRecursion P p.waiting_updates
     pub reads : AllByRecursion R p.waiting_reads
@@ -194,7 +194,7 @@ module _ (P : WaitingUpdate → Type 0) (R : WaitingRead → Type 0) (G : ℕ �
       (λ d m. guard p w (nat_lt (length_of p) position) TooFar last m
       (λ g m. hearing p w position (not-false p.ready b) m))))
 
-  -- what a tail says of a version
+  -- a tail's report of a version
   query_gives : (p : Plain) → Waits p → (sender ticket : ℕ) (key : List ℕ) → (is_tail p ≡ true → V sender ticket (newest_object p key).0) → Gives (query_turn p sender ticket key)
   unfolding query_turn
   query_gives p w sender ticket key v =
@@ -205,7 +205,7 @@ module _ (P : WaitingUpdate → Type 0) (R : WaitingRead → Type 0) (G : ℕ �
       (λ f. ignored p w NotReadyHere)
       (λ f. quiet p w (send p sender (bodies.VersionIs ticket (newest_object p key).0) ∷ []) ((refl, v (not-false (is_tail p) f)), tt)))
 
-  -- the answer to a read whose version is told
+  -- the reply to a read whose version is reported
   told_gives : (p : Plain) → Waits p → (ticket version : ℕ) (o : Option WaitingRead)
       → ((r : WaitingRead) → o ≡ Some r → R r → version ≤ (newest_object p r.key).0 → G r.ticket (read_answer (object_within p r.key (answering_version p r.key version))))
       → ((r : WaitingRead) → o ≡ Some r → R r) → Gives (told_version_turn p version o)
@@ -296,7 +296,7 @@ module _ (P : WaitingUpdate → Type 0) (R : WaitingRead → Type 0) (G : ℕ �
 
   -- ---- any message
 
-  -- what else has to be known of a message, by what it says
+  -- the further conditions for a message, by its body
   abbrev pub MayTell : Plain → LinkMessage → Body → Type 0
   MayTell p m (bodies.Config members) = ⊤
   MayTell p m (bodies.Entry e) = ⊤
@@ -310,7 +310,7 @@ module _ (P : WaitingUpdate → Type 0) (R : WaitingRead → Type 0) (G : ℕ �
   MayTell p m (bodies.Part part) = ⊤
   MayTell p m (bodies.Floor count) = ⊤
 
-  -- what has to be known of answers, by what the message says
+  -- the conditions for replies, by the message's body
   abbrev pub AnswersOf : Plain → LinkMessage → Body → Type 0
   AnswersOf p m (bodies.Config members) = MayAnswer (body_turn p m (bodies.Config members)).0
   AnswersOf p m (bodies.Entry e) = MayAnswer (body_turn p m (bodies.Entry e)).0

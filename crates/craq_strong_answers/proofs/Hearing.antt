@@ -1,4 +1,4 @@
--- What a node does with a message, in the account and the world after it.
+-- The effect of a message at a node, in the account and the world after it.
 use Rattle.std.proofs.Common.{◌≡◌, ℕ, zero, suc, ◌-◌, ◌≤◌, ◌==◌, true, List, [], ◌∷◌, length, take, drop, slice_get, slice_index, Option, Some, None, ap, sym, subst, ◌∙◌, arith}
 use Rattle.std.specs.List.{AllZip}
 use Rattle.std.proofs.lemmas.Bool.{cond_both}
@@ -50,7 +50,7 @@ holds_same asked w p q h s o =
       same = mine.4;
     }
 
--- the log stands at its positions
+-- the entries of the log are at their positions
 log_placed : (b : Account) (v : World Entry) (id : ℕ) (q : Plain) → At b v id q → IsPrefix v.log (v.history id) → IsPlaced 0 v.log
 log_placed b v id q h l =
     let n : NodeFollows v (seen_of q) = at_node b v id q h in
@@ -58,7 +58,7 @@ log_placed b v id q h l =
     let Q : List Entry → Type 0 = λ es. IsPlaced 0 es in
     subst Q (prefix_is_take l) (placed_take 0 (length v.log) (v.history id) (subst P h.same n.placed))
 
--- ---- a question
+-- ---- a query
 
 query_stays : (p : Plain) (m : LinkMessage) (ticket : ℕ) (key : List ℕ) → (turn_in_epoch p m (query_turn p m.sender ticket key)).0 ≡ p
 unfolding query_turn
@@ -113,7 +113,7 @@ version_told b v id p q ticket version sent position h u s t at r d same =
 
 -- ---- any message
 
--- the message among those that were sent, beside how many were committed then
+-- the message among those that were sent, with the number committed then
 pub sent_with : (b : Account) (v : World Entry) (ms : List LinkMessage) (sents : List ℕ) (number : ℕ) (m : LinkMessage) → AllZip (IsTold b v) ms sents → message_at ms number ≡ Some m → IsTold b v m (slice_index sents (number - 1))
 sent_with b v ms sents zero m z h = absurd (cc)
 sent_with b v ms sents (suc i) m z h =

@@ -69,7 +69,8 @@ unfolding last_position
 last_pushed client found [] e h = cond-true (e.client == client) e.position found (eq-eqb e.client client h)
 last_pushed client found (x ∷ es) e h = last_pushed client (cond (x.client == client) x.position found) es e h
 
--- what is kept for a client after so many entries, from its newest one on, is kept after all
+-- the kept replies of a client after its newest entry, or any later one, are those after all
+-- entries
 pub kept_from : (q : Plain) (h : List Entry) (client d : ℕ) → IsHistory q.past.base q.past.base_state q.past.entries h → IsPlaced q.past.base q.past.entries → position_of q client ≤ d → d ≤ length h
     → (window_of (state_after d h) client ≡ window_of (after_entries opening_state h) client)
 kept_from q h client d i p le short =
@@ -83,7 +84,7 @@ kept_from q h client d i p le short =
     let split : after_entries opening_state h ≡ after_entries (state_after d h) (drop d h) = ap (after_entries opening_state) (sym (take-append-drop d h)) ∙ after_entries-append opening_state (take d h) (drop d h) in
     sym (ap (λ s. window_of s client) split ∙ kept_by_others (state_after d h) (drop d h) client others)
 
--- ---- an update that was asked
+-- ---- an update that was requested
 
 pub window_here : (s : State) (e : Entry) → window_of (after_entry s e) e.client ≡ keep (window_of s e.client) e.number e.reply
 unfolding after_entry kept_with window_of
@@ -92,7 +93,7 @@ window_here s e = kept_here s e.client (keep (window_of s e.client) e.number e.r
 said_here : (s : State) (e : Entry) → is_new_to s e.client e.number ≡ true → said (after_entry s e) e.client e.number ≡ Some e.reply
 said_here s e new = ap (λ k. said_of k e.number) (window_here s e) ∙ said_kept (window_of s e.client) e.number e.reply new
 
--- the reply that is due, and the position of the client's newest entry
+-- the pending reply, and the position of the client's newest entry
 pub record Replied (p q : Plain) (u : Update) (position : ℕ) (reply : Reply) : Type 0 where
   pub is_said : said (newest q) u.client u.number ≡ Some reply
   pub at : position_of q u.client ≡ position

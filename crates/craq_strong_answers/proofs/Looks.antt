@@ -1,4 +1,4 @@
--- Reads that are answered hold.
+-- The reads that are answered are correct.
 use Rattle.std.proofs.Common.{◌≡◌, ◌⊎◌, ⊎_elim, ℕ, ◌<◌, ◌≤◌, nat_le, max, true, List, length, option_map, unwrap_or, Option, Some, refl, ap, sym, subst, ◌∙◌, arith}
 use Rattle.std.proofs.lemmas.Bool.{cond_both, eqb-true, leb-true, leb-false}
 use Rattle.std.proofs.Math.Seq.{take-length}
@@ -21,7 +21,7 @@ use Rattle.craq_strong_answers.proofs.Stays.{state_stays}
 use Rattle.craq_strong_answers.proofs.Within.{IsWritten, written}
 use Rattle.craq_strong_answers.proofs.Nodes.{version_after, rises_between, same_objects, Holds, GivenWithin, given_within}
 
--- the log is the first of the history, as many as it has
+-- the log is the first part of the history, of its own length
 log_state : (w : World Entry) (h : List Entry) → IsPrefix w.log h → after_entries opening_state w.log ≡ state_after (length w.log) h
 log_state w h p = ap (after_entries opening_state) (sym (prefix_is_take p))
 
@@ -51,7 +51,7 @@ found_at log key version i =
     let at : written_at log key version ≡ i.entry.position = ap (λ (o : Option Entry). unwrap_or (option_map (λ (e : Entry). e.position) o) 0) i.found in
     omega (arith, at, i.position)
 
--- the place of a read whose version was told, and its object there
+-- the place of a read whose version was reported, and its object there
 pub record PlacedRead (w : World Entry) (sent position : ℕ) (key : List ℕ) (object : ℕ × List ℕ) : Type 0 where
   pub from : sent ≤ position
   pub within_log : position ≤ length w.log

@@ -1,4 +1,4 @@
--- What a node holds, in the world that stands for its chain.
+-- The state of a node, in the world that stands for its chain.
 use Rattle.std.proofs.Common.{◌≡◌, ◌⊎◌, ⊎_elim, ℕ, ◌+◌, ◌-◌, ◌≤◌, true, List, ◌++◌, length, take, drop, ap, sym, subst, ◌∙◌, arith, take-take, length-drop}
 use Rattle.std.proofs.Math.Seq.{take-add, take-append-add, drop-append-add}
 use Rattle.std.proofs.lemmas.List.{take-append-drop}
@@ -23,9 +23,9 @@ use Rattle.craq_strong_answers.proofs.Stands.{state_after}
 use Rattle.craq_strong_answers.proofs.Versions.{genuine_rest, no_older_prefix, version_rises, version_tells}
 use Rattle.craq_strong_answers.proofs.Within.{IsWithin, within, version_at}
 
--- ---- beginnings of one history
+-- ---- prefixes of one history
 
--- the version of an object after so many entries of a history
+-- the version of an object after this number of entries of a history
 abbrev pub version_after : List Entry → List ℕ → ℕ → ℕ
 version_after h key count = version_of (state_after count h).objects key
 
@@ -55,7 +55,7 @@ same_objects asked h key i j n g e =
 
 -- ---- a node
 
--- what is known of a node, whose history this is
+-- the properties of a node with this history
 pub record Holds (asked : List Asked) (w : World Entry) (p : Plain) (h : List Entry) : Type 0 where
   pub numbered : IsNumbered asked
   pub genuine : AllGenuine asked opening_state h
@@ -91,7 +91,7 @@ node_holds asked w p r n g f =
       same = subst T ack a.2;
     }
 
--- the version that a node gives within a bound
+-- the version that a node returns within a bound
 pub record GivenWithin (h : List Entry) (p : Plain) (key : List ℕ) (bound : ℕ) : Type 0 where
   pub count : ℕ
   pub short : count ≤ length h

@@ -58,7 +58,7 @@ pub record Once (nodes : List Plain) (id : ℕ) (given : List Answered) : Type 0
   pub below : (p : Plain) → node_at nodes id ≡ Some p → (k : ℕ) → p.last_ticket < k → times k (given_at id given) + times k (open_of p) ≤ 0
   pub absent : node_at nodes id ≡ None → (k : ℕ) → times k (given_at id given) ≤ 0
 
--- the tickets of a step: those that waited, and that of an ask
+-- the tickets of a step: those that waited, and that of a request
 closes : (p : Plain) (e : Event) (t : Turn) → event_turn p e ≡ Ok t → Closes (open_of p) t ⊎ (Closes (open_of p ++ (p.last_ticket + 1) ∷ []) t × (t.0.last_ticket ≡ p.last_ticket + 1))
 closes p (events.Ask ask) t h = let a : Accepts p t = ask_accepts p ask t h in inr (ask_closes p ask t h, a.last)
 closes p (events.Deliver m) t h = let P : Turn → Type 0 = λ t. Closes (open_of p) t in inl (subst P (for_node p m t h) (body_closes p m m.body))
@@ -156,7 +156,7 @@ once_at_master {c} {chosen} {x} m id given o =
       absent = λ n k. o.absent (gone c.nodes x.0.nodes id (grow_at_master m) n) k;
     }
 
--- ---- so no name stands twice
+-- ---- so no name occurs twice
 
 one_at_most : (nodes : List Plain) (id : ℕ) (given : List Answered) → Once nodes id given → (k : ℕ) → times k (given_at id given) ≤ 1
 one_at_most nodes id given o k = by (node_at nodes id) refl

@@ -1,4 +1,4 @@
--- What a step's outs tell: answers, questions about versions, and versions.
+-- The content of a step's outputs: replies, version queries, and versions.
 use Rattle.std.proofs.Common.{◌≡◌, ℕ, ◌==◌, nat_le, cond, List, [], ◌∷◌, ◌++◌, map, Option, Some, None, refl}
 use Rattle.std.specs.Prelude.{⊤}
 use Rattle.std.specs.List.{AllByRecursion}
@@ -19,7 +19,8 @@ use Rattle.craq_model.specs.Plain.{Plain, id_of, successor, predecessor, is_last
 use Rattle.craq_model.specs.Sends.{send, send_all, to_neighbour, runs_of, run_body, entry_bodies, copy_bodies, catch_up, queries, ready_sends, unready_sends, tick_sends}
 use Rattle.craq_model.specs.Settle.{Given, answer_outs}
 
--- what a message tells: Q of a question's sender, ticket and key; V of a version's receiver, ticket and version
+-- the content of a message: Q of a query's sender, ticket and key; V of a version's receiver,
+-- ticket and version
 abbrev pub Says : (ℕ → ℕ → List ℕ → Type 0) → (ℕ → ℕ → ℕ → Type 0) → ℕ → ℕ → Body → Type 0
 Says Q V sender receiver (bodies.Config members) = ⊤
 Says Q V sender receiver (bodies.Entry e) = ⊤
@@ -32,7 +33,7 @@ Says Q V sender receiver (bodies.Copy position state) = ⊤
 Says Q V sender receiver (bodies.Part part) = ⊤
 Says Q V sender receiver (bodies.Floor count) = ⊤
 
--- what outs tell: each is sent to its receiver; G of an answer's ticket and itself
+-- the content of outputs: each message goes to its receiver; G of a reply's ticket and the reply
 abbrev pub AllTold : (ℕ → Answer → Type 0) → (ℕ → ℕ → List ℕ → Type 0) → (ℕ → ℕ → ℕ → Type 0) → List Out → Type 0
 AllTold G Q V [] = ⊤
 AllTold G Q V (outs.Send to m ∷ os) = ((to ≡ m.receiver) × Says Q V m.sender m.receiver m.body) × AllTold G Q V os

@@ -1,4 +1,4 @@
--- Each strong answer of a run has its place.
+-- Each strong reply of a run has its place.
 use Rattle.std.proofs.Common.{◌≡◌, ℕ, ◌≤◌, cond, List, [], ◌∷◌, ◌++◌, filter, length, slice_index, unwrap_or, option_map, Option, Some, refl, ap, sym, subst, ◌∙◌, arith}
 use Rattle.std.specs.List.{AllByRecursion, AllZip}
 use Rattle.craq_commands.specs.declared.entry.Entry.{Entry}
@@ -25,11 +25,11 @@ use Rattle.craq_strong_answers.proofs.Stands.{state_after, before, Owed, IsAnswe
 use Rattle.craq_strong_answers.proofs.Stays.{GoesOn, before_stays, asked_in_time, state_stays}
 use Rattle.craq_strong_answers.proofs.Answering.{Answered as IsAnswered, Questions, Versions}
 
--- how many were committed after a move
+-- the number committed after a move
 abbrev pub after_move : Account → ℕ → ℕ
 after_move a move = slice_index (0 ∷ a.lens) move
 
--- the answer stands at this place
+-- the reply has this place
 pub record Explains (a : Account) (x : Answered) (p : Place) : Type 0 where
   pub node : p.node ≡ x.node
   pub ticket : p.ticket ≡ x.ticket
@@ -41,14 +41,14 @@ pub record Explains (a : Account) (x : Answered) (p : Place) : Type 0 where
   pub not_beyond : p.position ≤ after_move a x.move
   pub is_said : IsSaid (state_after p.position a.committed) ask.ask x.answer
 
--- the ask of an answer was asked
+-- the request of a reply was made
 abbrev pub HasAsk : List Asked → Answered → Type 0
 HasAsk asked x = (ask : Asked) × (ask_with asked x.node x.ticket ≡ Some ask)
 
 abbrev pub strong_of : List Asked → List Answered → List Answered
 strong_of asked xs = filter (λ (x : Answered). is_strong_answer (ask_of asked x) x.answer) xs
 
--- ---- stays
+-- ---- earlier replies keep their places
 
 pub explains_stay : {a b : Account} {w v : World Entry} → Known a w → GoesOn a b w v → IsPrefix a.committed b.committed → (x : Answered) (p : Place) → Explains a x p → Explains b x p
 explains_stay {a} {b} {w} {v} k g longer x p e =
@@ -82,9 +82,9 @@ strong_stays {a} {b} g (x ∷ xs) h =
     let same : ask_of b.asks x ≡ ask_of a.asks x = g.stay x.node x.ticket h.0.0 h.0.1 ∙ sym h.0.1 in
     λ i. cond (is_strong_answer (same i) x.answer) (x ∷ strong_stays g xs h.1 i) (strong_stays g xs h.1 i)
 
--- ---- the answers of a step
+-- ---- the replies of a step
 
--- one answer, before the others
+-- one reply, before the others
 one_place : (b : Account) (v : World Entry) (old : Option Plain) (word : Option (ℕ × ℕ)) (number id ticket : ℕ) (answer : Answer) (xs : List Answered) (ps : List Place)
     → Known b v → number ≤ length b.lens → after_move b number ≡ length v.log → AllByRecursion (λ (y : Asked). y.move ≤ number) b.asks
     → (ask : Asked) → ask_with b.asks id ticket ≡ Some ask → (kind : Ask) → ask.ask ≡ kind → Owed b v (λ key. read_place b.committed old word key) id ticket ask kind answer

@@ -58,9 +58,9 @@ pub query_same : (p : Plain) (sender ticket : ℕ) (key : List ℕ) → SameHist
 unfolding query_turn
 query_same p sender ticket key = grind (arith, same_self p)
 
--- ---- asks
+-- ---- requests
 
--- an update makes an entry where it is new, and else leaves the history
+-- an update makes an entry if it is new, and otherwise keeps the history
 pub record UpdateTurn (p : Plain) (u : Update) (q : Plain) : Type 0 where
   pub base : q.past.base ≡ p.past.base
   pub state : q.past.base_state ≡ p.past.base_state
@@ -69,7 +69,7 @@ pub record UpdateTurn (p : Plain) (u : Update) (q : Plain) : Type 0 where
   pub entries : ((reply : Reply) × (said (newest p) u.client u.number ≡ Some reply) × (q.past.entries ≡ p.past.entries))
       ⊎ ((said (newest p) u.client u.number ≡ None) × (q.past.entries ≡ p.past.entries ++ entry_for p u ∷ []))
 
--- the fields of a node that a reply leaves
+-- the fields of a node that a reply keeps
 abbrev Leaves : Plain → Result Turn Refusal → Type 0
 Leaves p (Ok t) = (t.0.past.base ≡ p.past.base) × (t.0.past.base_state ≡ p.past.base_state) × (t.0.past.entries ≡ p.past.entries) × (t.0.ready ≡ p.ready)
 Leaves p (Err e) = Unit {0}

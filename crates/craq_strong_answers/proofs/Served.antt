@@ -1,4 +1,5 @@
--- The invariant of waiting asks and of messages about versions after a run (`Served`), and how an account grows.
+-- The invariant of waiting requests and of messages about versions after a run (`Served`), and the
+-- growth of an account.
 use Rattle.std.proofs.Common.{◌≡◌, ℕ, ◌+◌, ◌≤◌, ◌==◌, ◌&&◌, List, [], ◌∷◌, length, Some, sym, subst, arith, length-append}
 use Rattle.std.specs.List.{AllByRecursion, AllZip}
 use Rattle.std.proofs.lemmas.List.{get_or_append_left}
@@ -22,7 +23,7 @@ use Rattle.craq_updates.proofs.Accounts.{next_account}
 use Rattle.craq_strong_answers.proofs.Stands.{DueUpdate, DueRead, IsTold}
 use Rattle.craq_strong_answers.proofs.Stays.{GoesOn}
 
--- the place is due at a node that gave its ticket
+-- the place is pending at a node that gave its ticket
 pub record IsDueAt (nodes : List Plain) (d : Place) : Type 0 where
   pub node : Plain
   pub at : node_at nodes d.node ≡ Some node

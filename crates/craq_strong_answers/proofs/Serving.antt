@@ -1,4 +1,5 @@
--- Each move keeps the invariant `Served`, and each of its answers is owed to its ask.
+-- Each move preserves the invariant `Served`, and each of its replies has the properties that its
+-- request demands.
 use Rattle.std.proofs.Common.{◌≡◌, ◌⊎◌, inl, inr, ⊎_elim, ℕ, ◌+◌, ◌-◌, max, true, List, [], ◌∷◌, ◌++◌, map, length, slice_index, Option, Some, None, Ok, refl, ap, sym, subst, ◌∙◌, arith}
 use Rattle.std.specs.List.{AllByRecursion, AllZip}
 use Rattle.std.proofs.lemmas.Bool.{cases_eq}
@@ -43,11 +44,11 @@ use Rattle.craq_strong_answers.proofs.Answering.{Answered, Questions, Versions, 
 use Rattle.craq_strong_answers.proofs.Hearing.{hears, sent_with}
 use Rattle.craq_strong_answers.proofs.Asking.{asks_update, asks_read}
 
--- where a strong read that is answered in a step stands, but for an ask
+-- the position of a strong read that is answered in a step
 abbrev pub position_in : Account → Taken → Progress → List ℕ → ℕ
 position_in a t x key = read_place (next_account a t x).committed (node_at a.chain.nodes (place_of a.chain t.chosen)) (tail_word a t.chosen) key
 
--- what the step of a node gives
+-- the claims about the step of a node
 abbrev pub StepGives : Account → Taken → Progress → World Entry → Turn → Type 0
 StepGives a t x v turn =
     Gives (DueUpdate (next_account a t x) v (place_of a.chain t.chosen)) (DueRead (next_account a t x) v (place_of a.chain t.chosen))
@@ -127,7 +128,7 @@ serves a w v (moves.Stop node) step x same k s n g h =
 serves a w v (moves.Remove node) step x same k s n g h = absurd h.by
 serves a w v (moves.Join node) step x same k s n g h = absurd h.by
 
--- ---- what is sent, with how many were committed then
+-- ---- sent messages, with the number committed then
 
 told_messages : (b : Account) (v : World Entry) (position : List ℕ → ℕ) (id count : ℕ) (os : List Out) → count ≡ length v.log → AllTold (Answered b v position id) (Questions b) (Versions b v) os
     → AllZip (IsTold b v) (sent_in os) (map (λ (m : LinkMessage). count) (sent_in os))
@@ -143,7 +144,7 @@ zip_append R [] (b ∷ ys) us vs z y = absurd z
 zip_append R (a ∷ xs) [] us vs z y = absurd z
 zip_append R (a ∷ xs) (b ∷ ys) us vs z y = (z.0, zip_append R xs ys us vs z.1 y)
 
--- the places due after a move
+-- the places pending after a move
 due_here : (a : Account) (w : World Entry) (chosen : Move) (step : Step) (x : Progress) → x.1 ≡ step → AtNode a.chain chosen x
     → AllByRecursion (IsDueAt x.0.nodes) (due_in (length a.committed) step.ticket (node_at x.0.nodes (place_of a.chain chosen)) chosen)
 due_here a w (moves.Ask node (asks.Update u)) step x same h =
@@ -181,7 +182,8 @@ due_at_master a (moves.Join node) x ticket o m = refl
 
 -- ---- a step
 
--- after a move all that waits is served again, and what was told in it is owed
+-- after a move each waiting request is served again, and its outputs have the properties that are
+-- demanded
 pub record ServedNext (a : Account) (t : Taken) (x : Progress) (v : World Entry) : Type 0 where
   pub served : Served (next_account a t x) v
   pub told : AllTold (Answered (next_account a t x) v (position_in a t x) (place_of a.chain t.chosen)) (Questions (next_account a t x)) (Versions (next_account a t x) v) t.step.outs

@@ -1,4 +1,4 @@
--- When a waiting ask is due, an answer is owed, and a message about a version is true.
+-- The conditions for a pending request, for its reply, and for a message about a version.
 use Rattle.std.proofs.Common.{◌≡◌, ◌⊎◌, ℕ, ◌+◌, ◌-◌, ◌≤◌, ◌==◌, true, ◌&&◌, List, ◌∷◌, length, take, find, slice_index, Option, Some}
 use Rattle.craq_names.specs.declared.name.ObjectId.{ObjectId}
 use Rattle.craq_commands.specs.declared.command.Update.{Update}
@@ -22,19 +22,20 @@ use Rattle.craq_runs.specs.Seen.{Asked, ask_with}
 use Rattle.craq_runs.specs.Explain.{Account}
 use Rattle.craq_strong_answers.proofs.Outs.{Says}
 
--- the state after the first so many entries
+-- the state after the first count entries
 abbrev pub state_after : ℕ → List Entry → State
 state_after count es = after_entries opening_state (take count es)
 
--- how many were committed before an ask
+-- the number committed before a request
 abbrev pub before : Account → Asked → ℕ
 before a ask = slice_index (0 ∷ a.lens) (ask.move - 1)
 
--- the place that is due to an update ask
+-- the pending place of an update request
 abbrev pub due_of : List Place → ℕ → ℕ → Option Place
 due_of due node ticket = find (λ (p : Place). (p.node == node) && (p.ticket == ticket)) due
 
--- an update that waits: its place is reached with its position, and its reply is said there
+-- an update that waits: its place is reached with its position, and its reply is the single copy's
+-- there
 pub record DueUpdate (a : Account) (w : World Entry) (id : ℕ) (u : WaitingUpdate) : Type 0 where
   pub ready : w.ready id ≡ true
   pub ask : Asked
@@ -50,7 +51,7 @@ pub record DueUpdate (a : Account) (w : World Entry) (id : ℕ) (u : WaitingUpda
   pub newest : u.position ≤ length (w.history id)
   pub is_newest : said (state_after u.position (w.history id)) update.client update.number ≡ Some u.reply
 
--- a strong read that was asked under a ticket
+-- a strong read that was requested under a ticket
 pub record AskedRead (a : Account) (id ticket : ℕ) (key : List ℕ) : Type 0 where
   pub ask : Asked
   pub object : ObjectId
@@ -62,7 +63,7 @@ pub record DueRead (a : Account) (w : World Entry) (id : ℕ) (r : WaitingRead) 
   pub ready : w.ready id ≡ true
   pub asked : AskedRead a id r.ticket r.key
 
--- a version that was told: the object's, after so many committed updates
+-- a version that was reported: the object's, after this number of committed updates
 pub record ToldVersion (a : Account) (w : World Entry) (id ticket version sent : ℕ) : Type 0 where
   pub ask : Asked
   pub object : ObjectId
@@ -72,11 +73,11 @@ pub record ToldVersion (a : Account) (w : World Entry) (id ticket version sent :
   pub committed : sent ≤ length w.log
   pub version_is : version_of (state_after sent w.log).objects object.key ≡ version
 
--- a message that was sent when so many were committed
+-- a message, sent when this number was committed, is true
 abbrev pub IsTold : Account → World Entry → LinkMessage → ℕ → Type 0
 IsTold a w m sent = Says (λ sender ticket key. AskedRead a sender ticket key) (λ receiver ticket version. ToldVersion a w receiver ticket version sent) m.sender m.receiver m.body
 
--- ---- answers
+-- ---- replies
 
 pub record UpdateTold (a : Account) (w : World Entry) (id ticket : ℕ) (ask : Asked) (u : Update) (reply : Reply) : Type 0 where
   pub place : Place
@@ -94,7 +95,7 @@ pub record StrongTold (a : Account) (w : World Entry) (id position : ℕ) (ask :
   pub begins : IsPrefix w.log (w.history id)
   pub is_said : object_of (state_after position w.log).objects object.key ≡ (version, value)
 
--- an answer of the node's whole history, or of a beginning of it
+-- a reply from the node's whole history, or from a prefix of it
 pub record HistoryTold (w : World Entry) (id : ℕ) (object : ObjectId) (version : ℕ) (value : List ℕ) : Type 0 where
   pub begins : IsPrefix w.log (w.history id)
   pub is_said : object_of (after_entries opening_state (w.history id)).objects object.key ≡ (version, value)
@@ -109,7 +110,7 @@ pub record BeginningTold (w : World Entry) (id k : ℕ) (object : ObjectId) (ver
   pub most : (c : ℕ) → w.acknowledged id ≤ c → version_of (state_after c (w.history id)).objects object.key ≤ version_of (state_after (w.acknowledged id) (w.history id)).objects object.key + k
       → version_of (state_after c (w.history id)).objects object.key ≤ version
 
--- what is owed of an answer, by its ask; a strong read stands at this place
+-- the properties that a request demands of its reply; a strong read has this place
 abbrev pub Owed : Account → World Entry → (List ℕ → ℕ) → ℕ → ℕ → Asked → Ask → Answer → Type 0
 Owed a w position id ticket ask (asks.Update u) (answers.Update reply) = UpdateTold a w id ticket ask u reply
 Owed a w position id ticket ask (asks.Update u) (answers.Read version value) = ⊥
@@ -118,7 +119,7 @@ Owed a w position id ticket ask (asks.Read Strong object) (answers.Read version 
 Owed a w position id ticket ask (asks.Read Eventual object) (answers.Read version value) = HistoryTold w id object version value
 Owed a w position id ticket ask (asks.Read (Bounded k) object) (answers.Read version value) = BeginningTold w id k object version value
 
--- an answer to the ask of its ticket
+-- a reply to the request of its ticket
 pub record IsAnswer (a : Account) (w : World Entry) (position : List ℕ → ℕ) (id ticket : ℕ) (answer : Answer) : Type 0 where
   pub ask : Asked
   pub is_ask : ask_with a.asks id ticket ≡ Some ask

@@ -1,4 +1,4 @@
--- What is known of waiting asks and of messages stays known, move by move.
+-- The claims about waiting requests and messages stay true, move by move.
 use Rattle.std.proofs.Common.{◌≡◌, inl, inr, ⊎_elim, ℕ, ◌-◌, ◌≤◌, ◌==◌, ◌&&◌, List, [], ◌∷◌, length, slice_index, Some, ap, ◌∙◌, arith}
 use Rattle.std.specs.List.{AllByRecursion, AllZip}
 use Rattle.craq_commands.specs.declared.entry.Entry.{Entry}
@@ -21,7 +21,7 @@ use Rattle.craq_updates.proofs.Entries.{StaysAsked}
 use Rattle.craq_strong_answers.proofs.Outs.{Says}
 use Rattle.craq_strong_answers.proofs.Stands.{state_after, before, due_of, DueUpdate, AskedRead, DueRead, ToldVersion, IsTold}
 
--- an account goes on: more asks, places due and lengths
+-- an account goes on: more requests, pending places and lengths
 pub record GoesOn (a b : Account) (w v : World Entry) : Type 0 where
   pub stay : StaysAsked a.asks b.asks
   pub in_time : AllByRecursion (λ (x : Asked). x.move ≤ length a.lens) a.asks
@@ -39,7 +39,7 @@ before_stays {a} {b} g node ticket ask h =
     let le : ask.move ≤ length a.lens = asked_in_time a (length a.lens) node ticket ask g.in_time h in
     g.lens (ask.move - 1) (omega (arith, le))
 
--- a state of a beginning that both have
+-- the state of a common prefix
 pub state_stays : (k : ℕ) (xs ys : List Entry) → IsPrefix xs ys → k ≤ length xs → state_after k ys ≡ state_after k xs
 state_stays k xs ys p le = ap (after_entries opening_state) (take_prefix k p le)
 

@@ -1,4 +1,4 @@
--- Strong answers hold in each run.
+-- Strong replies are correct in each run.
 use Rattle.std.proofs.Common.{◌≡◌, ℕ, ◌+◌, List, [], ◌∷◌, ◌++◌, map, take, Result, Ok, Err, refl, ap, sym, subst, ◌∙◌, append-nil, append_assoc}
 use Rattle.std.specs.List.{AllZip}
 use Rattle.craq_names.specs.declared.refusal.Refusal.{Refusal}
@@ -64,7 +64,7 @@ clients_moves (t ∷ ts) a w receivers given c taken type = by_result t ts a w r
 pub clients_run : (chain : ℕ) (run : Run) → IsTypedRunOf chain run → ClientsRun (run_account chain run) (answers_from 1 [] run.moves)
 clients_run chain run i = clients_moves run.moves (opening_account chain run.members) (opening run.members) [] [] (opening_clients chain run i) i.run_of.moves i.typed
 
--- ---- what is checked
+-- ---- the tests
 
 -- the state of the explanation is that after the entries
 pub state_is : (a : Account) (w : World Entry) (answers : List Answered) (count : ℕ) → Known a w → state_at (seen_by a answers) (explanation_in a) count ≡ state_after count a.committed

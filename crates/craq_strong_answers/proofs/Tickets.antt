@@ -1,4 +1,4 @@
--- A step answers no ticket twice, and what it answers waits no more.
+-- A step answers no ticket twice, and an answered ticket waits no more.
 use Rattle.std.proofs.Common.{◌≡◌, ℕ, ◌+◌, ◌≤◌, ◌==◌, nat_le, nat_lt, Bool, true, false, not, cond, ◌&&◌, ◌||◌, List, [], ◌∷◌, ◌++◌, map, filter, find, is_some, Option, Some, None, Result, Ok, Err, refl, ap, sym, subst, ◌∙◌, arith}
 use Rattle.std.specs.Prelude.{⊤}
 use Rattle.std.specs.List.{AllByRecursion}
@@ -46,7 +46,7 @@ use Rattle.craq_strong_answers.proofs.Times.{times, times_cons, times_nil, times
 pub record Closes (o : List ℕ) (t : Turn) : Type 0 where
   pub at : (k : ℕ) → times k (given_in t.1.outs) + times k (open_of t.0) ≤ times k o
 
--- a step that answers nothing, at a node whose tickets are the same
+-- a step without replies, at a node whose tickets are the same
 silent : (o : List ℕ) (q : Plain) (os : List Out) → AllTold (λ ticket answer. ⊥) (λ a b c. ⊤) (λ a b c. ⊤) os → open_of q ≡ o → Closes o (turn_with q os)
 silent o q os a same = record {
   at = λ k.
@@ -61,7 +61,7 @@ ignored p why = record { at = λ k. let none : times k (given_in []) ≡ 0 = ap 
 guard : (p : Plain) (b : Bool) (why : Why) (t : Turn) → Closes (open_of p) t → Closes (open_of p) (cond b (turn_ignoring p why) t)
 guard p b why t c = cond_both b (turn_ignoring p why) t (λ (t : Turn). Closes (open_of p) t) (λ e. ignored p why) (λ e. c)
 
--- sends answer nothing
+-- messages contain no reply
 abbrev NoAnswer : List Out → Type 0
 NoAnswer os = AllTold (λ ticket answer. ⊥) (λ a b c. ⊤) (λ a b c. ⊤) os
 
@@ -98,7 +98,7 @@ map_map : {A B C : Type 0} (f : B → C) (g : A → B) (xs : List A) → map f (
 map_map f g [] = refl
 map_map f g (x ∷ xs) = ap (λ l. f (g x) ∷ l) (map_map f g xs)
 
--- the answers to all that waits
+-- the replies to all that waits
 all_tickets : (p : Plain) (k : ℕ) → times k (given_in (answer_outs (all_given p))) ≡ times k (open_of p)
 unfolding all_given
 all_tickets p k =
@@ -283,9 +283,9 @@ tick_closes p = silent (open_of p) p (tick_sends p) (no_ticks p) refl
 pub stop_closes : (p : Plain) → Closes (open_of p) (turn_with (record p { running = false }) [])
 stop_closes p = silent (open_of p) (record p { running = false }) [] tt refl
 
--- ---- asks
+-- ---- requests
 
--- an ask takes the next ticket
+-- a request takes the next ticket
 abbrev IfCloses : List ℕ → ℕ → Result Turn Refusal → Type 0
 IfCloses o last (Ok t) = Closes (o ++ (last + 1) ∷ []) t
 IfCloses o last (Err e) = ⊤

@@ -1,4 +1,4 @@
--- How often a ticket stands in a list.
+-- The number of occurrences of a ticket in a list.
 use Rattle.std.proofs.Common.{◌≡◌, ℕ, ◌+◌, ◌≤◌, ◌==◌, nat_le, nat_lt, not, cond, List, [], ◌∷◌, ◌++◌, map, filter, find, Option, Some, refl, ap, ◌∙◌, arith}
 use Rattle.std.proofs.lemmas.Bool.{cond_both, cond-true, cond-false, eqb-true, leb-true, ltb-true}
 use Rattle.craq_model.specs.declared.step.Out.{Out}
@@ -53,7 +53,7 @@ unfolding given_in
 given_answers [] = refl
 given_answers (g ∷ gs) = ap (λ l. g.0 ∷ l) (given_answers gs)
 
--- where no answer may be, there is none
+-- if no reply is allowed, there is none
 pub none_given : (Q : ℕ → ℕ → List ℕ → Type 0) (V : ℕ → ℕ → ℕ → Type 0) (os : List Out) → AllTold (λ ticket answer. ⊥) Q V os → given_in os ≡ []
 unfolding given_in
 none_given Q V [] a = refl
@@ -73,7 +73,7 @@ unfolding by_ticket times
 sorted_times k [] = refl
 sorted_times k (g ∷ gs) = inserted k g (by_ticket gs) ∙ ap (λ n. cond (g.0 == k) 1 0 + n) (sorted_times k gs)
 
--- the updates that are due, and the others
+-- the updates that are answered now, and the others
 pub parted_times : (k position : ℕ) (us : List WaitingUpdate)
     → times k (update_tickets (filter (λ (u : WaitingUpdate). nat_le u.position position) us)) + times k (update_tickets (filter (λ (u : WaitingUpdate). nat_lt position u.position) us)) ≤ times k (update_tickets us)
 unfolding times

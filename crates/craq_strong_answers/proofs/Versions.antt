@@ -1,4 +1,4 @@
--- Versions along genuine entries.
+-- Versions along valid entries.
 use Rattle.std.proofs.Common.{◌≡◌, ◌⊎◌, inl, inr, ℕ, ◌+◌, ◌≤◌, Bool, true, false, List, [], ◌∷◌, ◌++◌, map, Option, unwrap_or, refl, ap, sym, subst, ◌∙◌, arith}
 use Rattle.std.specs.List.{AllByRecursion, IsDistinct}
 use Rattle.std.proofs.lemmas.Bool.{cond_both, cond-false, both_ways}
@@ -32,7 +32,7 @@ no_older_entries asked s es key n g =
     let P : State → Type 0 = λ t. IsNoOlder s.objects t.objects key in
     subst P (after_updates asked s es n g) (more_updates s (updates_of asked es) key)
 
--- of two beginnings the longer has no older versions
+-- the longer of two prefixes has no older versions
 pub no_older_prefix : (asked : List Asked) (xs ys : List Entry) (key : List ℕ) → IsNumbered asked → AllGenuine asked opening_state ys → IsPrefix xs ys
     → IsNoOlder (after_entries opening_state xs).objects (after_entries opening_state ys).objects key
 no_older_prefix asked xs ys key n g p =
@@ -51,7 +51,7 @@ version_tells m n key (inr e) le = e
 
 -- ---- one entry
 
--- the entry leaves the object, or gives it just the next version
+-- the entry keeps the object, or gives it exactly the next version
 pub record Leaves (m : Objects) (o : ℕ × List ℕ) (values : List (ℕ × List ℕ)) (key : List ℕ) : Type 0 where
   pub none : values ≡ []
   pub same : o ≡ object_of m key

@@ -18,7 +18,7 @@ use Rattle.craq_updates.proofs.Entries.{genuine_closed}
 use Rattle.craq_updates.proofs.Found.{IsNumbered}
 use Rattle.craq_strong_answers.proofs.Versions.{Leaves, Gives, by_entry, no_older_entries, version_rises}
 
--- the version of an object after so many entries
+-- the version of an object after this number of entries
 abbrev pub version_at : State → List Entry → List ℕ → ℕ → ℕ
 version_at s es key count = version_of (after_entries s (take count es)).objects key
 
@@ -94,7 +94,7 @@ within asked s (e ∷ es) key bound n g le =
         by_count high zero h = omega arith
         by_count high (suc k) h = absurd (omega (arith, high, h, rising asked (after_entry s e) es key k n g.1))
 
--- ---- which entry wrote a version
+-- ---- the entry that wrote a version
 
 any_wrote : (ws : List Write) (key : List ℕ) (version : ℕ) → list_any (λ (x : Write). same_bytes x.key key && (x.version == version)) ws ≡ list_any (λ (v : ℕ × List ℕ). v.0 == version) (values_in ws key)
 unfolding values_in

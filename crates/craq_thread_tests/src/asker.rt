@@ -1,4 +1,5 @@
-//! A client of a store that is tested, with its own object and number; for `cases`, `calls` and `changes`.
+//! Provides a client of a store under test, with its own object and request number; for `cases`,
+//! `calls` and `changes`.
 use crate::asks::{name_of, put_of, read_of, version_of};
 use crate::gate::{TestGate, Tested};
 use craq_commands::ReadMode;
@@ -10,24 +11,25 @@ use craq_workers::Client;
 use std::alloc::{AllocError, Global};
 use std::sync::Wait;
 
-/// What its clients write.
+/// The key that its clients write.
 const KEY: &[u8] = b"k";
 
-/// A client of a store that is tested. It asks for one object of chain 0, and keeps the receipts of its calls.
+/// A client of a store under test. It uses one object of chain 0, and keeps the receipts of its
+/// calls.
 #[derive(Drop)]
 pub struct Asker {
     alloc: Global,
     client: Client<ListCore, TestGate>,
     id: u64,
-    /// The number of its next put.
+    /// The request number of its next put.
     number: u64,
-    /// The version that its last answered call told, or 0.
+    /// The version in the reply to its last answered call, or 0.
     pub version: u64,
     pub receipts: Vec<CallReceipt>,
 }
 
 impl Asker {
-    /// A client of this id that has seen nothing.
+    /// Creates a client of this id that has no pass yet.
     pub fn new(alloc: Global, store: &Tested, id: u64) -> Result<Asker, Refusal> {
         Ok(Asker {
             alloc,
@@ -47,7 +49,8 @@ impl Asker {
         Ok(())
     }
 
-    /// A put under the next number, which stays the next until one is answered.
+    /// Sends a put with the next request number. The number stays the next one until a put is
+    /// answered.
     pub fn put<R: Wait>(&mut self, rt: &R, node: u32) -> Result<(), Refusal> {
         let ask = put_of(self.alloc, self.id, self.number, KEY)?;
         self.ask(rt, node, ask)?;
@@ -55,13 +58,13 @@ impl Asker {
         Ok(())
     }
 
-    /// A strong read.
+    /// Sends a strong read.
     pub fn read<R: Wait>(&mut self, rt: &R, node: u32) -> Result<(), Refusal> {
         let ask = read_of(self.alloc, ReadMode::Strong, KEY)?;
         self.ask(rt, node, ask)
     }
 
-    /// The receipts of another client come after its own.
+    /// Appends the receipts of another client to its own.
     pub fn take_receipts(&mut self, other: &mut Asker) -> Result<(), AllocError> {
         self.receipts.append(&mut other.receipts)
     }

@@ -1,4 +1,5 @@
-//! The one chain of each store that is tested, and what clients ask of it: whoever starts a store or asks it calls this.
+//! Defines the only chain of each store under test, and the requests of clients; for every module
+//! that starts a store or calls it.
 ghost use Rattle.std.specs.Prelude.{IfOk};
 ghost use Rattle.craq_place.specs.Plan.{IsPlan};
 
@@ -8,22 +9,22 @@ use craq_names::{ChainId, ClientId, Key, NodeId, NodeName, ObjectId, Refusal, Re
 use craq_place::Plan;
 use std::alloc::Global;
 
-/// The chain of each store.
+/// The text of each store's chain configuration.
 const PLAN: &str = "[[chain]]\nname = \"a\"\nnodes = [1, 2, 3]\n";
 
-/// The plan of each store.
+/// Returns the chain configuration of each store.
 pub fn plan(alloc: Global) -> Result<Plan, Refusal>
     ensures { IfOk result IsPlan }
 {
     Plan::read(alloc, PLAN)
 }
 
-/// Its chain.
+/// Returns its chain.
 pub fn chain() -> ChainId {
     ChainId::new(0)
 }
 
-/// A node of it.
+/// Returns the name of a node of this chain.
 pub fn name_of(node: u32) -> NodeName {
     NodeName {
         chain: chain(),
@@ -31,7 +32,7 @@ pub fn name_of(node: u32) -> NodeName {
     }
 }
 
-/// An object of it.
+/// Returns an object of this chain.
 fn object(alloc: Global, key: &[u8]) -> Result<ObjectId, Refusal> {
     Ok(ObjectId {
         chain: chain(),
@@ -39,10 +40,10 @@ fn object(alloc: Global, key: &[u8]) -> Result<ObjectId, Refusal> {
     })
 }
 
-/// What each put writes.
+/// The value that each put writes.
 const WRITTEN: &[u8] = b"a";
 
-/// A put of `a`, by a client of this id under this number.
+/// Makes a put of `a`, by the client of this id with this request number.
 pub fn put_of(alloc: Global, id: u64, number: u64, key: &[u8]) -> Result<Ask, Refusal> {
     let number = RequestNo::new(number)?;
     let object = object(alloc, key)?;
@@ -54,7 +55,7 @@ pub fn put_of(alloc: Global, id: u64, number: u64, key: &[u8]) -> Result<Ask, Re
     }))
 }
 
-/// A read.
+/// Makes a read.
 pub fn read_of(alloc: Global, mode: ReadMode, key: &[u8]) -> Result<Ask, Refusal> {
     Ok(Ask::Read {
         mode,
@@ -62,16 +63,16 @@ pub fn read_of(alloc: Global, mode: ReadMode, key: &[u8]) -> Result<Ask, Refusal
     })
 }
 
-/// What an answer is to tell.
+/// The reply that is expected.
 #[derive(Clone, Copy)]
 pub enum Told {
     /// The put wrote this version.
     Written(u64),
-    /// The read finds this version, and what was put; where it is 0, nothing.
+    /// The read finds this version and the written value; for version 0, no value.
     Found(u64),
 }
 
-/// Whether an answer tells that and nothing else.
+/// Returns true if a reply is the expected one.
 pub fn tells(answer: &Answer, told: Told) -> bool {
     match (answer, told) {
         (Answer::Update(Reply::Written(version)), Told::Written(number)) => version.get() == number,
@@ -83,7 +84,7 @@ pub fn tells(answer: &Answer, told: Told) -> bool {
     }
 }
 
-/// The version that an answer tells, or 0.
+/// Returns the version in a reply, or 0.
 pub fn version_of(answer: &Answer) -> u64 {
     match answer {
         Answer::Update(Reply::Written(version)) => version.get(),

@@ -1,4 +1,5 @@
-//! An audit behind a piece of work that is held under its node's lock: it has to wait. Called by `calls` and `driving`.
+//! Runs an audit while a work item is held under its node's lock: the audit must wait. Called by
+//! `calls` and `driving`.
 use crate::calls::confirm;
 use crate::fault::{Fact, Fault, expect};
 use crate::gate::Tested;
@@ -9,10 +10,10 @@ use std::sync::atomic::{AtomicBool, Ordering};
 use std::thread;
 use std::thread::Threads;
 
-/// For how many turns an audit has to wait, which ends within one where no lock is held.
+/// The number of polls that an audit must wait; it ends within one if no lock is held.
 const A_WHILE: u64 = 10;
 
-/// An audit of the chain, which tells when it begins and when it has ended.
+/// Audits the chain, and sets a flag when the audit begins and another when it has ended.
 fn audit_between<R: Wait>(
     rt: &R,
     store: &Tested,
@@ -25,8 +26,10 @@ fn audit_between<R: Wait>(
     audited
 }
 
-/// The chain is audited, which takes the locks of its master and of all its nodes, while a piece of work is held under its
-/// node's lock. The audit does not end before this flag lets the piece go, and then finds a run.
+/// Audits the chain, which locks its master and all its nodes, while a work item is held under its
+/// node's lock.
+///
+/// The audit must not end before `open` releases the work item, and must then find a run.
 pub fn audit_behind<R>(
     rt: R,
     host: HostRuntime,

@@ -1,4 +1,5 @@
-//! A client of a store that is tried, on a thread of its own: it puts, reads what it put, and asks again; for `driving`.
+//! Provides a client of a store under trial, on a thread of its own: it puts, reads what it put,
+//! and retries; for `driving`.
 use crate::asks::{Told, name_of, put_of, read_of, tells};
 use crate::course::Course;
 use crate::gate::{TestGate, Tested};
@@ -12,13 +13,13 @@ use std::alloc::Global;
 use std::sync::Wait;
 use std::sync::atomic::Ordering;
 
-/// How many objects each client writes, in turn.
+/// The number of objects that each client writes, one after another.
 const OBJECTS: u64 = 70;
 
-/// How often a call is made until it is answered.
+/// The largest number of times that a call is made until it is answered.
 const TRIES: u32 = 3000;
 
-/// A client, of one chain. The objects that it writes nobody else does.
+/// A client of one chain. No other client writes its objects.
 #[derive(Drop)]
 pub struct Caller {
     alloc: Global,
@@ -26,34 +27,35 @@ pub struct Caller {
     id: u8,
 }
 
-/// The version that the put of this number writes.
+/// Returns the version that the put of this number writes.
 fn version_after(number: u64) -> u64 {
     (number.saturating_sub(1) / OBJECTS).saturating_add(1)
 }
 
 impl Caller {
-    /// A client of this id that has seen nothing.
+    /// Creates a client of this id that has no pass yet.
     pub fn new(alloc: Global, store: &Tested, id: u8) -> Result<Caller, Refusal> {
         let client = store.client(Pass::start())?;
         Ok(Caller { alloc, client, id })
     }
 
-    /// The object that its put of this number writes.
+    /// Returns the key of the object that its put of this number writes.
     fn key(&self, number: u64) -> [u8; 2] {
         [self.id, (number % OBJECTS) as u8]
     }
 
-    /// The put of this number.
+    /// Makes the put of this number.
     fn put(&self, number: u64) -> Result<Ask, Refusal> {
         put_of(self.alloc, u64::from(self.id), number, &self.key(number))
     }
 
-    /// A read of what the put of this number wrote.
+    /// Makes a read of the object that the put of this number wrote.
     fn read(&self, number: u64, mode: ReadMode) -> Result<Ask, Refusal> {
         read_of(self.alloc, mode, &self.key(number))
     }
 
-    /// Asks a node, which is to tell this. The receipt of the call goes to the others.
+    /// Sends a request to a node and notes whether the reply is the expected one. Its receipt is
+    /// added to the course's.
     fn ask<R: Wait>(
         &mut self,
         rt: &R,
@@ -70,20 +72,20 @@ impl Caller {
         Ok(())
     }
 
-    /// Whether a node answers. It waits for no tick.
+    /// Sends an eventual read to a node. Its reply needs no tick.
     pub fn glance<R: Wait>(&mut self, rt: &R, course: &Course, node: u32) -> Result<(), Refusal> {
         let ask = self.read(1, ReadMode::Eventual)?;
         self.ask(rt, course, node, ask, Told::Found(0))
     }
 
-    /// The put of this number at the head.
+    /// Sends the put of this number to the head.
     fn try_put<R: Wait>(&mut self, rt: &R, course: &Course, number: u64) -> Result<(), Refusal> {
         let ask = self.put(number)?;
         let head = course.head.load(Ordering::SeqCst);
         self.ask(rt, course, head, ask, Told::Written(version_after(number)))
     }
 
-    /// A strong read at the tail of what the put of this number wrote.
+    /// Sends a strong read of the object that the put of this number wrote to the tail.
     fn try_read<R: Wait>(&mut self, rt: &R, course: &Course, number: u64) -> Result<(), Refusal> {
         let ask = self.read(number, ReadMode::Strong)?;
         let tail = course.tail.load(Ordering::SeqCst);
@@ -92,7 +94,8 @@ impl Caller {
         Ok(())
     }
 
-    /// Puts, or reads, until there is an answer or the store is closed. Whether there was one.
+    /// Puts or reads until there is a reply, the store is closed, or the tries are used up. Returns
+    /// true if there was a reply.
     fn insist<R: Wait>(
         &mut self,
         rt: &R,
@@ -119,8 +122,8 @@ impl Caller {
         false
     }
 
-    /// Puts under so many numbers, from 1, until the course is over or the store is closed; reads what it put after each;
-    /// and asks the last put again.
+    /// Puts with request numbers from 1 to `numbers`, until the course is over or the store is
+    /// closed. Reads the object after each put, and sends the last put again.
     pub fn ask_on<R: Wait>(mut self, rt: &R, host: HostRuntime, course: &Course, numbers: u64) {
         for number in 1..=numbers {
             let is_last = number == numbers || course.over.load(Ordering::SeqCst);

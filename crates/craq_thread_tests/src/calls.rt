@@ -1,4 +1,5 @@
-//! Cases of calls: two that overlap, steps in place and by the ask worker, what is read back; called by `cases` and `changes`.
+//! Tests calls: two that overlap, steps in place and by the request worker, a client's own write;
+//! called by `cases` and `changes`.
 use crate::asker::Asker;
 use crate::asks::chain;
 use crate::behind::audit_behind;
@@ -14,7 +15,7 @@ use std::sync::atomic::{AtomicBool, Ordering};
 use std::thread;
 use std::thread::{JoinHandle, Threads};
 
-/// The audit of these receipts is to find a run.
+/// Audits the store and expects a run with these receipts.
 pub fn confirm<R: Wait>(rt: &R, store: &Tested, receipts: &[CallReceipt]) -> Result<(), Fault> {
     let audit = store.audit(rt, chain(), receipts)?;
     let is_merged = matches!(&audit, Audit::Merged(_));
@@ -22,7 +23,7 @@ pub fn confirm<R: Wait>(rt: &R, store: &Tested, receipts: &[CallReceipt]) -> Res
     expect(is_merged, Fact::IsMerged)
 }
 
-/// A put at node 1.
+/// Sends a put to node 1.
 fn put_once<R: Wait>(rt: &R, mut asker: Asker) -> Result<Asker, Refusal> {
     match asker.put(rt, 1) {
         Ok(()) => Ok(asker),
@@ -33,7 +34,7 @@ fn put_once<R: Wait>(rt: &R, mut asker: Asker) -> Result<Asker, Refusal> {
     }
 }
 
-/// A put at node 1, on a thread of its own.
+/// Sends a put to node 1 from a thread of its own.
 fn start_put<R>(rt: R, asker: Asker) -> Result<JoinHandle<Result<Asker, Refusal>>, Refusal>
 where
     R: Threads + Wait + Copy + Send + 'static,
@@ -44,8 +45,9 @@ where
     }
 }
 
-/// A put at node 1 is held under the node's lock alone: the other nodes answer reads, the master tells its membership, and an
-/// audit waits. Then the put is answered, and a read at node 2 with its pass finds it.
+/// Holds a put at node 1 under the node's lock alone: the other nodes answer reads, the master
+/// reports its membership, and an audit waits. Then the put is answered, and a read at node 2 with
+/// its pass finds it.
 pub fn overlap<R>(rt: R, host: HostRuntime, store: &Tested, signs: &Signs) -> Result<(), Fault>
 where
     R: Threads + Wait + Copy + Send + 'static,
@@ -60,7 +62,8 @@ where
     looked
 }
 
-/// The master tells its membership, and then an audit waits until this flag lets a held put go.
+/// Reads the master's membership, then expects that an audit waits until `open` releases a held
+/// put.
 fn look_behind<R>(rt: R, host: HostRuntime, store: &Tested, open: &AtomicBool) -> Result<(), Fault>
 where
     R: Threads + Wait + Copy + Send + 'static,
@@ -70,7 +73,7 @@ where
     audit_behind(rt, host, store, open)
 }
 
-/// The version that a put told.
+/// Returns the version in the reply to a put.
 fn version_of_put<R: Threads>(
     rt: &R,
     caller: JoinHandle<Result<Asker, Refusal>>,
@@ -79,8 +82,8 @@ fn version_of_put<R: Threads>(
     Ok(asker.version)
 }
 
-/// The chain is audited, which takes the locks of its master and of all its nodes, while a put at node 1 is held before or
-/// after its step. Then the put is answered.
+/// Audits the chain, which locks its master and all its nodes, while a put at node 1 is held before
+/// or after its step. Then the put is answered.
 pub fn free<R>(rt: R, host: HostRuntime, store: &Tested, signs: &Signs) -> Result<(), Fault>
 where
     R: Threads + Wait + Copy + Send + 'static,
@@ -96,13 +99,13 @@ where
     expect(version == 1, Fact::Writes)
 }
 
-/// Reads at the nodes 2 and 3 by another client.
+/// Reads at nodes 2 and 3 by another client.
 fn read_both<R: Wait>(rt: &R, asker: &mut Asker) -> Result<(), Refusal> {
     asker.read(rt, 2)?;
     asker.read(rt, 3)
 }
 
-/// The same by a new client.
+/// Reads at nodes 2 and 3 by a new client.
 fn read_meanwhile<R: Wait>(rt: &R, host: HostRuntime, store: &Tested) -> Result<Asker, Refusal> {
     let mut asker = Asker::new(host.alloc(), store, 2)?;
     match read_both(rt, &mut asker) {
@@ -114,8 +117,9 @@ fn read_meanwhile<R: Wait>(rt: &R, host: HostRuntime, store: &Tested) -> Result<
     }
 }
 
-/// The put wrote version 1, and a read at node 2 with its pass finds it. Nothing was found before it, while it was held, and an
-/// audit with the calls of both clients finds a run.
+/// Expects that the put wrote version 1, and that a read at node 2 with its pass finds it. The
+/// reads while the put was held must have found nothing, and an audit with the calls of both
+/// clients must find a run.
 fn find_put<R: Wait>(
     rt: &R,
     store: &Tested,
@@ -132,7 +136,7 @@ fn find_put<R: Wait>(
     confirm(rt, store, first.receipts.as_slice())
 }
 
-/// A put at node 1 and a read at node 3 meanwhile are to have been answered, as `find_put` says.
+/// Expects that a put at node 1 and the reads meanwhile were answered, as `find_put` checks.
 fn find_both<R: Wait>(
     rt: &R,
     store: &Tested,
@@ -155,7 +159,8 @@ fn find_both<R: Wait>(
     }
 }
 
-/// A caller has its answer while the ask worker is held after its step; in place only once it was let go itself.
+/// Expects that a caller has its reply while the request worker is held after its step. A caller
+/// that runs its own step has its reply only once it is released itself.
 pub fn taking<R: Wait>(
     rt: &R,
     host: HostRuntime,
@@ -172,13 +177,13 @@ pub fn taking<R: Wait>(
     expect(passed == in_place, Fact::TakesItsStep)
 }
 
-/// A client puts, and finds what it put at another node.
+/// Puts with a client, and expects to find the value at another node.
 pub fn read_back<R: Wait>(rt: &R, host: HostRuntime, store: &Tested) -> Result<(), Fault> {
     let mut asker = Asker::new(host.alloc(), store, 1)?;
     put_and_read(rt, &mut asker)
 }
 
-/// A put by this client at node 1, and then its strong read at node 3.
+/// Puts at node 1 and then reads strongly at node 3, by this client.
 fn put_and_read<R: Wait>(rt: &R, asker: &mut Asker) -> Result<(), Fault> {
     asker.put(rt, 1)?;
     expect(asker.version == 1, Fact::Writes)?;
@@ -186,7 +191,7 @@ fn put_and_read<R: Wait>(rt: &R, asker: &mut Asker) -> Result<(), Fault> {
     expect(asker.version == 1, Fact::Finds)
 }
 
-/// A put that cannot be committed, since links carry nothing, waits until its node stops.
+/// Expects that a put which cannot commit, since links deliver nothing, waits until its node stops.
 pub fn stop<R>(rt: R, host: HostRuntime, store: &Tested, signs: &Signs) -> Result<(), Fault>
 where
     R: Threads + Wait + Copy + Send + 'static,

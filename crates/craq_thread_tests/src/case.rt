@@ -1,15 +1,15 @@
-//! The table of cases, and what one expects; `main` goes through it, and `cases` tries each.
+//! Defines the table of cases and their texts; `main` goes through it, and `cases` runs each.
 
-/// What is tested of a store that runs.
+/// The property of a running store that is tested.
 #[derive(Clone, Copy)]
 pub enum Case {
     /// A call is answered while another node is held under its lock.
     Overlap,
-    /// A chain is audited while a piece of work is held before its node's lock is taken.
+    /// A chain is audited while a work item is held before its node's lock is taken.
     Before,
-    /// The same after it.
+    /// A chain is audited while a work item is held after its node's lock is released.
     After,
-    /// Who takes the step of an ask: the node's ask worker, or its caller in place.
+    /// The step of a request is run by the node's request worker, or by its caller in place.
     Taking,
     /// A store without journals reads its own write at another node.
     ReadBack,
@@ -17,7 +17,8 @@ pub enum Case {
     Stop,
     /// Moves of the master are refused, and threads go and come with nodes.
     Members,
-    /// Nodes stop, are removed and join, and messages are lost, while clients go on asking.
+    /// Nodes stop, are removed and join, and messages are lost, while clients keep sending
+    /// requests.
     Changes,
 }
 
@@ -55,7 +56,7 @@ pub const CASES: [(Case, &str); 8] = [
 ];
 
 impl Case {
-    /// Whether the store keeps journals.
+    /// Returns true if the store keeps journals.
     pub fn has_journals(self) -> bool {
         !matches!(self, Case::ReadBack)
     }

@@ -1,5 +1,5 @@
-//! The gate of a case, which holds workers up and cuts links, and the signs that it and the case give each other; made by
-//! `cases`, asked through `gate`.
+//! Defines the fault-injection hook of a case, which holds workers and cuts links, and the flags
+//! that it and the case share; made by `cases`, called through `gate`.
 use crate::case::Case;
 use crate::form::Form;
 use crate::waits::{LIMIT, wait_for};
@@ -8,28 +8,28 @@ use craq_workers::{Gate, Work};
 use std::sync::Arc;
 use std::sync::atomic::{AtomicBool, AtomicU64, Ordering};
 
-/// For how many turns a caller that takes its own step is held after it.
+/// The number of polls for which a caller that runs its own step is held after it.
 const FEW_TURNS: u64 = 5;
 
-/// Of how many messages one is lost while members change.
+/// One message of this many is lost while members change.
 const ONE_LOST: u64 = 500;
 
-/// What a gate and its test tell each other.
+/// The flags and counts that a hook and its test share.
 #[derive(Drop)]
 pub struct Signs {
-    /// The ask that is waited for is at the gate.
+    /// The awaited request is at the hook.
     pub reached: AtomicBool,
-    /// The test lets it go.
+    /// The test releases the request.
     pub open: AtomicBool,
-    /// It went on.
+    /// The request went on.
     pub passed: AtomicBool,
-    /// It was held for as long as a wait may take.
+    /// The request was held for as long as a wait may take.
     pub late: AtomicBool,
-    /// How many pieces of node 1's ask work have begun.
+    /// The number of node 1's request work items that have begun.
     begun: AtomicU64,
     /// The sum of their counts.
     counts: AtomicU64,
-    /// How many messages came to a link.
+    /// The number of messages handed to a link.
     sent: AtomicU64,
 }
 
@@ -46,14 +46,14 @@ impl Signs {
         }
     }
 
-    /// A piece of node 1's ask work begins.
+    /// Counts a request work item of node 1 that begins.
     fn begin(&self, count: u64) {
         self.begun.fetch_add(1, Ordering::SeqCst);
         self.counts.fetch_add(count, Ordering::SeqCst);
     }
 
-    /// Whether node 1 counted the pieces of its ask work from 0 without gaps: the counts below a number have a sum of their
-    /// own.
+    /// Returns true if node 1 counted its request work items from 0 without gaps: the sum of the
+    /// first n counts is n (n - 1) / 2.
     pub fn are_counted(&self) -> bool {
         let begun = self.begun.load(Ordering::SeqCst);
         let twice = self.counts.load(Ordering::SeqCst).wrapping_mul(2);
@@ -61,7 +61,7 @@ impl Signs {
     }
 }
 
-/// The gate of a case.
+/// The fault-injection hook of a case.
 #[derive(Drop)]
 pub struct CaseGate {
     pub clock: HostRuntime,
@@ -71,7 +71,7 @@ pub struct CaseGate {
 }
 
 impl CaseGate {
-    /// Holds whoever comes here until the test opens, for at most so many turns.
+    /// Holds the calling thread until the test releases it, for at most `turns` polls.
     fn hold(&self, turns: u64) {
         self.signs.reached.store(true, Ordering::SeqCst);
         if !wait_for(self.clock, &self.signs.open, turns) {

@@ -1,4 +1,4 @@
-//! Each case on a store of its own, which is closed in the end; called by `judge`.
+//! Runs each case on a store of its own, which is closed at the end; called by `judge`.
 use crate::asker::Asker;
 use crate::calls::{free, overlap, read_back, stop, taking};
 use crate::case::Case;
@@ -13,7 +13,7 @@ use craq_names::Refusal;
 use std::sync::{Arc, Wait};
 use std::thread::Threads;
 
-/// A case on its store.
+/// Runs a case on its store.
 fn try_on<R>(
     rt: R,
     host: HostRuntime,
@@ -36,7 +36,7 @@ where
     }
 }
 
-/// A store for a case.
+/// Starts a store for a case.
 fn start<R>(
     rt: R,
     host: HostRuntime,
@@ -57,7 +57,7 @@ where
     Ok(start_store(rt, host.alloc(), gate, case.has_journals())?)
 }
 
-/// A call of a store that was closed is to answer that it is, and no thread of it is to be left.
+/// Expects that a call of a closed store returns `Closed`, and that no thread of the store is left.
 fn is_closed<R: Wait>(
     rt: &R,
     host: HostRuntime,
@@ -68,7 +68,7 @@ fn is_closed<R: Wait>(
     expect_threads(host, ALONE)
 }
 
-/// Starts a store for a case, tries the case on it, and closes it.
+/// Starts a store for a case, runs the case on it, and closes it.
 pub fn try_case<R>(rt: R, host: HostRuntime, case: Case, form: Form) -> Result<(), Fault>
 where
     R: Threads + Wait + Copy + Send + 'static,

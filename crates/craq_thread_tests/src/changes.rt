@@ -1,4 +1,5 @@
-//! The case in which nodes stop, go and join while clients ask and messages are lost; called by `cases`.
+//! Tests that nodes can stop, be removed and join while clients send requests and messages are
+//! lost; called by `cases`.
 use crate::asker::Asker;
 use crate::asks::chain;
 use crate::calls::confirm;
@@ -14,35 +15,35 @@ use std::sync::{Arc, Wait};
 use std::thread;
 use std::thread::{JoinHandle, Threads};
 
-/// How many clients ask at once.
+/// The number of concurrent clients.
 const CLIENTS: u64 = 4;
 
-/// How many calls each of them makes, every second one a put.
+/// The number of calls that each of them makes, every second one a put.
 const CALLS: u64 = 2500;
 
-/// How many calls all of them make.
+/// The number of calls that all of them make.
 const TOTAL: u64 = CLIENTS * CALLS;
 
-/// The most turns of a wait for calls.
+/// The largest number of polls of a wait for calls.
 const MOST_TURNS: u32 = 3000;
 
-/// For how many turns no call has to come back so that all wait.
+/// The number of polls without a finished call after which all clients are taken to wait.
 const A_WHILE: u32 = 10;
 
-/// What the clients and whoever changes the members tell each other.
+/// The values that the clients and the thread that changes the members share.
 #[derive(Drop)]
 struct Course {
-    /// Where puts go.
+    /// The node that puts go to.
     head: AtomicU32,
-    /// Where reads go.
+    /// The node that reads go to.
     tail: AtomicU32,
-    /// How many puts wait for their answers.
+    /// The number of puts that wait for their replies.
     waiting: AtomicU64,
-    /// How many calls came back.
+    /// The number of finished calls.
     made: AtomicU64,
-    /// How many of them were puts.
+    /// The number of finished calls that were puts.
     puts: AtomicU64,
-    /// How many of them were refused.
+    /// The number of finished calls that were refused.
     refused: AtomicU64,
 }
 
@@ -58,7 +59,7 @@ impl Course {
         }
     }
 
-    /// A put at the head.
+    /// Sends a put to the head.
     fn put<R: Wait>(&self, rt: &R, asker: &mut Asker) -> Result<(), Refusal> {
         self.waiting.fetch_add(1, Ordering::SeqCst);
         let put = asker.put(rt, self.head.load(Ordering::SeqCst));
@@ -67,7 +68,7 @@ impl Course {
         put
     }
 
-    /// A put, or by turns a read. After a refusal the client rests.
+    /// Sends a put for an even `turn`, a read for an odd one. After a refusal the client rests.
     fn call<R: Wait>(&self, rt: &R, host: HostRuntime, asker: &mut Asker, turn: u64) {
         let called = if turn % 2 == 0 {
             self.put(rt, asker)
@@ -82,7 +83,7 @@ impl Course {
     }
 }
 
-/// All calls of a client.
+/// Makes all calls of a client.
 fn ask_on<R: Wait>(rt: &R, host: HostRuntime, mut asker: Asker, course: &Course) -> Asker {
     for turn in 0..CALLS {
         course.call(rt, host, &mut asker, turn);
@@ -90,7 +91,7 @@ fn ask_on<R: Wait>(rt: &R, host: HostRuntime, mut asker: Asker, course: &Course)
     asker
 }
 
-/// Ticks until a counter has come to a number, or for as long as may be.
+/// Ticks until a counter reaches a number, or the polls are used up.
 fn tick_until<R: Wait>(
     rt: &R,
     host: HostRuntime,
@@ -107,7 +108,7 @@ fn tick_until<R: Wait>(
     }
 }
 
-/// Ticks until no call came back for a while, or for as long as may be.
+/// Ticks until no call finishes for a while, or the polls are used up.
 fn tick_until_stuck<R: Wait>(rt: &R, host: HostRuntime, store: &Tested, made: &AtomicU64) {
     let mut before = TOTAL;
     for turn in 0..MOST_TURNS {
@@ -123,7 +124,8 @@ fn tick_until_stuck<R: Wait>(rt: &R, host: HostRuntime, store: &Tested, made: &A
     }
 }
 
-/// The last node stops, so that puts wait; another joins, and the one that stopped is removed. How many puts waited.
+/// Stops the last node so that puts wait, adds another, and removes the stopped one. Returns the
+/// number of puts that waited.
 fn change_tail<R>(rt: R, host: HostRuntime, store: &Tested, course: &Course) -> Result<u64, Refusal>
 where
     R: Threads + Wait + Copy + Send + 'static,
@@ -138,7 +140,7 @@ where
     Ok(waiting)
 }
 
-/// The first node stops and is removed.
+/// Stops and removes the first node.
 fn change_head<R: Wait>(rt: &R, store: &Tested, course: &Course) -> Result<(), Refusal> {
     let chain = chain();
     store.stop(rt, chain, NodeId::new(1))?;
@@ -148,7 +150,8 @@ fn change_head<R: Wait>(rt: &R, store: &Tested, course: &Course) -> Result<(), R
     Ok(())
 }
 
-/// The tail changes after a quarter of the calls, and the head after half of them. How many puts waited as the tail did.
+/// Changes the tail after a quarter of the calls, and the head after half of them. Returns the
+/// number of puts that waited when the tail changed.
 fn change_members<R>(
     rt: R,
     host: HostRuntime,
@@ -166,7 +169,7 @@ where
     Ok(waiting)
 }
 
-/// A client begins to ask, on a thread of its own.
+/// Starts a client on a thread of its own.
 fn start_asker<R>(
     rt: R,
     host: HostRuntime,
@@ -185,7 +188,8 @@ where
     }
 }
 
-/// All clients begin to ask, while members change. How many puts waited as the tail did.
+/// Starts all clients and changes the members. Returns the number of puts that waited when the tail
+/// changed.
 fn ask_and_change<R>(
     rt: R,
     host: HostRuntime,
@@ -217,24 +221,25 @@ fn join_all<R: Threads>(
     Ok(())
 }
 
-/// Prints how many calls came back.
+/// Prints the number of finished calls.
 fn print_counts(host: HostRuntime, course: &Course) {
     let made = course.made.load(Ordering::SeqCst);
     let puts = course.puts.load(Ordering::SeqCst);
     let _ = println!(host; "{made} calls come back, {puts} of them puts");
 }
 
-/// Whether all calls came back, half of them puts.
+/// Returns true if all calls finished, half of them puts.
 fn came_back(course: &Course) -> bool {
     course.made.load(Ordering::SeqCst) == TOTAL && course.puts.load(Ordering::SeqCst) == TOTAL / 2
 }
 
-/// Whether nine of ten calls were answered and not refused.
+/// Returns true if at least nine of ten calls were answered and not refused.
 fn were_answered(course: &Course) -> bool {
     course.refused.load(Ordering::SeqCst) <= TOTAL / 10
 }
 
-/// How many puts waited while members changed. The receipts are those of all calls that were made meanwhile.
+/// Runs all clients while members change, and collects the receipts of their calls. Returns the
+/// number of puts that waited when the tail changed.
 fn ask_all<R>(
     rt: R,
     host: HostRuntime,
@@ -258,7 +263,8 @@ where
     }
 }
 
-/// Members change while clients ask: every call is to come back, few of them refused, and the audit is to find a run of them.
+/// Changes members while clients send requests. Every call must finish, few may be refused, and the
+/// audit must find a run with their receipts.
 fn go_on<R>(
     rt: R,
     host: HostRuntime,
@@ -279,7 +285,7 @@ where
     confirm(&rt, store, receipts.as_slice())
 }
 
-/// Nodes stop, are removed and join, and messages are lost, while clients go on asking.
+/// Stops, removes and adds nodes, and loses messages, while clients keep sending requests.
 pub fn changes<R>(rt: R, host: HostRuntime, store: &Tested, signs: &Signs) -> Result<(), Fault>
 where
     R: Threads + Wait + Copy + Send + 'static,

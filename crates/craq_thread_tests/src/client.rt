@@ -1,4 +1,5 @@
-//! The clients: each asks over a connection of its own and prints what it is answered; called by `server`.
+//! Runs the clients: each sends a request over a connection of its own and prints the reply; called
+//! by `server`.
 use crate::requests::{put, read};
 use craq_commands::Reply;
 use craq_frames::{ClientMessage, ClientReply};
@@ -7,7 +8,7 @@ use craq_names::{Pass, Refusal};
 use std::io;
 use std::net::{Net, SocketAddr, TcpListener, TcpStream};
 
-/// Asks one thing over a new connection, which then ends.
+/// Sends one request over a new connection, which is then closed.
 fn ask<R>(rt: &R, address: SocketAddr, message: &ClientMessage) -> Result<ClientReply, Refusal>
 where
     R: AllocGlobal + Net<Listener = TcpListener, Stream = TcpStream>,
@@ -19,7 +20,7 @@ where
     exchange(rt.alloc(), &mut stream, message)
 }
 
-/// Prints what a client's put did.
+/// Prints the result of a client's put.
 fn print_put<R: Print>(rt: &R, reply: &Reply) -> io::Result<()> {
     match reply {
         Reply::Written(version) => println!(rt; "put: written {}", version.get()),
@@ -27,7 +28,7 @@ fn print_put<R: Print>(rt: &R, reply: &Reply) -> io::Result<()> {
     }
 }
 
-/// Prints what a client was answered.
+/// Prints a client's reply.
 fn print_reply<R: Print>(rt: &R, reply: &ClientReply) -> io::Result<()> {
     match reply {
         ClientReply::Update { reply, .. } => print_put(rt, reply),
@@ -39,7 +40,7 @@ fn print_reply<R: Print>(rt: &R, reply: &ClientReply) -> io::Result<()> {
     }
 }
 
-/// The pass to show after a reply.
+/// Returns the pass to send after a reply.
 fn pass_after(reply: &ClientReply) -> Pass {
     match reply {
         ClientReply::Update { pass, .. } | ClientReply::Read { pass, .. } => *pass,
@@ -47,7 +48,7 @@ fn pass_after(reply: &ClientReply) -> Pass {
     }
 }
 
-/// Prints what a client was answered. Gives the pass to show from then on.
+/// Prints a client's reply. Returns the pass to send from then on.
 fn print_and_pass<R: Print>(rt: &R, reply: &ClientReply) -> Result<Pass, Refusal> {
     match print_reply(rt, reply) {
         Ok(()) => Ok(pass_after(reply)),
@@ -55,7 +56,7 @@ fn print_and_pass<R: Print>(rt: &R, reply: &ClientReply) -> Result<Pass, Refusal
     }
 }
 
-/// Asks one thing, and prints what it is answered. Gives the pass to show from then on.
+/// Sends one request, and prints its reply. Returns the pass to send from then on.
 fn ask_and_print<R>(rt: &R, address: SocketAddr, message: &ClientMessage) -> Result<Pass, Refusal>
 where
     R: AllocGlobal + Print + Net<Listener = TcpListener, Stream = TcpStream>,
@@ -64,7 +65,7 @@ where
     print_and_pass(rt, &reply)
 }
 
-/// The put of the first client. Gives its pass.
+/// Sends the put of the first client. Returns its pass.
 fn ask_put<R>(rt: &R, address: SocketAddr) -> Result<Pass, Refusal>
 where
     R: AllocGlobal + Print + Net<Listener = TcpListener, Stream = TcpStream>,
@@ -73,7 +74,7 @@ where
     ask_and_print(rt, address, &put)
 }
 
-/// The read of the second client, with this pass.
+/// Sends the read of the second client, with this pass. Returns its pass.
 fn ask_read<R>(rt: &R, address: SocketAddr, pass: Pass) -> Result<Pass, Refusal>
 where
     R: AllocGlobal + Print + Net<Listener = TcpListener, Stream = TcpStream>,
@@ -82,7 +83,8 @@ where
     ask_and_print(rt, address, &read)
 }
 
-/// The three clients, one after another: a put at node 1, a strong read at node 3 with the put's pass, and a status.
+/// Runs the three clients, one after another: a put at node 1, a strong read at node 3 with the
+/// put's pass, and a status.
 pub fn ask_all<R>(rt: &R, address: SocketAddr) -> Result<(), Refusal>
 where
     R: AllocGlobal + Print + Net<Listener = TcpListener, Stream = TcpStream>,

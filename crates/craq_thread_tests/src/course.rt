@@ -1,4 +1,5 @@
-//! What the clients, the gate and whoever drives a trial tell each other; for `caller`, `driving`, `trials` and `trial_gate`.
+//! Defines the values that the clients, the fault-injection hook and the driver of a trial share;
+//! for `caller`, `driving`, `trials` and `trial_gate`.
 use craq_seat::CallReceipt;
 use std::alloc::Global;
 use std::sync::atomic::{AtomicBool, AtomicU32, AtomicU64, Ordering};
@@ -7,50 +8,50 @@ use std::sync::{Mutex, Wait};
 /// The course of a trial.
 #[derive(Drop)]
 pub struct Course {
-    /// Where puts go.
+    /// The node that puts go to.
     pub head: AtomicU32,
-    /// Where reads go.
+    /// The node that reads go to.
     pub tail: AtomicU32,
     /// The largest id of a node that answered a strong read.
     pub ready: AtomicU64,
-    /// How many ticks the store had.
+    /// The number of ticks of the store.
     pub ticks: AtomicU64,
-    /// The most of them while a call waited.
+    /// The largest number of ticks while a call waited.
     pub longest: AtomicU64,
-    /// How many calls were answered.
+    /// The number of answered calls.
     pub answered: AtomicU64,
-    /// How many were refused, other than as closed.
+    /// The number of calls refused other than as `Closed`.
     pub refused: AtomicU64,
-    /// How many had another version than they should, or no room for their receipt.
+    /// The number of calls with a wrong version, or without room for their receipt.
     pub wrong: AtomicU64,
-    /// How many clients have begun.
+    /// The number of clients that have begun.
     pub begun: AtomicU64,
-    /// How many have ended.
+    /// The number of clients that have ended.
     pub ended: AtomicU64,
-    /// How often the gate held the node that it holds.
+    /// The number of times that the hook held the node that it holds.
     pub held: AtomicU64,
-    /// How many pieces of work that node has begun.
+    /// The number of work items that this node has begun.
     pub pieces: AtomicU64,
-    /// How many messages its successor sent it.
+    /// The number of messages that its successor sent it.
     pub repeated: AtomicU64,
-    /// How many messages others sent it.
+    /// The number of messages that other nodes sent it.
     pub others: AtomicU64,
-    /// How many messages came to a link.
+    /// The number of messages handed to a link.
     pub sent: AtomicU64,
-    /// It may go on.
+    /// The held node may go on.
     pub open: AtomicBool,
-    /// It was held for as long as a wait may take.
+    /// The node was held for as long as a wait may take.
     pub late: AtomicBool,
     /// No more messages are lost.
     pub calm: AtomicBool,
-    /// The clients are to end.
+    /// The clients must end.
     pub over: AtomicBool,
-    /// Those of all answered calls.
+    /// The receipts of all answered calls.
     pub receipts: Mutex<Vec<CallReceipt>>,
 }
 
 impl Course {
-    /// Of a chain of the nodes 1 to 3, before any call.
+    /// Creates the course of a chain of the nodes 1 to 3, before any call.
     pub fn new(alloc: Global) -> Course {
         Course {
             head: AtomicU32::new(1),
@@ -76,7 +77,8 @@ impl Course {
         }
     }
 
-    /// A call was answered, that was asked at this tick; whether with the version that it should have.
+    /// Notes the reply to a call that was made at tick `asked`, and whether it has the right
+    /// version.
     pub fn note<R: Wait>(&self, rt: &R, receipt: CallReceipt, asked: u64, is_right: bool) {
         let waited = self.ticks.load(Ordering::SeqCst).saturating_sub(asked);
         self.longest.fetch_max(waited, Ordering::SeqCst);
@@ -89,7 +91,7 @@ impl Course {
         self.answered.fetch_add(1, Ordering::SeqCst);
     }
 
-    /// A message goes to the node at which it is looked what waits.
+    /// Notes a message to the held node: a repeated one if its successor sent it, else another one.
     pub fn note_sent(&self, from: u64, to: u64) {
         if from == to.wrapping_add(1) {
             self.repeated.fetch_add(1, Ordering::SeqCst);
@@ -98,7 +100,7 @@ impl Course {
         }
     }
 
-    /// Tells on standard error what became of all calls.
+    /// Prints the outcome of all calls on standard error.
     pub fn tell(&self, host: HostRuntime) {
         let answered = self.answered.load(Ordering::SeqCst);
         let refused = self.refused.load(Ordering::SeqCst);

@@ -1,4 +1,5 @@
-//! What each trial does with its store, where nobody is held; called by `trials`. The others: `holding`, `filling`.
+//! Drives each trial in which no node is held; called by `trials`. The other trials are in
+//! `holding` and `filling`.
 use crate::asks::chain;
 use crate::caller::Caller;
 use crate::course::Course;
@@ -13,22 +14,22 @@ use std::sync::{Arc, Wait};
 use std::thread;
 use std::thread::{JoinHandle, Threads};
 
-/// How many clients ask at once.
+/// The number of concurrent clients.
 pub const CLIENTS: u8 = 4;
 
-/// The most ticks that a call takes while messages are lost, and afterwards.
+/// The largest number of ticks that a call takes while messages are lost, and afterwards.
 const MOST_TICKS: u64 = 300;
 
-/// For how many turns clients ask after messages were lost.
+/// The number of polls for which clients send requests after messages were lost.
 const CALM: u64 = 50;
 
-/// The most nodes that ever join.
+/// The largest number of nodes that ever join.
 const MOST_JOINS: u32 = 10_000;
 
-/// No more numbers than these.
+/// The largest request number.
 const MANY: u64 = 1_000_000;
 
-/// A store that runs, and its course.
+/// A running store and its course.
 pub struct Ground {
     pub host: HostRuntime,
     pub store: Tested,
@@ -39,7 +40,7 @@ pub struct Ground {
 pub type Callers = Vec<JoinHandle<()>>;
 
 impl Ground {
-    /// A client of this id begins to ask, so many numbers.
+    /// Starts a client of this id with `numbers` request numbers.
     pub fn start_caller<R>(
         &self,
         rt: R,
@@ -64,7 +65,7 @@ impl Ground {
         }
     }
 
-    /// All clients begin to ask.
+    /// Starts all clients.
     fn start_all<R>(&self, rt: R, callers: &mut Callers) -> Result<(), Fault>
     where
         R: Threads + Wait + Copy + Send + 'static,
@@ -75,7 +76,8 @@ impl Ground {
         Ok(())
     }
 
-    /// Ticks, a turn apart, until a counter has come to a number, for at most so many turns. Whether it has.
+    /// Ticks once per poll until a counter reaches a number, for at most `turns` polls. Returns
+    /// true if it has.
     pub fn tick_until<R: Wait>(
         &self,
         rt: &R,
@@ -94,7 +96,7 @@ impl Ground {
         counter.load(Ordering::SeqCst) >= wanted
     }
 
-    /// Does what a trial does, for the time of this number that it is tried.
+    /// Drives a trial; `time` is the number of its repetition, from 0.
     pub fn drive<R>(
         &self,
         rt: R,
@@ -119,7 +121,7 @@ impl Ground {
         self.end(&rt)
     }
 
-    /// Clients ask while messages are lost, for so many turns, and while none is.
+    /// Runs clients while messages are lost, for `turns` polls, and then while none is lost.
     fn lose<R>(&self, rt: R, turns: u64, callers: &mut Callers) -> Result<(), Fault>
     where
         R: Threads + Wait + Copy + Send + 'static,
@@ -135,7 +137,7 @@ impl Ground {
         expect(longest <= MOST_TICKS, Fact::IsInTime)
     }
 
-    /// Node 4 joins, to which messages go slowly, while clients ask.
+    /// Adds node 4, which receives messages slowly, while clients send requests.
     fn join_slowly<R>(&self, rt: R, calls: u64, callers: &mut Callers) -> Result<(), Fault>
     where
         R: Threads + Wait + Copy + Send + 'static,
@@ -148,7 +150,7 @@ impl Ground {
         self.join(rt, 4)
     }
 
-    /// A node of this id joins, reads go to it, and it comes to answer them.
+    /// Adds a node of this id, sends reads to it, and expects that it begins to answer them.
     fn join<R>(&self, rt: R, id: u32) -> Result<(), Fault>
     where
         R: Threads + Wait + Copy + Send + 'static,
@@ -159,7 +161,8 @@ impl Ground {
         expect(ready, Fact::IsReady)
     }
 
-    /// Members stop, are removed and join while clients ask, until so many calls are answered.
+    /// Stops, removes and adds members while clients send requests, until `calls` calls are
+    /// answered.
     fn change<R>(&self, rt: R, calls: u64, callers: &mut Callers) -> Result<(), Fault>
     where
         R: Threads + Wait + Copy + Send + 'static,
@@ -175,7 +178,8 @@ impl Ground {
         expect(false, Fact::IsAnswered)
     }
 
-    /// The head, the middle or the tail by turns stops and is removed, and the next node joins: the members afterwards.
+    /// Stops and removes the head, the middle or the tail, depending on `next`, and adds node
+    /// `next`. Returns the members afterwards.
     fn replace<R>(&self, rt: R, members: [u32; 3], next: u32) -> Result<[u32; 3], Fault>
     where
         R: Threads + Wait + Copy + Send + 'static,
@@ -193,7 +197,7 @@ impl Ground {
         Ok(others)
     }
 
-    /// Clients ask for a while, from none to four turns.
+    /// Runs clients for zero to four polls.
     fn ask_a_while<R>(&self, rt: R, time: u64, callers: &mut Callers) -> Result<(), Fault>
     where
         R: Threads + Wait + Copy + Send + 'static,
@@ -203,7 +207,7 @@ impl Ground {
         Ok(())
     }
 
-    /// The clients end.
+    /// Ends the clients.
     pub fn end_asking<R: Wait>(&self, rt: &R) -> Result<(), Fault> {
         self.course.over.store(true, Ordering::SeqCst);
         let begun = self.course.begun.load(Ordering::SeqCst);
@@ -211,7 +215,8 @@ impl Ground {
         expect(ended, Fact::IsAnswered)
     }
 
-    /// The clients end, all versions were right, and the audit finds a run with every receipt.
+    /// Ends the clients, and expects that all versions were right and that the audit finds a run
+    /// with every receipt.
     fn end<R: Wait>(&self, rt: &R) -> Result<(), Fault> {
         self.end_asking(rt)?;
         let wrong = self.course.wrong.load(Ordering::SeqCst);
@@ -219,7 +224,7 @@ impl Ground {
         self.audit(rt)
     }
 
-    /// The audit finds a run with every receipt.
+    /// Expects that the audit finds a run with every receipt.
     pub fn audit<R: Wait>(&self, rt: &R) -> Result<(), Fault> {
         let receipts = self.course.receipts.lock(rt);
         let audited = self.store.audit(rt, chain(), receipts.as_slice());

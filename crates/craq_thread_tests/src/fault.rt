@@ -1,9 +1,9 @@
-//! How a test ends that does not hold, and how that is told: each test calls it for what it expects.
+//! Defines how a test fails and how that is printed; every test calls it for its expectations.
 use craq_names::Refusal;
 use std::alloc::{AllocError, AllocFailed};
 use std::io;
 
-/// What a test expects.
+/// The property that a test expects.
 #[derive(Clone, Copy)]
 pub enum Fact {
     AnswersMeanwhile,
@@ -33,7 +33,7 @@ pub enum Fact {
 }
 
 impl Fact {
-    /// The fact in words.
+    /// Returns the property in words.
     fn text(self) -> &'static str {
         match self {
             Fact::AnswersMeanwhile => "a node answers while another is held",
@@ -65,12 +65,12 @@ impl Fact {
     }
 }
 
-/// How a test ends that does not hold.
+/// The reason that a test fails.
 #[derive(Clone, Copy)]
 pub enum Fault {
     /// A call of the store was refused.
     Refused(Refusal),
-    /// This was expected, and is not so.
+    /// This property was expected, and does not hold.
     Unmet(Fact),
     /// The test did not end in its time.
     Late,
@@ -94,7 +94,7 @@ impl<T: Drop> From<AllocFailed<T>> for Fault {
     }
 }
 
-/// Nothing where it is so, else the fault that it was expected.
+/// Returns `Unmet` with the expected property if `is_so` is false.
 pub fn expect(is_so: bool, expected: Fact) -> Result<(), Fault> {
     if is_so {
         Ok(())
@@ -103,7 +103,7 @@ pub fn expect(is_so: bool, expected: Fact) -> Result<(), Fault> {
     }
 }
 
-/// This refusal is to have come.
+/// Returns `Unmet` with the expected property unless this refusal came.
 pub fn expect_refusal(
     came: Option<Refusal>,
     refusal: Refusal,
@@ -115,7 +115,7 @@ pub fn expect_refusal(
     }
 }
 
-/// Tells how a test ended, and ends the line, which the test's own words begin.
+/// Prints how a test ended, and ends the line that the test's own words begin.
 pub fn tell(host: HostRuntime, ended: &Result<(), Fault>) -> io::Result<()> {
     match ended {
         Ok(()) => println!(host; "holds"),

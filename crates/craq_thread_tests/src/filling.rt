@@ -1,4 +1,5 @@
-//! The trial of what waits at a node that is held while others say the same again and again; called by `driving`.
+//! Tests how much pending work a held node collects while others send the same messages again and
+//! again; called by `driving`.
 use crate::asks::chain;
 use crate::driving::{Callers, Ground};
 use crate::fault::{Fact, Fault, expect};
@@ -7,18 +8,22 @@ use std::sync::Wait;
 use std::sync::atomic::Ordering;
 use std::thread::Threads;
 
-/// How often the successor of the held node is to say what it says at each tick, and the most turns that it has for that.
+/// The number of times that the held node's successor repeats its message, once per tick, and the
+/// largest number of polls for that.
 const REPEATS: u64 = 100;
 
 const MOST_TURNS: u64 = 300;
 
-/// What the held node has at most of what was said before it was let go: the piece that it was held before, a tick, an
-/// acknowledgement, a word of a successor that is not ready, and one message of these that was on its way.
+/// The largest number of work items that the held node has from before its release. They are the
+/// item that it was held before, a tick, an acknowledgement, a message of an unready successor, and
+/// one more of these in transit.
 const ONE_OF_EACH: u64 = 5;
 
 impl Ground {
-    /// The head is held, or the tail, after which a node joins then, while the store ticks. Once it was let go a put is
-    /// answered: behind all that waited at the node, of which there was one of each kind.
+    /// Holds the head, or the tail after which a node joins then, while the store ticks.
+    ///
+    /// Once the node is released a put is answered: after all pending work of the node, one item of
+    /// each kind.
     pub fn fill<R>(&self, rt: R, held: u64, callers: &mut Callers) -> Result<(), Fault>
     where
         R: Threads + Wait + Copy + Send + 'static,
@@ -35,8 +40,9 @@ impl Ground {
         expect(self.has_few_pieces(repeated, ticks), Fact::WaitsOnce)
     }
 
-    /// Whether the held node has begun at most as many pieces of work as it was sent messages, by its successor only those
-    /// after this many, and as the store ticked after this many; and one of each kind.
+    /// Returns true if the held node has begun few enough work items: one of each kind, plus one
+    /// for each message from others, for each later message from its successor, and for each later
+    /// tick.
     fn has_few_pieces(&self, repeated: u64, ticks: u64) -> bool {
         let course = &self.course;
         let pieces = course.pieces.load(Ordering::SeqCst);

@@ -1,13 +1,14 @@
-//! The forms of a store, each of which every test is run in: the programs go through them, and their gates tell the store.
+//! Defines the forms of a store; every test is run in each form. The program goes through them, and
+//! the hooks pass the form to the store.
 
-/// Who takes the steps of a store.
+/// The threads that run the steps of a store.
 #[derive(Clone, Copy)]
 pub enum Form {
-    /// Two threads a node.
+    /// Two threads for each node.
     Workers,
-    /// Callers those of their asks, and else two threads a node.
+    /// Callers run the steps of their requests, and one thread for each node runs the others.
     InPlace,
-    /// One thread a chain, and callers those of their reads.
+    /// One chain thread, and callers run the steps of their reads.
     Carried,
 }
 
@@ -19,17 +20,17 @@ pub const FORMS: [(Form, &str); 3] = [
 ];
 
 impl Form {
-    /// Whether a caller takes the step of its read itself.
+    /// Returns true if a caller runs the step of its read itself.
     pub fn is_own(self) -> bool {
         !matches!(self, Form::Workers)
     }
 
-    /// Whether a caller takes the step of any ask itself.
+    /// Returns true if a caller runs the step of any request itself.
     pub fn is_in_place(self) -> bool {
         matches!(self, Form::InPlace)
     }
 
-    /// Whether one thread takes the steps of a whole chain.
+    /// Returns true if one thread runs the steps of a whole chain.
     pub fn is_carried(self) -> bool {
         matches!(self, Form::Carried)
     }

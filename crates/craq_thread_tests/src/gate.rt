@@ -1,5 +1,5 @@
-//! The gate of a store that is tested: that of a case, that of a trial, or an open one; and the start of a store with one.
-//! Called by `cases`, `trials` and `server`.
+//! Defines the fault-injection hook of a store under test: that of a case, that of a trial, or an
+//! open one; and starts a store with one. Called by `cases`, `trials` and `server`.
 use crate::asks::plan;
 use crate::case_gate::CaseGate;
 use crate::trial_gate::TrialGate;
@@ -10,7 +10,7 @@ use std::alloc::Global;
 use std::sync::Wait;
 use std::thread::Threads;
 
-/// A gate.
+/// A fault-injection hook.
 #[derive(Drop)]
 pub enum TestGate {
     Case(CaseGate),
@@ -18,10 +18,10 @@ pub enum TestGate {
     Open(OpenGate),
 }
 
-/// The stores that are tested: their nodes forget settled entries, as those of a server do.
+/// The stores under test: their nodes keep compacting histories, as those of a server do.
 pub type Tested = Store<ListCore, TestGate>;
 
-/// A store of the plan of each store, with this gate, and with journals or without.
+/// Starts a store of the tests' chain configuration with this hook, with or without journals.
 pub fn start_store<R>(
     rt: R,
     alloc: Global,

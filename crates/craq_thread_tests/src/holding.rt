@@ -1,4 +1,4 @@
-//! What the trials do with their stores in which a node or the master is held; called by `driving`.
+//! Drives the trials in which a node or the master is held; called by `driving`.
 use crate::asks::chain;
 use crate::behind::audit_behind;
 use crate::caller::Caller;
@@ -10,11 +10,12 @@ use std::sync::Wait;
 use std::sync::atomic::Ordering;
 use std::thread::Threads;
 
-/// How many calls a client makes that asks under one number: a put, a read, and the put again.
+/// The number of calls that a client makes with one request number: a put, a read, and the put
+/// again.
 const CALLS: u64 = 3;
 
 impl Ground {
-    /// A put is under way, and node 2 is held.
+    /// Starts a put, and waits until node 2 is held.
     fn put_and_hold<R>(&self, rt: R, callers: &mut Callers) -> Result<(), Fault>
     where
         R: Threads + Wait + Copy + Send + 'static,
@@ -24,8 +25,8 @@ impl Ground {
         expect(held, Fact::IsHeld)
     }
 
-    /// A put is under way while node 2 is held, stops and is removed. Then it is asked again by another client of the same
-    /// id. All calls of both are answered, the puts with one and the same reply.
+    /// Starts a put while node 2 is held, stops and removes the node, and then sends the put again
+    /// by another client of the same id. All calls of both must be answered.
     pub fn stop<R>(&self, rt: R, callers: &mut Callers) -> Result<(), Fault>
     where
         R: Threads + Wait + Copy + Send + 'static,
@@ -42,8 +43,8 @@ impl Ground {
         expect(answered == 2 * CALLS, Fact::IsAnswered)
     }
 
-    /// A put is under way while node 2 is held, and meanwhile the locks are free; where it is held within its work all but its
-    /// own, for which an audit waits.
+    /// Starts a put while node 2 is held, and expects that the locks are free meanwhile. If it is
+    /// held within its work, only its own lock is taken, and an audit must wait for it.
     pub fn hold<R>(&self, rt: R, callers: &mut Callers, within: bool) -> Result<(), Fault>
     where
         R: Threads + Wait + Copy + Send + 'static,
@@ -58,14 +59,15 @@ impl Ground {
         audited
     }
 
-    /// Whoever is held goes on, and was not held for as long as a wait may take.
+    /// Releases the held node, and expects that it was not held for as long as a wait may take.
     fn let_go(&self) -> Result<(), Fault> {
         let late = self.course.late.load(Ordering::SeqCst);
         self.course.open.store(true, Ordering::SeqCst);
         expect(!late, Fact::IsFree)
     }
 
-    /// The master is held within a tick, and meanwhile all nodes answer, and an audit waits.
+    /// Holds the master within a tick, and expects that all nodes answer meanwhile and that an
+    /// audit waits.
     pub fn hold_master<R>(&self, rt: R) -> Result<(), Fault>
     where
         R: Threads + Wait + Copy + Send + 'static,
@@ -77,7 +79,8 @@ impl Ground {
         audited
     }
 
-    /// The master tells its membership, the nodes 1 and 3 answer, and an audit waits until node 2 is let go.
+    /// Reads the master's membership, and expects that nodes 1 and 3 answer and that an audit waits
+    /// until node 2 is released.
     fn look<R>(&self, rt: R) -> Result<(), Fault>
     where
         R: Threads + Wait + Copy + Send + 'static,
@@ -87,7 +90,8 @@ impl Ground {
         self.glance_and_audit(rt, &[1, 3])
     }
 
-    /// Each of these nodes answers, and an audit waits until whoever is held is let go.
+    /// Expects that each of these nodes answers, and that an audit waits until the held node is
+    /// released.
     fn glance_and_audit<R>(&self, rt: R, nodes: &[u32]) -> Result<(), Fault>
     where
         R: Threads + Wait + Copy + Send + 'static,
@@ -96,7 +100,7 @@ impl Ground {
         audit_behind(rt, self.host, &self.store, &self.course.open)
     }
 
-    /// Each of these nodes answers.
+    /// Expects that each of these nodes answers.
     fn glance<R: Wait>(&self, rt: &R, nodes: &[u32]) -> Result<(), Fault> {
         let mut caller = Caller::new(self.host.alloc(), &self.store, CLIENTS.wrapping_add(1))?;
         let mut glanced = Ok(());

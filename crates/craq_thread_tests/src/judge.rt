@@ -1,4 +1,5 @@
-//! One test on a thread of its own, with a limit of time; called by `main` for each case and each trial.
+//! Runs one test on a thread of its own, with a time limit; called by `main` for each case and each
+//! trial.
 use crate::case::Case;
 use crate::cases::try_case;
 use crate::fault::Fault;
@@ -12,15 +13,15 @@ use std::sync::{Arc, Wait};
 use std::thread;
 use std::thread::Threads;
 
-/// The most turns that a case takes.
+/// The largest number of polls that a case takes.
 const CASE_TURNS: u64 = 3000;
 
-/// The most turns that a trial takes: so many, and so many more for each of its number.
+/// The largest number of polls that a trial takes: this many, and more for each of its number.
 const TRIAL_TURNS: u64 = 6000;
 
 const MORE_TURNS: u64 = 10;
 
-/// What is tested.
+/// A case or a trial.
 #[derive(Clone, Copy)]
 pub enum Test {
     Case(Case),
@@ -28,7 +29,7 @@ pub enum Test {
 }
 
 impl Test {
-    /// The most turns, of 10 milliseconds, that it takes.
+    /// Returns the largest number of polls, of 10 milliseconds, that the test takes.
     fn turns(self) -> u64 {
         match self {
             Test::Case(_) => CASE_TURNS,
@@ -39,7 +40,7 @@ impl Test {
     }
 }
 
-/// Tests it on this thread.
+/// Runs the test on this thread.
 fn try_test<R>(rt: R, host: HostRuntime, test: Test, form: Form) -> Result<(), Fault>
 where
     R: Threads + Wait + Copy + Send + 'static,
@@ -50,7 +51,8 @@ where
     }
 }
 
-/// Tests it on a thread of its own, and waits for its end as long as it may take.
+/// Runs the test on a thread of its own, and waits for its end at most as long as it may take.
+/// `Late` if it does not end in time.
 pub fn judge<R>(rt: R, host: HostRuntime, test: Test, form: Form) -> Result<(), Fault>
 where
     R: Threads + Wait + Copy + Send + 'static,

@@ -1,9 +1,16 @@
-//! Tests of stores that run, on threads: each case and each trial is printed with whether it holds. One that does not end in
-//! its time ends the program. In the trials nodes stop, messages are lost and stores are closed. Up to three numbers make
-//! them larger: for how many turns of 10 milliseconds messages are lost, how often a store is closed, and how many calls are
-//! answered while members change. In the end three connections reach a store over the loopback, all in one process, in each
-//! manner of serving: what they are answered is printed, and what the audit of the store finds.
-//! Run by `./test` and `tools/quick/run`, which compare what it prints with the file `stdout`; by `./hostile` too.
+//! Tests running stores, on threads. Each case and each trial is printed with whether it holds. A
+//! test that does not end in its time ends the program. In the trials nodes stop, messages are lost
+//! and stores are closed.
+//!
+//! Up to three numbers on the command line make the trials larger: the number of polls, of 10
+//! milliseconds, while messages are lost; the number of times that a store is closed; the number of
+//! calls answered while members change.
+//!
+//! At the end three connections reach a store over the loopback, all in one process, in each way of
+//! serving. Their replies are printed, and the result of the store's audit.
+//!
+//! `./test` and `tools/quick/run` compare the output with the file `stdout`; `./hostile` runs it
+//! too.
 #![tactic(auto)]
 
 mod asker;
@@ -42,13 +49,13 @@ use std::thread::Threads;
 use std::{env, io};
 use trial::{Sizes, Trial};
 
-/// Before which pieces of its work node 2 stops, counted from 0.
+/// The last work item, counted from 0, before which node 2 stops in a trial.
 const LAST_PIECE: u64 = 8;
 
-/// Such a trial in words, which its number follows as it does those of the others.
+/// Such a trial in words; its number follows, as for the other trials.
 const STOP: &str = "node 2 stops before a piece of its work, a put is asked again, piece";
 
-/// The sizes that the program is given, those of the usual trials where there are none.
+/// Returns the sizes from the command line; the usual ones where there are none.
 fn sizes(rt: HostRuntime) -> io::Result<Sizes> {
     let mut sizes = Sizes::usual();
     let mut place: u64 = 0;
@@ -59,7 +66,8 @@ fn sizes(rt: HostRuntime) -> io::Result<Sizes> {
     Ok(sizes)
 }
 
-/// Tries a test, and tells by its words, and by its number if it has one, how it ended. Whether the others can be tried.
+/// Runs a test, and prints its words, its number if it has one, and how it ended. Returns true
+/// unless it ended late.
 fn try_one<R>(rt: R, host: HostRuntime, test: Test, text: &str, form: Form) -> io::Result<bool>
 where
     R: Threads + Wait + Copy + Send + 'static,
@@ -76,7 +84,7 @@ where
     Ok(!matches!(ended, Err(Fault::Late)))
 }
 
-/// Tries all cases. Whether the trials can be tried.
+/// Runs all cases. Returns true if the trials can be run.
 fn try_cases<R>(rt: R, host: HostRuntime, form: Form) -> io::Result<bool>
 where
     R: Threads + Wait + Copy + Send + 'static,
@@ -89,7 +97,7 @@ where
     Ok(true)
 }
 
-/// Tries all trials. Whether a store in another form can be tried.
+/// Runs all trials. Returns true if a store in another form can be tested.
 fn try_trials<R>(rt: R, host: HostRuntime, form: Form, sizes: Sizes) -> io::Result<bool>
 where
     R: Threads + Wait + Copy + Send + 'static,
@@ -110,7 +118,8 @@ where
     Ok(true)
 }
 
-/// Tries all cases and trials of a store in a form. Whether a store in another form can be tried.
+/// Runs all cases and trials of a store in a form. Returns true if a store in another form can be
+/// tested.
 fn try_all_in<R>(rt: R, host: HostRuntime, form: Form, sizes: Sizes) -> io::Result<bool>
 where
     R: Threads + Wait + Copy + Send + 'static,

@@ -1,4 +1,4 @@
-//! Cases of memberships and of how many threads there are; called by `cases`.
+//! Tests memberships and the number of threads; called by `cases`.
 use crate::asks::chain;
 use crate::fault::{Fact, Fault, expect, expect_refusal};
 use crate::form::Form;
@@ -9,29 +9,32 @@ use craq_workers::ChainStatus;
 use std::sync::Wait;
 use std::thread::Threads;
 
-/// What the system tells of this process with a store of three nodes: beside its own thread and that of a case, two threads for
-/// each node or one for the chain, and one for the master.
+/// Returns the system's report of this process with a store of three nodes: the main thread and
+/// that of a case, two threads for each node, one where callers run the steps of their requests, or
+/// one for the chain, and one for the master.
 fn with_store(form: Form) -> &'static str {
     match form {
+        Form::Workers => "\nThreads:\t9\n",
+        Form::InPlace => "\nThreads:\t6\n",
         Form::Carried => "\nThreads:\t4\n",
-        _ => "\nThreads:\t9\n",
     }
 }
 
-/// The same once a node was removed.
+/// Returns the system's report of this process once a node was removed.
 fn with_two_nodes(form: Form) -> &'static str {
     match form {
+        Form::Workers => "\nThreads:\t7\n",
+        Form::InPlace => "\nThreads:\t5\n",
         Form::Carried => "\nThreads:\t4\n",
-        _ => "\nThreads:\t7\n",
     }
 }
 
-/// This process is to come to have so many threads.
+/// Expects that this process comes to have the reported number of threads.
 pub fn expect_threads(host: HostRuntime, threads: &str) -> Result<(), Fault> {
     expect(comes_to(host, threads), Fact::HasItsThreads)
 }
 
-/// Whether the one chain has this epoch and three members.
+/// Returns true if the only chain has this epoch and three members.
 fn has_members(statuses: &[ChainStatus], epoch: u64) -> bool {
     match statuses {
         [status] => status.config.epoch.get() == epoch && status.config.members.len() == 3,
@@ -39,13 +42,13 @@ fn has_members(statuses: &[ChainStatus], epoch: u64) -> bool {
     }
 }
 
-/// The chain is to have this epoch and three members.
+/// Expects that the chain has this epoch and three members.
 fn expect_members<R: Wait>(rt: &R, store: &Tested, epoch: u64) -> Result<(), Fault> {
     let statuses = store.status(rt)?;
     expect(has_members(statuses.as_slice(), epoch), Fact::HasItsMembers)
 }
 
-/// A member that runs is not removed, and an id that was used does not join.
+/// Expects that a running member is not removed, and that a used id does not join.
 fn refuse<R>(rt: R, store: &Tested) -> Result<(), Fault>
 where
     R: Threads + Wait + Copy + Send + 'static,
@@ -56,7 +59,7 @@ where
     expect_refusal(joined.err(), Refusal::UsedId, Fact::IsRefused)
 }
 
-/// The head goes, and another node joins.
+/// Removes the head, and adds another node.
 fn change<R>(rt: R, host: HostRuntime, store: &Tested, form: Form) -> Result<(), Fault>
 where
     R: Threads + Wait + Copy + Send + 'static,
@@ -68,8 +71,8 @@ where
     expect_threads(host, with_store(form))
 }
 
-/// Moves that are refused leave members and threads as they are; the threads of a node that is removed go, and those of one
-/// that joins come.
+/// Expects that refused moves leave members and threads unchanged, that the threads of a removed
+/// node end, and that those of a joining node start.
 pub fn members<R>(rt: R, host: HostRuntime, store: &Tested, form: Form) -> Result<(), Fault>
 where
     R: Threads + Wait + Copy + Send + 'static,

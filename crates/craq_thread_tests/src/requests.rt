@@ -1,10 +1,10 @@
-//! What the three connections ask; for `client`.
+//! Makes the requests of the three connections; for `client`.
 use craq_commands::{Command, ReadMode, Update};
 use craq_frames::ClientMessage;
 use craq_names::{ChainId, ClientId, Key, NodeId, ObjectId, Pass, Refusal, RequestNo, Value};
 use std::alloc::Global;
 
-/// The object that is written and read.
+/// Returns the object that is written and read.
 fn object(alloc: Global) -> Result<ObjectId, Refusal> {
     Ok(ObjectId {
         chain: ChainId::new(0),
@@ -12,7 +12,7 @@ fn object(alloc: Global) -> Result<ObjectId, Refusal> {
     })
 }
 
-/// Client 1 puts `a`, its first update, at node 1, and shows no pass.
+/// Makes a put of `a` by client 1, its first update, at node 1, without a pass.
 pub fn put(alloc: Global) -> Result<ClientMessage, Refusal> {
     Ok(ClientMessage::Update {
         node: NodeId::new(1),
@@ -28,7 +28,7 @@ pub fn put(alloc: Global) -> Result<ClientMessage, Refusal> {
     })
 }
 
-/// A strong read at node 3, with this pass.
+/// Makes a strong read at node 3, with this pass.
 pub fn read(alloc: Global, pass: Pass) -> Result<ClientMessage, Refusal> {
     Ok(ClientMessage::Read {
         node: NodeId::new(3),

@@ -1,12 +1,13 @@
-//! The store, its server and its ticks, each on a thread, beside the clients; in the end its audit. It is served in each
-//! manner; called by `main`.
+//! The store, its server and its ticks, each on a thread, beside the clients; in the end its audit.
+//! It is served in each manner: by `accept`, and by `accept_with` and a few threads; called by
+//! `main`.
 use crate::asks::chain;
 use crate::client::ask_all;
 use crate::gate::{TestGate, Tested, start_store};
 use craq_audit::Audit;
 use craq_names::Refusal;
 use craq_seat::CallReceipt;
-use craq_server::{Connections, Crowds, Log, Served, Serving, accept};
+use craq_server::{Connections, Crowds, Log, Served, Serving, accept, accept_with};
 use craq_workers::OpenGate;
 use std::alloc::{AllocError, Global};
 use std::net::{Net, SocketAddr, TcpListener, TcpStream};
@@ -47,26 +48,7 @@ pub const MANNERS: [(Manner, &str); 2] = [
 ];
 
 impl Manner {
-    /// By how many threads all connections are served; 0 where each has one of its own.
-    fn threads(self) -> u32 {
-        match self {
-            Manner::Each => 0,
-            Manner::Together => THREADS,
-        }
-    }
-
-    /// How the three connections are served: their receipts are kept.
-    fn serving(self) -> Serving {
-        Serving {
-            keeps: true,
-            connections: CONNECTIONS,
-            threads: self.threads(),
-            idle: 0,
-            log: Log::Silent,
-        }
-    }
-
-    /// Who takes the steps of a store that is served so.
+    /// Returns who takes the steps of a store that is served so.
     fn gate(self) -> OpenGate {
         OpenGate {
             in_place: true,
@@ -86,25 +68,76 @@ fn tick<R: Clock + Wait>(rt: &R, store: &Tested, over: &AtomicBool) {
     }
 }
 
-/// The clients ask once the connections are served.
-fn ask_once_served<R>(rt: &R, connections: &Connections, address: SocketAddr) -> Result<(), Refusal>
+/// Appends the receipts of all connections, in order.
+fn joined(alloc: Global, parts: Vec<Vec<CallReceipt>>) -> Result<Vec<CallReceipt>, AllocError> {
+    let mut all = Vec::new(alloc);
+    for mut part in parts {
+        all.append(&mut part)?;
+    }
+    Ok(all)
+}
+
+/// Serves the connections of a listener by a few threads. Returns the receipts of all calls, in
+/// order. Refused as `accept` is.
+fn serve_together<R>(
+    rt: R,
+    store: &Tested,
+    listener: &TcpListener,
+) -> Result<Vec<CallReceipt>, Refusal>
 where
-    R: AllocGlobal + Print + Wait + Net<Listener = TcpListener, Stream = TcpStream>,
+    R: AllocGlobal + Eprint + Clock + Threads + Wait + Copy + Drop + Send + Sync + 'static,
+    R: Net<Listener = TcpListener, Stream = TcpStream>,
 {
-    if connections.wait_for_begin(rt) {
-        ask_all(rt, address)
-    } else {
-        Err(Refusal::Memory)
+    let serving = Serving {
+        keeps: true,
+        connections: CONNECTIONS,
+        threads: THREADS,
+        idle: 0,
+        most_leap: 0,
+        log: Log::Silent,
+    };
+    let connections = Connections::new(rt.alloc(), CONNECTIONS)?;
+    let crowds = Crowds::new(&rt, rt.alloc(), serving)?;
+    let served = accept_with(rt, rt.alloc(), store, listener, &connections, crowds)?;
+    let Served {
+        receipts,
+        lacked,
+        listener_failed,
+    } = served;
+    if listener_failed {
+        return Err(Refusal::Io);
+    }
+    if lacked {
+        return Err(Refusal::Memory);
+    }
+    Ok(joined(rt.alloc(), receipts)?)
+}
+
+/// Serves the connections of a listener in this manner. Returns the receipts of all calls, in
+/// order.
+fn serve_all<R>(
+    rt: R,
+    store: &Tested,
+    manner: Manner,
+    listener: &TcpListener,
+) -> Result<Vec<CallReceipt>, Refusal>
+where
+    R: AllocGlobal + Eprint + Clock + Threads + Wait + Copy + Drop + Send + Sync + 'static,
+    R: Net<Listener = TcpListener, Stream = TcpStream>,
+{
+    match manner {
+        Manner::Each => accept(rt, rt.alloc(), store, listener, CONNECTIONS),
+        Manner::Together => serve_together(rt, store, listener),
     }
 }
 
-/// What came of serving, where the clients could ask.
+/// Returns the receipts, where the clients could ask.
 fn served_and_asked(
-    served: Result<Served, AllocError>,
+    served: Result<Vec<CallReceipt>, Refusal>,
     asked: Result<(), Refusal>,
-) -> Result<Served, Refusal> {
+) -> Result<Vec<CallReceipt>, Refusal> {
     match asked {
-        Ok(()) => Ok(served?),
+        Ok(()) => served,
         Err(refusal) => {
             drop(served);
             Err(refusal)
@@ -112,16 +145,15 @@ fn served_and_asked(
     }
 }
 
-/// The clients ask at the address of the listener, while the store is ticked and served, each on a thread of its own. Gives
-/// what came of serving.
+/// Has the clients ask at the address of the listener, while the store is ticked and served, each
+/// on a thread of its own. Returns the receipts of all calls, in order.
 fn ask_served<R>(
     rt: R,
     store: &Tested,
+    manner: Manner,
     listener: &TcpListener,
     address: SocketAddr,
-    connections: &Connections,
-    crowds: Crowds,
-) -> Result<Served, Refusal>
+) -> Result<Vec<CallReceipt>, Refusal>
 where
     R: AllocGlobal + Print + Eprint + Clock + Threads + Wait + Copy + Drop + Send + Sync + 'static,
     R: Net<Listener = TcpListener, Stream = TcpStream>,
@@ -132,37 +164,21 @@ where
         if scope.spawn(move || tick(&rt, store, ending)).is_err() {
             return Err(Refusal::Memory);
         }
-        let Ok(serving) = scope.spawn(move || accept(
-            rt,
-            rt.alloc(),
-            store,
-            listener,
-            connections,
-            crowds,
-        )) else {
+        let Ok(serving) = scope.spawn(move || serve_all(rt, store, manner, listener)) else {
             ending.store(true, Ordering::SeqCst);
             return Err(Refusal::Memory);
         };
-        let asked = ask_once_served(&rt, connections, address);
+        let asked = ask_all(&rt, address);
         let served = serving.join(&rt);
         ending.store(true, Ordering::SeqCst);
         served_and_asked(served, asked)
     })
 }
 
-/// The receipts of all connections, in order.
-fn joined(alloc: Global, parts: Vec<Vec<CallReceipt>>) -> Result<Vec<CallReceipt>, AllocError> {
-    let mut all = Vec::new(alloc);
-    for mut part in parts {
-        all.append(&mut part)?;
-    }
-    Ok(all)
-}
-
-/// Prints what an audit with the receipts of so many calls found, and whether any were lacked.
-fn print_found<R: Print>(rt: &R, audit: &Audit, count: usize, lacked: bool) -> Result<(), Refusal> {
+/// Prints what an audit with the receipts of this many calls found.
+fn print_found<R: Print>(rt: &R, audit: &Audit, count: usize) -> Result<(), Refusal> {
     let printed = match audit {
-        Audit::Merged(_) => println!(rt; "audit: merged, {count} calls; lacked {lacked}"),
+        Audit::Merged(_) => println!(rt; "audit: merged, {count} calls"),
         Audit::NoSender(..) => println!(rt; "audit: no sender"),
         Audit::NoReceipt(_) => println!(rt; "audit: no receipt"),
     };
@@ -173,33 +189,12 @@ fn print_found<R: Print>(rt: &R, audit: &Audit, count: usize, lacked: bool) -> R
 }
 
 /// Prints what the audit of the chain finds with the receipts of all connections.
-fn print_audit<R>(rt: &R, store: &Tested, served: Served) -> Result<(), Refusal>
+fn print_audit<R>(rt: &R, store: &Tested, receipts: &[CallReceipt]) -> Result<(), Refusal>
 where
     R: AllocGlobal + Print + Wait,
 {
-    let Served { receipts, lacked } = served;
-    let receipts = joined(rt.alloc(), receipts)?;
-    let audit = store.audit(rt, chain(), receipts.as_slice())?;
-    print_found(rt, &audit, receipts.len(), lacked)
-}
-
-/// Serves the clients at this listener in this manner. Gives what came of serving.
-fn serve_at<R>(
-    rt: R,
-    store: &Tested,
-    manner: Manner,
-    listener: &TcpListener,
-) -> Result<Served, Refusal>
-where
-    R: AllocGlobal + Print + Eprint + Clock + Threads + Wait + Copy + Drop + Send + Sync + 'static,
-    R: Net<Listener = TcpListener, Stream = TcpStream>,
-{
-    let Ok(address) = listener.local_addr() else {
-        return Err(Refusal::Io);
-    };
-    let connections = Connections::new(rt.alloc(), CONNECTIONS)?;
-    let crowds = Crowds::new(&rt, rt.alloc(), manner.serving())?;
-    ask_served(rt, store, listener, address, &connections, crowds)
+    let audit = store.audit(rt, chain(), receipts)?;
+    print_found(rt, &audit, receipts.len())
 }
 
 /// Serves the clients at any free port of the loopback, and audits the store.
@@ -211,8 +206,11 @@ where
     let Ok(listener) = TcpListener::bind(&rt, "127.0.0.1:0") else {
         return Err(Refusal::Io);
     };
-    let served = serve_at(rt, store, manner, &listener)?;
-    print_audit(&rt, store, served)
+    let Ok(address) = listener.local_addr() else {
+        return Err(Refusal::Io);
+    };
+    let receipts = ask_served(rt, store, manner, &listener, address)?;
+    print_audit(&rt, store, receipts.as_slice())
 }
 
 /// Starts a store, serves the clients in this manner, audits it and closes it.

@@ -1,6 +1,7 @@
-//! What is tried, and what it expects, as data; chosen by `main`, done by `trials`, `driving` and `trial_gate`.
+//! Defines the trials and their texts as data; chosen by `main`, run by `trials`, `driving` and
+//! `trial_gate`.
 
-/// Where a piece of work is held at the gate.
+/// The point of a work item at which the hook holds it.
 #[derive(Clone, Copy, PartialEq, Eq)]
 pub enum Place {
     Before,
@@ -11,34 +12,36 @@ pub enum Place {
 /// The master counts as node 0 of its chain.
 const MASTER: u64 = 0;
 
-/// What is tried.
+/// The fault that a trial injects.
 #[derive(Clone, Copy)]
 pub enum Trial {
-    /// Node 2 stops and is removed before this piece of its work, while a put is under way that is asked again afterwards.
+    /// Node 2 stops and is removed before this work item, while a put is pending that is sent again
+    /// afterwards.
     Stop(u64),
-    /// Node 2 is held before its first piece of work, and no lock is.
+    /// Node 2 is held before its first work item, and no lock is held.
     Before,
-    /// It is held within that piece, under its own lock alone.
+    /// Node 2 is held within its first work item, under its own lock alone.
     Within,
-    /// It is held after that piece, and no lock is.
+    /// Node 2 is held after its first work item, and no lock is held.
     After,
     /// The master is held within its first tick, under its own lock alone.
     Master,
-    /// This node, the head or the tail, is held before its first piece of work while the store ticks.
+    /// This node, the head or the tail, is held before its first work item while the store ticks.
     Filling(u64),
-    /// Of all messages a third is lost for so many turns, and a tenth of the others sent twice; then none.
+    /// A third of all messages is lost and a tenth of the others sent twice, for this many polls;
+    /// then none.
     Losses(u64),
-    /// A node joins after so many calls, and what goes to it takes longer than a tick.
+    /// A node joins after this many calls, and messages to it take longer than a tick.
     SlowJoin(u64),
-    /// Members stop, are removed and join until so many calls are answered; one message in a hundred is lost, and one in ten sent
-    /// twice.
+    /// Members stop, are removed and join until this many calls are answered; one message in a
+    /// hundred is lost, and one in ten sent twice.
     Changes(u64),
-    /// A store is closed while clients ask, so often.
+    /// A store is closed while clients send requests, this many times.
     Closes(u64),
 }
 
 impl Trial {
-    /// Its number.
+    /// Returns the trial's number.
     pub fn number(self) -> u64 {
         match self {
             Trial::Stop(number)
@@ -51,7 +54,7 @@ impl Trial {
         }
     }
 
-    /// How often it is tried.
+    /// Returns the number of times that the trial is run.
     pub fn times(self) -> u64 {
         match self {
             Trial::Closes(times) => times,
@@ -59,7 +62,7 @@ impl Trial {
         }
     }
 
-    /// The node that is held, if any is, or the master.
+    /// Returns the node that is held, if any is, or the master's 0.
     pub fn held(self) -> u64 {
         match self {
             Trial::Filling(node) => node,
@@ -68,7 +71,7 @@ impl Trial {
         }
     }
 
-    /// Whether this is the node at which it looks at what waits.
+    /// Returns true if the trial looks at the pending work of this node.
     pub fn fills(self, node: u64) -> bool {
         match self {
             Trial::Filling(held) => node == held,
@@ -76,17 +79,19 @@ impl Trial {
         }
     }
 
-    /// Whether it is of what waits for the worker that a node has where no thread carries its chain.
+    /// Returns true if the trial is about the pending work of a node's worker; there is none with a
+    /// chain thread.
     pub fn wants_workers(self) -> bool {
         matches!(self, Trial::Filling(_))
     }
 
-    /// Whether the work that is held is a node's: where one thread carries the chain it is a turn, counted among its asks.
+    /// Returns true if the held work is a node's. With a chain thread it is a batch, counted among
+    /// its request work.
     pub fn holds_node(self) -> bool {
         self.held() != MASTER
     }
 
-    /// Whether that node is held at this place of this piece of its work.
+    /// Returns true if the node is held at this point of its work item of this number.
     pub fn holds(self, place: Place, count: u64) -> bool {
         match self {
             Trial::Stop(piece) => place == Place::Before && count == piece,
@@ -98,23 +103,23 @@ impl Trial {
     }
 }
 
-/// What waits at this node is looked at, in words.
+/// The trial of a held node's pending work, in words.
 const REPEATS: &str =
     "of what is said again and again to a node that is held one of each kind waits, node";
 
-/// How large the trials are that can be made larger.
+/// The sizes of the trials that can be made larger.
 #[derive(Clone, Copy)]
 pub struct Sizes {
-    /// For how many turns messages are lost.
+    /// The number of polls for which messages are lost.
     pub turns: u64,
-    /// How often a store is closed.
+    /// The number of times that a store is closed.
     pub closes: u64,
-    /// How many calls are answered while members change.
+    /// The number of calls answered while members change.
     pub calls: u64,
 }
 
 impl Sizes {
-    /// Those of the usual trials.
+    /// Returns the sizes of the usual trials.
     pub fn usual() -> Sizes {
         Sizes {
             turns: 100,
@@ -123,7 +128,7 @@ impl Sizes {
         }
     }
 
-    /// Takes the size that the word at this place of a command line spells, if one does.
+    /// Sets the size of the command line's word at this place, if it is a number.
     pub fn take(&mut self, place: u64, word: &str) {
         let Ok(size) = word.parse::<u64>() else {
             return;
@@ -136,7 +141,7 @@ impl Sizes {
         }
     }
 
-    /// The trials after those in which node 2 stops, each in words.
+    /// Returns the trials after those in which node 2 stops, each in words.
     pub fn others(self) -> [(Trial, &'static str); 10] {
         [
             (

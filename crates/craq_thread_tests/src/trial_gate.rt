@@ -1,4 +1,5 @@
-//! The gate of a trial, which holds a node or the master up, loses messages, repeats them and slows them; made by `trials`, asked through `gate`.
+//! Defines the fault-injection hook of a trial, which holds a node or the master, and loses,
+//! repeats and delays messages; made by `trials`, called through `gate`.
 use crate::course::Course;
 use crate::form::Form;
 use crate::trial::{Place, Trial};
@@ -10,23 +11,23 @@ use std::sync::atomic::Ordering;
 use std::thread;
 use std::time::Duration;
 
-/// How long each message from node 3 to node 4 takes in a slow join, in milliseconds.
+/// The delay of each message from node 3 to node 4 in a slow join, in milliseconds.
 const SLOW: u64 = 50;
 
-/// Of how many messages one is lost while they are, and of how many while members change.
+/// One message of this many is lost while messages are lost, or while members change.
 const THIRD: u64 = 3;
 
 const HUNDREDTH: u64 = 100;
 
-/// Of how many messages that are not lost one is sent twice, while some are lost.
+/// One message of this many that are not lost is sent twice, while some are lost.
 const TENTH: u64 = 10;
 
-/// The number of a message, spread as if by chance.
+/// Scrambles a message's number into a pseudorandom one.
 fn spread(number: u64) -> u64 {
     number.wrapping_mul(0x9e37_79b9_7f4a_7c15) >> 40
 }
 
-/// The gate.
+/// The fault-injection hook of a trial.
 #[derive(Drop)]
 pub struct TrialGate {
     pub clock: HostRuntime,
@@ -36,7 +37,7 @@ pub struct TrialGate {
 }
 
 impl TrialGate {
-    /// Holds a node here, if this is where the trial does, until it may go on.
+    /// Holds a node here until it is released, if the trial does so at this point.
     fn pass(&self, node: NodeName, work: Work, count: u64, place: Place) {
         let is_turn = self.form.is_carried() && self.trial.holds_node();
         if u64::from(node.node.get()) != self.trial.held()

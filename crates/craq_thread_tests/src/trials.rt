@@ -1,4 +1,4 @@
-//! Each trial on stores of its own, which are closed in the end; called by `judge`.
+//! Runs each trial on stores of its own, which are closed at the end; called by `judge`.
 use crate::course::Course;
 use crate::driving::{Callers, Ground};
 use crate::fault::{Fact, Fault, expect};
@@ -11,7 +11,7 @@ use std::sync::atomic::Ordering;
 use std::sync::{Arc, Wait};
 use std::thread::Threads;
 
-/// A store for a trial of this course.
+/// Starts a store for a trial of this course.
 fn store<R>(
     rt: R,
     host: HostRuntime,
@@ -32,7 +32,7 @@ where
     Ok(start_store(rt, host.alloc(), gate, true)?)
 }
 
-/// A store for a trial, and its course.
+/// Starts a store for a trial, with its course.
 fn start<R>(rt: R, host: HostRuntime, trial: Trial, form: Form) -> Result<Ground, Fault>
 where
     R: Threads + Wait + Copy + Send + 'static,
@@ -46,7 +46,7 @@ where
     })
 }
 
-/// Tries a trial once, on a store that is closed in the end.
+/// Runs a trial once, on a store that is closed at the end.
 fn try_once<R>(rt: R, host: HostRuntime, trial: Trial, form: Form, time: u64) -> Result<(), Fault>
 where
     R: Threads + Wait + Copy + Send + 'static,
@@ -72,7 +72,7 @@ where
     expect(comes_to(host, ALONE), Fact::LeavesNone)
 }
 
-/// Tries a trial as often as it is to be.
+/// Runs a trial as often as it says.
 pub fn try_all<R>(rt: R, host: HostRuntime, trial: Trial, form: Form) -> Result<(), Fault>
 where
     R: Threads + Wait + Copy + Send + 'static,

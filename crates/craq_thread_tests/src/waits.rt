@@ -1,26 +1,26 @@
-//! Waits of tests, each for a bounded time: for a flag, for the end of a test, and for how many threads there are; here so that
-//! no test waits for good.
+//! Provides the waits of tests, each for a bounded time: for a flag, for the end of a test, and for
+//! a number of threads.
 use crate::fault::Fault;
 use std::sync::atomic::{AtomicBool, Ordering};
 use std::thread::{JoinHandle, Threads};
 use std::time::Duration;
 use std::{fs, thread};
 
-/// The most turns of a wait.
+/// The largest number of polls of a wait.
 pub const LIMIT: u64 = 1000;
 
-/// How long a turn takes, in milliseconds.
+/// The time of a poll, in milliseconds.
 const TURN: u64 = 10;
 
-/// What the system tells of this process with two threads: its own and that of a test.
+/// The system's report of this process with two threads: its own and that of a test.
 pub const ALONE: &str = "\nThreads:\t2\n";
 
-/// Rests for a turn.
+/// Rests for one poll.
 pub fn rest(clock: HostRuntime) {
     thread::sleep(&clock, Duration::from_millis(TURN));
 }
 
-/// Waits until a flag is set, for at most so many turns, and tells whether it is.
+/// Waits until a flag is set, for at most `turns` polls. Returns true if it is.
 pub fn wait_for(clock: HostRuntime, flag: &AtomicBool, turns: u64) -> bool {
     for _ in 0..turns {
         if flag.load(Ordering::SeqCst) {
@@ -31,7 +31,8 @@ pub fn wait_for(clock: HostRuntime, flag: &AtomicBool, turns: u64) -> bool {
     flag.load(Ordering::SeqCst)
 }
 
-/// How a test ended that sets a flag in the end, and runs on a thread of its own: it has so many turns.
+/// Returns how a test on a thread of its own ended, once the flag that it sets is set. `Late` if
+/// that takes more than `turns` polls.
 pub fn end_of<R: Threads>(
     rt: &R,
     clock: HostRuntime,
@@ -46,7 +47,7 @@ pub fn end_of<R: Threads>(
     }
 }
 
-/// Whether the system tells this of the process.
+/// Returns true if the system reports this of the process.
 fn is_told(host: HostRuntime, threads: &str) -> bool {
     match fs::read_to_string(&host, "/proc/self/status") {
         Ok(status) => status.as_str().contains(threads),
@@ -54,7 +55,7 @@ fn is_told(host: HostRuntime, threads: &str) -> bool {
     }
 }
 
-/// Whether this process comes to have so many threads.
+/// Polls until this process has the reported number of threads. Returns false if it never has.
 pub fn comes_to(host: HostRuntime, threads: &str) -> bool {
     for _ in 0..LIMIT {
         if is_told(host, threads) {

@@ -1,4 +1,4 @@
--- The slots of a client's replies, as its positions are gone through.
+-- The slots of a client's replies, during a pass over its positions.
 use Rattle.std.proofs.Common.{◌≡◌, ℕ, zero, suc, ◌+◌, ◌-◌, ◌<◌, ◌≤◌, Bool, true, false, cond, List, [], ◌∷◌, length, drop, get_or, refl, sym, ◌∙◌, ap, subst, arith, add-one, drop-cons}
 use Rattle.std.proofs.lemmas.List.{get_or-drop, length-drop, drop-drop}
 use Rattle.std.specs.Prelude.{◌==◌}
@@ -6,7 +6,7 @@ use Rattle.craq_commands.specs.declared.entry.Entry.{Entry}
 use Rattle.craq_plain.specs.Slots.{Slots, slots_after, window_with}
 use Rattle.craq_unsettled.specs.Indexed.{positions_of}
 
--- where the first of a client's positions stands, and what is left behind it
+-- the location of the first of a client's positions, and the rest of the entries
 record FirstAt (client after first : ℕ) (es : List Entry) (xs : Slots) (p : ℕ) (ps : List ℕ) : Type 0 where
   skipped : ℕ
   is : p ≡ after + skipped + 1
@@ -66,7 +66,7 @@ none_left client after first (e ∷ es) xs h =
     ] in
     split (e.client == client) h
 
--- so many entries are gone through: the positions that are left are those of the entries that are left, whose replies
+-- the loop invariant: the remaining positions are those of the remaining entries, whose replies
 -- lead from the slots so far to the wanted ones
 pub record GoesOn (client after first : ℕ) (es : List Entry) (ps : List ℕ) (xs wanted : Slots) : Type 0 where
   pub gone : ℕ
@@ -88,7 +88,7 @@ begins client after first es ps xs told =
 pub ends : (client after first : ℕ) (es : List Entry) (xs wanted : Slots) → GoesOn client after first es [] xs wanted → xs ≡ wanted
 ends client after first es xs wanted g = sym (none_left client (after + g.gone) (first + g.gone) (drop g.gone es) xs g.told) ∙ g.slots
 
--- where the next position stands, and how it goes on once its reply is kept
+-- the location of the next position, and the invariant after its reply is kept
 pub record Next (client after first : ℕ) (es : List Entry) (p : ℕ) (ps : List ℕ) (xs wanted : Slots) : Type 0 where
   pub index : ℕ
   pub is : p ≡ after + index + 1
@@ -129,7 +129,7 @@ next client after first es p ps xs wanted g =
           };
     }
 
--- the position of an index
+-- the position at an index
 pub next_at : (client after first : ℕ) (es : List Entry) (ps : List ℕ) (i p : ℕ) (xs wanted : Slots) → GoesOn client after first es (drop i ps) xs wanted → i < length ps → p ≡ get_or ps i 0 → Next client after first es p (drop (i + 1) ps) xs wanted
 next_at client after first es ps i p xs wanted g low is =
     let front : drop i ps ≡ p ∷ drop (i + 1) ps = drop-cons ps i 0 low ∙ ap (λ (n : ℕ). n ∷ drop (suc i) ps) (sym is) ∙ ap (λ (n : ℕ). p ∷ drop n ps) (sym (add-one i)) in
@@ -141,6 +141,6 @@ none_after zero (p ∷ ps) h = absurd (omega (arith, h))
 none_after (suc i) [] h = refl
 none_after (suc i) (p ∷ ps) h = none_after i ps (omega (arith, h))
 
--- no position is left
+-- no position remains
 pub ends_at : (client after first : ℕ) (es : List Entry) (ps : List ℕ) (i : ℕ) (xs wanted : Slots) → GoesOn client after first es (drop i ps) xs wanted → length ps ≤ i → xs ≡ wanted
 ends_at client after first es ps i xs wanted g h = ends client after first es xs wanted (subst (λ (l : List ℕ). GoesOn client after first es l xs wanted) (none_after i ps h) g)

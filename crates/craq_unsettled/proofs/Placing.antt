@@ -1,4 +1,4 @@
--- Positions in places, once the place of one client is written.
+-- Lists of positions after the list of one client is written.
 use Rattle.std.proofs.Common.{◌≡◌, ℕ, Bool, true, false, cond, List, [], ◌∷◌, ◌++◌, drop, Option, Some, None, refl, sym, ◌∙◌, ap, rules}
 use Rattle.std.specs.Prelude.{Result, Ok, Err, OnOk, unwrap_or, if◌then◌else◌, ◌==◌}
 use Rattle.std.specs.Ordering.{nat_cmp, is_eq}
@@ -9,7 +9,7 @@ use Rattle.std.specs.Result.{is_err}
 use Rattle.std.specs.FinMap.{nat_cmp-IsAntisymmetric}
 use Rattle.craq_unsettled.specs.Indexed.{Placed, place_of, told_of}
 
--- one client has these positions, and the others theirs
+-- one client has these positions, and every other client the ones it had
 abbrev pub IsPlaced : Placed → Placed → ℕ → List ℕ → Type 0
 IsPlaced ps qs client v = (q : ℕ) → place_of qs q ≡ cond (is_at (nat_cmp client) q) (Some v) (place_of ps q)
 
@@ -21,7 +21,7 @@ told_equal client q h =
 is_eq_same : (x y : ℕ) → (x == y) ≡ is_at (nat_cmp x) y
 is_eq_same x y = search rules
 
--- the positions of each client, once those of one are changed
+-- the positions of each client after those of one are changed
 told_changed : (ps qs : Placed) (client : ℕ) (v : List ℕ) (f : List ℕ → List ℕ) → IsPlaced ps qs client v → v ≡ f (told_of ps client) → (q : ℕ) → told_of qs q ≡ cond (client == q) (f (told_of ps q)) (told_of ps q)
 told_changed ps qs client v f at is q =
     let split : (b : Bool) → is_at (nat_cmp client) q ≡ b → unwrap_or (cond b (Some v) (place_of ps q)) [] ≡ cond b (f (told_of ps q)) (told_of ps q) = elim [
@@ -52,26 +52,26 @@ positions_there ps client was is = ap (λ (o : Option (List ℕ)). unwrap_or o [
 pub none_there : (ps : Placed) (client : ℕ) → None ≡ place_of ps client → [] ≡ told_of ps client
 none_there ps client is = ap (λ (o : Option (List ℕ)). unwrap_or o []) is
 
--- one position more
+-- one position is appended
 pub told_more : (ps qs : Placed) (client position : ℕ) (was now : List ℕ) → Some was ≡ place_of ps client → now ≡ was ++ position ∷ [] → IsPlaced ps qs client now → (q : ℕ) → told_of qs q ≡ told_of ps q ++ (if client == q then position ∷ [] else [])
 told_more ps qs client position was now is more at q =
     told_changed ps qs client now (λ l. l ++ position ∷ []) at (more ∙ ap (λ (l : List ℕ). l ++ position ∷ []) (positions_there ps client was is)) q ∙ one_more (client == q) position (told_of ps q)
 
--- the first position of a client without a place
+-- the first position of a client without a list
 pub told_first : (ps qs : Placed) (client position : ℕ) (was now : List ℕ) → place_of ps client ≡ None → was ≡ [] → now ≡ was ++ position ∷ [] → IsPlaced ps qs client now → (q : ℕ) → told_of qs q ≡ told_of ps q ++ (if client == q then position ∷ [] else [])
 told_first ps qs client position was now none empty more at q =
     told_changed ps qs client now (λ l. l ++ position ∷ []) at (more ∙ ap (λ (l : List ℕ). l ++ position ∷ []) (empty ∙ none_there ps client (sym none))) q ∙ one_more (client == q) position (told_of ps q)
 
--- the same positions
+-- the positions are unchanged
 pub told_same : (ps qs : Placed) (client : ℕ) (was now : List ℕ) → Some was ≡ place_of ps client → now ≡ was → IsPlaced ps qs client now → (q : ℕ) → told_of qs q ≡ told_of ps q
 told_same ps qs client was now is same at q = told_changed ps qs client now (λ l. l) at (same ∙ positions_there ps client was is) q ∙ same_either (client == q) (told_of ps q)
 
--- the oldest position is gone
+-- the oldest position is removed
 pub told_less : (ps qs : Placed) (client : ℕ) (was now : List ℕ) → Some was ≡ place_of ps client → now ≡ drop 1 was → IsPlaced ps qs client now → (q : ℕ) → told_of qs q ≡ drop (if client == q then 1 else 0) (told_of ps q)
 told_less ps qs client was now is less at q =
     told_changed ps qs client now (drop 1) at (less ∙ ap (drop 1) (positions_there ps client was is)) q ∙ first_gone (client == q) (told_of ps q)
 
--- nothing is gone of a client without a place
+-- nothing is removed for a client without a list
 pub told_none : (ps qs : Placed) (client : ℕ) → qs ≡ ps → None ≡ place_of ps client → (q : ℕ) → told_of qs q ≡ drop (if client == q then 1 else 0) (told_of ps q)
 told_none ps qs client same none q =
     let split : (b : Bool) → (client == q) ≡ b → told_of ps q ≡ drop (if b then 1 else 0) (told_of ps q) = elim [
@@ -83,7 +83,7 @@ told_none ps qs client same none q =
 clash : true ≡ false → ⊥
 clash h = cc
 
--- what holds where a call succeeded
+-- a fact that holds if a call succeeded
 pub not_err : {T E P : Type 0} (r : Result T E) → is_err r ≡ false → OnOk r P → P
 not_err (Ok x) h p = p
 not_err (Err e) h p = absurd (clash h)

@@ -1,4 +1,4 @@
--- What is told of entries, once more of them are told, or the first ones no more.
+-- The index after more entries are indexed, or the first ones are removed.
 use Rattle.std.proofs.Common.{◌≡◌, ℕ, zero, suc, ◌+◌, ◌-◌, ◌≤◌, min, List, [], ◌++◌, length, take, drop, refl, sym, ◌∙◌, ap, arith, take-add}
 use Rattle.std.proofs.lemmas.List.{length-take, length-drop, take-append-drop, take-take, drop-take}
 use Rattle.std.proofs.Math.Seq.{take-length}
@@ -19,7 +19,7 @@ indexed from to places = record { from = from; to = to; places = places }
 long_take : (n : ℕ) (es : List Entry) → n ≤ length es → length (take n es) ≡ n
 long_take n es h = let l : length (take n es) ≡ min n (length es) = length-take n es in omega (arith, l, h)
 
--- nothing is told
+-- the empty index is right
 pub tells_nothing : (from : ℕ) (es : List Entry) → Tells (indexed from from []) es
 tells_nothing from es =
     let none : from - from ≡ 0 = omega arith in
@@ -29,7 +29,7 @@ tells_nothing from es =
       positions = λ client. sym (no_entries client from) ∙ sym (ap (λ (n : ℕ). positions_of client from (take n es)) none);
     }
 
--- so many more are told
+-- this many more entries are indexed
 pub tells_more : (x : Indexed) (qs : Placed) (n count : ℕ) (later es : List Entry) → Tells x es → later ≡ drop (x.to - x.from) es → n ≤ length (take count later)
     → ((q : ℕ) → told_of qs q ≡ told_of x.places q ++ positions_of q x.to (take n (take count later))) → Tells (indexed x.from (x.to + n) qs) es
 tells_more x qs n count later es t rest some more =
@@ -56,7 +56,7 @@ tells_more x qs n count later es t rest some more =
           ∙ ap (λ (k : ℕ). positions_of q x.from (take k es)) (sym all);
     }
 
--- what is left of the told ones
+-- the rest of the indexed entries
 moved : (q from m n to : ℕ) (es : List Entry) → to ≡ (from + n) + (from + m - (from + n)) → positions_of q (from + min m n) (take (m - min m n) (drop (min m n) es)) ≡ positions_of q (from + n) (take (to - (from + n)) (drop n es))
 moved q from m n to es end =
     let split : (d : ℕ) → m - n ≡ d → positions_of q (from + min m n) (take (m - min m n) (drop (min m n) es)) ≡ positions_of q (from + n) (take (to - (from + n)) (drop n es)) = elim [
@@ -71,7 +71,7 @@ moved q from m n to es end =
     ] in
     split (m - n) refl
 
--- the first are told no more: those that were told, of them
+-- the first entries are removed from the index, as far as they are indexed
 pub tells_less : (x : Indexed) (qs : Placed) (to : ℕ) (first es : List Entry) → Tells x es → length first ≤ length es → first ≡ take (length first) es
     → to ≡ (x.from + length first) + (x.to - (x.from + length first))
     → ((later : List Entry) (q : ℕ) → told_of x.places q ≡ positions_of q x.from (take (min (x.to - x.from) (length first)) first ++ later) → told_of qs q ≡ positions_of q (x.from + length (take (min (x.to - x.from) (length first)) first)) later)
@@ -102,7 +102,7 @@ tells_less x qs to first es t few same end less =
       positions = λ q. rest q ∙ moved q x.from m n to es last;
     }
 
--- the newest of a client's entries, by its positions and by the entries that are not told
+-- a client's newest entry, by its positions and by the entries that are not indexed
 pub newest_of_all : (x : Indexed) (es : List Entry) (client : ℕ) (ps : List ℕ) → Tells x es → AreInRow (x.from + 1) es → ps ≡ told_of x.places client
     → last_position client (unwrap_or (last_or None ps) x.from) (drop (x.to - x.from) es) ≡ last_position client x.from es
 newest_of_all x es client ps t row is =
@@ -110,7 +110,7 @@ newest_of_all x es client ps t row is =
     newest_told client x.from (take m es) (drop m es) ps (row_take (x.from + 1) m es row) (is ∙ t.positions client)
     ∙ ap (last_position client x.from) (take-append-drop m es)
 
--- the slots after the told entries and the others
+-- the slots after the indexed entries and the others
 pub slots_of_all : (client first m : ℕ) (es : List Entry) (xs ys : Slots) → m ≤ length es → ys ≡ slots_after client first (take m es) xs → slots_after client (first + m) (drop m es) ys ≡ slots_after client first es xs
 slots_of_all client first m es xs ys within is =
     ap (slots_after client (first + m) (drop m es)) is
@@ -118,6 +118,6 @@ slots_of_all client first m es xs ys within is =
     ∙ sym (slots_further client first (take m es) (drop m es) xs)
     ∙ ap (λ (l : List Entry). slots_after client first l xs) (take-append-drop m es)
 
--- what is lent from an index on
+-- a borrowed suffix of the entries
 pub from_index : (n : ℕ) (es : List Entry) → take (length es - n) (drop n es) ≡ drop n es
 from_index n es = ap (λ (k : ℕ). take k (drop n es)) (sym (length-drop n es)) ∙ take-length (drop n es)

@@ -1,4 +1,4 @@
--- The positions of a client's entries, as entries are gone through.
+-- The positions of a client's entries, during a pass over the entries.
 use Rattle.std.proofs.Common.{◌≡◌, ℕ, zero, suc, ◌+◌, ◌<◌, Bool, true, false, cond, List, [], ◌∷◌, ◌++◌, length, take, drop, get_or, Option, Some, None, refl, sym, ◌∙◌, ap, arith, add-one, append_assoc, drop-cons}
 use Rattle.std.specs.Prelude.{unwrap_or, if◌then◌else◌, ◌==◌}
 use Rattle.std.specs.List.{last_or}
@@ -7,7 +7,7 @@ use Rattle.craq_model.specs.Past.{last_position}
 use Rattle.craq_node_invariant.specs.Sound.{AreInRow}
 use Rattle.craq_unsettled.specs.Indexed.{positions_of}
 
--- the first entry's position comes first where the entry is the client's
+-- the first entry's position is in front if the entry is the client's
 abbrev first_and : Bool → ℕ → List ℕ → List ℕ
 first_and b position ps = cond b (position ∷ ps) ps
 
@@ -26,7 +26,7 @@ one_entry_more q after (d ∷ es) (suc n) e low is =
     ap (first_and (d.client == q) (after + 1)) (one_entry_more q (after + 1) es n e (omega (arith, low)) is ∙ ap (λ (p : ℕ). rest ++ (if e.client == q then p ∷ [] else [])) there)
     ∙ split (d.client == q)
 
--- one entry less
+-- one entry is removed
 pub one_entry_less : (q after : ℕ) (e : Entry) (es : List Entry) → drop (if e.client == q then 1 else 0) (positions_of q after (e ∷ es)) ≡ positions_of q (after + 1) es
 unfolding positions_of
 one_entry_less q after e es =
@@ -38,7 +38,7 @@ pub no_entries : (q after : ℕ) → positions_of q after [] ≡ []
 unfolding positions_of
 no_entries q after = refl
 
--- the newest of a client's entries is the last of its positions
+-- a client's newest entry is at the last of its positions
 last_told : (client after f : ℕ) (o : Option ℕ) (es : List Entry) → AreInRow (after + 1) es → last_position client (unwrap_or o f) es ≡ unwrap_or (last_or o (positions_of client after es)) f
 unfolding positions_of last_position
 last_told client after f o [] row = refl
@@ -60,14 +60,14 @@ newest_told client after xs ys ps row is =
     ∙ ap (λ (p : ℕ). last_position client p ys) (sym (last_told client after after None xs row))
     ∙ sym (last_further client after xs ys)
 
--- the last of some positions is the one at their end
+-- the last position is the one at the last index
 pub newest_is : (ps : List ℕ) (i p none : ℕ) → i + 1 ≡ length ps → p ≡ get_or ps i p → p ≡ unwrap_or (last_or None ps) none
 newest_is [] i p none count is = absurd (omega (arith, count))
 newest_is (x ∷ []) i p none count is = let first : i ≡ 0 = omega (arith, count) in is ∙ ap (λ (n : ℕ). get_or (x ∷ []) n p) first
 newest_is (x ∷ y ∷ ys) zero p none count is = absurd (omega (arith, count))
 newest_is (x ∷ y ∷ ys) (suc i) p none count is = newest_is (y ∷ ys) i p none (omega (arith, count)) is
 
--- the positions in two parts
+-- the positions of concatenated entries
 pub positions_further : (q after : ℕ) (xs ys : List Entry) → positions_of q after (xs ++ ys) ≡ positions_of q after xs ++ positions_of q (after + length xs) ys
 unfolding positions_of
 positions_further q after [] ys = let here : after ≡ after + 0 = omega arith in ap (λ (n : ℕ). positions_of q n ys) here
@@ -78,7 +78,7 @@ positions_further q after (x ∷ xs) ys =
     let split : (b : Bool) → first_and b (after + 1) (first ++ rest) ≡ first_and b (after + 1) first ++ rest = elim [ true ↦ refl | false ↦ refl ] in
     ap (first_and (x.client == q) (after + 1)) (positions_further q (after + 1) xs ys ∙ ap (λ (n : ℕ). first ++ positions_of q n ys) there) ∙ split (x.client == q)
 
--- the positions once one more entry is told
+-- the positions after one more entry is indexed
 pub more_at : (q after i client : ℕ) (es : List Entry) (e : Entry) (first old new : List ℕ) → i < length es → e ≡ get_or es i e → client ≡ e.client → new ≡ old ++ (if client == q then (after + i + 1) ∷ [] else []) → old ≡ first ++ positions_of q after (take i es) → new ≡ first ++ positions_of q after (take (i + 1) es)
 more_at q after i client es e first old new low is its more so =
     let last : List ℕ = if e.client == q then (after + i + 1) ∷ [] else [] in
@@ -89,7 +89,7 @@ more_at q after i client es e first old new low is its more so =
     ∙ ap (λ (l : List ℕ). first ++ l) (sym (one_entry_more q after es i e low is))
     ∙ ap (λ (n : ℕ). first ++ positions_of q after (take n es)) (sym (add-one i))
 
--- the positions once one entry is told no more
+-- the positions after one entry is removed from the index
 pub less_at : (q after i client : ℕ) (es later : List Entry) (e : Entry) (old new : List ℕ) → i < length es → e ≡ get_or es i e → client ≡ e.client → new ≡ drop (if client == q then 1 else 0) old → old ≡ positions_of q (after + i) (drop i es ++ later) → new ≡ positions_of q (after + (i + 1)) (drop (i + 1) es ++ later)
 less_at q after i client es later e old new low is its less so =
     let front : drop i es ≡ e ∷ drop (suc i) es = drop-cons es i e low ∙ ap (λ (x : Entry). x ∷ drop (suc i) es) (sym is) in

@@ -1,4 +1,4 @@
-//! The index that a history keeps of the entries that it doesn't know to be committed: whose they are; called by `craq_list`.
+//! An index of the uncommitted entries by client. `craq_list` calls it.
 ghost use Rattle.std.specs.Prelude.{◌≡◌, ◌+◌, ◌-◌, ◌<◌, ◌≤◌, ◌^◌, List, drop, length, take};
 ghost use Rattle.arrayvec.specs.ArrayVec.{array_vec_len};
 ghost use Rattle.craq_commands.specs.declared.entry.Entry.{Entry};
@@ -17,13 +17,14 @@ use std::alloc::Global;
 use std::collections::BTreeMap;
 use std::marker::Model;
 
-/// Of so many entries or fewer none is told: most of them are settled before that pays.
+/// Up to this many entries, none is indexed: most are settled before that pays.
 const FEW_ENTRIES: usize = 64;
 
-/// Of more entries at most so many are not told, while memory is there: a look at so few costs less than a look-up.
+/// Of more entries, at most this many stay unindexed while memory suffices: a scan of so few costs
+/// less than a look-up.
 const MOST_UNTOLD: usize = 8;
 
-/// Where clients' entries stand, among entries that come after one position, up to another.
+/// The positions of clients' entries, for the entries after one position, up to another.
 #[derive(Drop)]
 pub struct ClientIndex {
     places: Places,
@@ -44,7 +45,8 @@ impl Model for ClientIndex {
     ghost invariant = { λ x. IsOrdered nat_cmp x.places };
 }
 
-/// Of how many later entries the index is to be told that knows of so many: of none where all are few, else of all but the last few.
+/// Returns the number of later entries to index: none if there are few entries in all, else all but
+/// the last few.
 fn more_to_tell(told: usize, later: usize) -> usize
     ensures { result ≤ later }
 {
@@ -56,7 +58,7 @@ fn more_to_tell(told: usize, later: usize) -> usize
 }
 
 impl ClientIndex {
-    /// Nothing of the entries after a position. It takes no memory.
+    /// Returns the empty index of the entries after a position. Allocates nothing.
     pub fn new(alloc: Global, from: Seq) -> Self
         ensures from { result.from ≡ from }
         ensures tells { (entries : List Entry) → Tells result entries }
@@ -69,14 +71,15 @@ impl ClientIndex {
         }
     }
 
-    /// Up to which position entries are told.
+    /// Returns the position up to which entries are indexed.
     pub fn to(&self) -> Seq
         ensures { result ≡ self.now.to }
     {
         self.to
     }
 
-    /// More entries are told of, where they are more than few: those after the told ones, but for the last few, while memory is there.
+    /// Indexes the entries after the indexed ones, except the last few, if they are more than few.
+    /// Stops early when out of memory.
     pub fn add(&mut self, later: &[Entry])
         requires fits { self.old.to + length later.now < 2 ^ 64 }
         ensures from { self.new.from ≡ self.old.from }
@@ -89,7 +92,7 @@ impl ClientIndex {
         self.to = Seq::new(after + added as u64);
     }
 
-    /// The first of the entries are told no more. It takes no memory.
+    /// Removes the first entries from the index. Allocates nothing.
     pub fn let_go(&mut self, first: &[Entry])
         requires fits { self.old.from + length first.now < 2 ^ 64 }
         requires told { self.old.from ≤ self.old.to }
@@ -105,7 +108,8 @@ impl ClientIndex {
         }
     }
 
-    /// The position of a client's newest entry among the entries; the position before them where it has none.
+    /// Returns the position of a client's newest entry among the entries; the position before them
+    /// if it has none.
     pub fn newest_of(&self, client: ClientId, entries: &[Entry]) -> u64
         requires tells { Tells self.now entries.now }
         requires in_row { AreInRow (self.now.from + 1) entries.now }
@@ -117,7 +121,8 @@ impl ClientIndex {
         last_position_of(&entries[told..], client, newest)
     }
 
-    /// Keeps the replies of a client's entries among the entries, whose replies stand from an index on.
+    /// Keeps the replies of a client's entries among the entries, whose replies' indexes start at
+    /// `first`.
     pub fn keep_replies(&self, slots: &mut Slots, client: ClientId, entries: &[Entry], first: usize)
         requires few { array_vec_len slots.old ≤ 8 }
         requires tells { Tells self.now entries.now }

@@ -1,5 +1,5 @@
-//! Where each client's entries stand among those that are not settled, so that what is asked of a client looks at its own
-//! entries alone; called by `craq_list`. Code that runs in the program.
+//! An index of unsettled entries by client, so that a client's look-up reads only its own entries.
+//! Runs in the program; `craq_list` calls it.
 #![tactic(auto)]
 
 mod index;

@@ -1,5 +1,5 @@
-//! The positions of clients' entries, by client. A client whose entries are all let go keeps a place with no positions,
-//! which no call shows. Called by `index`.
+//! The positions of clients' entries, by client. A client without remaining entries keeps an empty
+//! list, which no call returns. `index` calls this.
 ghost use Rattle.std.specs.Prelude.{◌≡◌, ℕ, ◌+◌, ◌<◌, ◌≤◌, ◌^◌, ◌==◌, [], ◌∷◌, ◌++◌, List, None, OnOk, OnErr, if◌then◌else◌, drop, length, take, unwrap_or};
 ghost use Rattle.std.specs.BTreeMap.{get, IsOrdered};
 ghost use Rattle.std.specs.List.{last_or};
@@ -13,10 +13,11 @@ use craq_names::ClientId;
 use std::alloc::{AllocError, Global};
 use std::collections::BTreeMap;
 
-/// The places of clients.
+/// The lists of positions, by client.
 pub type Places = BTreeMap<u64, Positions>;
 
-/// One more position of a client. Where memory is refused the positions stay.
+/// Appends one position of a client. Fails only when out of memory; the positions are unchanged on
+/// error.
 fn add_position(
     alloc: Global,
     places: &mut Places,
@@ -34,7 +35,7 @@ fn add_position(
     }
 }
 
-// Puts in a place with one position for a client that has none.
+// Inserts a list with one position for a client that has none.
 fn put_first(
     places: &mut Places,
     client: u64,
@@ -53,8 +54,8 @@ fn put_first(
     Ok(())
 }
 
-/// The positions of these entries, which come after a position, while memory is there. It gives how many entries they
-/// are.
+/// Adds the positions of these entries, which follow the position `after`, until out of memory.
+/// Returns the number of entries added.
 pub fn add_entries(alloc: Global, places: &mut Places, entries: &[Entry], after: u64) -> usize
     requires ordered { IsOrdered nat_cmp places.old }
     requires fits { after + length entries.now < 2 ^ 64 }
@@ -71,7 +72,7 @@ pub fn add_entries(alloc: Global, places: &mut Places, entries: &[Entry], after:
     entries.len()
 }
 
-/// Lets the oldest position of a client go.
+/// Removes a client's oldest position.
 fn let_first_go(places: &mut Places, client: u64)
     requires { IsOrdered nat_cmp places.old }
     ensures told { (q : ℕ) → told_of places.new.entries q ≡ drop (if client == q then 1 else 0) (told_of places.old.entries q) }
@@ -82,7 +83,7 @@ fn let_first_go(places: &mut Places, client: u64)
     }
 }
 
-/// Lets the positions of these entries go, which are the oldest ones.
+/// Removes the positions of these entries, which are the oldest ones.
 pub fn let_entries_go(places: &mut Places, entries: &[Entry])
     requires { IsOrdered nat_cmp places.old }
     ensures told { (after : ℕ) (later : List Entry) (q : ℕ) → told_of places.old.entries q ≡ positions_of q after (entries.now ++ later)
@@ -94,7 +95,7 @@ pub fn let_entries_go(places: &mut Places, entries: &[Entry])
     }
 }
 
-/// The newest position of a client, or the given one where there is none.
+/// Returns a client's newest position, `none` if it has no position.
 pub fn newest_position(places: &Places, client: ClientId, none: u64) -> u64
     requires { IsOrdered nat_cmp places.now }
     ensures { result ≡ unwrap_or (last_or None (told_of places.now.entries client)) none }

@@ -1,4 +1,4 @@
-//! The positions of one client. They come in order, and the oldest goes first. Called by `places`.
+//! The positions of one client's entries, a queue in ascending order. `places` calls this.
 ghost use Rattle.std.specs.Prelude.{◌≡◌, ◌<◌, [], ◌∷◌, ◌++◌, None, drop, length, slice_index, unwrap_or, OnOk, OnErr};
 ghost use Rattle.std.specs.List.{last_or};
 
@@ -21,7 +21,7 @@ impl Model for Positions {
 }
 
 impl Positions {
-    /// None. It takes no memory.
+    /// Returns no positions. Allocates nothing.
     pub fn new(alloc: Global) -> Self
         ensures { result ≡ [] }
     {
@@ -30,14 +30,14 @@ impl Positions {
         }
     }
 
-    /// How many there are.
+    /// Returns the number of positions.
     pub fn len(&self) -> usize
         ensures { result ≡ length self.now }
     {
         self.positions.len()
     }
 
-    /// The one of an index, from 0.
+    /// Returns the position at an index, from 0.
     pub fn at(&self, index: usize) -> u64
         requires { index < length self.now }
         ensures { result ≡ slice_index self.now index }
@@ -45,7 +45,7 @@ impl Positions {
         self.positions[index]
     }
 
-    /// The newest one, or the given position where there is none.
+    /// Returns the newest position, `none` if there is no position.
     pub fn newest_or(&self, none: u64) -> u64
         ensures { result ≡ unwrap_or (last_or None self.now) none }
     {
@@ -57,7 +57,7 @@ impl Positions {
         }
     }
 
-    /// One more. Where memory is refused they stay.
+    /// Appends a position. Fails only when out of memory; the positions are unchanged on error.
     pub fn push(&mut self, position: u64) -> Result<(), AllocError>
         ensures ok { OnOk result (self.new ≡ self.old ++ position ∷ []) }
         ensures err { OnErr result (self.new ≡ self.old) }
@@ -67,7 +67,7 @@ impl Positions {
         Ok(())
     }
 
-    /// Lets the oldest one go, where there is one. It takes no memory.
+    /// Removes the oldest position, if there is one. Allocates nothing.
     pub fn let_first_go(&mut self)
         ensures { self.new ≡ drop 1 self.old }
     {

@@ -1,4 +1,4 @@
-//! The kept replies of a client, by the positions of its entries; called by `index`.
+//! A client's kept replies, found by the positions of its entries. `index` calls this.
 ghost use Rattle.std.specs.Prelude.{◌≡◌, ◌+◌, ◌<◌, ◌≤◌, ◌^◌, length, slice_index_or};
 ghost use Rattle.std.specs.BTreeMap.{IsOrdered};
 ghost use Rattle.std.specs.Ordering.{nat_cmp};
@@ -11,7 +11,7 @@ use craq_commands::Entry;
 use craq_names::ClientId;
 use craq_plain::slots::{Slot, Slots, keep_slot};
 
-/// The entry of an index, from 0.
+/// Returns the entry at an index, from 0.
 fn entry_at(entries: &[Entry], index: usize) -> &Entry
     requires { index < length entries.now }
     ensures { result.now ≡ slice_index_or entries.now index result.now }
@@ -19,7 +19,8 @@ fn entry_at(entries: &[Entry], index: usize) -> &Entry
     &entries[index]
 }
 
-/// Keeps the replies of a client's entries, all of whose positions stand in its place; the replies stand from an index on.
+/// Keeps the replies of a client's entries, all of whose positions are in its list. The replies'
+/// indexes start at `first`.
 pub fn keep_told(
     slots: &mut Slots,
     client: ClientId,

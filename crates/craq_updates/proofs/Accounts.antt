@@ -1,4 +1,4 @@
--- What is known of an account stays known, move by move.
+-- Each move preserves the invariant of an account.
 use Rattle.std.proofs.Common.{◌≡◌, ◌⊎◌, inl, inr, ⊎_elim, ℕ, ◌+◌, ◌≤◌, ◌==◌, true, ◌&&◌, List, [], ◌∷◌, ◌++◌, length, Option, Some, None, Ok, refl, ap, sym, subst, ◌∙◌, arith}
 use Rattle.std.specs.List.{AllByRecursion}
 use Rattle.std.proofs.lemmas.List.{map-append}
@@ -35,7 +35,7 @@ use Rattle.craq_updates.proofs.Commits.{commits_log}
 use Rattle.craq_updates.proofs.Known.{Known, NodesGrow, some_same, grow_at_node, grow_at_master, nobody_at_node, nobody_at_master, tail_there, newest_is}
 use Rattle.craq_updates.proofs.NewAsks.{TookAsk, took_ask, NewAsks, new_asks, numbered_after, in_time_after, ticketed_after, asks_stay, new_ask_found}
 
--- ---- the entry of a new update is genuine
+-- ---- the entry of a new update is valid
 
 held_more : (asked more : List Asked) → StaysAsked asked more → (w : World Entry) → Held (AllGenuine asked opening_state) w → Held (AllGenuine more opening_state) w
 held_more asked more f w h = record {
@@ -79,7 +79,7 @@ may_append a w k (moves.Ask node (asks.Update u)) x step does same type =
 
 -- ---- the account
 
--- the numbers of asks are no higher than the moves
+-- the numbers of requests are no higher than the number of moves
 numbers_below : (asked : List Asked) (s : State) (n : ℕ) (es : List Entry) → AllByRecursion (λ (x : Asked). x.move ≤ n) asked → AllGenuine asked s es → AllByRecursion (λ k. k ≤ n) (numbers_of asked es)
 unfolding ask_with
 numbers_below asked s n [] below g = tt
@@ -132,7 +132,7 @@ pub moves_counted : (c : Chain) (chosen : Move) (x : Progress) → AtNode c chos
 moves_counted c chosen x (inl a) = ap (λ (y : Progress). y.0.moves) a.is
 moves_counted c chosen x (inr m) = m.count
 
--- one more move: there is a world of which all is known again, and its log is no shorter
+-- one more move: there is a world for which the invariant holds again, and its log is no shorter
 pub record KnownNext (a b : Account) (w : World Entry) : Type 0 where
   pub world : World Entry
   pub known : Known b world

@@ -1,4 +1,4 @@
--- What a step changes at its node, whatever happens there.
+-- The changes of a step at its node, for every event.
 use Rattle.std.proofs.Common.{◌≡◌, ◌≢◌, ◌⊎◌, inl, inr, ⊎_elim, ℕ, ◌≤◌, true, false, [], length, Some, Result, Ok, Err, refl, ap, sym, subst, ◌∙◌, arith}
 use Rattle.std.proofs.lemmas.Bool.{cond_both}
 use Rattle.craq_names.specs.declared.refusal.Refusal.{Refusal}
@@ -83,7 +83,7 @@ tickets_by p events.Stop t h = let P : Turn → Type 0 = λ t. p.last_ticket ≤
 pub tickets_rise : {c : Chain} {chosen : Move} {x : Progress} (a : AtNode c chosen x) → a.was.last_ticket ≤ a.turn.0.last_ticket
 tickets_rise a = tickets_by a.was a.event a.turn a.does
 
--- the base is no more than what was committed before the step
+-- the base is no more than the number committed before the step
 based_before : {c : Chain} {w : World Entry} → Follows c w → IsReached w → (id : ℕ) (p : Plain) → node_at c.nodes id ≡ Some p → p.past.base ≤ length w.log
 based_before {c} {w} f r id p at =
     let n : NodeFollows w (seen_of p) = f.nodes id p at in
@@ -134,7 +134,7 @@ based_by {c} {w} f r chosen p events.Stop t by le h = let P : Turn → Type 0 = 
 pub now_based : {c : Chain} {w : World Entry} {chosen : Move} {x : Progress} → Follows c w → IsReached w → (a : AtNode c chosen x) → a.turn.0.past.base ≤ length w.log
 now_based {c} {w} {chosen} f r a = based_by f r chosen a.was a.event a.turn a.by (based_before f r (place_of c chosen) a.was a.at) a.does
 
--- ---- who runs
+-- ---- running nodes
 
 runs_by : (p : Plain) (e : Event) (t : Turn) → event_turn p e ≡ Ok t → p.running ≡ true → (t.0.running ≡ true) ⊎ (t.0 ≡ record p { running = false })
 runs_by p (events.Ask ask) t h r = let a : Accepts p t = ask_accepts p ask t h in inl (a.runs ∙ r)

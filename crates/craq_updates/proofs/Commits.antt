@@ -1,4 +1,4 @@
--- What a node commits is the log.
+-- A node commits the log.
 use Rattle.std.proofs.Common.{◌≡◌, ⊎_elim, ℕ, ◌+◌, ◌-◌, ◌≤◌, true, false, ◌&&◌, List, [], ◌∷◌, ◌++◌, length, take, drop, Some, refl, ap, sym, subst, ◌∙◌, arith, take-append-drop}
 use Rattle.std.proofs.lemmas.Bool.{cond_both, both_ways}
 use Rattle.std.proofs.Math.Seq.{drop-append-add}
@@ -23,7 +23,7 @@ use Rattle.craq_updates.proofs.Moves.{LogBy}
 use Rattle.craq_updates.proofs.Places.{AtNode}
 use Rattle.craq_updates.proofs.AtNodes.{was_id, now_id, now_at, now_based, runs_or_stops}
 
--- what comes after a beginning, in the entries after the base
+-- the log and the entries after it are the whole history
 pub after_log : (base : ℕ) (state : State) (entries log history : List Entry) → IsHistory base state entries history → IsPrefix log history → base ≤ length log
     → log ++ drop (length log - base) entries ≡ history
 after_log base state entries log history h p le =
@@ -34,7 +34,7 @@ after_log base state entries log history h p le =
     in
     ap (λ l. log ++ l) (sym rest) ∙ (ap (λ l. l ++ drop (length log) history) (sym (prefix_is_take p)) ∙ take-append-drop (length log) history)
 
--- a beginning as long as the whole
+-- a prefix of the same length is the whole
 pub same_length : {A : Type 0} (xs ys : List A) → IsPrefix xs ys → length xs ≡ length ys → xs ≡ ys
 same_length xs ys p e = sym (prefix_is_take p) ∙ (ap (λ k. take k ys) e ∙ take_whole ys)
   where
@@ -42,7 +42,7 @@ same_length xs ys p e = sym (prefix_is_take p) ∙ (ap (λ k. take k ys) e ∙ t
     take_whole [] = refl
     take_whole (y ∷ l) = ap (λ l. y ∷ l) (take_whole l)
 
--- a running node is a tail in the world where it is one
+-- a running node is a tail exactly if it is one in the world
 pub tail_seen : {c : Chain} {w : World Entry} → Follows c w → IsReached w → (id : ℕ) (q : Plain) → id_of q ≡ id → node_at c.nodes id ≡ Some q → q.running ≡ true → machine.is_tail w id ≡ is_tail q
 tail_seen {c} {w} f r id q same at u =
     let P : ℕ → Type 0 = λ j. node_at c.nodes j ≡ Some q in
@@ -51,7 +51,7 @@ tail_seen {c} {w} f r id q same at u =
     let Q : ℕ → Type 0 = λ j. machine.is_tail w j ≡ is_tail q in
     subst Q same (is_tail-seen w (seen_of q) (f.nodes (id_of q) q there) u (λ e. ready_member q h r e))
 
--- what the step's node commits is the log after it
+-- the step's node commits the log after it
 pub commits_log : {c : Chain} {w v : World Entry} {chosen : Move} {x : Progress} → Follows c w → IsReached w → Follows x.0 v → IsReached v → Later w v → LogBy (place_of c chosen) w v
     → (a : AtNode c chosen x) → committed_by w.log (Some a.turn.0) ≡ v.log
 unfolding entries_after

@@ -1,4 +1,4 @@
--- What each move of a chain leaves in the world that stands for it.
+-- The effect of each move of a chain in the world that stands for it.
 use Rattle.std.proofs.Common.{◌≡◌, ◌⊎◌, inl, inr, ℕ, zero, suc, ◌==◌, true, false, not, cond, ◌||◌, List, [], ◌∷◌, ◌++◌, map, slice_get, slice_index, Option, Some, None, Ok, Err, refl, ap, sym, subst, ◌∙◌, arith}
 use Rattle.std.specs.Prelude.{⊤}
 use Rattle.std.proofs.lemmas.Bool.{not-false}
@@ -70,7 +70,7 @@ update_stands {c} {w} p h r u t k =
         let g : _ = refused (length_of p == greatest || some_used_up (newest p).objects (objects_named u.command)) refusals.Exhausted (new_update_turn p entry) i in
         new_update p h r ready first entry (omega arith) (inr (refl, record { new = new; here = here })) t g.1
 
--- P may be of the history with a new entry
+-- P may hold of the history with a new entry
 abbrev pub MayAppend : (List Entry → Type 0) → Chain → World Entry → Move → Type 0
 MayAppend P c w (moves.Ask node (asks.Update u)) = (p : Plain) → node_at c.nodes node ≡ Some p → IsNewAt p u → P (w.history node ++ entry_for p u ∷ [])
 MayAppend P c w move = ⊤
@@ -98,7 +98,7 @@ update_went P c w node u x f r step =
 
 -- ---- every move
 
--- where a move happens
+-- the node of a move
 abbrev pub place_of : Chain → Move → ℕ
 place_of c chosen = node_of (map (λ (m : LinkMessage). m.receiver) c.messages) chosen
 

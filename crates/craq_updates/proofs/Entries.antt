@@ -1,4 +1,4 @@
--- Genuine entries.
+-- Valid entries.
 use Rattle.std.proofs.Common.{◌≡◌, ℕ, ◌+◌, true, List, [], ◌∷◌, ◌++◌, Some, refl, sym, subst}
 use Rattle.craq_commands.specs.declared.command.Update.{Update}
 use Rattle.craq_commands.specs.declared.entry.Entry.{Entry}
@@ -28,7 +28,7 @@ pub genuine_push : (asked : List Asked) (s : State) (xs : List Entry) (e : Entry
 genuine_push asked s [] e g h = (h, tt)
 genuine_push asked s (x ∷ xs) e g h = (g.0, genuine_push asked (after_entry s x) xs e g.1 h)
 
--- each ask that is found by its ticket stays found
+-- each request that is found by its ticket stays found
 abbrev pub StaysAsked : List Asked → List Asked → Type 0
 StaysAsked asked more = (node ticket : ℕ) (a : Asked) → ask_with asked node ticket ≡ Some a → ask_with more node ticket ≡ Some a
 

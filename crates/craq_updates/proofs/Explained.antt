@@ -27,11 +27,11 @@ use Rattle.craq_updates.proofs.NewAsks.{asks_stay}
 use Rattle.craq_updates.proofs.Accounts.{KnownNext, next_account, known_after}
 use Rattle.craq_updates.proofs.Runs.{KnownRun, account_by, run_account, known_run}
 
--- what is seen, by the asks of the account
+-- what clients see, from the requests of the account
 abbrev pub seen_by : Account → List Answered → Seen
 seen_by a answers = record { moves = a.chain.moves; asks = a.asks; answers = answers }
 
--- the committed entries are genuine
+-- the committed entries are valid
 pub log_genuine : {a : Account} {w : World Entry} → Known a w → AllGenuine a.asks opening_state a.committed
 log_genuine {a} k = let P : List Entry → Type 0 = λ l. AllGenuine a.asks opening_state l in subst P (sym k.committed) k.held.log
 
@@ -46,7 +46,7 @@ grows_in a w answers k =
       once = no_request_twice a.asks opening_state a.committed opening_rises k.numbered g;
     }
 
--- what is seen of a run is what its account has
+-- the account of a run has what clients see of it
 pub seen_run : (chain : ℕ) (run : Run) → IsTypedRunOf chain run → seen_by (run_account chain run) (answers_from 1 [] run.moves) ≡ seen run
 seen_run chain run i =
     let r : KnownRun (opening_account chain run.members) (opening run.members) run.moves (run_account chain run) = known_run chain run i in
@@ -101,7 +101,7 @@ form_lens chain run i =
     let l : AreLens (run_account chain run).chain.moves (run_account chain run).lens (numbers_of (run_account chain run).asks (run_account chain run).committed) = k.lens in
     omega (arith, l.count, r.moves)
 
--- ---- one move more
+-- ---- one more move
 
 account_push : (ts : List Taken) (t : Taken) (a : Account) → account_of a (ts ++ t ∷ []) ≡ account_after (account_of a ts) t
 account_push [] t a = refl

@@ -1,4 +1,4 @@
--- What stands in a list of asks, by its number and by its ticket.
+-- The requests in a list, by number and by ticket.
 use Rattle.std.proofs.Common.{◌≡◌, ℕ, ◌<◌, ◌==◌, Bool, true, false, ◌&&◌, List, [], ◌∷◌, ◌++◌, find, Option, Some, None, refl, ap, sym, subst, ◌∙◌, arith}
 use Rattle.std.specs.List.{AllByRecursion}
 use Rattle.std.proofs.lemmas.Bool.{cond_both, cond-true, cond-false, eq-eqb, eqb-true, ne_eqb, and_parts, false_from_ne_true}
@@ -35,7 +35,7 @@ find_last test (y ∷ xs) x a h = cond-false (test y) (Some y) (find test (xs ++
 
 -- ---- by number
 
--- each ask is found by its number
+-- each request is found by its number
 abbrev pub IsNumbered : List Asked → Type 0
 IsNumbered asked = AllByRecursion (λ (a : Asked). find (λ (b : Asked). b.move == a.move) asked ≡ Some a) asked
 
@@ -58,7 +58,7 @@ pub ask_stays : (asked more : List Asked) (node ticket : ℕ) (a : Asked) → as
 unfolding ask_with
 ask_stays asked more node ticket a h = find_left (λ (a : Asked). (a.node == node) && is_ticket a.ticket ticket) asked more a h
 
--- no ask at the node has a ticket so high
+-- no request at the node has a ticket at or above this one
 abbrev pub IsBelow : ℕ → ℕ → Asked → Type 0
 IsBelow node ticket a = a.node ≡ node → (t : ℕ) → a.ticket ≡ Some t → t < ticket
 

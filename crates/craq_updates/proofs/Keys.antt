@@ -14,7 +14,7 @@ use Rattle.craq_commands.specs.Objects.{Objects, version_of, value_of}
 use Rattle.craq_commands.specs.Evaluation.{Outcome, writes_one, writes_none, writes_number, tested, joined, number_at, increased, decreased, first_difference, transacted, eval, objects_named, all_of_chain}
 use Rattle.craq_runs.specs.Typed.{IsOfType}
 
--- the keys of what is written are distinct
+-- the keys of the writes are distinct
 abbrev pub WritesOnce : Outcome → Type 0
 WritesOnce o = IsDistinct same_bytes (map (λ (w : List ℕ × List ℕ). w.0) o.0)
 
@@ -29,7 +29,7 @@ all_parts test (x ∷ xs) ys h =
     let r : (list_all test xs ≡ true) × (list_all test ys ≡ true) = all_parts test xs ys p.1 in
     (ap (λ b. b && list_all test xs) p.0 ∙ r.0, r.1)
 
--- objects of one chain are told apart by their keys
+-- objects of one chain differ by their keys
 apart : (chain : ℕ) (o : ObjectId) (ws : List (ObjectId × List ℕ)) → o.chain ≡ chain → list_all (λ (o : ObjectId). o.chain == chain) (map (λ (w : ObjectId × List ℕ). w.0) ws) ≡ true
     → AllByRecursion (λ (q : ObjectId). same_object o q ≡ false) (map (λ (w : ObjectId × List ℕ). w.0) ws)
     → AllByRecursion (λ (key : List ℕ). same_bytes o.key key ≡ false) (map (λ (w : List ℕ × List ℕ). w.0) (map (λ (w : ObjectId × List ℕ). (w.0.key, w.1)) ws))

@@ -1,4 +1,4 @@
--- What is known of an account of a run, and of the world that stands for its chain.
+-- The invariant of an account of a run and of the world that stands for its chain.
 use Rattle.std.proofs.Common.{◌≡◌, ◌≢◌, ⊎_elim, ℕ, ◌≤◌, ◌==◌, true, ◌&&◌, List, [], ◌∷◌, ◌++◌, length, find, Option, Some, None, ap, sym, subst, ◌∙◌, arith}
 use Rattle.std.specs.List.{AllByRecursion}
 use Rattle.std.proofs.lemmas.Bool.{cond_both, cases_eq, and_parts, cond-false, ne_eqb}
@@ -27,7 +27,7 @@ use Rattle.craq_updates.proofs.Places.{AtNode, AtMaster, OneMore}
 use Rattle.craq_updates.proofs.AtNodes.{now_at, others_stay, tickets_rise}
 use Rattle.craq_updates.proofs.Lens.{AreLens}
 
--- the ask's node is there, and has given its ticket
+-- the request's node exists, and has given its ticket
 pub record IsTicketed (nodes : List Plain) (a : Asked) : Type 0 where
   pub node : Plain
   pub at : node_at nodes a.node ≡ Some node

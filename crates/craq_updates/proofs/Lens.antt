@@ -1,9 +1,9 @@
--- How many were committed after each move.
+-- The number committed after each move.
 use Rattle.std.proofs.Common.{◌≡◌, ◌⊎◌, ⊎_elim, ℕ, zero, suc, ◌+◌, ◌<◌, ◌≤◌, List, [], ◌∷◌, ◌++◌, length, slice_index, refl, sym, subst, arith, length-append}
 use Rattle.std.specs.List.{AllByRecursion}
 use Rattle.std.proofs.lemmas.List.{get_or_append_left, get_or_push, get_or_past}
 
--- lengths and numbers of asks, after so many moves
+-- lengths and numbers of requests, after this number of moves
 pub record AreLens (moves : ℕ) (lens numbers : List ℕ) : Type 0 where
   pub count : length lens ≡ moves
   pub within : (move : ℕ) → slice_index (0 ∷ lens) move ≤ length numbers

@@ -1,4 +1,5 @@
--- What a move of the protocol leaves: each history is a beginning of one that was, and the log is the old one or a tail's.
+-- The effect of a protocol move: each history is a prefix of an earlier one, and the log is the old
+-- one or a tail's.
 use Rattle.std.proofs.Common.{◌≡◌, ◌≢◌, ⊎_elim, ℕ, suc, ◌==◌, true, ◌&&◌, List, [], ◌∷◌, length, sym, subst, ◌∙◌, arith}
 use Rattle.std.proofs.lemmas.Bool.{cond_both, and_parts, or_cases, eqb-true, cases_eq, both_ways}
 use Rattle.craq_protocol.specs.Members.{is_member, is_next, with_value, IsDistinct}
@@ -38,9 +39,9 @@ next_other (m ∷ k ∷ ms) a d h =
     (λ e. next_other (k ∷ ms) a d.1 e)
     (or_cases ((m == a) && (k == a)) (is_next (k ∷ ms) a a) h)
 
--- ---- what is held
+-- ---- a property of all histories
 
--- P holds of each beginning of what it holds of
+-- P holds of each prefix of a list of which it holds
 abbrev pub IsClosed : {A : Type 0} → (List A → Type 0) → Type 0
 IsClosed {A} P = (xs ys : List A) → IsPrefix xs ys → P ys → P xs
 
@@ -54,7 +55,7 @@ held_commit P w n h =
     (λ e. record { histories = h.histories; log = h.histories n })
     (λ e. h)
 
--- one history is another one
+-- one history is replaced
 pub history_put : {A : Type 0} (P : List A → Type 0) (f : ℕ → List A) (n : ℕ) (xs : List A) → ((m : ℕ) → P (f m)) → P xs → (m : ℕ) → P (with_value f n xs m)
 history_put {A} P f n xs h p m =
     ⊎_elim
@@ -62,7 +63,7 @@ history_put {A} P f n xs h p m =
     (λ ne. let Q : List A → Type 0 = λ l. P l in subst Q (sym (put_other f n xs m ne)) (h m))
     (cases_eq m n)
 
--- what a node has of its predecessor is a beginning of what that one has
+-- the history that a node has from its predecessor is a prefix of the predecessor's
 pub from_predecessor : {A : Type 0} (P : List A → Type 0) → IsClosed P → (w v : World A) (n from : ℕ) (xs : List A) → Held P w → IsSafe v
     → is_next (known_membership w n) from n ≡ true → known_membership v n ≡ known_membership w n → v.history n ≡ xs
     → ((m : ℕ) → m ≢ n → v.history m ≡ w.history m) → P xs

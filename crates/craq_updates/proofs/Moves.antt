@@ -1,4 +1,5 @@
--- The moves of the protocol, one by one: what is held stays held, and who commits is a tail.
+-- The moves of the protocol, one by one: properties of histories are preserved, and only a tail
+-- commits.
 use Rattle.std.proofs.Common.{◌≡◌, ◌⊎◌, inl, inr, ⊎_elim, ℕ, ◌+◌, ◌==◌, nat_lt, nat_le, true, false, not, ◌&&◌, List, [], ◌∷◌, ◌++◌, map, length, take, slice_get, Option, Some, None, refl, sym, subst, ◌∙◌}
 use Rattle.std.proofs.lemmas.Bool.{cond_both, and_parts, both_ways, not-true}
 use Rattle.craq_protocol.specs.Members.{is_member, is_first, is_next, membership_of, with_value, without}
@@ -9,7 +10,7 @@ use Rattle.craq_protocol.proofs.Prefix.{prefix_nil}
 use Rattle.craq_protocol.proofs.Reached.{reached_run, reached_safe}
 use Rattle.craq_updates.proofs.Machine.{IsClosed, Held, held_commit, history_put, from_predecessor}
 
--- ---- what is held
+-- ---- a property of all histories
 
 held_receipt : {A : Type 0} (P : List A → Type 0) → IsClosed P → (w : World A) (n from : ℕ) (b : Body A) → Held P w → IsSafe (after_receipt w n from b) → Held P (after_receipt w n from b)
 held_receipt {A} P c w n from (Entry place entry) h s =
@@ -120,7 +121,7 @@ by_move P c w (Send_floor n to) q h s =
     (λ e. record { histories = h.histories; log = h.log })
     (λ e. h)
 
--- what is held by each beginning stays held, but by a new entry
+-- a property that each prefix inherits is preserved, except by a new entry
 pub held_quiet : {A : Type 0} (P : List A → Type 0) → IsClosed P → (w : World A) (move : Move A) → IsReached w → IsQuiet move → Held P w → Held P (after_move w move)
 held_quiet P c w move r q h = by_move P c w move q h (reached_safe (reached_run r (move ∷ [])))
 
@@ -131,7 +132,7 @@ held_append {A} P w n entry h p =
     (λ e. held_commit P g n (record { histories = history_put P w.history n (w.history n ++ entry ∷ []) h.histories p; log = h.log }))
     (λ e. h)
 
--- ---- who commits
+-- ---- the node that commits
 
 -- the log stays, or the node is a tail
 abbrev pub LogBy : {A : Type 0} → ℕ → World A → World A → Type 0
@@ -249,7 +250,7 @@ log_ready {A} w v id by =
     subst P (sym (already v id (v.floor id) ready)) (inr t))
     by
 
--- a node that takes a message is a tail where it was one
+-- a node that takes a message is a tail if it was one
 tail_commit : {A : Type 0} (w : World A) (n : ℕ) → is_tail (after_commit w n) n ≡ is_tail w n
 tail_commit w n =
     cond_both (is_tail w n) (record w { acknowledged = with_value w.acknowledged n (length (w.history n)); log = w.history n }) w (λ v. is_tail v n ≡ is_tail w n) (λ e. refl) (λ e. refl)

@@ -1,4 +1,4 @@
--- The ask of a move, if it is one, among the asks before it.
+-- The request of a move, if it is one, among the requests before it.
 use Rattle.std.proofs.Common.{◌≡◌, ◌⊎◌, inl, inr, ⊎_elim, ℕ, ◌+◌, ◌<◌, ◌≤◌, List, [], ◌∷◌, ◌++◌, Option, Some, Ok, refl, ap, sym, subst, ◌∙◌, arith, append-nil}
 use Rattle.std.specs.List.{AllByRecursion}
 use Rattle.craq_names.proofs.Lists.{all_append, all_like}
@@ -18,7 +18,7 @@ use Rattle.craq_updates.proofs.Found.{IsNumbered, numbered_push, IsBelow, ask_st
 use Rattle.craq_updates.proofs.Entries.{StaysAsked}
 use Rattle.craq_updates.proofs.Known.{IsTicketed, NodesGrow, some_same}
 
--- an ask that was taken, at its node
+-- a request that was accepted, at its node
 pub record TookAsk (c : Chain) (node : ℕ) (ask : Ask) (x : Progress) (step : Step) : Type 0 where
   pub here : AtNode c (moves.Ask node ask) x
   pub accepts : Accepts here.was here.turn
@@ -30,7 +30,7 @@ took_ask c node ask x step a same =
     let accepts : Accepts a.was a.turn = ask_accepts a.was ask a.turn (subst P a.by a.does) in
     record { here = a; accepts = accepts; ticket = ap (λ (s : Step). s.ticket) (sym same ∙ ap (λ (y : Progress). y.1) a.is) ∙ accepts.given }
 
--- the asks of a move: none, or one with its number and the node's next ticket
+-- the requests of a move: none, or one with its number and the node's next ticket
 pub record OneAsk (count : ℕ) (nodes : List Plain) (more : List Asked) : Type 0 where
   pub new : Asked
   pub is : more ≡ new ∷ []
@@ -63,7 +63,7 @@ pub new_asks : (c : Chain) (chosen : Move) (x : Progress) (step : Step) → chai
 new_asks c chosen x step k same =
     ⊎_elim (λ (a : AtNode c chosen x). asked_here c chosen x step a same) (λ (a : AtMaster c chosen x). inl (a.no_ask (c.moves + 1) step.ticket)) (happens_at c chosen x k)
 
--- ---- with it
+-- ---- the requests including the new one
 
 pub numbered_after : (count : ℕ) (nodes : List Plain) (asked more : List Asked) → IsNumbered asked → AllByRecursion (λ (x : Asked). x.move ≤ count) asked → NewAsks count nodes more → IsNumbered (asked ++ more)
 numbered_after count nodes asked more n below (inl e) = let P : List Asked → Type 0 = λ l. IsNumbered l in subst P (sym (ap (λ l. asked ++ l) e ∙ append-nil asked)) n
@@ -91,7 +91,7 @@ ticketed_after count old nodes asked more grow t new =
 pub asks_stay : (asked more : List Asked) → StaysAsked asked (asked ++ more)
 asks_stay asked more node ticket a h = ask_stays asked more node ticket a h
 
--- no ask before it has the new ticket
+-- no request before it has the new ticket
 pub all_below : (nodes : List Plain) (node ticket : ℕ) (p : Plain) (asked : List Asked) → node_at nodes node ≡ Some p → p.last_ticket < ticket → AllByRecursion (IsTicketed nodes) asked
     → AllByRecursion (IsBelow node ticket) asked
 all_below nodes node ticket p asked at lt t =

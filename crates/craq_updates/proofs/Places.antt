@@ -1,4 +1,4 @@
--- Where a move of a chain happens, and what it changes there.
+-- The node of a chain's move, and the changes there.
 use Rattle.std.proofs.Common.{◌≡◌, ◌≢◌, ◌⊎◌, inl, inr, ℕ, ◌+◌, ◌==◌, nat_le, Bool, true, false, not, cond, ◌||◌, List, [], ◌∷◌, ◌++◌, map, length, is_some, Option, Some, None, Result, Ok, Err, refl, ap, sym, subst, ◌∙◌}
 use Rattle.std.proofs.lemmas.Bool.{cond_both, eqb-true, eqb-false, or_parts}
 use Rattle.craq_names.specs.Limits.{greatest, member_limit}
@@ -19,7 +19,7 @@ use Rattle.craq_refinement.proofs.Stages.{Took, took, moved}
 use Rattle.craq_refinement.proofs.Master.{Counted, counted, progress_same}
 use Rattle.craq_updates.proofs.EachMove.{place_of, arrives_at}
 
--- what happens at the node of a move
+-- the event at the node of a move
 abbrev pub EventOf : Chain → Move → Event → Type 0
 EventOf c (moves.Ask node ask) e = e ≡ events.Ask ask
 EventOf c (moves.Deliver number) e = (m : LinkMessage) × (message_at c.messages number ≡ Some m) × (e ≡ events.Deliver m)

@@ -1,4 +1,4 @@
--- Replaying genuine entries is applying the updates that they were made of.
+-- Replaying valid entries is applying the updates from which they were made.
 use Rattle.std.proofs.Common.{◌≡◌, ℕ, zero, suc, List, [], ◌∷◌, map, length, take, filter_map, ap, sym, ◌∙◌}
 use Rattle.craq_commands.specs.declared.command.Update.{Update}
 use Rattle.craq_commands.specs.declared.entry.Entry.{Entry}
@@ -29,7 +29,7 @@ replayed asked es count n g =
     sym (after_updates asked opening_state (take count es) n (genuine_take asked opening_state count es g))
     ∙ ap after (sym (updates_take asked opening_state count es n g))
 
--- the asks of an account are those of the run
+-- the requests of an account are those of the run
 pub account_asks : (chain : ℕ) (run : Run) → IsTypedRunOf chain run → (run_account chain run).asks ≡ asks_from 1 run.moves
 account_asks chain run i = let r : KnownRun (opening_account chain run.members) (opening run.members) run.moves (run_account chain run) = known_run chain run i in r.asks
 

@@ -1,4 +1,4 @@
--- What is known of the account of a whole run.
+-- The invariant of the account of a whole run.
 use Rattle.std.proofs.Common.{◌≡◌, ℕ, ◌+◌, ◌≤◌, ◌==◌, List, [], ◌∷◌, ◌++◌, map, length, find, Some, None, Result, Ok, Err, refl, ap, sym, ◌∙◌, arith, append-nil, append_assoc}
 use Rattle.std.specs.List.{AllByRecursion}
 use Rattle.std.proofs.lemmas.Bool.{cond-false, ne_eqb}
@@ -50,11 +50,11 @@ opening_known chain members m = record {
 
 -- ---- moves
 
--- the account after a move, by what came of it
+-- the account after a move, by the move's result
 abbrev pub account_by : Account → Taken → Result Progress Refusal → Account
 account_by a t r = account_with a t (place_of a.chain t.chosen) (progressed a.chain r) (node_at a.chain.nodes (place_of a.chain t.chosen)) (node_at (progressed a.chain r).nodes (place_of a.chain t.chosen))
 
--- what is known after moves: the asks are those of the moves, and each was counted
+-- the invariant after moves: the requests are those of the moves, and each move was counted
 pub record KnownRun (a : Account) (w : World Entry) (ts : List Taken) (b : Account) : Type 0 where
   pub world : World Entry
   pub known : Known b world

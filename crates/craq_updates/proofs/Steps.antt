@@ -15,7 +15,7 @@ use Rattle.craq_refinement.specs.Lines.{moves_of_send, moves_of_sends, StandsFor
 use Rattle.craq_updates.proofs.Machine.{IsClosed, Held}
 use Rattle.craq_updates.proofs.Moves.{IsQuiet, held_quiet, LogBy, log_by, log_ready, log_takes}
 
--- ---- what is sent changes nothing else
+-- ---- sending messages changes nothing else
 
 pub record OnlySent (w v : World Entry) : Type 0 where
   pub messages : List (Message Entry)
@@ -62,7 +62,7 @@ all_sent (m ∷ ms) w =
 
 -- ---- a move of a chain
 
--- the world after a move: where P is held it is held again, if it may be of the new entry
+-- the world after a move: a property of all histories holds again, if it may hold of the new entry
 pub record Went (P : List Entry → Type 0) (May : Type 0) (id : ℕ) (w : World Entry) (d : Chain) : Type 0 where
   pub world : World Entry
   pub reached : IsReached world
@@ -71,7 +71,7 @@ pub record Went (P : List Entry → Type 0) (May : Type 0) (id : ℕ) (w : World
   pub log : LogBy id w world
   pub held : May → Held P w → Held P world
 
--- what own moves do
+-- the effect of a line's own moves
 pub record Does (P : List Entry → Type 0) (May : Type 0) (id : ℕ) (w v : World Entry) : Type 0 where
   pub log : LogBy id w v
   pub held : May → Held P w → Held P v
@@ -113,7 +113,7 @@ taking P c May id w own r (inr (k, inr e)) =
       held = λ m h. held_quiet P c (after_move w (Take id k)) (Become_ready id) (reached_run r (Take id k ∷ [])) tt (held_quiet P c w (Take id k) r tt h);
     })
 
--- messages that are taken one after the other
+-- messages are taken one after the other
 held_takes : (P : List Entry → Type 0) → IsClosed P → (w : World Entry) (id : ℕ) (which : List ℕ) → IsReached w → Held P w → Held P (after_moves w (map (Take id) which))
 held_takes P c w id [] r h = h
 held_takes P c w id (k ∷ ks) r h = held_takes P c (after_move w (Take id k)) id ks (reached_run r (Take id k ∷ [])) (held_quiet P c w (Take id k) r tt h)

@@ -1,4 +1,4 @@
--- What a step changes of a node's base and tickets.
+-- The changes of a step to a node's base and tickets.
 use Rattle.std.proofs.Common.{◌≡◌, ◌⊎◌, inl, inr, ⊎_elim, ℕ, ◌+◌, ◌==◌, nat_le, nat_lt, Bool, true, false, not, cond, ◌||◌, Option, Some, None, List, [], ◌∷◌, ◌++◌, Result, Ok, Err, refl, sym, subst, arith}
 use Rattle.std.specs.Prelude.{⊤}
 use Rattle.std.proofs.lemmas.Bool.{cond_both, or_parts}
@@ -34,7 +34,7 @@ use Rattle.craq_model.specs.Asks.{accepted_turn, answered_turn, is_full, is_clea
 use Rattle.craq_refinement.proofs.Gathered.{gathered_at}
 use Rattle.craq_model.specs.Deliveries.{config_turn, forwarding_turn, taken_entries_turn, appending_turn, entries_above, entries_turn, gathered_turn, gathering_turn, is_outdated, part_turn, acknowledgement_turn, ack_turn, query_turn, told_version_turn, version_turn, blank_turn, copy_turn, with_copy, floor_turn, turn_in_epoch, body_turn, read_with}
 
--- what the step of a message keeps
+-- the fields that the step of a message keeps
 pub record Keeps (base tickets : ℕ) (running : Bool) (t : Turn) : Type 0 where
   pub based : t.0.past.base ≡ base
   pub last : t.0.last_ticket ≡ tickets
@@ -171,9 +171,9 @@ body_delivers p m (bodies.Blank count) = let k : _ = in_epoch p m (blank_turn p 
 body_delivers p m (bodies.Copy position state) = copy_delivers p m position state
 body_delivers p m (bodies.Floor count) = let k : _ = in_epoch p m (floor_turn p m.sender count) (floor_keeps p m.sender count) in from_keeps (bodies.Floor count) k k.based
 
--- ---- asks
+-- ---- requests
 
--- an accepted ask takes the next ticket
+-- an accepted request takes the next ticket
 pub record Accepts (p : Plain) (t : Turn) : Type 0 where
   pub based : t.0.past.base ≡ p.past.base
   pub last : t.0.last_ticket ≡ p.last_ticket + 1

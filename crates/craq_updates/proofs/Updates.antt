@@ -1,4 +1,4 @@
--- The updates that genuine entries name.
+-- The updates that valid entries name.
 use Rattle.std.proofs.Common.{◌≡◌, ℕ, zero, suc, ◌==◌, Bool, true, false, ◌&&◌, List, [], ◌∷◌, map, length, take, find, filter_map, option_and_then, option_map, unwrap_or, is_some, IsSome, Option, Some, refl, ap, sym, subst, ◌∙◌}
 use Rattle.std.specs.List.{AllByRecursion, IsDistinct}
 use Rattle.std.proofs.lemmas.Bool.{eqb-true, and_parts, both_ways, false_from_ne_true}
@@ -16,7 +16,7 @@ use Rattle.craq_updates.specs.Genuine.{IsGenuine, AllGenuine}
 use Rattle.craq_updates.proofs.Entries.{StaysAsked}
 use Rattle.craq_updates.proofs.Found.{find_all, IsNumbered}
 
--- the numbers of the asks of entries, and their updates
+-- the numbers of the requests of entries, and their updates
 abbrev pub numbers_of : List Asked → List Entry → List ℕ
 numbers_of asked es = map (ask_number asked) es
 
@@ -30,7 +30,7 @@ pub number_is : (asked : List Asked) (s : State) (e : Entry) → (g : IsGenuine 
 unfolding ask_number
 number_is asked s e g = ap (λ (o : Option Asked). unwrap_or (option_map (λ (a : Asked). a.move) o) 0) g.by.is_ask
 
--- the ask is among those that are found by number
+-- the request is among those that are found by number
 numbered_ask : (asked : List Asked) (node ticket : ℕ) (a : Asked) → IsNumbered asked → ask_with asked node ticket ≡ Some a → find (λ (b : Asked). b.move == a.move) asked ≡ Some a
 unfolding ask_with
 numbered_ask asked node ticket a n h = find_all (λ (a : Asked). find (λ (b : Asked). b.move == a.move) asked ≡ Some a) (λ (a : Asked). (a.node == node) && _) asked a n h
@@ -68,7 +68,7 @@ pub numbers_name : (asked : List Asked) (s : State) (es : List Entry) → IsNumb
 numbers_name asked s [] n g = tt
 numbers_name asked s (e ∷ es) n g = (ap is_some (update_is asked s e n g.0), numbers_name asked (after_entry s e) es n g.1)
 
--- more asks leave the numbers
+-- more requests keep the numbers
 pub numbers_stay : (asked more : List Asked) → StaysAsked asked more → (s : State) (es : List Entry) → AllGenuine asked s es → numbers_of more es ≡ numbers_of asked es
 unfolding ask_number
 numbers_stay asked more f s [] g = refl
@@ -80,7 +80,7 @@ numbers_stay asked more f s (e ∷ es) g =
 
 -- ---- no request twice
 
--- what is new after an update was new before it
+-- a number that is new after an update was new before it
 pub new_before : (s : State) (v : Update) (client number : ℕ) → HasRisingWindows s → is_new_to (apply s v) client number ≡ true → is_new_to s client number ≡ true
 new_before s v client number rises h =
     let by : (b : Bool) → is_new_to s client number ≡ b → is_new_to s client number ≡ true = elim [

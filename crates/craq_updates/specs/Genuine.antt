@@ -1,4 +1,5 @@
--- Genuine entries: each was asked, was new, and is what its update comes to on one copy of the objects.
+-- Valid entries: each was requested, was new, and has the result of its update on one copy of the
+-- objects.
 use Rattle.std.specs.Prelude.{◌≡◌, true, ⊤, List, [], ◌∷◌, map, Some}
 use Rattle.std.specs.List.{IsDistinct}
 use Rattle.craq_names.specs.Maps.{same_bytes}
@@ -15,7 +16,7 @@ use Rattle.craq_model.specs.Plain.{Plain}
 use Rattle.craq_protocol.specs.Promises.{IsPrefix}
 use Rattle.craq_refinement.specs.Follows.{IsHistory}
 
--- the entry names its ask, and bears the update's client and number
+-- the entry names its request, and has the update's client and number
 pub record IsAskedBy (asked : List Asked) (e : Entry) (u : Update) : Type 0 where
   pub ask : Asked
   pub is_ask : ask_with asked e.origin_node e.origin_ticket ≡ Some ask
@@ -23,7 +24,8 @@ pub record IsAskedBy (asked : List Asked) (e : Entry) (u : Update) : Type 0 wher
   pub client : e.client ≡ u.client
   pub number : e.number ≡ u.number
 
--- the entry was asked, its number was new in this state, it is what its update comes to there, and writes no key twice
+-- the entry was requested, its number was new in this state, it has the result of its update there,
+-- and writes no key twice
 pub record IsGenuine (asked : List Asked) (s : State) (e : Entry) : Type 0 where
   pub update : Update
   pub by : IsAskedBy asked e update
@@ -33,12 +35,12 @@ pub record IsGenuine (asked : List Asked) (s : State) (e : Entry) : Type 0 where
   pub once : IsDistinct same_bytes (map (λ w. w.0) (eval s.objects update.command).0)
   pub applied : after_entry s e ≡ apply s update
 
--- each entry is genuine in the state after those before it
+-- each entry is valid in the state after those before it
 abbrev pub AllGenuine : List Asked → State → List Entry → Type 0
 AllGenuine asked s [] = ⊤
 AllGenuine asked s (e ∷ es) = IsGenuine asked s e × AllGenuine asked (after_entry s e) es
 
--- a history of genuine entries, of which the node has a base's state and the entries after it
+-- a history of valid entries, of which the node has a base's state and the entries after it
 pub record HasGenuineHistory (asked : List Asked) (p : Plain) : Type 0 where
   pub history : List Entry
   pub is : IsHistory p.past.base p.past.base_state p.past.entries history

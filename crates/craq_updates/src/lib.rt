@@ -1,7 +1,5 @@
-//! Each entry of a run was asked, and is what its update does on one copy of the objects; `craq_strong_answers`,
-//! `craq_promise`, `craq_chain_invariants`, `craq_recovery` and `craq_world` stand on it. Apart from
-//! `craq_strong_answers`, since it speaks of updates alone.
-//! Laws: functions without bodies, whose contracts are the theorems.
+//! Proves that each entry of a run was requested, and is its update's result on one copy.
+//! States laws for the later crates: functions without bodies, whose contracts are the theorems.
 #![tactic(auto)]
 
 ghost use Rattle.std.specs.Prelude.{◌≡◌, ◌∷◌, ◌++◌, ℕ, IsSome, List, Some, [], length, take};
@@ -19,15 +17,16 @@ ghost use Rattle.craq_updates.specs.Genuine.{AllGenuine, HasGenuineHistory, IsBe
 ghost use Rattle.craq_updates.specs.Updates.{updates_in};
 ghost use Rattle.craq_runs.specs.Typed.{IsTypedRunOf};
 
-/// Each committed entry was asked, its number was new, and its writes and reply are those of its command on one copy of the
-/// objects that took the updates before it.
+/// States that each committed entry was requested and that its number was new. Its writes and reply
+/// are those of its command on one copy of the objects that applied the updates before it.
 pub fn committed_entries_are_genuine()
     ensures { (chain : ℕ) (run : Run) → IsTypedRunOf chain run
         → AllGenuine (asks_from 1 run.moves) opening_state (account_of (opening_account chain run.members) run.moves).committed }
 {}
 
-/// Replaying the committed entries is applying the committed updates: the state after the first so many entries is that of the
-/// single copy after as many updates of the explanation. These are the updates that the entries were made of, one for each.
+/// States that replaying the committed entries is applying the committed updates: the state after
+/// the first `count` entries is that of the single copy after the first `count` updates of the
+/// explanation. These updates are those of the entries, one for each.
 pub fn replay_is_the_single_copy()
     ensures state { (chain : ℕ) (run : Run) (count : ℕ) → IsTypedRunOf chain run
         → after_entries opening_state (take count (account_of (opening_account chain run.members) run.moves).committed) ≡ state_at (seen run) (explain chain run) count }
@@ -37,14 +36,15 @@ pub fn replay_is_the_single_copy()
         → length (committed (seen run) (explain chain run)) ≡ length (account_of (opening_account chain run.members) run.moves).committed }
 {}
 
-/// Likewise each entry that a node of the chain holds, or knows by a state alone.
+/// States the same of each entry that a node of the chain holds, or knows only by a state.
 pub fn held_entries_are_genuine()
     ensures { (chain : ℕ) (run : Run) (id : ℕ) (p : Plain) → IsTypedRunOf chain run
         → node_at (after_moves (opening_chain chain run.members) run.moves).nodes id ≡ Some p
         → HasGenuineHistory (asks_from 1 run.moves) p }
 {}
 
-/// Each number of the explanation names an update that was asked, and each move has a length.
+/// States that each number of the explanation names an update that was requested, and that each
+/// move has a length.
 pub fn explanations_have_form()
     ensures asks { (chain : ℕ) (run : Run) → IsTypedRunOf chain run
         → AllByRecursion (λ number. IsSome (update_at (seen run).asks number)) (explain chain run).asks }
@@ -52,12 +52,13 @@ pub fn explanations_have_form()
         → length (explain chain run).lens ≡ (seen run).moves }
 {}
 
-/// The list of committed updates only grows, by updates that were asked, no request twice.
+/// States that the list of committed updates only grows, by updates that were requested, no request
+/// twice.
 pub fn list_only_grows()
     ensures { (chain : ℕ) (run : Run) → IsTypedRunOf chain run → OnlyGrows (seen run) (explain chain run) }
 {}
 
-/// The explanation before a move is, list by list, a beginning of the one after it.
+/// States that each list of the explanation before a move is a prefix of the list after it.
 pub fn explanations_only_grow()
     ensures { (chain : ℕ) (members : List ℕ) (moves : List Taken) (next : Taken) → IsTypedRunOf chain (record { members = members; moves = moves ++ next ∷ [] })
         → IsBeginning (explain chain (record { members = members; moves = moves })) (explain chain (record { members = members; moves = moves ++ next ∷ [] })) }

@@ -1,4 +1,4 @@
--- What a line of a script asks for is within the limits of its type.
+-- The request of a script line is within the limits of its type.
 use Rattle.std.proofs.Common.{◌≡◌, ℕ, ◌≤◌, ◌||◌, Bool, true, false, cond, eqb, Option, Some, Result, Ok, Err, refl, arith}
 use Rattle.std.specs.Prelude.{◌==◌, nat_lt, not, IfOk, IfSome}
 use Rattle.std.specs.List.{list_all}
@@ -26,7 +26,7 @@ use Rattle.craq_script.specs.declared.line.UpdateLine.{UpdateLine}
 use Rattle.craq_words.specs.Asked.{command_of, has_key, is_value, lists_of, numbered, objects_named, read_of, transaction_command, update_of, values_given}
 use Rattle.craq_play.specs.Moves.{asked_move, move_of}
 
--- what holds of a result holds of it behind a test that refuses
+-- a property of a result holds too after a test that refuses
 holds_behind : {A : Type 0} (P : A → Type 0) (b : Bool) (e : Refusal) (r : Result A Refusal) → (b ≡ false → IfOk r P) → IfOk (cond b (Err e) r) P
 holds_behind P true e r f = tt
 holds_behind P false e r f = f refl

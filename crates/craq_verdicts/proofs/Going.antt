@@ -1,4 +1,4 @@
--- A chain that takes the moves of scripts keeps a run by the definitions.
+-- A chain that takes the moves of scripts keeps a run that follows the definitions.
 use Rattle.std.proofs.Common.{◌≡◌, ◌+◌, ℕ, zero, suc, true, false, cond, List, [], ◌∷◌, length, Option, Some, None, Result, Ok, Err, refl, sym, subst}
 use Rattle.std.specs.Prelude.{◌==◌, nat_le, IfOk}
 use Rattle.craq_names.specs.declared.refusal.Refusal.{Refusal}
@@ -17,7 +17,7 @@ use Rattle.craq_schedules.specs.Drawn.{after_choices, after_next, next_of}
 use Rattle.craq_schedules.specs.Stopped.{after_removal, count_taken, delivered, most_deliveries, up_to, without_node}
 use Rattle.craq_verdicts.proofs.Asking.{MoveFits, line_fits}
 
--- the chain's run is one by the definitions
+-- the chain's run follows the definitions
 abbrev pub HasRun : Chained → Type 0
 HasRun w = IsTypedRunOf w.chain w.run
 
@@ -59,7 +59,7 @@ pub choices_run : (choices : List ℕ) (w : Chained) (lines : List Line) → Has
 choices_run [] w lines h = h
 choices_run (choice ∷ choices) w lines h = next_runs w (after_choices choices) (next_of (chain_of w) lines choice) (choices_run choices) h
 
--- ---- a stop after so many moves
+-- ---- a stop after `cut` moves
 
 pub up_to_runs : (cut : ℕ) (w : Chained) (lines : List Line) → HasRun w → HasRun (up_to cut w lines)
 up_to_runs cut w [] h = h

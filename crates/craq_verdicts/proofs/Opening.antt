@@ -1,4 +1,4 @@
--- A new chain of 1 to 8 nodes is one by the definitions.
+-- A new chain of 1 to 8 nodes follows the definitions.
 use Rattle.std.proofs.Common.{◌≡◌, ◌≤◌, ◌<◌, ◌++◌, ℕ, zero, suc, false, eqb, List, [], ◌∷◌, length, refl, arith, length-append}
 use Rattle.std.specs.Prelude.{nat_eq}
 use Rattle.std.specs.List.{AllByRecursion, IsDistinct}

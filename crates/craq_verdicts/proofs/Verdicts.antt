@@ -1,4 +1,4 @@
--- `check` is true of the explanation of each run.
+-- `check` accepts the linearization witness of every run.
 use Rattle.std.proofs.Common.{◌≡◌, Bool, true}
 use Rattle.craq_runs.specs.Explain.{explain}
 use Rattle.craq_runs.specs.declared.explanation.Explanation.{Explanation}

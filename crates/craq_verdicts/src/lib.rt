@@ -1,6 +1,6 @@
-//! What `draw` and `stops` print of `check` is `valid true`, whatever was played. No crate stands on it: it is apart from
-//! `craq_schedules` so that no program stands on the theorem.
-//! Laws: functions without bodies, whose contracts are the theorems.
+//! Proves that `draw` and `stops` always print `valid true`, for every script. No crate depends on
+//! it.
+//! States laws: functions without bodies, whose contracts are the theorems.
 #![tactic(auto)]
 
 ghost use Rattle.std.specs.Prelude.{◌≡◌, ◌≤◌, ◌++◌, ℕ, Bool, true, List, codes};
@@ -15,14 +15,15 @@ ghost use Rattle.craq_schedules.specs.Drawn.{choices_text, drawn_text};
 ghost use Rattle.craq_schedules.specs.Stopped.{count_committed, cut_text, up_to, without_node};
 ghost use Rattle.craq_schedules.specs.Verdicts.{AnswersAsCheck, answer_on};
 
-/// There is a test that answers of every run and every explanation as `check` does. So what `draw` and `stops` promise for
-/// each such test, they promise for one.
+/// States that some test answers of every run and every linearization witness as `check` does. So
+/// the contracts of `draw` and `stops`, which speak of every such test, are not vacuous.
 pub fn some_test_answers_as_check()
     ensures { (holds : Run → Explanation → Bool) × AnswersAsCheck holds }
 {}
 
-/// `check` is true of the explanation of each run of a chain. So the last line of a drawn schedule is `valid true`, and so is
-/// the verdict on each line that `stops` prints, on 1 to 8 nodes.
+/// States that `check` accepts the linearization witness of every run of a chain. So on 1 to 8
+/// nodes the last line of a drawn schedule is `valid true`, and so is the verdict on each line that
+/// `stops` prints.
 pub fn every_verdict_is_valid()
     ensures run { (holds : Run → Explanation → Bool) (w : Chained) → AnswersAsCheck holds
         → IsTypedRunOf w.chain w.run

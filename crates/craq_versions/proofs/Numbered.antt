@@ -1,4 +1,4 @@
--- Values as consecutive versions.
+-- Items as consecutive versions.
 use Rattle.std.proofs.Common.{◌≡◌, ℕ, zero, suc, ◌+◌, ◌-◌, ◌<◌, ◌≤◌, ◌^◌, ◌⊎◌, inl, inr, Bool, true, false, cond, min, List, [], ◌∷◌, ◌++◌, length, drop, map, take, get_or, Option, Some, None, refl, sym, ◌∙◌, ap, subst, arith, rules, length-append, length-drop}
 use Rattle.std.proofs.lemmas.List.{length-take-le}
 use Rattle.std.proofs.lemmas.Option.{slice_get_past, slice_get-get_or, slice_get_within}
@@ -15,12 +15,12 @@ pub length_numbered : {V : Type 0} (first : ℕ) (values : List V) → length (n
 length_numbered first [] = refl
 length_numbered first (v ∷ values) = ap suc (length_numbered (first + 1) values)
 
--- no versions are no values
+-- an empty list of versions comes from an empty list of items
 pub numbered_none : {V : Type 0} (first : ℕ) (values : List V) → numbered first values ≡ [] → values ≡ []
 numbered_none first [] h = refl
 numbered_none first (v ∷ values) h = cc
 
--- versions go on where they are
+-- numbered items are consecutive versions
 pub consecutive_numbered : {V : Type 0} (first : ℕ) (values : List V) → AreConsecutive (numbered first values)
 consecutive_numbered first [] = tt
 consecutive_numbered first (v ∷ []) = tt
@@ -32,19 +32,19 @@ last_numbered o first v d (w ∷ values) =
     let same : (first + 1) + length values ≡ first + suc (length values) = omega arith in
     last_numbered (Some (first, v)) (first + 1) w d values ∙ ap (λ (n : ℕ). Some (n, get_or (w ∷ values) (length values) d)) same
 
--- the newest version, and what is held of it
+-- the newest version and its held item
 pub newest_numbered : {V : Type 0} (first : ℕ) (values : List V) (d : V) → 0 < length values → newest_of (numbered first values) ≡ Some (first + (length values - 1), get_or values (length values - 1) d)
 newest_numbered first [] d some = absurd (omega arith)
 newest_numbered first (v ∷ values) d some =
     let same : length values ≡ suc (length values) - 1 = omega arith in
     last_numbered None first v d values ∙ ap (λ (n : ℕ). Some (first + n, get_or (v ∷ values) n d)) same
 
--- nothing is the newest where there is nothing
+-- an empty list has no newest version
 pub newest_none : {V : Type 0} (first : ℕ) (values : List V) → length values ≡ 0 → None ≡ newest_of (numbered first values)
 newest_none first [] none = refl
 newest_none first (v ∷ values) none = absurd (omega arith)
 
--- one more
+-- the versions after one item is appended
 pub numbered_more : {V : Type 0} (first : ℕ) (values : List V) (v : V) → numbered first (values ++ v ∷ []) ≡ numbered first values ++ (first + length values, v) ∷ []
 numbered_more first [] v = let same : first ≡ first + 0 = omega arith in ap (λ (n : ℕ). (n, v) ∷ []) same
 numbered_more first (w ∷ values) v =
@@ -60,12 +60,12 @@ apart q n below = search (rules, below)
 apart_above : (q n : ℕ) → n < q → eq_by_cmp nat_cmp q n ≡ false
 apart_above q n above = search (rules, above)
 
--- a version below the first is not held
+-- a version below the first is not in the list
 pub found_below : {V : Type 0} (first q : ℕ) (values : List V) → q < first → at_number (numbered first values) q ≡ None
 found_below first q [] below = refl
 found_below first q (v ∷ values) below = ap (λ b. cond b (Some v) (at_number (numbered (first + 1) values) q)) (apart q first below) ∙ found_below (first + 1) q values (omega arith)
 
--- a version from the first on
+-- the item of a version that is at least the first
 pub found_at : {V : Type 0} (first q : ℕ) (values : List V) → first ≤ q → at_number (numbered first values) q ≡ slice_get values (q - first)
 found_at first q [] from = refl
 found_at first q (v ∷ values) from =
@@ -83,13 +83,13 @@ le_true m n le = search (rules, le)
 le_false : (m n : ℕ) → n < m → nat_le m n ≡ false
 le_false m n above = search (rules, above)
 
--- a bound below the first
+-- no version is at most a bound below the first
 pub within_below : {V : Type 0} (first bound : ℕ) (values : List V) → bound < first → newest_within (numbered first values) bound ≡ None
 within_below first bound [] below = refl
 within_below first bound (v ∷ values) below =
     ap (λ b. cond b (Some (unwrap_or (newest_within (numbered (first + 1) values) bound) (first, v))) None) (le_false first bound below)
 
--- a bound from the first on
+-- the newest version at most a bound that is at least the first
 pub within_at : {V : Type 0} (first bound i : ℕ) (values : List V) (d : V) → first ≤ bound → 0 < length values → i ≡ min (bound - first) (length values - 1) → newest_within (numbered first values) bound ≡ Some (first + i, get_or values i d)
 within_at {V} first bound i [] d from some at = absurd (omega arith)
 within_at {V} first bound i (v ∷ []) d from some at =
@@ -108,13 +108,13 @@ within_at {V} first bound i (v ∷ w ∷ values) d from some at =
     ] in
     open_le ∙ pick i refl ∙ refl
 
--- all versions are from one that is not above the first on
+-- the versions from a number at most the first are all versions
 pub from_all : {V : Type 0} (first version : ℕ) (values : List V) → version ≤ first → versions_from (numbered first values) version ≡ numbered first values
 from_all first version [] low = refl
 from_all first version (v ∷ values) low =
     ap (λ b. cond b ((first, v) ∷ versions_from (numbered (first + 1) values) version) (versions_from (numbered (first + 1) values) version)) (le_true version first low) ∙ ap (λ rest. (first, v) ∷ rest) (from_all (first + 1) version values (omega arith))
 
--- the versions from one on
+-- the versions from a number that is at least the first
 pub from_at : {V : Type 0} (first version : ℕ) (values : List V) → first ≤ version → versions_from (numbered first values) version ≡ numbered version (drop (version - first) values)
 from_at {V} first version [] from = let none : (n : ℕ) → drop n (let none : List V = [] in none) ≡ [] = elim [ zero ↦ refl | suc n ↦ refl ] in sym (ap (numbered version) (none (version - first)))
 from_at {V} first version (v ∷ values) from =
@@ -129,7 +129,7 @@ from_at {V} first version (v ∷ values) from =
     ] in
     pick (version - first) refl
 
--- the version that comes next
+-- the version that can be appended is the next
 next_version : {V : Type 0} (first : ℕ) (w : V) (values : List V) (version : ℕ) → Follows version (newest_of (numbered first (w ∷ values))) → version ≡ first + length (w ∷ values)
 next_version {V} first w values version follows =
     let P : Option (ℕ × V) → Type 0 = λ o. Follows version o in
@@ -142,7 +142,7 @@ not_zero n = search rules
 some_more : {V : Type 0} (values : List V) (m n : ℕ) → (if suc (length values) == 0 then m else n) ≡ n
 some_more values m n = ap (λ b. if b then m else n) (not_zero (length values))
 
--- what stays stored with one more value: at its own version where it is the only one
+-- the stored form after an item is appended; a single item keeps its own version
 pub stored_more : {V : Type 0} (first first' version : ℕ) (has_clean : Bool) (values : List V) (v : V) → IsStored first has_clean values → CanPush (numbered first values) version → version < 2 ^ 64 → first' ≡ (if length values == 0 then version else first) → IsStored first' has_clean (values ++ v ∷ [])
 stored_more first first' version has_clean [] v h can small same =
     let one : 1 ≤ version = can.0 in
@@ -157,7 +157,7 @@ stored_more first first' version has_clean (w ∷ values) v h can small picked =
       clean_is_held = λ held. omega (arith, length-append (w ∷ values) (v ∷ []));
     }
 
--- the versions with one more
+-- the versions after one more is appended
 pub versions_more : {V : Type 0} (first first' version : ℕ) (values : List V) (v : V) → CanPush (numbered first values) version → first' ≡ (if length values == 0 then version else first) → numbered first' (values ++ v ∷ []) ≡ numbered first values ++ (version, v) ∷ []
 versions_more first first' version [] v can same = ap (λ (n : ℕ). (n, v) ∷ []) same
 versions_more first first' version (w ∷ values) v can picked =
@@ -182,7 +182,7 @@ settled_case first version clean values (inr held) below =
     let none : false ≡ true = sym (ap is_some (found_below first version values below)) ∙ held in
     absurd (clash (sym none))
 
--- a value that is lent
+-- a borrowed item
 pub lent_is : {V : Type 0} (xs : List V) (i : ℕ) (r : Option (Bor V)) → (IsSome r ↔ (i < length xs)) → IfSome r (λ x. x.now ≡ get_or xs i x.now) → option_copied r ≡ slice_get xs i
 lent_is {V} xs i None some at =
     let past : length xs ≤ i = no_less i (length xs) some.1 in
@@ -191,28 +191,28 @@ lent_is {V} xs i (Some x) some at =
     let within : i < length xs = some.0 refl in
     ap (λ (v : V). Some v) at ∙ sym (slice_get-get_or xs i x.now within)
 
--- the value of a version that is looked for
+-- the held item of a version that is looked up
 pub held_is : {V : Type 0} (first version count : ℕ) (values : List V) (r : Option (Bor V)) → count ≡ length values → first ≤ version → (IsSome r ↔ ((version - first) < count)) → IfSome r (λ x. x.now ≡ get_or values (version - first) x.now) → option_copied r ≡ at_number (numbered first values) version
 held_is first version count values r all from some at =
     let P : ℕ → Type 0 = λ n. IsSome r ↔ ((version - first) < n) in
     lent_is values (version - first) r (subst P all some) at ∙ sym (found_at first version values from)
 
--- the newest version, where the last value is lent
+-- the newest version, when the last item is borrowed
 pub newest_is : {V : Type 0} (first count : ℕ) (values : List V) (v : V) → count ≡ length values → 0 < count → v ≡ get_or values (count - 1) v → Some (first + (count - 1), v) ≡ newest_of (numbered first values)
 newest_is {V} first count values v all some at =
     ap (λ (x : V). Some (first + (count - 1), x)) at ∙ ap (λ (n : ℕ). Some (first + (n - 1), get_or values (n - 1) v)) all ∙ sym (newest_numbered first values v (omega arith))
 
--- the newest version within a bound, where its value is lent
+-- the newest version at most a bound, when its item is borrowed
 pub within_is : {V : Type 0} (first bound count i : ℕ) (values : List V) (v : V) → count ≡ length values → first ≤ bound → 0 < count → i ≡ min (bound - first) (count - 1) → v ≡ get_or values i v → Some (first + i, v) ≡ newest_within (numbered first values) bound
 within_is {V} first bound count i values v all from some at is =
     ap (λ (v : V). Some (first + i, v)) is ∙ sym (within_at first bound i values v from (omega arith) (omega arith))
 
--- nothing is within a bound where there is nothing
+-- an empty list has no version within a bound
 pub within_none : {V : Type 0} (first bound : ℕ) (values : List V) → length values ≡ 0 → None ≡ newest_within (numbered first values) bound
 within_none first bound [] none = refl
 within_none first bound (v ∷ values) none = absurd (omega arith)
 
--- no versions are no values, and the other way round
+-- there are no versions exactly if there are no items
 pub none_numbered : {V : Type 0} (first : ℕ) (values : List V) (b : Bool) → b ≡ (length values == 0) → IsTrue b ↔ (numbered first values ≡ [])
 none_numbered first [] b e = (λ h. refl, λ h. e)
 none_numbered first (v ∷ values) b e = (λ h. absurd (clash (sym h ∙ e ∙ not_zero (length values))), λ h. absurd (no_list h))
@@ -227,15 +227,15 @@ settled_at first version true values h one (inl le) from = let some : 0 < length
 settled_at first version false values h one (inl le) from = omega arith
 settled_at first version has_clean values h one (inr held) from = held_within values (version - first) (ap is_some (sym (found_at first version values from)) ∙ held)
 
--- a version that may be settled, and is below the first, is clean already
+-- a version that may be settled and is below the first is at most the clean one
 pub settled_below : {V : Type 0} (first version clean : ℕ) (values : List V) → CanSettle (numbered first values) clean version → version < first → version ≤ clean
 settled_below first version clean values can below = settled_case first version clean values can.1 below
 
--- a version that may be settled, from the first on, is held
+-- a version that may be settled and is at least the first is in the list
 pub settled_from : {V : Type 0} (first version : ℕ) (has_clean : Bool) (values : List V) → IsStored first has_clean values → CanSettle (numbered first values) (if has_clean then first else 0) version → first ≤ version → version - first < length values
 settled_from first version has_clean values h can from = settled_at first version has_clean values h can.0 can.1 from
 
--- what stays stored from a version on
+-- the stored form from a version on
 pub stored_from : {V : Type 0} (first version : ℕ) (has_clean : Bool) (values : List V) → IsStored first has_clean values → first ≤ version → version - first < length values → IsStored version true (drop (version - first) values)
 stored_from first version has_clean values h from held =
     let one : 1 ≤ first = h.from_one in
@@ -246,7 +246,7 @@ stored_from first version has_clean values h from held =
       clean_is_held = λ clean. omega (arith, length-drop (version - first) values);
     }
 
--- what is stored are versions, of which the first may be clean
+-- stored items are versions, whose first may be clean
 pub versions_stored : {V : Type 0} (first : ℕ) (has_clean : Bool) (values : List V) → IsStored first has_clean values → AreVersions (numbered first values) (if has_clean then first else 0)
 versions_stored first has_clean [] h =
     let split : (b : Bool) → (IsTrue b → 0 < 0) → (if b then first else 0) ≡ 0 = elim [ true ↦ λ some. absurd (omega (arith, some refl)) | false ↦ λ some. refl ] in
@@ -256,12 +256,12 @@ versions_stored first true (v ∷ values) h =
 versions_stored first false (v ∷ values) h =
     record { consecutive = consecutive_numbered first (v ∷ values); from_one = inr h.from_one; clean_is_first = inl refl }
 
--- some values are some versions
+-- a nonempty list of items gives a nonempty list of versions
 pub numbered_some : {V : Type 0} (first : ℕ) (values : List V) → 0 < length values → numbered first values ≡ [] → ⊥
 numbered_some first [] some e = omega arith
 numbered_some first (v ∷ values) some e = no_list e
 
--- a version that is held is one of them
+-- a version that is in the list is within its range
 pub held_from : {V : Type 0} (first version : ℕ) (values : List V) → IsSome (at_number (numbered first values) version) → (first ≤ version) × (version - first < length values)
 held_from {V} first version values held =
     let absent : Option V = None in
@@ -279,7 +279,7 @@ nothing_left (suc n) [] few = refl
 nothing_left zero (v ∷ values) few = absurd (omega (arith, few))
 nothing_left (suc n) (v ∷ values) few = nothing_left n values (omega (arith, few))
 
--- a version that can become the first, whatever is held of it
+-- a version that can become the first with any held item is in range, or is the next
 pub settles_from : {V : Type 0} (first version : ℕ) (values : List V) → CanSettleAs (numbered first values) version → (first ≤ version) × (0 < length values) × (version - first ≤ length values)
 settles_from first version values (inl held) =
     let from = held_from first version values held in
@@ -291,7 +291,7 @@ settles_from {V} first version (v ∷ values) (inr next) =
     let is : version ≡ (first + (length (v ∷ values) - 1)) + 1 = subst (λ (o : Option (ℕ × V)). IsNext version o) (newest_numbered first (v ∷ values) v (omega arith)) next in
     (omega (arith, is), omega arith, omega (arith, is))
 
--- what is stored once a version is the first, and this is held of it
+-- the stored form after a version becomes the first with this held item
 pub stored_as : {V : Type 0} (first version i : ℕ) (has_clean : Bool) (values : List V) (held : V) → IsStored first has_clean values → version < 2 ^ 64 → first ≤ version → 0 < length values → version - first ≤ length values → i ≡ min (version - first) (length values - 1) → IsStored version true (held ∷ drop (i + 1) values)
 stored_as first version i has_clean values held h small from some within is =
     let one : 1 ≤ first = h.from_one in
@@ -326,7 +326,7 @@ take_numbered first (suc n) (v ∷ values) = ap (λ vs. (first, v) ∷ vs) (take
 pub versions_without : {V : Type 0} (first count : ℕ) (values : List V) → count ≡ length values → numbered first (take (count - 1) values) ≡ without_newest (numbered first values)
 versions_without first count values all = take_numbered first (count - 1) values ∙ ap (λ (n : ℕ). take (n - 1) (numbered first values)) (all ∙ sym (length_numbered first values))
 
--- what is stored once the newest is taken back
+-- the stored form after the newest version is removed
 pub stored_without : {V : Type 0} (first count left : ℕ) (has_clean still : Bool) (values : List V) → IsStored first has_clean values → count ≡ length values → left ≡ length (take (count - 1) values) → still ≡ (if left == 0 then false else has_clean) → IsStored first still (take (count - 1) values)
 stored_without {V} first count left has_clean still values h all rest is =
     let fits : first + length values ≤ 2 ^ 64 = h.fits in
@@ -341,7 +341,7 @@ stored_without {V} first count left has_clean still values h all rest is =
       clean_is_held = split left refl;
     }
 
--- the clean version then
+-- the clean version after the newest version is removed
 pub clean_left : {V : Type 0} (first count left : ℕ) (has_clean still : Bool) (values : List V) → IsStored first has_clean values → count ≡ length values → left ≡ length (take (count - 1) values) → still ≡ (if left == 0 then false else has_clean) → (if still then first else 0) ≡ clean_without (numbered first values) (if has_clean then first else 0)
 clean_left {V} first count left has_clean still values h all rest is =
     let few : length (take (count - 1) values) ≡ count - 1 = length-take-le (count - 1) values (omega (arith, all)) in
@@ -357,6 +357,6 @@ first_numbered : {V : Type 0} (first : ℕ) (values : List V) → map (λ (v : �
 first_numbered first [] = refl
 first_numbered first (v ∷ values) = ap (λ vs. v ∷ vs) (first_numbered (first + 1) values)
 
--- what is held of the versions
+-- the held items of the versions
 pub held_numbered : {V : Type 0} (first : ℕ) (values : List V) → values ≡ map (λ (v : ℕ × V). v.1) (numbered first values)
 held_numbered first values = sym (first_numbered first values)

@@ -1,4 +1,5 @@
-//! The iterators of a table: its keys that have versions, rising, with their versions or without; `table` gives them.
+//! The iterators of a table: the keys that have versions, ascending, with or without the versions.
+//! `table` returns them.
 ghost use Rattle.std.specs.Prelude.{◌≡◌, map};
 ghost use Rattle.std.specs.Iterator.{YieldsFirstBy, item_count};
 ghost use Rattle.craq_names.specs.Places.{filled};
@@ -9,7 +10,7 @@ use craq_names::Key;
 use std::collections::btree_map::Iter;
 use std::marker::Model;
 
-/// The keys of a table that have versions, rising, each with its versions.
+/// The keys of a table that have versions, ascending, each with its versions.
 #[derive(Drop)]
 pub struct Objects<'a, V> {
     lists: Iter<'a, Key, VersionList<V>>,
@@ -26,7 +27,7 @@ impl<'a, V> Model for Objects<'a, V> {
 }
 
 impl<'a, V: Drop> Objects<'a, V> {
-    /// What these lists hold.
+    /// Makes the iterator over these lists, without those that have no versions.
     pub(crate) fn of(lists: Iter<'a, Key, VersionList<V>>) -> Self
         ensures { result ≡ filled shown lists.entry }
     {
@@ -51,7 +52,7 @@ impl<'a, V: Drop> Iterator for Objects<'a, V> {
     }
 }
 
-/// The keys of a table that have versions, rising.
+/// The keys of a table that have versions, ascending.
 #[derive(Drop)]
 pub struct Keys<'a, V> {
     objects: Objects<'a, V>,
@@ -66,7 +67,7 @@ impl<'a, V> Model for Keys<'a, V> {
 }
 
 impl<'a, V: Drop> Keys<'a, V> {
-    /// The keys of these.
+    /// Makes the iterator over the keys of these pairs.
     pub(crate) fn of(objects: Objects<'a, V>) -> Self
         ensures { result ≡ map (λ o. o.0) objects.entry }
     {

@@ -1,5 +1,5 @@
-//! The versions of objects that a node holds: a list of them for each object, over whatever is held of a version, and a
-//! table of such lists; `craq_settled` holds one.
+//! A node's versions of objects: a list for each object, and a table of lists, for `craq_settled`.
+//! Runs in the program.
 #![tactic(auto)]
 
 mod iterators;

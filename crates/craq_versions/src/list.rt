@@ -1,20 +1,21 @@
-//! The versions of one object. A table has such a list for each key.
+//! The versions of one object. A table has one such list for each key.
 ghost use Rattle.std.specs.Prelude.{◌≡◌, ◌≢◌, ◌+◌, ◌-◌, ◌<◌, ◌≤◌, [], ◌∷◌, ◌++◌, ◌==◌, if◌then◌else◌, max, drop, false, length, map, IfOk, IsOk, OnOk, OnErr, IsTrue, ◌↔◌};
 ghost use Rattle.std.specs.Option.{option_copied, option_map};
 ghost use Rattle.std.specs.VecDeque.{deque_len, deque_capacity};
 ghost use Rattle.craq_names.specs.Maps.{at_number};
-ghost use Rattle.craq_versions.specs.Versions.{clean_without, first_of, newest_of, newest_within, versions_from, versions_settled, without_newest, AreVersions, CanPush, CanSettle, CanSettleAs};
+ghost use Rattle.craq_versions.specs.Versions.{clean_without, first_of, newest_of, newest_or_none, newest_within, versions_from, versions_settled, without_newest, AreVersions, CanPush, CanSettle, CanSettleAs};
 
-use craq_names::Version;
+use craq_names::{Value, Version};
 use std::alloc::{AllocError, Global};
 use std::collections::VecDeque;
 use std::marker::Model;
 
-// How many items a queue keeps memory for, also where it has fewer.
+// The capacity, in items, that a queue keeps even if it has fewer items.
 const KEPT_ROOM: usize = 4;
 
-/// The versions of one object that a node holds, each with what is held of it, as its value: consecutive and rising. At most
-/// one is clean, the first; those after it are dirty (clean and dirty versions as in the USENIX ATC 2009 paper).
+/// A node's versions of one object, each with a held item such as its value. They are consecutive
+/// and ascending. At most one is clean, the first; the others are dirty (clean and dirty versions
+/// as in the USENIX ATC 2009 paper).
 #[derive(Drop)]
 pub struct VersionList<V> {
     first: u64,
@@ -39,7 +40,7 @@ impl<V> Model for VersionList<V> {
 }
 
 impl<V: Drop> VersionList<V> {
-    /// No versions. It takes no memory.
+    /// Returns the empty list. Allocates nothing.
     pub fn new(alloc: Global) -> Self
         ensures versions { result.versions ≡ [] }
         ensures clean { result.clean ≡ 0 }
@@ -51,7 +52,8 @@ impl<V: Drop> VersionList<V> {
         }
     }
 
-    /// No versions, with room for this many, whose `push` then takes no memory.
+    /// Returns the empty list with room for this many versions, whose `push` then allocates
+    /// nothing. Fails only when out of memory.
     pub fn with_room(alloc: Global, room: usize) -> Result<Self, AllocError>
         ensures versions { IfOk result (λ list. list.versions ≡ []) }
         ensures clean { IfOk result (λ list. list.clean ≡ 0) }
@@ -64,7 +66,8 @@ impl<V: Drop> VersionList<V> {
         })
     }
 
-    /// One version, which is clean, with what is held of it, and room for no more.
+    /// Returns a list of one clean version with its held item, without room for more. Fails only
+    /// when out of memory.
     pub fn of_clean(alloc: Global, version: Version, held: V) -> Result<Self, AllocError>
         requires { 1 ≤ version }
         ensures versions { IfOk result (λ list. list.versions ≡ (version, held) ∷ []) }
@@ -79,15 +82,15 @@ impl<V: Drop> VersionList<V> {
         })
     }
 
-    /// Whether there are no versions.
+    /// Returns true exactly if there are no versions.
     pub fn is_empty(&self) -> bool
         ensures { IsTrue result ↔ (self.now.versions ≡ []) }
     {
         self.items.is_empty()
     }
 
-    /// The newest version and what is held of it, where there is one. It takes no memory.
-    pub fn newest(&self) -> Option<(Version, &V)>
+    /// Returns the newest version with its held item, `None` if there is none. Allocates nothing.
+    pub fn last(&self) -> Option<(Version, &V)>
         ensures { option_map (λ found. (found.0, found.1.now)) result ≡ newest_of self.now.versions }
     {
         match self.items.back() {
@@ -99,7 +102,7 @@ impl<V: Drop> VersionList<V> {
         }
     }
 
-    /// The oldest version and what is held of it, where there is one. It takes no memory.
+    /// Returns the oldest version with its held item, `None` if there is none. Allocates nothing.
     pub fn oldest(&self) -> Option<(Version, &V)>
         ensures { option_map (λ found. (found.0, found.1.now)) result ≡ first_of self.now.versions }
     {
@@ -109,14 +112,14 @@ impl<V: Drop> VersionList<V> {
         }
     }
 
-    /// What is held of the versions, oldest first. It takes no memory.
+    /// Returns the held items, oldest version first. Allocates nothing.
     pub fn held(&self) -> &VecDeque<V>
         ensures { result.now.items ≡ map (λ v. v.1) self.now.versions }
     {
         &self.items
     }
 
-    /// The clean version, 0 where none is clean. It takes no memory.
+    /// Returns the clean version, 0 if none is clean. Allocates nothing.
     pub fn clean(&self) -> Version
         ensures clean { result ≡ self.now.clean }
         ensures versions { AreVersions self.now.versions self.now.clean }
@@ -124,7 +127,8 @@ impl<V: Drop> VersionList<V> {
         Version::new(if self.has_clean { self.first } else { 0 })
     }
 
-    /// What is held of a version, where it is one of them. It takes no memory.
+    /// Returns the item held for a version, `None` if the version is not in the list. Allocates
+    /// nothing.
     pub fn get(&self, version: Version) -> Option<&V>
         ensures { option_copied result ≡ at_number self.now.versions version }
     {
@@ -135,7 +139,7 @@ impl<V: Drop> VersionList<V> {
         self.items.get((version - self.first) as usize)
     }
 
-    /// The newest version that is not above the bound, and what is held of it. It takes no memory.
+    /// Returns the newest version at most `bound`, with its held item. Allocates nothing.
     pub fn at_most(&self, bound: Version) -> Option<(Version, &V)>
         ensures { option_map (λ found. (found.0, found.1.now)) result ≡ newest_within self.now.versions bound }
     {
@@ -154,8 +158,8 @@ impl<V: Drop> VersionList<V> {
         ))
     }
 
-    /// Makes room for this many more versions, whose `push` then takes no memory. The versions stay in either
-    /// case.
+    /// Reserves room for this many more versions, whose `push` then allocates nothing. Fails only
+    /// when out of memory; the versions are unchanged in either case.
     pub fn reserve(&mut self, additional: usize) -> Result<(), AllocError>
         ensures versions { self.new.versions ≡ self.old.versions }
         ensures clean { self.new.clean ≡ self.old.clean }
@@ -166,8 +170,8 @@ impl<V: Drop> VersionList<V> {
         self.items.reserve(additional)
     }
 
-    /// One more version, the next, with what is held of it. If memory is refused, the versions stay as they were; it is
-    /// refused only where there is no room.
+    /// Appends the next version with its held item. Fails only when out of memory, and only if no
+    /// room is reserved; the versions are unchanged on error.
     pub fn push(&mut self, version: Version, held: V) -> Result<(), AllocError>
         requires { CanPush self.old.versions version }
         ensures ok { OnOk result (self.new.versions ≡ self.old.versions ++ (version, held) ∷ []) }
@@ -184,8 +188,8 @@ impl<V: Drop> VersionList<V> {
         Ok(())
     }
 
-    /// Makes this version the clean one, and lets go those that are older. Nothing changes where it, or a newer
-    /// one, is clean already. It takes no memory.
+    /// Makes this version the clean one and drops all older versions. Does nothing if it, or a
+    /// newer version, is clean already. Allocates nothing.
     pub fn settle(&mut self, version: Version)
         requires { CanSettle self.old.versions self.old.clean version }
         ensures versions { self.new.versions ≡ versions_from self.old.versions version }
@@ -202,8 +206,8 @@ impl<V: Drop> VersionList<V> {
         self.has_clean = true;
     }
 
-    /// Makes this version, which is one of them or comes next after the newest, the clean one, lets go those that are older,
-    /// and holds this of it from then on. It takes no memory.
+    /// Makes this version the clean one with this held item, and drops all older versions. The
+    /// version is in the list or follows the newest. Allocates nothing.
     pub fn settle_as(&mut self, version: Version, held: V)
         requires { CanSettleAs self.old.versions version }
         ensures versions { self.new.versions ≡ versions_settled self.old.versions version held }
@@ -218,7 +222,8 @@ impl<V: Drop> VersionList<V> {
         self.has_clean = true;
     }
 
-    /// Takes the newest version back, where there is one; none is clean once none is left. It takes no memory.
+    /// Removes the newest version, if there is one. No version is clean once none is left.
+    /// Allocates nothing.
     pub fn pop(&mut self)
         ensures versions { self.new.versions ≡ without_newest self.old.versions }
         ensures clean { self.new.clean ≡ clean_without self.old.versions self.old.clean }
@@ -231,21 +236,21 @@ impl<V: Drop> VersionList<V> {
     }
 }
 
-// The first version, once this one is pushed to so many.
+// The first version after a push to a list of `count` versions.
 fn first_with(count: usize, first: u64, pushed: u64) -> u64
     ensures { result ≡ (if count == 0 then pushed else first) }
 {
     if count == 0 { pushed } else { first }
 }
 
-// Whether a version is clean, once so many are left.
+// The clean flag of a list with `count` versions left.
 fn still_clean(count: usize, has_clean: bool) -> bool
     ensures { result ≡ (if count == 0 then false else has_clean) }
 {
     if count == 0 { false } else { has_clean }
 }
 
-// Drops the first of the items, this many. The queue keeps its memory.
+// Drops the first `count` items. The queue keeps its capacity.
 fn let_go<V: Drop>(items: &mut VecDeque<V>, count: usize)
     requires { count ≤ deque_len items.old }
     ensures items { items.new.items ≡ drop count items.old.items }
@@ -254,8 +259,8 @@ fn let_go<V: Drop>(items: &mut VecDeque<V>, count: usize)
     items.drain(..count);
 }
 
-// Drops the first of the items, this many, and puts another in place of the one after them. The queue lets go of memory
-// that it doesn't need once one item is left.
+// Drops the first `count` items and replaces the item after them. Releases excess capacity if one
+// item is left.
 fn replace_first<V: Drop>(items: &mut VecDeque<V>, count: usize, first: V)
     requires { count < deque_len items.old }
     ensures items { items.new.items ≡ first ∷ drop (count + 1) items.old.items }
@@ -269,11 +274,23 @@ fn replace_first<V: Drop>(items: &mut VecDeque<V>, count: usize, first: V)
     }
 }
 
-// Lets go of memory that a few items don't need.
+// Releases excess capacity if few items are left.
 fn trim<V: Drop>(items: &mut VecDeque<V>)
     ensures items { items.new.items ≡ items.old.items }
 {
     if items.capacity() > KEPT_ROOM {
         items.shrink_to_fit();
+    }
+}
+
+impl VersionList<Value> {
+    /// Returns the newest version and its value: version 0 and no bytes on an empty list. It takes no memory.
+    pub fn newest(&self) -> (Version, &[u8])
+        ensures { (result.0, result.1.now) ≡ newest_or_none self.now.versions }
+    {
+        match self.last() {
+            None => (Version::new(0), &[]),
+            Some((version, value)) => (version, value.as_slice()),
+        }
     }
 }

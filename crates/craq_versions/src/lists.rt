@@ -1,4 +1,4 @@
-//! The lists of a table, by key. A list without versions only has room. Called by `table`.
+//! The lists of a table, by key. A list without versions only reserves room. `table` calls this.
 ghost use Rattle.std.specs.Prelude.{◌≡◌, ◌≢◌, ℕ, ◌+◌, ◌<◌, ◌≤◌, List, [], ◌∷◌, None, IfOk, IsSome, IsOk, OnOk, OnErr, if◌then◌else◌};
 ghost use Rattle.std.specs.BTreeMap.{get, IsOrdered};
 ghost use Rattle.craq_names.specs.Maps.{key_cmp, put_key, same_bytes};
@@ -10,10 +10,11 @@ use craq_names::{Copied, Key, Version};
 use std::alloc::{AllocError, Global};
 use std::collections::BTreeMap;
 
-/// The lists of keys.
+/// The version lists, by key.
 pub type Lists<V> = BTreeMap<Key, VersionList<V>>;
 
-/// Makes sure that the key has a list. Only a key without one takes memory.
+/// Ensures that the key has a list. Fails only when out of memory, and only if the key has no list
+/// yet; allocates nothing otherwise.
 pub fn place<V: Drop>(alloc: Global, lists: &mut Lists<V>, key: &Key) -> Result<(), AllocError>
     requires { IsOrdered key_cmp lists.old }
     ensures objects { (table_of lists.new.entries).objects ≡ (table_of lists.old.entries).objects }
@@ -28,7 +29,7 @@ pub fn place<V: Drop>(alloc: Global, lists: &mut Lists<V>, key: &Key) -> Result<
     put_empty(lists, key.copied(alloc)?, VersionList::new(alloc))
 }
 
-// Puts in a list without versions for a key that has no list.
+// Inserts a list without versions for a key that has no list.
 fn put_empty<V: Drop>(
     lists: &mut Lists<V>,
     key: Key,
@@ -45,7 +46,7 @@ fn put_empty<V: Drop>(
     Ok(())
 }
 
-/// Makes room for one more version of a key that has a list.
+/// Reserves room for one more version of a key that has a list. Fails only when out of memory.
 pub fn reserve_in<V: Drop>(lists: &mut Lists<V>, key: &Key) -> Result<(), AllocError>
     requires placed { IsSome (get key_cmp lists.old key.now) }
     ensures objects { (table_of lists.new.entries).objects ≡ (table_of lists.old.entries).objects }
@@ -60,7 +61,7 @@ pub fn reserve_in<V: Drop>(lists: &mut Lists<V>, key: &Key) -> Result<(), AllocE
     }
 }
 
-/// Settles a version of a key.
+/// Makes a version of a key the clean one and drops the older ones.
 pub fn settle_in<V: Drop>(lists: &mut Lists<V>, key: &Key, version: Version)
     requires { CanSettle (held_at (table_of lists.old.entries) key.now).versions (held_at (table_of lists.old.entries) key.now).clean version }
     ensures objects { (table_of lists.new.entries).objects ≡ put_key (table_of lists.old.entries).objects key.now (settled (held_at (table_of lists.old.entries) key.now) version) }
@@ -72,7 +73,7 @@ pub fn settle_in<V: Drop>(lists: &mut Lists<V>, key: &Key, version: Version)
     }
 }
 
-/// Settles a version of a key, of which this is held from then on.
+/// Makes a version of a key the clean one with this held item, and drops the older ones.
 pub fn settle_as_in<V: Drop>(lists: &mut Lists<V>, key: &Key, version: Version, held: V)
     requires { CanSettleAs (held_at (table_of lists.old.entries) key.now).versions version }
     ensures objects { (table_of lists.new.entries).objects ≡ put_key (table_of lists.old.entries).objects key.now (settled_as (held_at (table_of lists.old.entries) key.now) version held) }
@@ -85,7 +86,7 @@ pub fn settle_as_in<V: Drop>(lists: &mut Lists<V>, key: &Key, version: Version, 
     }
 }
 
-/// Takes the newest version of a key back, where there is one.
+/// Removes the newest version of a key, if there is one.
 pub fn pop_in<V: Drop>(lists: &mut Lists<V>, key: &Key)
     requires { IsOrdered key_cmp lists.old }
     ensures held { (q : List ℕ) → held_at (table_of lists.new.entries) q ≡ (if same_bytes key.now q then popped (held_at (table_of lists.old.entries) q) else held_at (table_of lists.old.entries) q) }
@@ -97,7 +98,7 @@ pub fn pop_in<V: Drop>(lists: &mut Lists<V>, key: &Key)
     }
 }
 
-// A list of one version, with room for no more.
+// Returns a list of one version, without room for more.
 fn list_of_one<V: Drop>(
     alloc: Global,
     version: Version,
@@ -112,7 +113,8 @@ fn list_of_one<V: Drop>(
     Ok(list)
 }
 
-// Puts in a list with versions, in place of the one that the key has. Where memory is refused the lists stay.
+// Inserts a list with versions, replacing the key's list. Fails only when out of memory; the lists
+// are unchanged on error.
 fn put_list<V: Drop>(lists: &mut Lists<V>, key: Key, list: VersionList<V>) -> Result<(), AllocError>
     requires some { list.versions ≢ [] }
     ensures ok { OnOk result ((table_of lists.new.entries).objects ≡ put_key (table_of lists.old.entries).objects key (held_in list)) }
@@ -124,8 +126,8 @@ fn put_list<V: Drop>(lists: &mut Lists<V>, key: Key, list: VersionList<V>) -> Re
     Ok(())
 }
 
-/// Puts in one version of a key, which is clean, in place of those that the key has. It looks the key up once. Where memory
-/// is refused the lists stay.
+/// Inserts one clean version of a key, replacing the key's versions. Looks the key up once. Fails
+/// only when out of memory; the lists are unchanged on error.
 pub fn put_clean_in<V: Drop>(
     alloc: Global,
     lists: &mut Lists<V>,
@@ -144,7 +146,7 @@ pub fn put_clean_in<V: Drop>(
     put_list(lists, key, list)
 }
 
-/// One more version of a key. It looks the key up once, or twice where the key has no list yet.
+/// Appends one more version of a key. Looks the key up once, or twice if the key has no list yet.
 pub fn push_in<V: Drop>(
     alloc: Global,
     lists: &mut Lists<V>,

@@ -1,4 +1,4 @@
-//! The lists of versions by key. A past that forgets settled entries holds one such table.
+//! The version lists by key. A compacting past holds one such table.
 ghost use Rattle.std.specs.Prelude.{◌≡◌, ℕ, ◌+◌, ◌<◌, ◌≤◌, List, [], map, IsOk, OnOk, OnErr, if◌then◌else◌};
 ghost use Rattle.std.specs.Option.{option_map};
 ghost use Rattle.std.specs.List.{AllByRecursion};
@@ -16,8 +16,8 @@ use std::alloc::{AllocError, Global};
 use std::collections::BTreeMap;
 use std::marker::Model;
 
-/// The versions of the objects of a chain that a node holds, by key, each with what is held of it. A key for which only room
-/// was made has a list without versions, which no call shows.
+/// A node's versions of the objects of a chain, by key, each version with a held item. A key for
+/// which only room was reserved has an empty list, which no call returns.
 #[derive(Drop)]
 pub struct ObjectTable<V> {
     lists: Lists<V>,
@@ -37,7 +37,7 @@ impl<V> Model for ObjectTable<V> {
 }
 
 impl<V: Drop> ObjectTable<V> {
-    /// No versions of any key. It takes no memory.
+    /// Returns the empty table. Allocates nothing.
     pub fn new(alloc: Global) -> Self
         ensures { result.objects ≡ [] }
     {
@@ -47,8 +47,8 @@ impl<V: Drop> ObjectTable<V> {
         }
     }
 
-    /// Makes room for one more version of the key, whose `push` then takes no memory. The versions stay in
-    /// either case.
+    /// Reserves room for one more version of the key, whose `push` then allocates nothing. Fails
+    /// only when out of memory; the versions are unchanged in either case.
     pub fn reserve_key(&mut self, key: &Key) -> Result<(), AllocError>
         ensures objects { self.new.objects ≡ self.old.objects }
         ensures room { KeepsRoom self.old self.new }
@@ -59,8 +59,9 @@ impl<V: Drop> ObjectTable<V> {
         reserve_in(&mut self.lists, key)
     }
 
-    /// One more version of the key, the next, with what is held of it. It looks the key up once, or twice where the key is
-    /// new. If memory is refused, the versions stay as they were; it is refused only where there is no room.
+    /// Appends the next version of the key with its held item. Looks the key up once, or twice if
+    /// the key is new. Fails only when out of memory, and only if no room is reserved; the versions
+    /// are unchanged on error.
     pub fn push(&mut self, key: &Key, version: Version, held: V) -> Result<(), AllocError>
         requires { CanPush (held_at self.old key.now).versions version }
         ensures ok { OnOk result (self.new.objects ≡ put_key self.old.objects key.now (pushed (held_at self.old key.now) version held)) }
@@ -72,8 +73,8 @@ impl<V: Drop> ObjectTable<V> {
         push_in(self.alloc, &mut self.lists, key, version, held)
     }
 
-    /// Puts in one version of the key, which is clean, with what is held of it, in place of the versions that the key has. It
-    /// looks the key up once. Where memory is refused the versions stay.
+    /// Inserts one clean version of the key with its held item, replacing the key's versions. Looks
+    /// the key up once. Fails only when out of memory; the versions are unchanged on error.
     pub fn put_clean(&mut self, key: Key, version: Version, held: V) -> Result<(), AllocError>
         requires { 1 ≤ version }
         ensures ok { OnOk result (self.new.objects ≡ put_key self.old.objects key (only_clean version held)) }
@@ -83,8 +84,8 @@ impl<V: Drop> ObjectTable<V> {
         put_clean_in(self.alloc, &mut self.lists, key, version, held)
     }
 
-    /// Takes the newest version of the key back, where there is one; none of the key is clean once none is left. It takes
-    /// no memory.
+    /// Removes the newest version of the key, if there is one. No version of the key is clean once
+    /// none is left. Allocates nothing.
     pub fn pop(&mut self, key: &Key)
         ensures held { (q : List ℕ) → held_at self.new q ≡ (if same_bytes key.now q then popped (held_at self.old q) else held_at self.old q) }
         ensures rising { IsStrictlySortedBy key_cmp (map (λ o. o.0) self.new.objects) }
@@ -93,8 +94,8 @@ impl<V: Drop> ObjectTable<V> {
         pop_in(&mut self.lists, key);
     }
 
-    /// Makes room for one more version of each of these keys, whose next `push` then takes no memory. The
-    /// versions stay in either case.
+    /// Reserves room for one more version of each of these keys, whose next `push` then allocates
+    /// nothing. Fails only when out of memory; the versions are unchanged in either case.
     pub fn reserve(&mut self, keys: &[Key]) -> Result<(), AllocError>
         ensures objects { self.new.objects ≡ self.old.objects }
         ensures room { KeepsRoom self.old self.new }
@@ -107,8 +108,8 @@ impl<V: Drop> ObjectTable<V> {
         Ok(())
     }
 
-    /// Makes this version of the key the clean one, and lets go those that are older. Nothing changes where it,
-    /// or a newer one, is clean already. It takes no memory.
+    /// Makes this version of the key the clean one and drops the key's older versions. Does nothing
+    /// if it, or a newer version, is clean already. Allocates nothing.
     pub fn settle(&mut self, key: &Key, version: Version)
         requires { CanSettle (held_at self.old key.now).versions (held_at self.old key.now).clean version }
         ensures objects { self.new.objects ≡ put_key self.old.objects key.now (settled (held_at self.old key.now) version) }
@@ -117,8 +118,8 @@ impl<V: Drop> ObjectTable<V> {
         settle_in(&mut self.lists, key, version);
     }
 
-    /// Makes this version of the key, which is one of them or comes next after the newest, the clean one, lets go those that
-    /// are older, and holds this of it from then on. It takes no memory.
+    /// Makes this version of the key the clean one with this held item, and drops the key's older
+    /// versions. The version is in the key's list or follows its newest. Allocates nothing.
     pub fn settle_as(&mut self, key: &Key, version: Version, held: V)
         requires { CanSettleAs (held_at self.old key.now).versions version }
         ensures objects { self.new.objects ≡ put_key self.old.objects key.now (settled_as (held_at self.old key.now) version held) }
@@ -128,7 +129,7 @@ impl<V: Drop> ObjectTable<V> {
         settle_as_in(&mut self.lists, key, version, held);
     }
 
-    /// The versions of a key, where it has some. It takes no memory.
+    /// Returns the versions of a key, `None` if it has none. Allocates nothing.
     pub fn list(&self, key: &Key) -> Option<&VersionList<V>>
         ensures { option_map (λ list. held_in list.now) result ≡ at_key self.now.objects key.now }
     {
@@ -138,7 +139,8 @@ impl<V: Drop> ObjectTable<V> {
         }
     }
 
-    /// The keys that have versions, rising, each with its versions. It takes no memory.
+    /// Iterates over the keys that have versions, ascending, each with its versions. Allocates
+    /// nothing.
     pub fn iter(&self) -> Objects<'_, V>
         ensures objects { result ≡ self.now.objects }
         ensures rising { IsStrictlySortedBy key_cmp (map (λ o. o.0) result) }
@@ -146,7 +148,7 @@ impl<V: Drop> ObjectTable<V> {
         Objects::of(self.lists.iter())
     }
 
-    /// The keys that have versions, rising. It takes no memory.
+    /// Iterates over the keys that have versions, ascending. Allocates nothing.
     pub fn keys(&self) -> Keys<'_, V>
         ensures keys { result ≡ map (λ o. o.0) self.now.objects }
         ensures rising { IsStrictlySortedBy key_cmp result }

@@ -1,4 +1,4 @@
--- Messages are read as they are spelled, and spelled as they are read.
+-- Reading messages is the inverse of writing them.
 use Rattle.std.proofs.Common.{◌≡◌, ℕ, ◌^◌, ◌<◌, Bool, true, false, cond, eqb, List, [], ◌++◌, length, Option, Some, None, refl, sym, ap, subst, ◌∙◌, append_assoc, arith}
 use Rattle.std.specs.Int.{w8, w16, w32, w64}
 use Rattle.std.proofs.lemmas.Bool.{eqb-true}
@@ -24,7 +24,7 @@ use Rattle.craq_wire.specs.Spelling.{wire_version, kind_of, stored, kept_window,
 use Rattle.craq_wire.specs.Tests.{is_spelled}
 use Rattle.craq_wire.proofs.Tests.{decides_spelled}
 
--- ---- what messages say
+-- ---- bodies
 
 body_case : {A : Type 0} (spelling : A → List ℕ) (P : A → Type 0) (part : List ℕ → Option (A × List ℕ)) → IsExact spelling P part
     → (f : A → Body) → ((a : A) → said (f a) ≡ spelling a) → ((a : A) → P a → BodyFits (f a)) → (kind : ℕ) → ((a : A) → kind_of (f a) ≡ kind)
@@ -107,7 +107,7 @@ kind_small (bodies.Floor count) = omega arith
 kind_small (bodies.Part p) = omega arith
 kind_small (bodies.Batch es) = omega arith
 
--- ---- what stands before it
+-- ---- headers
 
 abbrev front : Header → List ℕ
 front h =
@@ -143,7 +143,7 @@ abbrev front_of : LinkMessage → Header
 front_of m =
     record { version = wire_version; kind = kind_of m.body; chain = m.chain; sender = m.sender; receiver = m.receiver; stamp = m.stamp; index = m.index; epoch = m.epoch }
 
--- a test that let something pass
+-- a test that was passed
 passed : {A : Type 0} (b : Bool) (r : Option A) (y : A) → cond b r None ≡ Some y → (b ≡ true) × (r ≡ Some y)
 passed true r y e = (refl, e)
 passed false r y e = absurd cc
@@ -206,7 +206,7 @@ all_again m fits =
 spelled_is_read : (bytes : List ℕ) (m : LinkMessage) → Spells m bytes → all_of bytes ≡ Some m
 spelled_is_read bytes m s = ap all_of s.spelling ∙ all_again m s.fits
 
--- ---- what `decode` says
+-- ---- the contract of `decode`
 
 pub found : (bytes : List ℕ) (m : LinkMessage) → IsBytes bytes → all_of bytes ≡ Some m → is_spelled m ≡ true → Spells m bytes
 found bytes m fits e t =

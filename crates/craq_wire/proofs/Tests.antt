@@ -1,4 +1,4 @@
--- The tests of messages tell whether their rules hold.
+-- The tests of messages decide their rules.
 use Rattle.std.proofs.Common.{◌≡◌, ℕ, ◌+◌, ◌<◌, ◌≤◌, ◌∙◌, ltb, Bool, true, false, not, ◌||◌, List, [], ◌∷◌, map, length, refl, sym, ap, subst, T}
 use Rattle.std.specs.Prelude.{nat_eq}
 use Rattle.std.specs.Bool.{Decides}
@@ -27,7 +27,7 @@ use Rattle.craq_model.specs.Spelled.{IsReply, IsNotStale, IsSpelledEntry, IsSpel
 use Rattle.craq_codec.proofs.Tests.{decides_le, decides_sure, decides_all, decides_reply, decides_not_stale}
 use Rattle.craq_wire.specs.Tests.{stands_twice, is_below_first, is_rising, same_key, has_version, is_entry, is_stored, is_kept, is_window, is_client, is_state, is_part, are_consecutive, is_batch, is_node, is_membership, is_body, is_from_its_sender, is_spelled}
 
--- ---- no two alike
+-- ---- no two equal items
 
 decides_none : {A : Type 0} (p : A → Bool) (xs : List A) → Decides (not (list_any p xs)) (AllByRecursion (λ y. p y ≡ false) xs)
 decides_none p [] = decides_sure
@@ -59,7 +59,7 @@ twice_mapped (w ∷ ws) =
 decides_once : (ws : List Write) → Decides (not (stands_twice same_key ws)) (IsDistinct same_bytes (map (λ (w : Write). w.key) ws))
 decides_once ws = subst (λ (b : Bool). Decides (not b) (IsDistinct same_bytes (map (λ (w : Write). w.key) ws))) (sym (twice_mapped ws)) (decides_distinct same_bytes (map (λ (w : Write). w.key) ws))
 
--- ---- rising keys
+-- ---- ascending keys
 
 holds : (b : Bool) → b ≡ true → T b
 holds true t = tt
@@ -145,7 +145,7 @@ decides_state s =
     (λ h. record { few_objects = h.0; few_kept = h.1.0; versions = h.1.1.0; windows = h.1.1.1.0; keys_rise = h.1.1.1.1.0; clients_rise = h.1.1.1.1.1 })
     (λ s. (s.few_objects, (s.few_kept, (s.versions, (s.windows, (s.keys_rise, s.clients_rise)))))) few
 
--- a test that has to hold where another does
+-- a test that must hold if another does
 decides_where : (a b : Bool) (P Q : Type 0) → Decides a P → Decides b Q → Decides (not a || b) (P → Q)
 decides_where true b P Q da db = (λ t p. db.0 t, λ h. db.1 (h (da.0 refl)))
 decides_where false b P Q da db = (λ t p. let clash : false ≡ true = da.1 p in absurd cc, λ h. refl)

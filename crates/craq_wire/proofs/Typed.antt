@@ -1,4 +1,4 @@
--- A message that keeps its rules has a spelling, where it is a value of its type.
+-- A message that keeps its rules and is a value of its type has an encoding.
 use Rattle.std.proofs.Common.{◌≤◌, ◌<◌, ℕ, List, [], ◌∷◌, length, refl, arith}
 use Rattle.std.specs.Prelude.{◌↔◌}
 use Rattle.std.specs.List.{AllByRecursion}

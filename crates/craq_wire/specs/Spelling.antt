@@ -1,4 +1,4 @@
--- How messages are spelled.
+-- The encoding of messages.
 use Rattle.std.specs.Prelude.{◌≡◌, ◌<◌, ◌^◌, ℕ, List, ◌++◌}
 use Rattle.std.specs.Int.{w8, w16, w32, w64}
 use Rattle.craq_commands.specs.Kept.{Window}
@@ -12,12 +12,14 @@ use Rattle.craq_codec.specs.NumberSpelling.{number}
 use Rattle.craq_codec.specs.PartSpelling.{key, value, pair, counted, IsKey, IsValue, IsPair, AreCounted}
 use Rattle.craq_codec.specs.EntrySpelling.{entry, window, EntryFits, WindowFits}
 
--- a message: the wire's version, the kind of the body, the header, and the body
+-- a message: the version of the wire format, the kind of the body, the rest of the header, and the
+-- body
 
--- the version of the wire
+-- the version of the wire format
 abbrev pub wire_version : ℕ
 wire_version = 2
 
+-- the number of a body's kind
 abbrev pub kind_of : Body → ℕ
 kind_of (bodies.Config members) = 1
 kind_of (bodies.Entry e) = 2
@@ -34,7 +36,7 @@ kind_of (bodies.Batch es) = 10
 abbrev pub stored : List ℕ × (ℕ × List ℕ) → List ℕ
 stored = pair key (pair (number w64) value)
 
--- a client of a state, and what is kept for it
+-- a client of a state, and its kept replies
 abbrev pub kept_window : ℕ × Window → List ℕ
 kept_window = pair (number w64) window
 
@@ -42,10 +44,11 @@ kept_window = pair (number w64) window
 abbrev pub state : State → List ℕ
 state s = counted w32 stored s.objects ++ counted w32 kept_window s.kept
 
--- a part of a state: its position, its number, how many there are, and its items
+-- a part of a state: its position, its number, the number of parts, and its items
 abbrev pub state_part : StatePart → List ℕ
 state_part p = number w64 p.position ++ (number w32 p.number ++ (number w32 p.count ++ state p.state))
 
+-- the bytes of a body
 abbrev pub said : Body → List ℕ
 said (bodies.Config members) = counted w8 (number w32) members
 said (bodies.Entry e) = entry e
@@ -58,31 +61,37 @@ said (bodies.Floor count) = number w64 count
 said (bodies.Part p) = state_part p
 said (bodies.Batch es) = counted w8 entry es
 
--- what stands before what a message says
+-- the bytes before a message's body
 abbrev pub header : LinkMessage → List ℕ
 header m =
     number w8 wire_version ++ (number w8 (kind_of m.body) ++ (number w16 m.chain ++ (number w32 m.sender
     ++ (number w32 m.receiver ++ (number w64 m.stamp ++ (number w32 m.index ++ number w64 m.epoch))))))
 
+-- a message: its header, and its body
 unfoldable pub spelling_of : LinkMessage → List ℕ
 spelling_of m = header m ++ said m.body
 
+-- an object's key and value are of their kinds, and its version fits its width
 abbrev pub StoredFits : List ℕ × (ℕ × List ℕ) → Type 0
 StoredFits = IsPair IsKey (IsPair (λ version. version < 2 ^ 64) IsValue)
 
+-- a client's id and its kept replies fit their widths
 abbrev pub KeptFits : ℕ × Window → Type 0
 KeptFits = IsPair (λ client. client < 2 ^ 64) WindowFits
 
+-- each object and each client of a state fits its widths
 pub record StateFits (s : State) : Type 0 where
   pub objects : AreCounted w32 StoredFits s.objects
   pub kept : AreCounted w32 KeptFits s.kept
 
+-- each field of a part fits its width
 pub record PartFits (p : StatePart) : Type 0 where
   pub position : p.position < 2 ^ 64
   pub number : p.number < 2 ^ 32
   pub count : p.count < 2 ^ 32
   pub state : StateFits p.state
 
+-- each field of a body fits its width
 abbrev pub BodyFits : Body → Type 0
 BodyFits (bodies.Config members) = AreCounted w8 (λ id. id < 2 ^ 32) members
 BodyFits (bodies.Entry e) = EntryFits e
@@ -95,6 +104,7 @@ BodyFits (bodies.Floor count) = count < 2 ^ 64
 BodyFits (bodies.Part p) = PartFits p
 BodyFits (bodies.Batch es) = AreCounted w8 EntryFits es
 
+-- each field of a header fits its width
 pub record HeaderFits (m : LinkMessage) : Type 0 where
   pub chain : m.chain < 2 ^ 16
   pub sender : m.sender < 2 ^ 32
@@ -103,16 +113,16 @@ pub record HeaderFits (m : LinkMessage) : Type 0 where
   pub index : m.index < 2 ^ 32
   pub epoch : m.epoch < 2 ^ 64
 
--- each number and each count of the message is of its width
+-- each number and each count of the message fits its width
 pub record MessageFits (m : LinkMessage) : Type 0 where
   pub header : HeaderFits m
   pub body : BodyFits m.body
 
--- the message with this sender, stamp and index in place of its own
+-- the message with this sender, stamp and index instead of its own
 abbrev pub renamed : LinkMessage → ℕ → ℕ → ℕ → LinkMessage
 renamed m sender stamp index = record m { sender = sender; stamp = stamp; index = index }
 
--- these bytes spell the message
+-- these bytes encode the message
 pub record Spells (m : LinkMessage) (bytes : List ℕ) : Type 0 where
   pub fits : MessageFits m
   pub rules : IsSpelled m

@@ -1,5 +1,5 @@
--- Messages as their type holds them: each number of its width, each key and value of a length that its type allows, and lists
--- of any length.
+-- Messages as their type holds them: each number fits its width, each key and value has a length
+-- that its type allows, and lists have any length.
 use Rattle.std.specs.Prelude.{◌<◌, ◌^◌, ℕ}
 use Rattle.std.specs.List.{AllByRecursion}
 use Rattle.craq_commands.specs.Kept.{Window}
@@ -12,20 +12,23 @@ use Rattle.craq_codec.specs.PartSpelling.{IsKey, IsPair}
 use Rattle.craq_codec.specs.Typed.{IsTypedEntry, IsTypedWindow}
 use Rattle.craq_wire.specs.Spelling.{StoredFits, HeaderFits}
 
--- a client of a state, and what is kept for it
+-- a client of a state, and its kept replies
 abbrev pub IsTypedKept : ℕ × Window → Type 0
 IsTypedKept = IsPair (λ client. client < 2 ^ 64) IsTypedWindow
 
+-- the state is a value of its type
 pub record IsTypedState (s : State) : Type 0 where
   pub objects : AllByRecursion StoredFits s.objects
   pub kept : AllByRecursion IsTypedKept s.kept
 
+-- the part is a value of its type
 pub record IsTypedPart (p : StatePart) : Type 0 where
   pub position : p.position < 2 ^ 64
   pub number : p.number < 2 ^ 32
   pub count : p.count < 2 ^ 32
   pub state : IsTypedState p.state
 
+-- the body is a value of its type
 abbrev pub IsTypedBody : Body → Type 0
 IsTypedBody (bodies.Config members) = AllByRecursion (λ id. id < 2 ^ 32) members
 IsTypedBody (bodies.Entry e) = IsTypedEntry e

@@ -1,4 +1,4 @@
-//! Tests of lists: whether two items are alike, whether keys rise; called by `rules`.
+//! Tests of lists: equal items, ascending keys; used by `rules`.
 ghost use Rattle.std.specs.Prelude.{◌≡◌, Bool, nat_eq};
 ghost use Rattle.std.specs.List.{list_any};
 ghost use Rattle.craq_wire.specs.Tests.{is_rising, same_key, stands_twice};
@@ -7,11 +7,11 @@ use craq_commands::Write;
 use craq_names::NodeId;
 use std::cmp::Ordering;
 
-/// Items of which no two alike stand in one list.
+/// Items of which no two equal ones may occur in one list.
 pub(crate) trait Alike {
     ghost same: { Self → Self → Bool };
 
-    /// Whether the two are alike.
+    /// Returns true if the two items count as equal.
     fn is_same(&self, other: &Self) -> bool
         ensures { result ≡ same self.now other.now };
 }
@@ -32,7 +32,7 @@ impl Alike for Write {
     }
 }
 
-/// Whether one of the items is like this one.
+/// Returns true if one of the items equals this one.
 fn is_among<T: Alike>(item: &T, items: &[T]) -> bool
     ensures { result ≡ list_any (T.same item.now) items.now }
 {
@@ -44,7 +44,7 @@ fn is_among<T: Alike>(item: &T, items: &[T]) -> bool
     false
 }
 
-/// Whether two of the items are alike.
+/// Returns true if two of the items are equal.
 pub(crate) fn has_twice<T: Alike>(items: &[T]) -> bool
     ensures { result ≡ stands_twice T.same items.now }
 {
@@ -56,7 +56,7 @@ pub(crate) fn has_twice<T: Alike>(items: &[T]) -> bool
     false
 }
 
-/// Whether each entry's key is below the next one's.
+/// Returns true if the keys are strictly ascending.
 pub(crate) fn rises<K: Ord, V>(entries: &[(K, V)]) -> bool
     ensures { result ≡ is_rising K.cmp entries.now }
 {

@@ -1,6 +1,5 @@
-//! The messages between the nodes of a chain as bytes: `encode` and `decode`; for `craq_sending`, which writes them,
-//! and `craq_workers`, which reads them. Apart from `craq_frames`, since clients never see these messages.
-//! Code that runs in the programs.
+//! Encodes and decodes the messages between the nodes of a chain; clients have `craq_frames`.
+//! Runs in the programs: `craq_sending` writes the messages, `craq_workers` reads them.
 #![tactic(auto)]
 
 mod alike;

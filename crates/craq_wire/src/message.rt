@@ -1,4 +1,5 @@
-//! A message between nodes read from the front of bytes and written at the end, kind by kind; called by `wire`.
+//! Reads a message between nodes from the front of bytes and writes one at the end, kind by kind;
+//! used by `wire`.
 ghost use Rattle.std.specs.Prelude.{◌≡◌, ◌++◌, OnOk};
 ghost use Rattle.craq_codec.specs.NumberReading.{Gives};
 ghost use Rattle.craq_model.specs.Spelled.{IsSpelledBody, IsSpelledPart, IsSpelledState, IsSpelled};
@@ -15,13 +16,13 @@ use craq_model::{Body, LinkMessage, StatePart};
 use craq_names::{ChainId, Epoch, Key, NodeId, Seq, Stamp, Ticket, Version};
 use std::alloc::{AllocError, Global};
 
-/// The version of the wire.
+/// The version of the wire format.
 const WIRE_VERSION: u8 = 2;
 
-/// How many bytes stand before what a message says.
+/// The bytes before a message's body.
 const HEADER_SIZE: usize = 32;
 
-/// The state at the front, and the bytes after it.
+/// Reads the state at the front; returns it with the bytes after it.
 #[tactic(auto, unfolding(crate::specs::Reading::state_at, craq_codec::specs::PartReading::pair_at))]
 fn read_state(alloc: Global, bytes: &[u8]) -> Result<(State, &[u8]), Unread>
     ensures { Gives (λ x. (x.0, x.1.now)) result (state_at bytes.now) }
@@ -31,7 +32,7 @@ fn read_state(alloc: Global, bytes: &[u8]) -> Result<(State, &[u8]), Unread>
     Ok((State { objects, kept }, rest))
 }
 
-/// The part of a state at the front, and the bytes after it.
+/// Reads the part of a state at the front; returns it with the bytes after it.
 #[tactic(auto, unfolding(crate::specs::Reading::part_at, craq_codec::specs::PartReading::pair_at))]
 fn read_part(alloc: Global, bytes: &[u8]) -> Result<(StatePart, &[u8]), Unread>
     ensures { Gives (λ x. (x.0, x.1.now)) result (part_at bytes.now) }
@@ -49,7 +50,7 @@ fn read_part(alloc: Global, bytes: &[u8]) -> Result<(StatePart, &[u8]), Unread>
     Ok((part, rest))
 }
 
-/// What goes with the kind of a message, and the bytes after it.
+/// Reads a body of this kind; returns it with the bytes after it.
 #[tactic(auto, unfolding(crate::specs::Reading::body_at, craq_codec::specs::PartReading::pair_at))]
 fn read_body(alloc: Global, kind: u8, bytes: &[u8]) -> Result<(Body, &[u8]), Unread>
     ensures { Gives (λ x. (x.0, x.1.now)) result (body_at kind bytes.now) }
@@ -106,7 +107,7 @@ fn read_body(alloc: Global, kind: u8, bytes: &[u8]) -> Result<(Body, &[u8]), Unr
     }
 }
 
-/// The message at the front, and the bytes after it.
+/// Reads the message at the front; returns it with the bytes after it.
 #[tactic(auto, unfolding(crate::specs::Reading::message_at, crate::specs::Reading::header_at, craq_codec::specs::PartReading::pair_at))]
 pub(crate) fn read_message(alloc: Global, bytes: &[u8]) -> Result<(LinkMessage, &[u8]), Unread>
     ensures { Gives (λ x. (x.0, x.1.now)) result (message_at bytes.now) }
@@ -135,7 +136,7 @@ pub(crate) fn read_message(alloc: Global, bytes: &[u8]) -> Result<(LinkMessage, 
     Ok((message, rest))
 }
 
-/// The number of what a message says.
+/// Returns the number of the body's kind.
 fn kind(body: &Body) -> u8
     ensures { result ≡ kind_of body.now }
 {
@@ -176,7 +177,7 @@ fn write_part(out: &mut BytesMut, part: &StatePart) -> Result<(), AllocError>
     write_state(out, &part.state)
 }
 
-/// Writes what a message says at the end.
+/// Writes a body at the end.
 #[tactic(auto, using(craq_codec::proofs::Free::all_of_any))]
 fn write_body(out: &mut BytesMut, body: &Body) -> Result<(), AllocError>
     requires { IsSpelledBody body.now }
@@ -206,7 +207,7 @@ fn write_body(out: &mut BytesMut, body: &Body) -> Result<(), AllocError>
     }
 }
 
-/// Writes what stands before what a message says, with this sender, stamp and index.
+/// Writes a message's header at the end, with this sender, stamp and index.
 #[tactic(auto, unfolding(craq_codec::specs::NumberSpelling::number))]
 fn write_header(
     out: &mut BytesMut,
@@ -230,7 +231,7 @@ fn write_header(
     Ok(())
 }
 
-/// Writes a message at the end, with this sender, stamp and index in place of its own.
+/// Writes a message at the end, with this sender, stamp and index instead of its own.
 #[tactic(auto, unfolding(crate::specs::Spelling::spelling_of))]
 pub(crate) fn write_message(
     out: &mut BytesMut,

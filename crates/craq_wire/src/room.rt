@@ -1,22 +1,23 @@
-//! How much room the bytes of a message need, so that it is made once; called by `wire`.
+//! Estimates the size of a message, so that its buffer is allocated once; used by `wire`.
 use craq_commands::{Entry, Write};
 use craq_model::Body;
 
-/// The bytes that a message without entries needs mostly, and the header and count of one that has some.
+/// The bytes that most messages without entries need; also the header and count of a message with
+/// entries.
 const USUAL_ROOM: usize = 128;
 
-/// The bytes that an entry needs mostly beside its writes.
+/// The bytes that most entries need beside their writes.
 const ENTRY_ROOM: usize = 64;
 
 /// The bytes that a write needs beside its key and its value: both lengths and the version.
 const WRITE_ROOM: usize = 11;
 
-/// The bytes of a write.
+/// Returns the size of a write in bytes.
 fn room_of_write(write: &Write) -> usize {
     WRITE_ROOM + write.key.as_slice().len() + write.value.as_slice().len()
 }
 
-/// The bytes of an entry, mostly.
+/// Estimates the size of an entry in bytes.
 fn room_of_entry(entry: &Entry) -> usize {
     let mut room = ENTRY_ROOM;
     for write in entry.writes.as_slice() {
@@ -25,7 +26,8 @@ fn room_of_entry(entry: &Entry) -> usize {
     room
 }
 
-/// The bytes of a message that says this, mostly. Of one with entries they are counted; room that lacks is made as it is written.
+/// Estimates the size of a message with this body in bytes. Entries are measured one by one; the
+/// buffer grows if the estimate is too small.
 pub(crate) fn room_of(body: &Body) -> usize {
     match body {
         Body::Entry(entry) => USUAL_ROOM.saturating_add(room_of_entry(entry)),

@@ -1,4 +1,5 @@
-//! The rules that a message keeps which has an encoding, tested before and after its bytes; called by `wire`.
+//! Tests the rules of a message that has an encoding, before it is written and after it is read;
+//! used by `wire`.
 ghost use Rattle.std.specs.Prelude.{◌≡◌};
 ghost use Rattle.craq_model.specs.Parts.{item_count};
 ghost use Rattle.std.specs.List.{list_all};
@@ -11,14 +12,14 @@ use craq_epochs::MEMBER_LIMIT;
 use craq_model::{BATCH_LIMIT, Body, GREATEST_COUNT, LinkMessage, PART_LIMIT, StatePart};
 use craq_names::{ClientId, Key, NodeId, Value, Version};
 
-/// Whether each of them has a version.
+/// Returns true if each write has a version (at least 1).
 fn have_versions(writes: &[Write]) -> bool
     ensures { result ≡ list_all has_version writes.now }
 {
     writes.iter().all(|write| write.version.get() >= 1)
 }
 
-/// The rules of entries.
+/// Tests the rules of entries.
 #[tactic(auto, unfolding(crate::specs::Tests::is_entry))]
 fn test_entry(entry: &Entry) -> bool
     ensures { result ≡ is_entry entry.now }
@@ -33,21 +34,21 @@ fn test_entry(entry: &Entry) -> bool
         && !has_twice(entry.writes.as_slice())
 }
 
-/// Whether each object has a version.
+/// Returns true if each object has a version (at least 1).
 fn are_stored(objects: &[(Key, (Version, Value))]) -> bool
     ensures { result ≡ list_all is_stored objects.now }
 {
     objects.iter().all(|object| object.1.0.get() >= 1)
 }
 
-/// Whether each reply may be kept.
+/// Returns true if each reply may be kept.
 fn are_kept(replies: &[Kept]) -> bool
     ensures { result ≡ list_all is_kept replies.now }
 {
     replies.iter().all(|kept| is_spelled_reply(&kept.1) && is_fresh_reply(&kept.1))
 }
 
-/// The rules of what is kept for a client.
+/// Tests the rules of a client's kept replies.
 #[tactic(auto, unfolding(crate::specs::Tests::is_window))]
 fn test_window(window: &Window) -> bool
     ensures { result ≡ is_window window.now }
@@ -56,14 +57,14 @@ fn test_window(window: &Window) -> bool
     !replies.is_empty() && replies.len() <= WINDOW_LIMIT && are_kept(replies) && rises(replies)
 }
 
-/// Whether each client has a window by the rules.
+/// Returns true if the kept replies of each client keep their rules.
 fn are_clients(kept: &[(ClientId, Window)]) -> bool
     ensures { result ≡ list_all is_client kept.now }
 {
     kept.iter().all(|client| test_window(&client.1))
 }
 
-/// The rules of states.
+/// Tests the rules of states.
 #[tactic(auto, unfolding(crate::specs::Tests::is_state))]
 fn test_state(state: &State) -> bool
     ensures { result ≡ is_state state.now }
@@ -78,21 +79,21 @@ fn test_state(state: &State) -> bool
         && rises(kept)
 }
 
-/// How many items a state has.
+/// Returns the number of items in a state.
 fn items_in(state: &State) -> u128
     ensures { result ≡ item_count state.now }
 {
     state.objects.len() as u128 + state.kept.len() as u128
 }
 
-/// Whether the part has 64 items where it is not the last.
+/// Returns true if the part has 64 items or is the last.
 fn is_filled_part(part: &StatePart) -> bool
     ensures { result ≡ is_filled part.now }
 {
     part.number >= part.count || items_in(&part.state) == PART_LIMIT as u128
 }
 
-/// The rules of parts of a state.
+/// Tests the rules of parts of a state.
 #[tactic(auto, unfolding(crate::specs::Tests::is_part))]
 fn test_part(part: &StatePart) -> bool
     ensures { result ≡ is_part part.now }
@@ -107,14 +108,14 @@ fn test_part(part: &StatePart) -> bool
         && test_state(&part.state)
 }
 
-/// Whether each of them keeps the rules of entries.
+/// Returns true if each entry keeps the rules of entries.
 fn are_entries(entries: &[Entry]) -> bool
     ensures { result ≡ list_all is_entry entries.now }
 {
     entries.iter().all(|entry| test_entry(entry))
 }
 
-/// Whether each position is the next after the one before.
+/// Returns true if the positions are consecutive.
 fn in_row(entries: &[Entry]) -> bool
     ensures { result ≡ are_consecutive entries.now }
 {
@@ -130,7 +131,7 @@ fn in_row(entries: &[Entry]) -> bool
     true
 }
 
-/// The rules of batches.
+/// Tests the rules of batches.
 #[tactic(auto, unfolding(crate::specs::Tests::is_batch))]
 fn test_batch(entries: &[Entry]) -> bool
     ensures { result ≡ is_batch entries.now }
@@ -138,14 +139,14 @@ fn test_batch(entries: &[Entry]) -> bool
     entries.len() >= 2 && entries.len() <= BATCH_LIMIT && are_entries(entries) && in_row(entries)
 }
 
-/// Whether each id is that of a node.
+/// Returns true if each id is that of a node (at least 1).
 fn are_nodes(members: &[NodeId]) -> bool
     ensures { result ≡ list_all is_node members.now }
 {
     members.iter().all(|id| id.get() >= 1)
 }
 
-/// The rules of memberships.
+/// Tests the rules of memberships.
 #[tactic(auto, unfolding(crate::specs::Tests::is_membership))]
 fn test_membership(members: &[NodeId]) -> bool
     ensures { result ≡ is_membership members.now }
@@ -156,7 +157,7 @@ fn test_membership(members: &[NodeId]) -> bool
         && !has_twice(members)
 }
 
-/// The rules of what messages say.
+/// Tests the rules of bodies.
 #[tactic(auto, unfolding(crate::specs::Tests::is_body))]
 fn test_body(body: &Body) -> bool
     ensures { result ≡ is_body body.now }
@@ -173,7 +174,7 @@ fn test_body(body: &Body) -> bool
     }
 }
 
-/// Whether the sender is the master exactly under a membership.
+/// Returns true if the sender is the master (0) exactly for a membership.
 fn test_sender(sender: NodeId, body: &Body) -> bool
     ensures { result ≡ is_from_its_sender sender body.now }
 {
@@ -183,7 +184,7 @@ fn test_sender(sender: NodeId, body: &Body) -> bool
     }
 }
 
-/// The rules of messages.
+/// Tests the rules of messages.
 #[tactic(auto, unfolding(crate::specs::Tests::is_spelled))]
 pub(crate) fn test_message(m: &LinkMessage) -> bool
     ensures { result ≡ is_spelled m.now }

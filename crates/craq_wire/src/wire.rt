@@ -1,4 +1,4 @@
-//! `encode`, `decode` and `spelled`: the calls of the crate, for links between nodes.
+//! `encode`, `decode` and `spelled`: the functions of the crate, for links between nodes.
 ghost use Rattle.std.specs.Prelude.{◌≡◌, ◌⊎◌, ◌↔◌, ℕ, List, Err, IfOk, IfErr, IsTrue};
 ghost use Rattle.craq_model.specs.Spelled.{IsSpelled};
 ghost use Rattle.craq_codec.specs.NumberReading.{Gives};
@@ -14,16 +14,16 @@ use craq_codec::Unread;
 use craq_names::{NodeId, Refusal, Stamp};
 use std::alloc::{AllocError, Global};
 
-/// Whether the message can be spelled, that is, whether bytes exist that spell it (`messages_with_spellings`):
-/// its sender is 0 exactly under a membership, receiver, stamp and epoch are at least 1, and what it says keeps
-/// its rules (this project's profile).
+/// Returns true if the message has an encoding (`messages_with_spellings`): its sender is 0 exactly
+/// for a membership; receiver, stamp and epoch are at least 1; and its body keeps its rules (this
+/// project's profile).
 pub fn spelled(message: &LinkMessage) -> bool
     ensures { IsTrue result ↔ IsSpelled message.now }
 {
     test_message(message)
 }
 
-/// The bytes of a message that can be spelled. It fails for want of memory alone.
+/// Encodes a message that has an encoding. Fails only when out of memory.
 pub fn encode(alloc: Global, message: &LinkMessage) -> Result<Bytes, AllocError>
     requires { IsSpelled message.now }
     ensures { IfOk result (λ bytes. Spells message.now bytes) }
@@ -31,8 +31,8 @@ pub fn encode(alloc: Global, message: &LinkMessage) -> Result<Bytes, AllocError>
     encode_as(alloc, message, message.sender, message.stamp, message.index)
 }
 
-/// The bytes of a message with this sender, stamp and index in place of its own, where that can be spelled. It fails for
-/// want of memory alone.
+/// Encodes a message with this sender, stamp and index instead of its own; that message must have
+/// an encoding. Fails only when out of memory.
 pub fn encode_as(
     alloc: Global,
     message: &LinkMessage,
@@ -48,7 +48,7 @@ pub fn encode_as(
     Ok(out.freeze()?)
 }
 
-/// Reads a message whose rules are not tested yet.
+/// Decodes a message without testing its rules.
 #[tactic(auto, unfolding(crate::specs::Reading::all_of))]
 fn decode_any(alloc: Global, bytes: &[u8]) -> Result<LinkMessage, Unread>
     ensures { Gives (λ m. m) result (all_of bytes.now) }
@@ -60,14 +60,14 @@ fn decode_any(alloc: Global, bytes: &[u8]) -> Result<LinkMessage, Unread>
     Ok(message)
 }
 
-/// The message that the bytes spell, all of the bytes. `BadFrame` exactly where they spell none;
-/// `Memory` where a growth was refused. Room is asked for only for what was read.
+/// Decodes the message that all of the bytes encode. `BadFrame` exactly if they encode none;
+/// `Memory` if an allocation failed. Allocates only for bytes that were read.
 pub fn decode(alloc: Global, bytes: &[u8]) -> Result<LinkMessage, Refusal>
-    // What is read is spelled so.
+    // The bytes encode the message that is returned.
     ensures found { IfOk result (λ m. Spells m bytes.now) }
-    // No other message is spelled so.
+    // They encode no other message.
     ensures only { IfOk result (λ m. (other : LinkMessage) → Spells other bytes.now → other ≡ m) }
-    // Where nothing is read, no message is spelled so, or memory ran out.
+    // On an error the bytes encode no message, or memory ran out.
     ensures bad { result ≡ Err Refusal.BadFrame → (m : LinkMessage) → Spells m bytes.now → ⊥ }
     ensures err { IfErr result (λ e. (e ≡ Refusal.BadFrame) ⊎ (e ≡ Refusal.Memory)) }
 {
@@ -84,7 +84,7 @@ pub fn decode(alloc: Global, bytes: &[u8]) -> Result<LinkMessage, Refusal>
     }
 }
 
-/// No bytes spell two messages, and no message has two spellings. It does nothing.
+/// States that no bytes encode two messages, and that no message has two encodings. Does nothing.
 pub fn one_spelling()
     ensures value { (bytes : List ℕ) (m n : LinkMessage) → Spells m bytes → Spells n bytes → m ≡ n }
     ensures bytes { (m : LinkMessage) (a b : List ℕ) → Spells m a → Spells m b → a ≡ b }

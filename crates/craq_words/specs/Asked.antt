@@ -1,4 +1,4 @@
--- What a line of a script asks for, or why it is refused before it is played.
+-- Gives the request of a script line, or the refusal before it is played.
 use Rattle.std.specs.Prelude.{◌≡◌, ◌⊎◌, ℕ, ◌==◌, ◌&&◌, not, nat_le, Bool, List, [], ◌∷◌, map, length, Result, Ok, Err, if◌then◌else◌}
 use Rattle.std.specs.List.{list_all, flat_map}
 use Rattle.craq_names.specs.Limits.{value_limit}
@@ -55,7 +55,7 @@ values_given (changes.Increment object by) = []
 values_given (changes.Decrement object by) = []
 values_given (changes.Mini items) = flat_map item_value items
 
--- the object of these bytes
+-- the object of this chain and this key
 abbrev pub named : ScriptObject → ObjectId
 named object = record { chain = object.chain; key = object.key }
 
@@ -74,7 +74,7 @@ item_write (items.Compare object version) = []
 item_write (items.Read object) = []
 item_write (items.Write object value) = (named object, value) ∷ []
 
--- each item goes to its list, in order
+-- the items sorted into three lists, each in order
 abbrev pub lists_of : List MiniItem → Transaction
 lists_of items = record { compares = flat_map item_compare items; reads = flat_map item_read items; writes = flat_map item_write items }
 
@@ -82,7 +82,7 @@ abbrev pub transaction_command : Result Transaction Refusal → Result Command R
 transaction_command (Ok transaction) = Ok (commands.Mini transaction)
 transaction_command (Err refusal) = Err refusal
 
--- a change whose keys and values are as long as they may be
+-- the command of a change whose keys and values are within their limits
 unfoldable pub command_of : Change → Result Command Refusal
 command_of (changes.Put object value) = Ok (commands.Put (named object) value)
 command_of (changes.TestAndSet object expect value) = Ok (commands.TestAndSet (named object) expect value)
@@ -97,18 +97,18 @@ numbered client number (Err refusal) = Err refusal
 numbered client number (Ok command) =
     if number == 0 then Err refusals.BadNumber else Ok (asks.Update (record { client = client; number = number; command = command }))
 
--- the update that a line asks for; of all that refuses it, the one of the lowest number
+-- the update that a line requests; of all refusals that apply, the one with the lowest number
 unfoldable pub update_of : UpdateLine → Result Ask Refusal
 update_of line =
     if not (list_all has_key (objects_named line.change)) then Err refusals.BadKey
     else (if not (list_all is_value (values_given line.change)) then Err refusals.ValueTooLong
     else numbered line.client line.number (command_of line.change))
 
--- the read that a line asks for
+-- the read that a line requests
 unfoldable pub read_of : ReadMode → ScriptObject → Result Ask Refusal
 read_of mode object = if not (has_key object) then Err refusals.BadKey else Ok (asks.Read mode (named object))
 
--- what is wanted, or memory ran out
+-- the result is the wanted one, or memory ran out
 abbrev pub Answers : {X Y : Type 0} → (X → Y) → Result X Refusal → Result Y Refusal → Type 0
 Answers view (Ok x) wanted = wanted ≡ Ok (view x)
 Answers view (Err e) wanted = (e ≡ refusals.Memory) ⊎ (wanted ≡ Err e)

@@ -1,4 +1,4 @@
--- What is printed of replies, answers and refusals. Texts are lists of the codes of characters.
+-- Defines the text of replies and refusals. Texts are lists of character codes.
 use Rattle.std.specs.Prelude.{ℕ, ◌/◌, ◌%◌, false, List, [], ◌∷◌, ◌++◌, codes}
 use Rattle.std.specs.Fmt.{decimal, digit_glyph}
 use Rattle.std.specs.List.{flat_map}
@@ -10,7 +10,7 @@ use Rattle.craq_commands.specs.declared.reply.Reply.TheVariants as replies
 use Rattle.craq_model.specs.declared.ask.Answer.{Answer}
 use Rattle.craq_model.specs.declared.ask.Answer.TheVariants as answers
 
--- two hexadecimal digits in lower case
+-- two lower-case hexadecimal digits
 abbrev pub byte_text : ℕ → List ℕ
 byte_text b = digit_glyph false (b / 16) ∷ digit_glyph false (b % 16) ∷ []
 
@@ -34,12 +34,12 @@ reply_text (replies.Done objects) = codes "done" ++ flat_map object_text objects
 reply_text (replies.CompareFailed place) = codes "comparefailed " ++ decimal place
 reply_text (replies.Stale last) = codes "stale " ++ decimal last
 
--- an answer
+-- a reply
 unfoldable pub answer_text : Answer → List ℕ
 answer_text (answers.Update reply) = reply_text reply
 answer_text (answers.Read version value) = codes "read " ++ decimal version ++ codes " " ++ value_text value
 
--- what stands behind a refusal's number: the head that was not asked
+-- the text after a refusal's number: the head, for `NotHead`
 abbrev pub head_text : Refusal → List ℕ
 head_text (refusals.NotHead head) = codes " " ++ decimal head
 head_text other = []

@@ -1,4 +1,5 @@
-//! The update or the read that a script's line asks, or the refusal of its values; called by `craq_play` and `craq`.
+//! Turns a script's line into an update or a read, or refuses its values; called by `craq_play` and
+//! `craq`.
 ghost use Rattle.std.specs.Prelude.{◌≡◌, map, IfOk};
 ghost use Rattle.std.specs.List.{list_all, flat_map};
 ghost use Rattle.craq_commands.specs.Transaction.{mini_of};
@@ -10,7 +11,7 @@ use craq_names::{Items, Key, ObjectId, Refusal, RequestNo, Value, Version};
 use craq_script::{Change, MiniItem, ScriptObject, UpdateLine};
 use std::alloc::{AllocError, Global};
 
-/// Whether the object's key is as long as keys may be.
+/// Returns true if the object's key has 1 to 128 bytes.
 fn has_key(object: &ScriptObject) -> bool
     ensures { result ≡ has_key object.now }
 {
@@ -18,14 +19,14 @@ fn has_key(object: &ScriptObject) -> bool
     1 <= length && length <= Key::MAX
 }
 
-/// Whether the value is as long as values may be.
+/// Returns true if the value has at most 4,096 bytes.
 fn is_value(value: &Items<u8>) -> bool
     ensures { result ≡ is_value value.now }
 {
     value.len() <= Value::MAX
 }
 
-/// Whether the item's object has a key.
+/// Returns true if the key of the item's object has 1 to 128 bytes.
 fn item_has_key(item: &MiniItem) -> bool
     ensures { result ≡ has_key (item_object item.now) }
 {
@@ -36,7 +37,7 @@ fn item_has_key(item: &MiniItem) -> bool
     }
 }
 
-/// Whether each object of the transaction has a key.
+/// Returns true if the key of each object of the transaction has 1 to 128 bytes.
 fn items_have_keys(items: &[MiniItem]) -> bool
     ensures { result ≡ list_all has_key (map item_object items.now) }
 {
@@ -48,7 +49,7 @@ fn items_have_keys(items: &[MiniItem]) -> bool
     true
 }
 
-/// Whether the item's value, if it has one, is as long as values may be.
+/// Returns true if the item's value, if it has one, has at most 4,096 bytes.
 fn item_has_value(item: &MiniItem) -> bool
     ensures { result ≡ list_all is_value (item_value item.now) }
 {
@@ -62,7 +63,7 @@ fn item_has_value(item: &MiniItem) -> bool
     }
 }
 
-/// Whether each value of the transaction is as long as values may be.
+/// Returns true if each value of the transaction has at most 4,096 bytes.
 fn items_have_values(items: &[MiniItem]) -> bool
     ensures { result ≡ list_all is_value (flat_map item_value items.now) }
 {
@@ -74,7 +75,7 @@ fn items_have_values(items: &[MiniItem]) -> bool
     true
 }
 
-/// Whether each object has a key.
+/// Returns true if the key of each object that the change names has 1 to 128 bytes.
 fn have_keys(change: &Change) -> bool
     ensures { result ≡ list_all has_key (objects_named change.now) }
 {
@@ -93,7 +94,7 @@ fn have_keys(change: &Change) -> bool
     }
 }
 
-/// Whether each value is as long as values may be.
+/// Returns true if each value of the change has at most 4,096 bytes.
 fn have_values(change: &Change) -> bool
     ensures { result ≡ list_all is_value (values_given change.now) }
 {
@@ -112,7 +113,8 @@ fn have_values(change: &Change) -> bool
     }
 }
 
-/// The object that a script names, where it has a key.
+/// Copies the object that a script names. The caller has checked its key. Fails only when out of
+/// memory.
 fn object_of(alloc: Global, object: &ScriptObject) -> Result<ObjectId, AllocError>
     ensures { IfOk result (λ o. o ≡ named object.now) }
 {
@@ -125,7 +127,8 @@ fn object_of(alloc: Global, object: &ScriptObject) -> Result<ObjectId, AllocErro
     }
 }
 
-/// The value of these bytes, where they are not too many.
+/// Copies the bytes into a value. The caller has checked their number. Fails only when out of
+/// memory.
 fn value_of(alloc: Global, value: &Items<u8>) -> Result<Value, AllocError>
     ensures { IfOk result (λ v. v ≡ value.now) }
 {
@@ -135,7 +138,7 @@ fn value_of(alloc: Global, value: &Items<u8>) -> Result<Value, AllocError>
     }
 }
 
-/// The compares among the items, in order.
+/// Returns the compares among the items, in order.
 fn compares_of(alloc: Global, items: &[MiniItem]) -> Result<Items<(ObjectId, Version)>, AllocError>
     ensures { IfOk result (λ list. list ≡ flat_map item_compare items.now) }
 {
@@ -148,7 +151,7 @@ fn compares_of(alloc: Global, items: &[MiniItem]) -> Result<Items<(ObjectId, Ver
     Ok(compares)
 }
 
-/// The reads among the items, in order.
+/// Returns the reads among the items, in order.
 fn reads_of(alloc: Global, items: &[MiniItem]) -> Result<Items<ObjectId>, AllocError>
     ensures { IfOk result (λ list. list ≡ flat_map item_read items.now) }
 {
@@ -161,7 +164,7 @@ fn reads_of(alloc: Global, items: &[MiniItem]) -> Result<Items<ObjectId>, AllocE
     Ok(reads)
 }
 
-/// The writes among the items, in order.
+/// Returns the writes among the items, in order.
 fn writes_of(alloc: Global, items: &[MiniItem]) -> Result<Items<(ObjectId, Value)>, AllocError>
     ensures { IfOk result (λ list. list ≡ flat_map item_write items.now) }
 {
@@ -174,7 +177,7 @@ fn writes_of(alloc: Global, items: &[MiniItem]) -> Result<Items<(ObjectId, Value
     Ok(writes)
 }
 
-/// The transaction of these items, whose keys and values are as long as they may be.
+/// Makes a transaction of the items, whose keys and values are within their limits.
 fn transaction_of(alloc: Global, items: &[MiniItem]) -> Result<Mini, Refusal>
     ensures { Answers (λ m. m) result (mini_of (lists_of items.now)) }
 {
@@ -184,7 +187,7 @@ fn transaction_of(alloc: Global, items: &[MiniItem]) -> Result<Mini, Refusal>
     Mini::new(compares, reads, writes)
 }
 
-/// The command of a change whose keys and values are as long as they may be.
+/// Makes the command of a change whose keys and values are within their limits.
 #[tactic(auto, unfolding(crate::specs::Asked::command_of))]
 fn command_of(alloc: Global, change: &Change) -> Result<Command, Refusal>
     ensures { Answers (λ x. x) result (command_of change.now) }
@@ -233,10 +236,10 @@ fn command_of(alloc: Global, change: &Change) -> Result<Command, Refusal>
     }
 }
 
-/// The update that a line asks for.
+/// Makes the update that a line requests.
 ///
-/// The first of these that applies refuses it: `BadKey`, `ValueTooLong`, `TooManyItems`,
-/// `EmptyTransaction`, `DuplicateKey`, `BadNumber`. `Memory` where a growth was refused.
+/// Refuses with the first of these that applies: `BadKey`, `ValueTooLong`, `TooManyItems`,
+/// `EmptyTransaction`, `DuplicateKey`, `BadNumber`. `Memory` when out of memory.
 #[tactic(auto, unfolding(crate::specs::Asked::update_of))]
 pub fn update_of(alloc: Global, line: &UpdateLine) -> Result<Ask, Refusal>
     ensures { Answers (λ x. x) result (update_of line.now) }
@@ -256,8 +259,8 @@ pub fn update_of(alloc: Global, line: &UpdateLine) -> Result<Ask, Refusal>
     }))
 }
 
-/// The read that a line asks for. `BadKey` where the object's key is too long; `Memory` where a
-/// growth was refused.
+/// Makes the read that a line requests. `BadKey` if the object's key is empty or longer than 128
+/// bytes; `Memory` when out of memory.
 #[tactic(auto, unfolding(crate::specs::Asked::read_of))]
 pub fn read_of(alloc: Global, mode: ReadMode, object: &ScriptObject) -> Result<Ask, Refusal>
     ensures { Answers (λ x. x) result (read_of mode object.now) }

@@ -1,6 +1,6 @@
-//! What the values of a command ask for, and the text of what is answered; for scripts and for `craq`.
-//! A crate apart since both ask and print alike, and `craq` plays no script.
-//! Code that runs in the programs.
+//! Turns the values of a script or a command line into requests, and prints replies and refusals as
+//! text; for scripts and for `craq`.
+//! Runs in the programs.
 #![tactic(auto)]
 
 mod asking;

@@ -1,4 +1,4 @@
-//! Replies, answers and refusals as printed text, as `specs/Printed` has it; called by `craq_play`, `craq` and
+//! Prints replies and refusals as `specs/Printed` defines; called by `craq_play`, `craq` and
 //! `craq_embedding`.
 ghost use Rattle.std.specs.Prelude.{◌≡◌, ◌++◌, OnOk, string_bytes};
 ghost use Rattle.std.specs.List.{flat_map};
@@ -9,7 +9,7 @@ use craq_model::Answer;
 use craq_names::{Refusal, Value, Version};
 use std::alloc::AllocError;
 
-/// Prints two hexadecimal digits in lower case for each byte.
+/// Prints two lower-case hexadecimal digits for each byte.
 fn print_bytes(text: &mut String, bytes: &[u8]) -> Result<(), AllocError>
     ensures { OnOk result (string_bytes text.new ≡ string_bytes text.old ++ flat_map byte_text bytes.now) }
 {
@@ -19,14 +19,14 @@ fn print_bytes(text: &mut String, bytes: &[u8]) -> Result<(), AllocError>
     Ok(())
 }
 
-/// Prints the byte as two hexadecimal digits in lower case.
+/// Prints the byte as two lower-case hexadecimal digits.
 fn print_byte(text: &mut String, byte: u8) -> Result<(), AllocError>
     ensures { OnOk result (string_bytes text.new ≡ string_bytes text.old ++ byte_text byte) }
 {
     write!(text, "{byte:02x}")
 }
 
-/// Prints the value's bytes: `0x` and two hexadecimal digits in lower case for each.
+/// Prints `0x` and two lower-case hexadecimal digits for each of the value's bytes.
 #[tactic(auto, unfolding(crate::specs::Printed::value_text))]
 fn print_value(text: &mut String, value: &Value) -> Result<(), AllocError>
     ensures { OnOk result (string_bytes text.new ≡ string_bytes text.old ++ value_text value.now) }
@@ -47,7 +47,7 @@ fn print_objects(text: &mut String, objects: &[(Version, Value)]) -> Result<(), 
     Ok(())
 }
 
-/// Prints the reply to an update. It fails for want of memory alone, and nothing is known of the text then.
+/// Prints the reply to an update. Fails only when out of memory; the text is then unspecified.
 #[tactic(auto, unfolding(crate::specs::Printed::reply_text))]
 pub fn print_reply(text: &mut String, reply: &Reply) -> Result<(), AllocError>
     ensures { OnOk result (string_bytes text.new ≡ string_bytes text.old ++ reply_text reply.now) }
@@ -80,8 +80,8 @@ pub fn print_reply(text: &mut String, reply: &Reply) -> Result<(), AllocError>
     }
 }
 
-/// Prints an answer: the reply to an update, or `read`, the version and the value. It fails for want of memory alone, and nothing is
-/// known of the text then.
+/// Prints a reply: that to an update, or `read`, the version and the value. Fails only when out of
+/// memory; the text is then unspecified.
 #[tactic(auto, unfolding(crate::specs::Printed::answer_text))]
 pub fn print_answer(text: &mut String, answer: &Answer) -> Result<(), AllocError>
     ensures { OnOk result (string_bytes text.new ≡ string_bytes text.old ++ answer_text answer.now) }
@@ -96,8 +96,8 @@ pub fn print_answer(text: &mut String, answer: &Answer) -> Result<(), AllocError
     }
 }
 
-/// Prints that a move was refused: `refused`, the number of the refusal, and after 9 the head. It fails for want of memory alone, and
-/// nothing is known of the text then.
+/// Prints a refusal: `refused`, its number, and after number 9 the head. Fails only when out of
+/// memory; the text is then unspecified.
 #[tactic(auto, unfolding(crate::specs::Printed::refusal_text))]
 pub fn print_refusal(text: &mut String, refusal: &Refusal) -> Result<(), AllocError>
     ensures { OnOk result (string_bytes text.new ≡ string_bytes text.old ++ refusal_text refusal.now) }

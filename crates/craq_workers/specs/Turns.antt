@@ -11,7 +11,7 @@ use Rattle.craq_seat.specs.Cells.{Celled, receipt_of}
 use Rattle.craq_seat.specs.Numbered.{numbered_from}
 use Rattle.craq_seat.specs.declared.seat.Seated.{Seated}
 use Rattle.craq_sending.specs.declared.sending.Kind.TheVariants as kinds
-use Rattle.craq_sending.specs.Sent.{OnlySends}
+use Rattle.craq_sending.specs.Sent.{OnlySends, lone_position}
 use Rattle.craq_workers.specs.declared.unsent.Unsent.{Unsent}
 use Rattle.craq_wire.specs.Spelling.{Spells}
 use Rattle.craq_workers.specs.declared.node.Waiting.{Waiting}
@@ -39,18 +39,19 @@ OwesLast cell owed = IfSome cell.last (λ (s : Step). OnlySends kinds.Ack s.outs
 abbrev pub OwesStill : {C : Type 0} → Celled C Event → Option LinkMessage → Option LinkMessage → Type 0
 OwesStill cell old new = IfSome cell.last (λ (s : Step). sent_in s.outs ≡ [] → new ≡ old)
 
--- what is held back after one entry more
-abbrev pub with_entry : Unsent → Unsent
-with_entry unsent.Nothing = unsent.Last
-with_entry unsent.Last = unsent.Several
-with_entry unsent.Several = unsent.Several
+-- what is held back once an entry of this position is held back too
+abbrev pub with_entry : ℕ → Unsent → Unsent
+with_entry position unsent.Nothing = unsent.Last position
+with_entry position (unsent.Last first) = unsent.Several first
+with_entry position (unsent.Several first) = unsent.Several first
 
 -- what is held back after a step that sends its messages itself: the entry held back is no longer that of the last step
 abbrev pub after_another : Unsent → Unsent
 after_another unsent.Nothing = unsent.Nothing
-after_another unsent.Last = unsent.Several
-after_another unsent.Several = unsent.Several
+after_another (unsent.Last first) = unsent.Several first
+after_another (unsent.Several first) = unsent.Several first
 
 -- the entry of a cell's last step is held back if to send it is all that the step does, and what was held back still is
 abbrev pub HoldsBack : {C : Type 0} → Celled C Event → Unsent → Unsent → Type 0
-HoldsBack cell old new = IfSome cell.last (λ (s : Step). (OnlySends kinds.Entry s.outs → new ≡ with_entry old) × (¬ (OnlySends kinds.Entry s.outs) → new ≡ after_another old))
+HoldsBack cell old new =
+    IfSome cell.last (λ (s : Step). (OnlySends kinds.Entry s.outs → new ≡ with_entry (lone_position s.outs) old) × (¬ (OnlySends kinds.Entry s.outs) → new ≡ after_another old))

@@ -1,4 +1,5 @@
-//! `Store::audit`: the audit of a chain whose nodes are all locked for it; for whoever has receipts of a store that runs.
+//! `Store::audit`: audits a chain of a running store while all its nodes are locked; for a caller
+//! that has receipts.
 ghost use Rattle.std.specs.Prelude.{◌≡◌, IfOk, length};
 ghost use Rattle.craq_workers.specs.Stores.{Answers};
 
@@ -15,7 +16,7 @@ use craq_seat::{BookCell, CallReceipt};
 use std::alloc::{AllocError, Global};
 use std::sync::{Arc, MutexGuard, Wait};
 
-/// The locks of all nodes.
+/// Locks all nodes, in order. Fails only when out of memory, and then holds no lock.
 fn lock_all<'a, R: Wait, C: Core>(
     rt: &R,
     alloc: Global,
@@ -30,8 +31,8 @@ fn lock_all<'a, R: Wait, C: Core>(
     Ok(seats)
 }
 
-/// The cells of a chain: its master's, whose lock is held, and those under the locks of these nodes. It fails for want of memory
-/// alone. Here alone an audit reaches the locks of nodes.
+/// Returns the cells of a chain: its master's, whose lock is held, and those of these nodes, which
+/// are locked here. Fails only when out of memory. An audit locks nodes nowhere else.
 fn lock_chain<'b, 's, R: Wait, C: Core>(
     rt: &R,
     alloc: Global,
@@ -46,12 +47,13 @@ fn lock_chain<'b, 's, R: Wait, C: Core>(
 }
 
 impl<C: Core + Send + 'static, G: Gate + Send + Sync + 'static> Store<C, G> {
-    /// The audit of a chain with receipts of calls: that of its cells (`HeldChain::audit`), under the locks of its master
-    /// and of all nodes that it ever had, which wait for it. It changes nothing.
+    /// Audits a chain: merges the journals of its cells, and looks for the calls of these receipts
+    /// in them (`HeldChain::audit`). Its master and all nodes that it ever had are locked
+    /// meanwhile. Changes nothing.
     ///
-    /// Refused for the first of these that applies: `UnknownChain`; `JournalOff` where the store keeps no journals;
-    /// `WrongNode` where another chain's master stands behind the lock; `Memory` where there is no room for the list of the
-    /// nodes; as `HeldChain::audit` is.
+    /// Refused for the first of these that applies: `UnknownChain`; `JournalOff` if the store keeps
+    /// no journals; `WrongNode` if the lock holds the master of another chain; `Memory` if there is
+    /// no room for the list of the nodes; then as `HeldChain::audit` refuses.
     pub fn audit<R: Wait>(
         &self,
         rt: &R,

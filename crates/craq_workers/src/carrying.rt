@@ -1,5 +1,5 @@
-//! Steps of a chain that one thread carries: rounds of turns of its nodes, from the head to the tail and back; called by `work`,
-//! and by `shared` for a caller who carries its own step on.
+//! The chain thread: rounds of batches of the chain's nodes, from the head to the tail and back;
+//! called by `work`, and by `shared` for a caller that carries its own step on.
 use crate::chain::Chain;
 use crate::gate::{Gate, Work};
 use crate::node::RunningNode;
@@ -11,25 +11,29 @@ use craq_node::Core;
 use std::alloc::Global;
 use std::sync::{Arc, MutexGuard, Wait};
 
-/// The most messages, and the most asks, of one turn of a node.
-const BATCH: u32 = 8;
+/// The most messages of one batch of a node. It is well above the number of entry messages of a
+/// round, so that entries do not wait behind the queries of many reads of one object.
+const MESSAGES: u32 = 32;
 
-/// The most rounds that a caller carries its own step on.
+/// The most requests of one batch of a node.
+const ASKS: u32 = 8;
+
+/// The most rounds for which a caller carries its own step on.
 const ROUNDS: u32 = 3;
 
-/// Takes what waits at a node, in a turn of it: messages first, then asks.
+/// Takes what waits at a node in a batch: messages first, then requests.
 fn take_waiting<R: Wait, C: Core, G: Gate>(
     rt: &R,
     node: &RunningNode<C>,
     turn: &mut Turn<'_, C, G>,
 ) {
-    for _ in 0..BATCH {
+    for _ in 0..MESSAGES {
         let Ok(waiting) = node.queues.links.try_recv(rt) else {
             break;
         };
         turn.take_brought(rt, waiting);
     }
-    for _ in 0..BATCH {
+    for _ in 0..ASKS {
         let Ok(asked) = node.queues.asks.try_recv(rt) else {
             break;
         };
@@ -37,7 +41,7 @@ fn take_waiting<R: Wait, C: Core, G: Gate>(
     }
 }
 
-/// What a visitor does at a node whose lock another thread has.
+/// The way in which a visitor treats a node whose lock another thread has.
 #[derive(Clone, Copy)]
 enum Manner {
     /// It waits for the lock.
@@ -46,7 +50,7 @@ enum Manner {
     PassesBy,
 }
 
-/// The lock of a node; none where another thread has it and the visitor passes by.
+/// Locks a node, or returns `None` if another thread has the lock and the visitor passes by.
 fn seat_of<'a, R: Wait, C: Core>(
     rt: &R,
     node: &'a RunningNode<C>,
@@ -58,7 +62,8 @@ fn seat_of<'a, R: Wait, C: Core>(
     }
 }
 
-/// A turn of a node, if anything waits there. Whether anything did; where it was passed by, it may still wait.
+/// Takes a batch of a node, if anything waits there. Returns whether anything did: if the node was
+/// passed by, that may still wait.
 fn visit<R: Wait, C: Core, G: Gate>(
     rt: &R,
     alloc: Global,
@@ -81,11 +86,10 @@ fn visit<R: Wait, C: Core, G: Gate>(
     true
 }
 
-/// A turn of each node from the head to the tail, and back to the one after the head, with which the next round begins. Whether
-/// anything waited.
+/// Takes a batch of each node from the head to the tail, and back to the one after the head.
+/// Returns whether anything waited.
 ///
-/// So the head takes no two turns in a row. In the second it would send what it sent in the first once more: nobody between the two
-/// could acknowledge it.
+/// So the head takes no two batches in a row: nobody could acknowledge the first before the second.
 fn visit_all<R: Wait, C: Core, G: Gate>(
     rt: &R,
     alloc: Global,
@@ -105,7 +109,8 @@ fn visit_all<R: Wait, C: Core, G: Gate>(
     found
 }
 
-/// Carries a chain until its store is closed: turns of its nodes as long as anything waits, then sleep.
+/// Runs a chain until its store is closed: takes batches of its nodes as long as anything waits,
+/// then sleeps. Out of memory for the list of the nodes, waits a little and tries again.
 pub(crate) fn carry<R: Wait, C: Core, G: Gate>(
     rt: &R,
     alloc: Global,
@@ -120,12 +125,12 @@ pub(crate) fn carry<R: Wait, C: Core, G: Gate>(
         match chain.nodes(rt, alloc) {
             Ok(nodes) => carry_nodes(rt, alloc, shared, chain, nodes.as_slice(), changes),
             Err(Refusal::Closed) => break,
-            Err(_) => (),
+            Err(_) => chain.bell.pause(rt),
         }
     }
 }
 
-/// Carries these nodes until the chain has others.
+/// Runs these nodes until the chain has others.
 fn carry_nodes<R: Wait, C: Core, G: Gate>(
     rt: &R,
     alloc: Global,
@@ -150,8 +155,8 @@ fn carry_nodes<R: Wait, C: Core, G: Gate>(
     }
 }
 
-/// A caller carries what its step sent on to the other nodes, for a few rounds. What still waits then is left to the thread
-/// that carries the chain.
+/// Carries what a caller's step sent on to the other nodes, for at most `ROUNDS` rounds. The chain
+/// thread takes what still waits then.
 pub(crate) fn carry_on<R: Wait, C: Core, G: Gate>(
     rt: &R,
     alloc: Global,

@@ -1,4 +1,5 @@
-//! A chain that runs: the ways to its workers, through which all that asks, sends or ticks goes; for `shared` and `store`.
+//! A chain that runs: its routing table, through which all requests, messages and ticks go; for
+//! `shared` and `store`.
 ghost use Rattle.std.specs.Prelude.{◌≡◌, ◌==◌, ◌⊎◌, ◌↔◌, Err, IfErr, IfOk, IsNone, IsTrue, MatchResult, None, Some, map};
 ghost use Rattle.std.specs.List.{filter_map, find};
 ghost use Rattle.std.specs.Option.{option_map};
@@ -22,24 +23,24 @@ use std::alloc::{AllocError, Global};
 use std::mem;
 use std::sync::{Arc, Mutex, RwLock, Wait};
 
-/// The ways into a chain: its nodes, and what a store has that is open.
+/// The routing table of a chain: the entries of its nodes, and the parts of an open store.
 #[derive(Drop)]
 pub(crate) struct Ways<C: Core> {
     pub nodes: Vec<Way<C>>,
-    /// None once the store is closed.
+    /// `None` once the store is closed.
     pub open: Option<Open>,
 }
 
-/// What only an open store has.
+/// The parts that only an open store has.
 #[derive(Drop)]
 pub(crate) struct Open {
     pub master: Sender<()>,
-    /// A copy goes to each worker. Once all are gone no worker is left.
+    /// Each worker keeps a copy. Once all are dropped no worker is left.
     pub alive: Sender<()>,
 }
 
-/// A chain that runs: its name, its id and its first membership, its master's cell under its lock, the ways to its workers, and
-/// the bell of the one that carries it.
+/// A chain that runs: its name, its id and its first membership, its master's cell under its lock,
+/// its routing table, and the wake-up of its chain thread.
 #[derive(Drop)]
 pub(crate) struct Chain<C: Core> {
     pub name: String,
@@ -51,7 +52,7 @@ pub(crate) struct Chain<C: Core> {
 }
 
 impl<C: Core> Ways<C> {
-    /// What an open store has. `Closed` where it is not open.
+    /// Returns the parts of an open store, or `Closed` if the store is closed.
     pub(crate) fn open(&self) -> Result<&Open, Refusal>
         ensures { MatchResult result (λ o. self.now.open ≡ Some o.now) (λ e. (e ≡ Refusal.Closed) × IsNone self.now.open) }
     {
@@ -61,7 +62,7 @@ impl<C: Core> Ways<C> {
         }
     }
 
-    /// All nodes that the chain has. It fails for want of memory alone.
+    /// Returns all nodes that the chain has. Fails only when out of memory.
     fn all(&self, alloc: Global) -> Result<Vec<Arc<RunningNode<C>>>, AllocError>
         ensures { IfOk result (λ nodes. map (λ n. n.value) nodes.items ≡ filter_map (λ way. option_map (λ n. n.value) way.node) self.now.nodes.items) }
     {
@@ -74,7 +75,7 @@ impl<C: Core> Ways<C> {
         Ok(nodes)
     }
 
-    /// The way to the node of this id. `WrongNode` where the chain never had it.
+    /// Returns the entry of the node of this id, or `WrongNode` if the chain never had it.
     pub(crate) fn to(&self, id: NodeId) -> Result<&Way<C>, Refusal>
         ensures found { IfOk result (λ way. find (λ w. w.name.node == id) self.now.nodes.items ≡ Some way.now) }
         ensures err { IfErr result (λ e. (e ≡ Refusal.WrongNode) × (find (λ w. w.name.node == id) self.now.nodes.items ≡ None)) }
@@ -87,8 +88,8 @@ impl<C: Core> Ways<C> {
         Err(Refusal::WrongNode)
     }
 
-    /// Nothing more goes to the workers of the node of this id, and unless the node is kept it is let go. The ways to the others
-    /// stay as they are, and so does what an open store has.
+    /// Drops the senders of the node of this id, and the node too unless `keep` is set. The other
+    /// entries and the parts of an open store stay.
     fn retire(&mut self, id: NodeId, keep: bool)
         ensures nodes { self.new.nodes.items ≡ map (retired id keep) self.old.nodes.items }
         ensures open { self.new.open ≡ self.old.open }
@@ -98,7 +99,7 @@ impl<C: Core> Ways<C> {
         }
     }
 
-    /// Nothing more goes in. The nodes stay.
+    /// Drops the senders of all nodes and the parts of an open store. The nodes stay.
     fn close(&mut self)
         ensures nodes { self.new.nodes.items ≡ map shut self.old.nodes.items }
         ensures open { IsNone self.new.open }
@@ -111,7 +112,8 @@ impl<C: Core> Ways<C> {
 }
 
 impl<C: Core> Way<C> {
-    /// Something goes to the node, unless it has no worker or what is brought need not wait there.
+    /// Brings something to the node, unless the node was removed, or one waits already that stands
+    /// for it.
     fn bring<R: Wait>(&self, rt: &R, brought: Brought) {
         if let (Some(node), Some(entrances)) = (&self.node, &self.entrances) {
             if let Some(waiting) = node.admit(rt, brought) {
@@ -121,7 +123,7 @@ impl<C: Core> Way<C> {
     }
 }
 
-/// Something goes into a queue, or is lost for want of memory.
+/// Puts an item into a node's queue. Out of memory, the item is lost.
 fn put_on_link<R: Wait, C: Core>(
     rt: &R,
     node: &RunningNode<C>,
@@ -135,7 +137,8 @@ fn put_on_link<R: Wait, C: Core>(
     }
 }
 
-/// An ask goes into a queue. Where it cannot its caller is told.
+/// Queues a request. Refused with `Memory` when out of memory and with `Closed` if the queue has no
+/// reader; no completion comes then.
 fn put_in<R: Wait>(rt: &R, entrances: &Entrances, asked: QueuedAsk) -> Result<(), Refusal>
     ensures { IfErr result (λ e. (e ≡ Refusal.Memory) ⊎ (e ≡ Refusal.Closed)) }
 {
@@ -146,7 +149,7 @@ fn put_in<R: Wait>(rt: &R, entrances: &Entrances, asked: QueuedAsk) -> Result<()
     }
 }
 
-/// An ask that was not queued is refused in hand, so no letter comes.
+/// Takes back a request that was not queued, and returns the refusal: no completion comes.
 pub(crate) fn take_back<R: Wait>(rt: &R, asked: QueuedAsk, refusal: Refusal) -> Result<(), Refusal>
     ensures { result ≡ Err refusal }
 {
@@ -160,7 +163,7 @@ pub(crate) fn take_back<R: Wait>(rt: &R, asked: QueuedAsk, refusal: Refusal) -> 
     Err(refusal)
 }
 
-/// The members of the membership with which a cell was opened; none where it had no membership.
+/// Returns the members with which a cell was opened, or none if it had no membership.
 fn first_members(opening: &Opening) -> &[NodeId]
     ensures { result.now ≡ members_of opening.now.config }
 {
@@ -171,7 +174,8 @@ fn first_members(opening: &Opening) -> &[NodeId]
 }
 
 impl<C: Core> Chain<C> {
-    /// Whether a master's cell was opened as that of this chain: a lock tells a proof nothing of what it holds.
+    /// Returns whether a master's cell was opened as that of this chain. A proof knows nothing of
+    /// what a lock holds, so this is tested.
     pub(crate) fn has_opened(&self, opening: &Opening) -> bool
         ensures { IsTrue result ↔ (first_master opening.now ≡ opened self.now.id self.now.first.members) }
     {
@@ -179,8 +183,9 @@ impl<C: Core> Chain<C> {
             && are_same(first_members(opening), self.first.members.as_slice())
     }
 
-    /// The node of this id: `Closed` where the store is, `WrongNode` where the chain never had it, `Stopped` where it was
-    /// removed and let go.
+    /// Returns the node of this id. Refused with `Closed` if the store is closed, `WrongNode` if
+    /// the chain never had the node, `Stopped` if it was removed and dropped, and `Memory` when out
+    /// of memory.
     pub(crate) fn node<R: Wait>(&self, rt: &R, id: NodeId) -> Result<Arc<RunningNode<C>>, Refusal>
         ensures { IfErr result (λ e. IsMissed e) }
     {
@@ -192,8 +197,8 @@ impl<C: Core> Chain<C> {
         }
     }
 
-    /// An ask is queued for a node. Refused in hand, so that no letter comes: as `node` is, and `Memory`; `Stopped` where
-    /// the node was removed.
+    /// Queues a request for a node. Refused as `node` is, with `Stopped` also for a removed node
+    /// that is kept; no completion comes then.
     pub(crate) fn enqueue<R: Wait>(
         &self,
         rt: &R,
@@ -215,7 +220,8 @@ impl<C: Core> Chain<C> {
         }
     }
 
-    /// All nodes that the chain has. `Closed` where the store is.
+    /// Returns all nodes that the chain has. Refused with `Closed` if the store is closed, and with
+    /// `Memory`.
     pub(crate) fn nodes<R: Wait>(
         &self,
         rt: &R,
@@ -226,7 +232,8 @@ impl<C: Core> Chain<C> {
         Ok(ways.all(alloc)?)
     }
 
-    /// The same of a store that whoever asks has not closed. It fails for want of memory alone.
+    /// Returns all nodes that the chain has, of a store that is known to be open. Fails only when
+    /// out of memory.
     pub(crate) fn all_nodes<R: Wait>(
         &self,
         rt: &R,
@@ -235,7 +242,8 @@ impl<C: Core> Chain<C> {
         self.ways.read(rt).all(alloc)
     }
 
-    /// A sender for a worker to keep as long as it works. `Closed` where the store is.
+    /// Returns a sender for a worker to keep as long as it works. Refused with `Closed` if the
+    /// store is closed, and with `Memory`.
     pub(crate) fn alive<R: Wait>(&self, rt: &R) -> Result<Sender<()>, Refusal>
         ensures { IfErr result (λ e. (e ≡ Refusal.Closed) ⊎ (e ≡ Refusal.Memory)) }
     {
@@ -243,7 +251,8 @@ impl<C: Core> Chain<C> {
         Ok(ways.open()?.alive.clone()?)
     }
 
-    /// Something goes to the node of this id. It is lost where there is none, or no memory.
+    /// Brings something to the node of this id. It is lost if there is no such node, and when out
+    /// of memory.
     pub(crate) fn bring<R: Wait>(&self, rt: &R, id: NodeId, brought: Brought) {
         let ways = self.ways.read(rt);
         if let Ok(way) = ways.to(id) {
@@ -251,7 +260,7 @@ impl<C: Core> Chain<C> {
         }
     }
 
-    /// The master and each running node are to tick.
+    /// Brings a tick to the master and to each running node.
     pub(crate) fn tick<R: Wait>(&self, rt: &R) {
         let ways = self.ways.read(rt);
         let Ok(open) = ways.open() else {
@@ -266,8 +275,9 @@ impl<C: Core> Chain<C> {
         self.bell.ring();
     }
 
-    /// There is room for the way to one more node. It stays for whoever has the master's lock: a join alone takes it, under
-    /// that lock. `Closed` where the store is, `Memory`.
+    /// Reserves room for the entry of one more node. The room stays while the caller has the
+    /// master's lock, since only a join takes it, under that lock. Refused with `Closed` if the
+    /// store is closed, and with `Memory`.
     pub(crate) fn make_room<R: Wait>(&self, rt: &R) -> Result<(), Refusal>
         ensures { IfErr result (λ e. (e ≡ Refusal.Closed) ⊎ (e ≡ Refusal.Memory)) }
     {
@@ -276,7 +286,7 @@ impl<C: Core> Chain<C> {
         Ok(ways.nodes.reserve(1)?)
     }
 
-    /// The way to a node that joined goes behind the others. Where there was room for it that does not fail.
+    /// Appends the entry of a node that joined. Does not fail if room was reserved.
     pub(crate) fn add<R: Wait>(&self, rt: &R, way: Way<C>) -> Result<(), Refusal>
         ensures { IfErr result (λ e. e ≡ Refusal.Memory) }
     {
@@ -284,20 +294,21 @@ impl<C: Core> Chain<C> {
         Ok(ways.nodes.push(way)?)
     }
 
-    /// Nothing more goes to the workers of the node of this id. Once their queues are empty they end. Where no audit will
-    /// want its cell, the node is let go by the chain.
+    /// Drops the senders of the node of this id, so that its workers end once their queues are
+    /// empty. Drops the node too, unless an audit will need its cell (`keep`).
     pub(crate) fn retire<R: Wait>(&self, rt: &R, id: NodeId, keep: bool) {
         self.ways.write(rt).retire(id, keep);
     }
 
-    /// From now on nothing goes in. Once their queues are empty the workers end; a carrier ends after its visit, and `sweep`
-    /// refuses the asks that are queued then.
+    /// Lets nothing in from now on. The workers end once their queues are empty. A chain thread
+    /// ends after its batch, and `sweep` refuses the requests that are queued then.
     pub(crate) fn close<R: Wait>(&self, rt: &R) {
         self.ways.write(rt).close();
         self.bell.change();
     }
 
-    /// Once no worker is left: whoever still waits is told that the store is closed, and so is who asks later.
+    /// Refuses with `Closed` all callers that still wait, and all that ask later. Called once no
+    /// worker is left.
     pub(crate) fn sweep<R: Wait>(&self, rt: &R, alloc: Global) {
         let mut ways = self.ways.write(rt);
         let nodes = mem::replace(&mut ways.nodes, Vec::new(alloc));
@@ -316,7 +327,8 @@ impl<C: Core> Chain<C> {
     }
 }
 
-/// Callers that wait at a node, and those whose asks wait there, are told that the store is closed, and so is who asks later.
+/// Refuses with `Closed` the callers that wait at a node, those whose requests are queued there,
+/// and all that ask later.
 fn empty<R: Wait, C: Core>(rt: &R, alloc: Global, node: &RunningNode<C>) {
     node.close();
     let mut seated = node.seat.lock(rt);
@@ -330,7 +342,7 @@ fn empty<R: Wait, C: Core>(rt: &R, alloc: Global, node: &RunningNode<C>) {
     refuse_queued(rt, node, &Refusal::Closed);
 }
 
-/// The callers whose asks wait at a node are refused.
+/// Refuses the callers whose requests are queued at a node.
 pub(crate) fn refuse_queued<R: Wait, C: Core>(rt: &R, node: &RunningNode<C>, refusal: &Refusal) {
     for _ in rt.forever() {
         let Ok(asked) = node.queues.asks.try_recv(rt) else {

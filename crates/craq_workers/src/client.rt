@@ -1,4 +1,5 @@
-//! `Client`: calls of a store from any thread, one at a time, with the pass that they raise.
+//! `Client`: blocking calls of a store from any thread, one at a time, with the pass that they
+//! raise.
 ghost use Rattle.std.specs.Prelude.{◌≡◌, ◌⊎◌, ◌≤◌, ◌↔◌, max, Err, IfErr, IfOk, Ok, OnErr, length};
 ghost use Rattle.craq_calls.specs.Calls.{IsCallOf};
 ghost use Rattle.craq_calls.specs.Refused.{CanRefuse};
@@ -18,14 +19,14 @@ use std::alloc::Global;
 use std::marker::Model;
 use std::sync::{Arc, Wait};
 
-/// The token of the one call whose letter a client's box is made for.
+/// The token of the one call for whose completion a client makes a queue.
 const ONLY: Token = Token {
     connection: 0,
     call: 0,
 };
 
-/// A client of a store, with the largest stamp that it has seen: its pass. A contract sees it, and how many chains the store
-/// has.
+/// A client of a store, with its pass: the largest stamp that it has seen. A contract sees the pass
+/// and how many chains the store has.
 #[derive(Drop)]
 pub struct Client<C: Core, G: Gate> {
     alloc: Global,
@@ -43,7 +44,7 @@ impl<C: Core, G: Gate> Model for Client<C, G> {
 }
 
 impl<C: Core, G: Gate> Client<C, G> {
-    /// A client with this pass.
+    /// Makes a client with this pass. Takes no memory.
     pub(crate) fn new(alloc: Global, shared: Arc<Shared<C, G>>, pass: Pass) -> Self
         ensures { result ≡ record { chains = length shared.value.chains.items; carried = shared.value.carried; pass = pass } }
     {
@@ -54,25 +55,32 @@ impl<C: Core, G: Gate> Client<C, G> {
         }
     }
 
-    /// The client's pass. It takes no memory.
+    /// Returns the client's pass. Takes no memory.
     pub fn pass(&self) -> Pass
         ensures { result ≡ self.now.pass }
     {
         self.pass
     }
 
-    /// Asks a node, shows the client's pass, and waits for the answer: the answer, and the receipt of the call, which
-    /// holds that ask, that answer and the pass that was shown. The ask's stamp is above that pass, the answer's not below
-    /// the ask's, and the client's pass is then raised to the answer's stamp.
+    /// Sends a request to a node with the client's pass, and waits for the reply. Returns the
+    /// answer and the receipt of the call, which has this request, this answer and the pass.
     ///
-    /// After a lost message it waits until a later tick of the chain's nodes sends that again (`Store::tick`): for good, where
-    /// nobody ticks the store.
+    /// The request's stamp is above the pass, and the answer's stamp is not below the request's.
+    /// The client's pass is then raised to the answer's stamp. After a lost message the call waits
+    /// until a later tick sends that message again (`Store::tick`): forever, if nobody ticks the
+    /// store.
     ///
-    /// Refused, with the pass as it was: `UnknownChain` exactly where the store has no such chain; else `Closed` where the store
-    /// is; `WrongNode` where the chain never had the node; as `Desk::take` refuses the ask; `Stopped` where the node stops before
-    /// the answer; `Closed` where the store is closed before it, or what came is another call's; `Memory` where a growth was
-    /// refused. After `Stopped`, `Memory` or `Closed` an update may or may not have taken effect, and its number may be asked
-    /// again.
+    /// Refused, with the pass as it was, with:
+    /// - `UnknownChain` exactly if the store has no such chain;
+    /// - `WrongNode` if the chain never had the node;
+    /// - the refusals of `Desk::take`;
+    /// - `Stopped` if the node stops before it answers;
+    /// - `Closed` if the store is closed, or closes before the answer, or what came is of another
+    ///   call;
+    /// - `Memory` when out of memory.
+    ///
+    /// After `Stopped`, `Memory` or `Closed` an update may or may not have taken effect. It may be
+    /// sent again with its number.
     pub fn call<R: Wait>(
         &mut self,
         rt: &R,
@@ -96,7 +104,8 @@ impl<C: Core, G: Gate> Client<C, G> {
         Ok((answer, receipt))
     }
 
-    /// The answer to an ask, and the receipt of the call. The chain is looked for first.
+    /// Looks for the chain, sends the request, and waits. Returns the answer and the receipt of the
+    /// call.
     fn wait_for<R: Wait>(
         &self,
         rt: &R,
@@ -115,7 +124,7 @@ impl<C: Core, G: Gate> Client<C, G> {
         Ok((answer, receipt))
     }
 
-    /// What is replied to an ask, in hand or by a letter into a box of its own.
+    /// Returns the reply to a request, with a new completion queue to wait at.
     fn reply<R: Wait>(&self, rt: &R, chain: &Chain<C>, node: &NodeName, ask: &Ask) -> Outcome
         ensures refused { IfErr result (λ e. CanRefuse ask.now e) }
         ensures called { IsCalled C.represents self.now.carried ask.now self.now.pass only result }
@@ -124,7 +133,7 @@ impl<C: Core, G: Gate> Client<C, G> {
         self.reply_into(rt, chain, node, ask, &letters)
     }
 
-    /// What is replied to an ask, in hand or by a letter into this box.
+    /// Returns the reply to a request: at once, or the completion that comes into this queue.
     fn reply_into<R: Wait>(
         &self,
         rt: &R,
@@ -150,7 +159,8 @@ impl<C: Core, G: Gate> Client<C, G> {
     }
 }
 
-/// The reply to this ask in the letter that will come. What the letter refuses otherwise than the ask may be refused is `Closed`.
+/// Waits for the completion and returns its reply. A refusal that this request cannot have becomes
+/// `Closed`.
 fn wait_for_letter<R: Wait>(rt: &R, letters: &Letterbox, ask: &Ask) -> Outcome
     ensures { IfErr result (λ e. CanRefuse ask.now e) }
 {

@@ -1,59 +1,67 @@
-//! `Gate`: what is called round each piece of work, so that tests can hold it up; `OpenGate` for all others.
+//! `Gate`: hooks round each piece of work, by which tests delay work and inject faults; `OpenGate`
+//! for all other programs.
 use craq_names::NodeName;
 
-/// Which worker of a node works. A tick, and all that a chain's master does, counts among deliveries.
+/// The kind of a piece of work. A tick, and all that a chain's master does, is a delivery.
 #[derive(Clone, Copy, Debug, PartialEq, Eq)]
 pub enum Work {
-    /// The asks of clients.
+    /// The requests of clients.
     Asks,
     /// The messages that arrive.
     Deliveries,
 }
 
-/// What is called round each piece of work of a store's workers. A gate that waits holds the worker up, and can do so
-/// only by a handle that it keeps. The counts are each worker's own, from 0, without gaps. Where callers take their steps
-/// themselves they count the pieces of their node's ask worker, in no fixed order. Where one thread carries a chain, a
-/// piece is a turn of a node: the messages and the asks that wait there, 16 of each at most, counted among its asks. A node
-/// whose lock another thread holds may be passed by: then `before` and `after` are called, with a count, and not `within`.
+/// Hooks round each piece of work of a store's workers. A hook that waits delays the worker; to
+/// wait it needs a handle of its own.
+///
+/// Each worker counts its pieces from 0, without gaps. Callers that take their steps themselves
+/// count among their node's requests, in no fixed order. A piece of a chain thread is a batch of a
+/// node: at most 32 messages and 8 requests that wait there, counted among its requests. A node
+/// whose lock another thread has may be passed by: then `before` and `after` are called, with a
+/// count, and `within` is not.
 pub trait Gate: Drop {
-    /// Before a piece of work, with no lock held.
+    /// Called before a piece of work, with no lock held.
     fn before(&self, node: NodeName, work: Work, count: u64);
 
-    /// After it, with no lock held.
+    /// Called after a piece of work, with no lock held.
     fn after(&self, node: NodeName, work: Work, count: u64);
 
-    /// Right before the first step of the piece, with that node's (or that master's) lock held and no other.
+    /// Called right before the first step of a piece, with the lock of that node or master held and
+    /// no other.
     fn within(&self, node: NodeName, work: Work, count: u64);
 
-    /// Whether a message goes over the link from one node, or the master, to another. Where it does not it is lost.
+    /// Returns whether the link from one node, or the master, to another carries a message. If not,
+    /// the message is lost.
     fn carries(&self, from: NodeName, to: NodeName) -> bool;
 
-    /// Whether a message that goes over the link from one node, or the master, to another is sent twice. It comes twice then, but
-    /// where it is an acknowledgement or says that its sender is not ready: of those that wait the last alone is taken.
+    /// Returns whether the link from one node, or the master, to another sends a message twice. It
+    /// then comes twice. Of acknowledgements that wait, and of words of a node that is not ready,
+    /// only the last is taken.
     fn repeats(&self, _from: NodeName, _to: NodeName) -> bool {
         false
     }
 
-    /// Whether a caller takes the step of its ask itself, in the place of the node's ask worker. Where it does not, every
-    /// ask goes through that worker. Where one thread carries a chain it is not looked at.
+    /// Returns whether callers take the steps of their requests themselves. If so, no node has a
+    /// worker for requests; if not, every request goes through such a worker. A store asks this
+    /// once, when it starts, unless one thread carries each chain.
     fn in_place(&self) -> bool {
         false
     }
 
-    /// Whether one thread a chain takes the steps of all its nodes, in turns, in place of two threads a node. Callers then
-    /// take the steps of their reads themselves, and those of few updates while that thread sleeps. A store asks this once, when it
-    /// starts.
+    /// Returns whether one thread for each chain takes the steps of all its nodes. Callers then
+    /// take the steps of their reads themselves, and, while that thread sleeps, those of few
+    /// updates. A store asks this once, when it starts.
     fn carried(&self) -> bool {
         false
     }
 }
 
-/// A gate that lets everything pass.
+/// A gate that neither delays work nor loses messages.
 #[derive(Drop)]
 pub struct OpenGate {
-    /// Whether callers take their steps themselves.
+    /// Callers take the steps of their requests themselves.
     pub in_place: bool,
-    /// Whether one thread a chain takes the steps of all its nodes.
+    /// One thread for each chain takes the steps of all its nodes.
     pub carried: bool,
 }
 

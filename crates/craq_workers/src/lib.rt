@@ -1,5 +1,6 @@
-//! A store that runs: the nodes of its chains in threads of their own or in one a chain, each chain's master in one, the
-//! links between them, and clients that call from any thread.
+//! A store that runs. Its nodes' steps are taken by threads of the nodes, by one thread for each
+//! chain, or by callers; each chain's master has a thread. Links between nodes are channels.
+//! Clients call from any thread.
 //! Code that runs in the programs.
 #![tactic(auto)]
 
@@ -14,6 +15,7 @@ mod opening;
 mod pending;
 mod replies;
 mod shared;
+mod staff;
 mod steps;
 mod store;
 mod told;

@@ -1,4 +1,5 @@
-//! `RunningNode`: a node as its workers and its callers share it: the seat, what is known of its life, the ways to it.
+//! `RunningNode`: a node as its workers and callers share it: its locked seat, its queues and the
+//! state of its life; and `Way`, the routing entry of a node.
 ghost use Rattle.std.specs.Prelude.{◌≡◌, ◌⊎◌, None, Some, if◌then◌else◌};
 ghost use Rattle.craq_model.specs.Plain.{Plain};
 ghost use Rattle.craq_seat.specs.Cells.{receipt_of};
@@ -18,21 +19,21 @@ use std::alloc::Global;
 use std::sync::atomic::{AtomicBool, AtomicU64, Ordering};
 use std::sync::{Arc, Wait};
 
-/// What is brought to a node.
+/// An item brought to a node.
 #[derive(Drop)]
 pub(crate) enum Brought {
     /// An encoded message.
     Message(Bytes),
     /// An encoded acknowledgement.
     Ack(Bytes),
-    /// An encoded message which says that its sender is not ready.
+    /// An encoded message that says that its sender is not ready.
     Blank(Bytes),
-    /// The node is to send again what its neighbours may lack.
+    /// The node has to send again what its neighbours may lack.
     Tick,
 }
 
 impl Brought {
-    /// An encoded message of this kind.
+    /// Makes the item of an encoded message of this class.
     pub(crate) fn of(kind: Kind, bytes: Bytes) -> Self
         ensures ack { kind ≡ Kind.Ack → result ≡ Brought.Ack bytes }
         ensures blank { kind ≡ Kind.Blank → result ≡ Brought.Blank bytes }
@@ -46,33 +47,33 @@ impl Brought {
     }
 }
 
-/// What waits for the worker of a node's deliveries.
+/// An item in the queue of a node's deliveries.
 #[derive(Drop)]
 pub(crate) enum Waiting {
     /// An encoded message.
     Message(Bytes),
-    /// The last acknowledgement, which the node keeps.
+    /// An acknowledgement: the last one, which the node keeps beside the queue.
     Ack,
-    /// The last word of a node that is not ready, which the node keeps.
+    /// The word of a node that is not ready: the last one, which the node keeps beside the queue.
     Blank,
     /// A tick.
     Tick,
 }
 
-/// What waits at a node: the asks, and what was brought.
+/// The queues of a node: requests, and what was brought.
 #[derive(Drop)]
 pub(crate) struct Queues {
     pub asks: Receiver<QueuedAsk>,
     pub links: Receiver<Waiting>,
 }
 
-/// A node that runs: its seat, what waits there, and what is known of its life.
+/// A node that runs: its locked seat, its queues, and the state of its life.
 #[derive(Drop)]
 pub(crate) struct RunningNode<C: Core> {
     pub name: NodeName,
     pub seat: Seat<C, Addressee>,
     pub queues: Queues,
-    /// How many pieces of ask work have begun.
+    /// How many pieces of work on requests have begun.
     pieces: AtomicU64,
     halted: AtomicBool,
     closed: AtomicBool,
@@ -83,6 +84,7 @@ pub(crate) struct RunningNode<C: Core> {
 }
 
 impl<C: Core> RunningNode<C> {
+    /// Makes a node that runs and has nothing to do yet. Takes no memory.
     pub(crate) fn new(alloc: Global, name: NodeName, desk: Desk<C>, queues: Queues) -> Self
         ensures { result.name ≡ name }
     {
@@ -99,39 +101,42 @@ impl<C: Core> RunningNode<C> {
         }
     }
 
-    /// What shows that the node has stopped, and the step in which it did. None where it runs.
+    /// Returns the proof that the node has stopped and the receipt of the step in which it did, or
+    /// `None` if it runs.
     pub(crate) fn stopped<R: Wait>(&self, rt: &R) -> Option<(StopReceipt, Receipt)> {
         let seated = self.seat.lock(rt);
         stop_of(seated.desk.cell())
     }
 
-    /// The count of the next piece of ask work.
+    /// Returns the count of the next piece of work on requests.
     pub(crate) fn next_piece(&self) -> u64 {
         self.pieces.fetch_add(1, Ordering::SeqCst)
     }
 
-    /// The node has halted.
+    /// Marks the node as halted.
     pub(crate) fn halt(&self) {
         self.halted.store(true, Ordering::SeqCst);
     }
 
-    /// Whether the node is known to have halted.
+    /// Returns whether the node is marked as halted.
     pub(crate) fn is_halted(&self) -> bool {
         self.halted.load(Ordering::SeqCst)
     }
 
-    /// The node takes no ask from now on.
+    /// Marks the node as closed: it takes no request from now on.
     pub(crate) fn close(&self) {
         self.closed.store(true, Ordering::SeqCst);
     }
 
-    /// Whether the node takes no ask any more. Asked under its lock, it stays so while the lock is held.
+    /// Returns whether the node is closed. Under its lock the reply stays true while the lock is
+    /// held.
     pub(crate) fn is_closed(&self) -> bool {
         self.closed.load(Ordering::SeqCst)
     }
 
-    /// What is to wait in the queue for what is brought: of ticks, acknowledgements, and words of a node that is not ready, one
-    /// at most.
+    /// Returns the queue item for what is brought, or `None` if one waits already that stands for
+    /// it: at most one tick, one acknowledgement and one word of a node that is not ready wait at a
+    /// time.
     pub(crate) fn admit<R: Wait>(&self, rt: &R, brought: Brought) -> Option<Waiting>
         ensures { WaitsAs brought result }
     {
@@ -143,12 +148,12 @@ impl<C: Core> RunningNode<C> {
         }
     }
 
-    /// A tick that waited is taken: another may wait.
+    /// Lets another tick wait: the one that waited is taken.
     pub(crate) fn tick_taken(&self) {
         self.ticks.store(false, Ordering::SeqCst);
     }
 
-    /// What was admitted is lost on its way to the queue: another of its kind may wait.
+    /// Lets another item of this kind wait: this one was lost on its way to the queue.
     pub(crate) fn lose(&self, waiting: Waiting) {
         match waiting {
             Waiting::Message(_) => (),
@@ -158,21 +163,23 @@ impl<C: Core> RunningNode<C> {
         }
     }
 
-    /// Whether anything waits at the node.
+    /// Returns whether anything waits at the node.
     pub(crate) fn has_work(&self) -> bool {
         !self.queues.links.is_empty() || !self.queues.asks.is_empty()
     }
 }
 
-/// The ways to what waits at a node.
+/// The senders of a node's queues.
 #[derive(Drop)]
 pub(crate) struct Entrances {
     pub asks: Sender<QueuedAsk>,
     pub links: Sender<Waiting>,
 }
 
-/// A node, and the ways to it, none once it was removed: its workers then end. Its cell stays where an audit merges its
-/// journal, and else goes with the node.
+/// The routing entry of a node: the node, and the senders of its queues.
+///
+/// A removed node has no senders, so its workers end. It is kept only if an audit has to merge its
+/// journal.
 #[derive(Drop)]
 pub(crate) struct Way<C: Core> {
     pub name: NodeName,
@@ -181,7 +188,8 @@ pub(crate) struct Way<C: Core> {
 }
 
 impl<C: Core> Way<C> {
-    /// If this is the way to the node of this id, nothing more goes to its workers; and unless the node is kept, it is let go.
+    /// Drops the senders if this is the entry of the node of this id, and the node too unless
+    /// `keep` is set.
     pub(crate) fn retire(&mut self, id: NodeId, keep: bool)
         ensures { self.new ≡ retired id keep self.old }
     {
@@ -194,7 +202,8 @@ impl<C: Core> Way<C> {
     }
 }
 
-/// What shows that a cell's node has stopped, and the step in which it did: it took none after it. None where it runs.
+/// Returns the proof that a cell's node has stopped and the receipt of its last step, in which it
+/// did, or `None` if it runs.
 fn stop_of<C: Core>(cell: &Cell<C>) -> Option<(StopReceipt, Receipt)>
     ensures { (p : Plain) → C.represents cell.now.inside p → result ≡ (if p.running then None else Some (p.name, receipt_of cell.now)) }
 {

@@ -1,4 +1,5 @@
-//! Chains and nodes before any step; called by `store` at a start and at a join.
+//! Opens chains and nodes, before any step, and lists their workers; called by `store` at a start
+//! and at a join.
 ghost use Rattle.std.specs.Prelude.{◌≡◌, ◌++◌, ◌∷◌, [], IfErr, IfOk, IsSome, OnOk, Some, map, string_bytes};
 ghost use Rattle.std.specs.List.{AllByRecursion};
 ghost use Rattle.std.specs.Option.{option_copied, option_map};
@@ -6,12 +7,13 @@ ghost use Rattle.craq_epochs.specs.Mastered.{opened};
 ghost use Rattle.craq_model.specs.Members.{IsMembership};
 ghost use Rattle.craq_node.specs.Represented.{CanOpen};
 ghost use Rattle.craq_place.specs.Plan.{IsPlan};
-ghost use Rattle.craq_workers.specs.Posts.{Master, chain_posts, member_posts, node_posts, own_posts, post_of};
+ghost use Rattle.craq_workers.specs.Posts.{Links, Master, chain_posts, member_posts, node_posts, post_of};
 ghost use Rattle.craq_workers.specs.Stores.{masters_of};
 
 use crate::bell::Bell;
 use crate::chain::{Chain, Open, Ways};
 use crate::node::{Entrances, Queues, RunningNode, Way};
+use crate::staff::Staff;
 use crate::work::Worker;
 use craq_held::ChainBook;
 use craq_model::Config;
@@ -23,16 +25,15 @@ use crossbeam_channel::Sender;
 use std::alloc::{AllocError, Global};
 use std::sync::{Arc, Mutex, RwLock};
 
-/// What a store keeps, and who takes its steps.
+/// What a store keeps, and which threads take its steps.
 #[derive(Clone, Copy)]
 pub(crate) struct Form {
-    /// Its cells keep journals.
+    /// The cells keep journals.
     pub journal: bool,
-    /// One thread carries each chain.
-    pub carried: bool,
+    pub staff: Staff,
 }
 
-/// The way to a node of this desk. It fails for want of memory alone.
+/// Makes the routing entry of a node of this desk. Fails only when out of memory.
 fn way_to<C: Core>(alloc: Global, name: &NodeName, desk: Desk<C>) -> Result<Way<C>, AllocError>
     ensures name { IfOk result (λ way. way.name ≡ name.now) }
     ensures node { IfOk result (λ way. option_map (λ n. n.value.name) way.node ≡ Some name.now) }
@@ -52,8 +53,8 @@ fn way_to<C: Core>(alloc: Global, name: &NodeName, desk: Desk<C>) -> Result<Way<
     })
 }
 
-/// A node before its first step, in a cell that is opened as `Cell::open` has it. It fails for want of memory alone
-/// (`Memory`).
+/// Opens a node in a cell, before its first step (`Cell::open`), and makes its routing entry.
+/// Refused with `Memory` only.
 pub(crate) fn open_node<C: Core>(
     alloc: Global,
     name: &NodeName,
@@ -71,50 +72,60 @@ pub(crate) fn open_node<C: Core>(
     Ok(way_to(alloc, name, Desk::new(alloc, cell))?)
 }
 
-/// The two workers of a node go after those that are there. It fails for want of memory alone.
-pub(crate) fn add_workers<C: Core>(
-    way: &Way<C>,
+/// Adds the worker of a node that takes what arrives there. Fails only when out of memory.
+fn add_links_worker<C: Core>(
+    node: &Arc<RunningNode<C>>,
     workers: &mut Vec<Worker<C>>,
 ) -> Result<(), AllocError>
-    ensures { IfOk result (λ _. map post_of workers.new.items ≡ map post_of workers.old.items ++ node_posts (option_map (λ n. n.value.name) way.now.node)) }
+    ensures { IfOk result (λ _. map post_of workers.new.items ≡ map post_of workers.old.items ++ Links node.now.value.name ∷ []) }
 {
-    if let Some(node) = &way.node {
-        workers.push(Worker::Asks(Arc::try_clone(node)?))?;
-        workers.push(Worker::Links(Arc::try_clone(node)?))?;
-    }
+    workers.push(Worker::Links(Arc::try_clone(node)?))?;
     Ok(())
 }
 
-/// The worker that carries a chain goes after those that are there, if one does. It fails for want of memory alone.
+/// Adds a node's own workers behind those that are there. Fails only when out of memory.
+pub(crate) fn add_workers<C: Core>(
+    way: &Way<C>,
+    staff: Staff,
+    workers: &mut Vec<Worker<C>>,
+) -> Result<(), AllocError>
+    ensures { IfOk result (λ _. map post_of workers.new.items ≡ map post_of workers.old.items ++ node_posts staff (option_map (λ n. n.value.name) way.now.node)) }
+{
+    let Some(node) = &way.node else {
+        return Ok(());
+    };
+    match staff {
+        Staff::TwoPerNode => {
+            workers.push(Worker::Asks(Arc::try_clone(node)?))?;
+            workers.push(Worker::Links(Arc::try_clone(node)?))?;
+            Ok(())
+        }
+        Staff::OnePerNode => add_links_worker(node, workers),
+        Staff::OnePerChain => Ok(()),
+    }
+}
+
+/// Adds the worker of a whole chain behind those that are there, if the store has such workers.
+/// Fails only when out of memory.
 fn add_carrier<C: Core>(
     chain: ChainId,
     form: Form,
     workers: &mut Vec<Worker<C>>,
 ) -> Result<(), AllocError>
-    ensures { IfOk result (λ _. map post_of workers.new.items ≡ map post_of workers.old.items ++ member_posts form.carried chain []) }
+    ensures { IfOk result (λ _. map post_of workers.new.items ≡ map post_of workers.old.items ++ member_posts form.staff chain []) }
 {
-    if form.carried {
-        workers.push(Worker::Carrier(chain))?;
+    match form.staff {
+        Staff::TwoPerNode => Ok(()),
+        Staff::OnePerNode => Ok(()),
+        Staff::OnePerChain => {
+            workers.push(Worker::Carrier(chain))?;
+            Ok(())
+        }
     }
-    Ok(())
 }
 
-/// A node's own workers go after those that are there, unless its chain is carried. It fails for want of memory alone.
-fn add_own_workers<C: Core>(
-    way: &Way<C>,
-    form: Form,
-    workers: &mut Vec<Worker<C>>,
-) -> Result<(), AllocError>
-    ensures { IfOk result (λ _. map post_of workers.new.items ≡ map post_of workers.old.items ++ own_posts form.carried (option_map (λ n. n.value.name) way.now.node)) }
-{
-    if !form.carried {
-        add_workers(way, workers)?;
-    }
-    Ok(())
-}
-
-/// The members of a first membership, at stamp 0, and their workers after those that are there, or the one that carries
-/// them all. It fails for want of memory alone (`Memory`).
+/// Opens the members of a first membership, at stamp 0, and appends their workers to those that are
+/// there. Refused with `Memory` only.
 fn open_members<C: Core>(
     alloc: Global,
     chain: ChainId,
@@ -125,7 +136,7 @@ fn open_members<C: Core>(
     requires { (config.now.epoch ≡ 1) × IsMembership config.now.members }
     ensures names { IfOk result (λ ways. map (λ w. w.name) ways.items ≡ map (λ n. record { chain = chain; node = n }) config.now.members) }
     ensures open { IfOk result (λ ways. AllByRecursion (λ w. (option_map (λ n. n.value.name) w.node ≡ Some w.name) × IsSome w.entrances) ways.items) }
-    ensures workers { IfOk result (λ _. map post_of workers.new.items ≡ map post_of workers.old.items ++ member_posts form.carried chain config.now.members) }
+    ensures workers { IfOk result (λ _. map post_of workers.new.items ≡ map post_of workers.old.items ++ member_posts form.staff chain config.now.members) }
     ensures err { IfErr result (λ e. e ≡ Refusal.Memory) }
 {
     add_carrier(chain, form, workers)?;
@@ -133,14 +144,14 @@ fn open_members<C: Core>(
     for node in config.members.as_slice() {
         let name = NodeName { chain, node: *node };
         let way = open_node(alloc, &name, Some(config), form.journal, Stamp::new(0))?;
-        add_own_workers(&way, form, workers)?;
+        add_workers(&way, form.staff, workers)?;
         nodes.push(way)?;
     }
     Ok(nodes)
 }
 
-/// A chain of these members before any step, and its workers after those that are there. It fails for want of memory
-/// alone (`Memory`).
+/// Opens a chain of these members, before any step, and appends its workers to those that are
+/// there. Refused with `Memory` only.
 fn open_chain<C: Core>(
     alloc: Global,
     id: ChainId,
@@ -153,7 +164,7 @@ fn open_chain<C: Core>(
     requires { IsMembership members.now }
     ensures name { IfOk result (λ c. string_bytes c.name ≡ name.now) }
     ensures master { IfOk result (λ c. opened c.id c.first.members ≡ opened id members.now) }
-    ensures workers { IfOk result (λ _. map post_of workers.new.items ≡ map post_of workers.old.items ++ (member_posts form.carried id members.now ++ Master id ∷ [])) }
+    ensures workers { IfOk result (λ _. map post_of workers.new.items ≡ map post_of workers.old.items ++ (member_posts form.staff id members.now ++ Master id ∷ [])) }
     ensures err { IfErr result (λ e. e ≡ Refusal.Memory) }
 {
     let name = String::from_str(alloc, name)?;
@@ -176,7 +187,8 @@ fn open_chain<C: Core>(
     })
 }
 
-/// The chains of a plan before any step, by id, and all their workers. They fail for want of memory alone (`Memory`).
+/// Opens the chains of a plan, by id, before any step, and appends all their workers. Refused with
+/// `Memory` only.
 pub(crate) fn open_chains<C: Core>(
     alloc: Global,
     plan: &Plan,
@@ -187,7 +199,7 @@ pub(crate) fn open_chains<C: Core>(
     requires { IsPlan plan.now }
     ensures names { IfOk result (λ chains. map (λ c. string_bytes c.name) chains.items ≡ map (λ c. c.0) plan.now) }
     ensures masters { IfOk result (λ chains. map (λ c. opened c.id c.first.members) chains.items ≡ masters_of 0 plan.now) }
-    ensures workers { IfOk result (λ _. map post_of workers.new.items ≡ map post_of workers.old.items ++ chain_posts form.carried 0 plan.now) }
+    ensures workers { IfOk result (λ _. map post_of workers.new.items ≡ map post_of workers.old.items ++ chain_posts form.staff 0 plan.now) }
     ensures err { IfErr result (λ e. e ≡ Refusal.Memory) }
 {
     let mut chains = Vec::new(alloc);

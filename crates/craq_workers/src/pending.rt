@@ -1,18 +1,19 @@
-//! `Pending`: the last message of a kind of which one waits at a node at most; for `RunningNode`.
+//! `Pending`: the last message of a class of which at most one waits at a node; for `RunningNode`.
 use bytes::Bytes;
 use std::sync::atomic::{AtomicBool, Ordering};
 use std::sync::{Mutex, Wait};
 
-/// What neighbours say again and again: of what waits, the last is enough, since links may lose the others.
+/// A message that neighbours repeat. Of those that wait only the last is kept, since links may lose
+/// the others.
 #[derive(Drop)]
 pub(crate) struct Pending {
     last: Mutex<Option<Bytes>>,
-    /// Something in the node's queue stands for it.
+    /// An item in the node's queue stands for the message.
     waits: AtomicBool,
 }
 
 impl Pending {
-    /// Nothing waits.
+    /// Makes a place where nothing waits. Takes no memory.
     pub(crate) fn new() -> Self {
         Pending {
             last: Mutex::new(None),
@@ -20,19 +21,20 @@ impl Pending {
         }
     }
 
-    /// An encoded message is the last from now on. Whether something is to stand for it in the queue, where nothing does.
+    /// Keeps an encoded message in place of the one before. Returns whether the queue needs an item
+    /// that stands for it.
     pub(crate) fn put<R: Wait>(&self, rt: &R, bytes: Bytes) -> bool {
         let before = self.last.lock(rt).replace(bytes);
         drop(before);
         !self.waits.swap(true, Ordering::SeqCst)
     }
 
-    /// The last message, where one has come since this was asked.
+    /// Takes the last message, if one came since the last call.
     pub(crate) fn take<R: Wait>(&self, rt: &R) -> Option<Bytes> {
         self.last.lock(rt).take()
     }
 
-    /// From now on another may wait.
+    /// Lets another message wait from now on.
     pub(crate) fn open(&self) {
         self.waits.store(false, Ordering::SeqCst);
     }

@@ -1,4 +1,4 @@
-//! What the callers that a step answers are told, kept until its lock is free; for whoever takes a step.
+//! `Replies`: the replies of a step, kept until its lock is free; for whoever takes a step.
 ghost use Rattle.std.specs.Prelude.{◌≡◌, ◌++◌, ◌∷◌, [], None, Some, IfSome, IsTrue, false};
 ghost use Rattle.craq_workers.specs.Told.{IsReplyTo, Keeps, caller_under, reply_to, without_caller};
 
@@ -10,14 +10,14 @@ use std::alloc::{AllocFailed, Global};
 use std::marker::Model;
 use std::sync::Wait;
 
-/// How many replies there is room for once there is one.
+/// The room that is made for replies at the first one.
 const ROOM: usize = 16;
 
-/// The replies of a step, until they are told. Neither it nor a reply has a drop, so that each is told. A contract sees them in order,
-/// and whether room was ever short.
+/// The replies of a step, until they are sent. Neither it nor a reply has a drop, so each is sent.
+/// A contract sees them in order, and whether room was ever short.
 pub(crate) struct Replies {
     waiting: Vec<Told>,
-    /// There was no room for a reply, which was told at once.
+    /// There was no room for a reply, which was sent at once.
     short: bool,
 }
 
@@ -30,7 +30,7 @@ impl Model for Replies {
 }
 
 impl Replies {
-    /// No replies yet. It takes no memory.
+    /// Makes an empty list of replies. Takes no memory.
     pub(crate) fn new(alloc: Global) -> Self
         ensures { result ≡ record { replies = []; short = false } }
     {
@@ -40,7 +40,7 @@ impl Replies {
         }
     }
 
-    /// Room for replies is made at the first. Without memory there is none.
+    /// Reserves room for replies at the first one. Out of memory there is none.
     fn make_room(&mut self)
         ensures { self.new ≡ self.old }
     {
@@ -49,7 +49,7 @@ impl Replies {
         }
     }
 
-    /// A reply is kept behind the others, or given back where there is no room for it, and then room was short.
+    /// Keeps a reply behind the others. Out of memory, gives it back and marks room as short.
     fn keep(&mut self, told: Told) -> Option<Told>
         ensures kept { result ≡ None → (self.new.replies ≡ self.old.replies ++ told ∷ []) × (self.new.short ≡ self.old.short) }
         ensures back { IfSome result (λ t. (t ≡ told) × (self.new.replies ≡ self.old.replies) × IsTrue self.new.short) }
@@ -64,7 +64,7 @@ impl Replies {
         }
     }
 
-    /// A reply more. Where there is no room for it the caller is told at once.
+    /// Adds a reply. If there is no room for it, sends it at once.
     pub(crate) fn add<R: Wait>(&mut self, rt: &R, caller: Unanswered, outcome: Outcome)
         requires { IsReplyTo caller.ticket outcome }
         ensures { Keeps self.old (record { to = caller; outcome = outcome } ∷ []) self.new }
@@ -75,7 +75,8 @@ impl Replies {
         }
     }
 
-    /// The reply for the caller that waits under this ticket, who then waits no more. Where none does, nobody is told.
+    /// Adds the reply for the caller that waits under this ticket; it then waits no more. Drops the
+    /// outcome if no caller does.
     pub(crate) fn add_under<R: Wait>(
         &mut self,
         rt: &R,
@@ -93,7 +94,7 @@ impl Replies {
         }
     }
 
-    /// Tells all of them, in order.
+    /// Sends all replies, in order.
     pub(crate) fn tell<R: Wait>(self, rt: &R) {
         let Replies { waiting, short: _ } = self;
         let mut left = waiting.into_iter();
@@ -104,8 +105,7 @@ impl Replies {
     }
 }
 
-/// The caller that waits under this ticket, who then waits no more. The others stay in their order: who asked first is answered
-/// first, and so found first.
+/// Takes the first caller that waits under this ticket. The others stay in their order.
 fn take_caller(callers: &mut Vec<Caller<Addressee>>, ticket: Ticket) -> Option<Caller<Addressee>>
     ensures caller { result ≡ caller_under callers.old.items ticket }
     ensures others { callers.new.items ≡ without_caller callers.old.items ticket }

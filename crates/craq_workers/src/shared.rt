@@ -1,4 +1,5 @@
-//! What all threads of a store share, how a step's messages go out, and how one ask is served; called by workers and clients.
+//! `Shared`: what all threads of a store share. Sends messages and serves one request; called by
+//! workers and clients.
 ghost use Rattle.std.specs.Prelude.{◌≡◌, ◌⊎◌, ◌<◌, ◌≤◌, Err, ◌↔◌, IfErr, IfOk, IsTrue, MatchResult, None, Ok, OnOk, Some, length, option_map, slice_get};
 ghost use Rattle.craq_calls.specs.Refused.{CanRefuse, IsUpdate};
 ghost use Rattle.craq_workers.specs.Moves.{IsMissed};
@@ -21,24 +22,27 @@ use craq_sending::{Kind, Sent};
 use std::alloc::Global;
 use std::sync::{Arc, Wait};
 
-/// What the workers, the clients and the store itself share.
+/// The state that the workers, the clients and the store itself share.
 #[derive(Drop)]
 pub(crate) struct Shared<C: Core, G: Gate> {
     pub gate: G,
-    /// One thread carries each chain: what the gate said when the store started.
+    /// One thread runs each chain: the gate's reply when the store started.
     pub carried: bool,
+    /// No node has a worker for queued requests. Unless one thread runs the chain, callers take the
+    /// steps of their requests themselves.
+    pub in_place: bool,
     /// By id.
     pub chains: Vec<Chain<C>>,
 }
 
-/// How a reply comes that is not in hand: where the caller's letters are, and its token.
+/// The way of a reply that comes later: the caller's completion queue, and the token of the call.
 #[derive(Clone, Copy)]
 pub(crate) struct Return<'a> {
     pub letters: &'a Arc<Letterbox>,
     pub token: Token,
 }
 
-/// The reply in hand, or none where a letter will come.
+/// Returns the receipt or the refusal that is in hand, or `None` if a completion will come.
 fn in_hand(reply: Option<Outcome>) -> Result<Option<CallReceipt>, Refusal>
     ensures ok { IfOk result (λ found. reply ≡ option_map Ok found) }
     ensures err { IfErr result (λ e. reply ≡ Some (Err e)) }
@@ -50,7 +54,7 @@ fn in_hand(reply: Option<Outcome>) -> Result<Option<CallReceipt>, Refusal>
     }
 }
 
-/// Whether an ask is an update.
+/// Returns whether a request is an update.
 fn is_update(ask: &Ask) -> bool
     ensures { IsTrue result ↔ IsUpdate ask.now }
 {
@@ -60,7 +64,7 @@ fn is_update(ask: &Ask) -> bool
     }
 }
 
-/// The node of this id in the chain of another.
+/// Returns the name of the node of this id in the chain of another.
 fn beside(other: &NodeName, id: NodeId) -> NodeName
     ensures { result ≡ record { chain = other.now.chain; node = id } }
 {
@@ -70,7 +74,7 @@ fn beside(other: &NodeName, id: NodeId) -> NodeName
     }
 }
 
-/// A message is brought to a node of a chain, or brought twice, while memory is there.
+/// Brings a message to a node of a chain, twice if `twice` is set and memory allows.
 fn bring<R: Wait, C: Core>(
     rt: &R,
     chain: &Chain<C>,
@@ -87,7 +91,7 @@ fn bring<R: Wait, C: Core>(
 }
 
 impl<C: Core, G: Gate> Shared<C, G> {
-    /// The chain of this id, or `UnknownChain`.
+    /// Returns the chain of this id, or `UnknownChain`.
     pub(crate) fn chain(&self, id: ChainId) -> Result<&Chain<C>, Refusal>
         ensures there { OnOk result (id < length self.now.chains.items) }
         ensures found { IfOk result (λ c. slice_get self.now.chains.items id ≡ Some c.now) }
@@ -106,8 +110,9 @@ impl<C: Core, G: Gate> Shared<C, G> {
         }
     }
 
-    /// Sends a message. One that the gate does not carry is lost, and one that it repeats is sent twice, while memory is there.
-    /// Who carries the chain's nodes is told, unless the sender carries them on itself (`quiet`).
+    /// Sends a message. It is lost if the gate does not carry it, and sent twice if the gate
+    /// repeats it and memory allows. Wakes the chain thread, unless the sender runs the chain's
+    /// nodes itself (`quiet`).
     pub(crate) fn send<R: Wait>(&self, rt: &R, from: &NodeName, message: Sent, quiet: bool) {
         let Sent { to, kind, bytes } = message;
         let Ok(chain) = self.chain(from.chain) else {
@@ -125,7 +130,7 @@ impl<C: Core, G: Gate> Shared<C, G> {
         }
     }
 
-    /// A piece of a node's ask work: the step of one ask that was queued.
+    /// Takes the step of one queued request: a piece of a node's work on requests.
     pub(crate) fn serve<R: Wait>(
         &self,
         rt: &R,
@@ -142,7 +147,8 @@ impl<C: Core, G: Gate> Shared<C, G> {
         self.gate.after(node.name, Work::Asks, count);
     }
 
-    /// A piece of a node's ask work that the caller takes itself: the step of its ask.
+    /// Takes the step of the caller's own request: a piece of a node's work on requests. Returns
+    /// the reply, or `None` if a completion will come.
     fn serve_here<R: Wait>(
         &self,
         rt: &R,
@@ -165,8 +171,8 @@ impl<C: Core, G: Gate> Shared<C, G> {
         reply
     }
 
-    /// Asks a node of this chain: the receipt of the call, or none where a letter will come. What is refused otherwise than such
-    /// an ask may be refused is `Closed`.
+    /// Sends a request to a node of this chain. Returns the receipt of the call, or `None` if a
+    /// completion will come. A refusal that such a request cannot have becomes `Closed`.
     pub(crate) fn submit<R: Wait>(
         &self,
         rt: &R,
@@ -188,7 +194,8 @@ impl<C: Core, G: Gate> Shared<C, G> {
         }
     }
 
-    /// The same with an ask of its own, in the way that fits the store's threads and that its gate wants.
+    /// Sends an owned request to a node of this chain, in the way that fits the store's threads.
+    /// Returns the receipt, or `None` if a completion will come.
     fn submit_own<R: Wait>(
         &self,
         rt: &R,
@@ -202,17 +209,19 @@ impl<C: Core, G: Gate> Shared<C, G> {
     ) -> Result<Option<CallReceipt>, Refusal>
         ensures { IsPut C.represents self.now.carried ask pass back.entry.token (in_hand result) }
     {
+        let in_place = self.in_place;
         if self.carried {
             self.submit_carried(rt, alloc, chain, name, ask, pass, back, few)
-        } else if self.gate.in_place() {
+        } else if in_place {
             in_hand(self.serve_at(rt, alloc, chain, name, ask, pass, back, false))
         } else {
             queue(rt, chain, name, ask, pass, back)
         }
     }
 
-    /// The same, where one thread carries the chain: callers take the steps of reads themselves, and of few updates while
-    /// that thread sleeps.
+    /// Sends an owned request to a node of a chain that one thread runs. The caller takes the step
+    /// of a read, and of an update if it has `few` requests and the chain thread sleeps; else the
+    /// request is queued. Returns the receipt, or `None` if a completion will come.
     fn submit_carried<R: Wait>(
         &self,
         rt: &R,
@@ -239,7 +248,8 @@ impl<C: Core, G: Gate> Shared<C, G> {
         }
     }
 
-    /// The step of an ask that its caller takes itself, at the node of this name.
+    /// Takes the step of the caller's own request at the node of this name. Returns the reply, or
+    /// `None` if a completion will come.
     fn serve_at<R: Wait>(
         &self,
         rt: &R,
@@ -263,7 +273,7 @@ impl<C: Core, G: Gate> Shared<C, G> {
     }
 }
 
-/// An ask is queued for its node: a letter will come.
+/// Queues a request for its node: a completion will come.
 fn queue<R: Wait, C: Core>(
     rt: &R,
     chain: &Chain<C>,

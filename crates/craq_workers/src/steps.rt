@@ -1,5 +1,5 @@
-//! A step of a node whose seat is locked: an ask's or another event's, with its replies; and the messages of the last step.
-//! Called by `shared`, `work` and `store`, under the lock.
+//! Steps of a node whose seat is locked: of a request or another event, with the replies of the
+//! step; and the messages of the last step. Called by `turn` and `store`, under the lock.
 ghost use Rattle.std.specs.Prelude.{◌≡◌, ◌∷◌, ◌⊎◌, ◌↔◌, [], None, Some, Err, Ok, IfErr, IfOk, IfSome, IsNone, IsTrue, OnErr, Result, Vec, List, ℕ, false, option_map};
 ghost use Rattle.std.specs.Option.{option_copied};
 ghost use Rattle.std.specs.declared.alloc.AllocError.{AllocError};
@@ -13,25 +13,25 @@ ghost use Rattle.craq_seat.specs.Cells.{receipt_of};
 ghost use Rattle.craq_seat.specs.declared.seat.Caller.{Caller};
 ghost use Rattle.craq_seat.specs.Numbered.{CanBeSent, numbered_from};
 ghost use Rattle.craq_sending.specs.declared.sending.Kind.TheVariants as kinds;
-ghost use Rattle.craq_sending.specs.Sent.{AreSentAs, OnlySends};
+ghost use Rattle.craq_sending.specs.Sent.{AreSentAs, OnlySends, entries_from, lone_position};
 ghost use Rattle.craq_workers.specs.Told.{IsReplyTo, Keeps, RefusesAsked, RefusesOwn, RefusesQueued, RefusesStep, Settles, TakesOwn, TakesQueued, TellsCallers, Waits, is_own, others_of, own_receipt, replies_to, said_by, said_to, ticket_of, waiting_after, without_memory};
 
 use crate::replies::Replies;
 use crate::told::Unanswered;
 use craq_letters::{Addressee, Letterbox, Outcome, Token};
 use craq_model::{Ask, Event, Out, Step};
-use craq_names::{Pass, Refusal, Ticket};
+use craq_names::{Pass, Refusal, Seq, Ticket};
 use craq_node::Core;
 use craq_seat::{BookCell, CallReceipt, Caller, Cell, Receipt, Seated};
-use craq_sending::{Kind, LoneAck, Sent, encode_sent, only_sends};
+use craq_sending::{LoneAck, Sent, encode_entries, encode_sent, lone_entry};
 use std::alloc::{AllocError, Global};
 use std::mem;
 use std::sync::{Arc, Wait};
 
-/// A desk and its callers, each of whom waits for a letter.
+/// A desk and its callers, each of which waits for a completion.
 pub(crate) type SeatedNode<C> = Seated<C, Addressee>;
 
-/// An ask on its way to a node: the pass that its caller shows, and where the caller waits.
+/// A queued request: the pass that its caller shows, and the place of its completion.
 #[derive(Drop)]
 pub(crate) struct QueuedAsk {
     pub ask: Ask,
@@ -39,14 +39,15 @@ pub(crate) struct QueuedAsk {
     pub caller: Addressee,
 }
 
-/// What became of an ask that was taken: its ticket, and the reply where there is one at once.
+/// The outcome of a request that a node accepted: its ticket, and the reply if there is one at
+/// once.
 #[derive(Drop)]
 struct Taken {
     ticket: Option<Ticket>,
     reply: Option<Outcome>,
 }
 
-/// What a step sends, under its receipt. Without memory it is lost.
+/// Encodes what a step sends, under its receipt. Out of memory, it is lost.
 fn sent_by(alloc: Global, step: Option<&Step>, receipt: Receipt) -> Vec<Sent>
     requires { IfSome (option_copied step) (λ s. CanBeSent receipt s.outs) }
     ensures sent { IfSome (option_copied step.entry) (λ s. (result.items ≡ []) ⊎ AreSentAs result.items (numbered_from 0 receipt (sent_in s.outs))) }
@@ -61,7 +62,23 @@ fn sent_by(alloc: Global, step: Option<&Step>, receipt: Receipt) -> Vec<Sent>
     }
 }
 
-/// What names the last step of a cell.
+/// Encodes those messages of a step that bring an entry of this position or a later one, under its
+/// receipt. Out of memory, they are lost.
+fn entries_by(alloc: Global, step: Option<&Step>, receipt: Receipt, first: Seq) -> Vec<Sent>
+    requires { IfSome (option_copied step) (λ s. CanBeSent receipt s.outs) }
+    ensures sent { IfSome (option_copied step.entry) (λ s. (result.items ≡ []) ⊎ AreSentAs result.items (entries_from first (numbered_from 0 receipt (sent_in s.outs)))) }
+    ensures none { option_copied step.entry ≡ None → result.items ≡ [] }
+{
+    match step {
+        None => Vec::new(alloc),
+        Some(step) => match encode_entries(alloc, step, receipt, first) {
+            Ok(sent) => sent,
+            Err(_) => Vec::new(alloc),
+        },
+    }
+}
+
+/// Returns the receipt of the last step of a cell.
 fn last_receipt<C: Core>(cell: &Cell<C>) -> Receipt
     ensures { result ≡ receipt_of cell.now }
 {
@@ -71,7 +88,7 @@ fn last_receipt<C: Core>(cell: &Cell<C>) -> Receipt
     }
 }
 
-/// What a node's last step sends. Without memory it is lost.
+/// Encodes what a node's last step sends. Out of memory, it is lost.
 pub(crate) fn sent_by_node<C: Core>(alloc: Global, cell: &Cell<C>) -> Vec<Sent>
     ensures sent { IfSome cell.now.last (λ s. (result.items ≡ []) ⊎ AreSentAs result.items (numbered_from 0 (receipt_of cell.now) (sent_in s.outs))) }
     ensures none { cell.now.last ≡ None → result.items ≡ [] }
@@ -79,7 +96,7 @@ pub(crate) fn sent_by_node<C: Core>(alloc: Global, cell: &Cell<C>) -> Vec<Sent>
     sent_by(alloc, cell.last(), last_receipt(cell))
 }
 
-/// The acknowledgement that is all that a node's last step does; none where it does anything else.
+/// Returns the acknowledgement of a node's last step, if the step does nothing else.
 pub(crate) fn lone_ack_of<C: Core>(cell: &Cell<C>) -> Option<LoneAck>
     ensures only { IfSome result (λ ack. IfSome cell.now.last (λ s. OnlySends kinds.Ack s.outs × (numbered_from 0 (receipt_of cell.now) (sent_in s.outs) ≡ ack ∷ []))) }
     ensures other { IsNone result → IfSome cell.now.last (λ s. ¬ (OnlySends kinds.Ack s.outs)) }
@@ -88,17 +105,24 @@ pub(crate) fn lone_ack_of<C: Core>(cell: &Cell<C>) -> Option<LoneAck>
     LoneAck::of(cell.last()?, last_receipt(cell))
 }
 
-/// Whether all that a node's last step does is to send an entry.
-pub(crate) fn only_sends_entry<C: Core>(cell: &Cell<C>) -> bool
-    ensures { IfSome cell.now.last (λ s. IsTrue result ↔ OnlySends kinds.Entry s.outs) }
+/// Returns the position of the entry that a node's last step sends, if the step does nothing else.
+pub(crate) fn lone_entry_of<C: Core>(cell: &Cell<C>) -> Option<Seq>
+    ensures some { IfSome result (λ position. IfSome cell.now.last (λ s. OnlySends kinds.Entry s.outs × (position ≡ lone_position s.outs))) }
+    ensures none { IsNone result → IfSome cell.now.last (λ s. ¬ (OnlySends kinds.Entry s.outs)) }
 {
-    match cell.last() {
-        Some(step) => only_sends(step, Kind::Entry),
-        None => false,
-    }
+    lone_entry(cell.last()?)
 }
 
-/// What a master's last step sends, likewise.
+/// Encodes those messages of a node's last step that bring an entry of this position or a later
+/// one, in order. Out of memory, they are lost.
+pub(crate) fn entries_by_node<C: Core>(alloc: Global, cell: &Cell<C>, first: Seq) -> Vec<Sent>
+    ensures sent { IfSome cell.now.last (λ s. (result.items ≡ []) ⊎ AreSentAs result.items (entries_from first (numbered_from 0 (receipt_of cell.now) (sent_in s.outs)))) }
+    ensures none { cell.now.last ≡ None → result.items ≡ [] }
+{
+    entries_by(alloc, cell.last(), last_receipt(cell), first)
+}
+
+/// Encodes what a master's last step sends. Out of memory, it is lost.
 pub(crate) fn sent_by_book(alloc: Global, book: &BookCell) -> Vec<Sent>
     ensures sent { IfSome book.now.last (λ s. (result.items ≡ []) ⊎ AreSentAs result.items (numbered_from 0 (receipt_of book.now) (sent_in s.outs))) }
     ensures none { book.now.last ≡ None → result.items ≡ [] }
@@ -110,7 +134,8 @@ pub(crate) fn sent_by_book(alloc: Global, book: &BookCell) -> Vec<Sent>
     sent_by(alloc, book.last(), receipt)
 }
 
-/// The callers of these receipts are answered. The receipt of this ticket is the caller's own, whose step it is.
+/// Adds a reply for each of these receipts, but returns the receipt under `ticket`: it belongs to
+/// the caller whose step this is.
 fn answer<R: Wait>(
     rt: &R,
     callers: &mut Vec<Caller<Addressee>>,
@@ -134,7 +159,7 @@ fn answer<R: Wait>(
     own
 }
 
-/// Whether a receipt is of the call under this ticket.
+/// Returns whether a receipt is of the call under this ticket.
 fn is_own(ticket: &Option<Ticket>, receipt: &CallReceipt) -> bool
     ensures { result ≡ is_own ticket.now receipt.now }
 {
@@ -144,7 +169,7 @@ fn is_own(ticket: &Option<Ticket>, receipt: &CallReceipt) -> bool
     }
 }
 
-/// The callers whose calls a step answered are refused for want of memory.
+/// Refuses with `Memory` the callers whose calls a step answers.
 fn give_up_step<R: Wait>(
     rt: &R,
     callers: &mut Vec<Caller<Addressee>>,
@@ -164,7 +189,7 @@ fn give_up_step<R: Wait>(
     }
 }
 
-/// After a step: the callers that it answers have their replies. The reply of this ticket is given.
+/// Adds the replies to the callers that a step answers. Returns the reply under `ticket`.
 fn finish<R: Wait, C: Core>(
     rt: &R,
     seated: &mut SeatedNode<C>,
@@ -188,8 +213,8 @@ fn finish<R: Wait, C: Core>(
     }
 }
 
-/// A step of a node that is no ask: a message that arrives, or a tick. A refused one leaves all as it was. Whether it was
-/// taken.
+/// Takes a step of a node on a message or a tick. Returns whether it was taken; a refused step
+/// changes nothing.
 pub(crate) fn take_event<R: Wait, C: Core>(
     rt: &R,
     alloc: Global,
@@ -212,7 +237,7 @@ pub(crate) fn take_event<R: Wait, C: Core>(
     }
 }
 
-/// The step of an ask, for whose caller there is room.
+/// Takes the step of a request, after making room for its caller. A refused one changes nothing.
 fn take_ask<R: Wait, C: Core>(
     rt: &R,
     alloc: Global,
@@ -242,7 +267,8 @@ fn take_ask<R: Wait, C: Core>(
     }
 }
 
-/// The step of an ask that was queued. Its caller waits from then on, or is told at once. Whether the step was taken.
+/// Takes the step of a queued request. Its caller waits from then on, or gets a reply at once.
+/// Returns whether the step was taken.
 pub(crate) fn take_queued<R: Wait, C: Core>(
     rt: &R,
     alloc: Global,
@@ -267,7 +293,7 @@ pub(crate) fn take_queued<R: Wait, C: Core>(
     }
 }
 
-/// An ask that was queued is refused, since the store is closed.
+/// Refuses a queued request with `Closed`: the store is closed.
 pub(crate) fn refuse_asked<R: Wait>(rt: &R, asked: QueuedAsk, replies: &mut Replies)
     ensures { Keeps replies.old (record { to = record { ticket = None; token = asked.caller }; outcome = Err Refusal.Closed } ∷ []) replies.new }
 {
@@ -280,7 +306,7 @@ pub(crate) fn refuse_asked<R: Wait>(rt: &R, asked: QueuedAsk, replies: &mut Repl
     replies.add(rt, Unanswered::of(caller), Err(Refusal::Closed));
 }
 
-/// The caller of an ask that was taken is told, where there is a reply, or waits.
+/// Adds the reply to the caller of a request that was accepted, or makes the caller wait.
 fn settle<R: Wait>(
     rt: &R,
     callers: &mut Vec<Caller<Addressee>>,
@@ -298,7 +324,7 @@ fn settle<R: Wait>(
     }
 }
 
-/// The caller waits under this ticket.
+/// Makes the caller wait under this ticket. Out of memory, it is refused with `Memory`.
 fn wait_at<R: Wait>(
     rt: &R,
     callers: &mut Vec<Caller<Addressee>>,
@@ -317,8 +343,8 @@ fn wait_at<R: Wait>(
     }
 }
 
-/// The step of an ask that its caller takes itself: the reply where there is one at once, else its letter will come. The
-/// flag tells whether the step was taken.
+/// Takes the step of the caller's own request. Returns whether the step was taken, and the reply,
+/// or `None` if a completion will come.
 pub(crate) fn take_own<R: Wait, C: Core>(
     rt: &R,
     alloc: Global,
@@ -345,7 +371,8 @@ pub(crate) fn take_own<R: Wait, C: Core>(
     }
 }
 
-/// The caller's letter will come, under this ticket. Where there is no room for it, that is the reply.
+/// Makes the caller wait for a completion under this ticket, and returns `None`. Out of memory,
+/// returns that refusal.
 fn expect_letter<R: Wait>(
     rt: &R,
     callers: &mut Vec<Caller<Addressee>>,
@@ -366,14 +393,14 @@ fn expect_letter<R: Wait>(
     }
 }
 
-/// The ticket of the ask that a step accepted.
+/// Returns the ticket of the request that a step accepted, if it did.
 fn last_ticket(step: Option<&Step>) -> Option<Ticket>
     ensures { result ≡ ticket_of (option_copied step.entry) }
 {
     step?.ticket
 }
 
-/// All callers that wait, who then wait no more.
+/// Takes all callers that wait.
 pub(crate) fn dismiss<C: Core>(alloc: Global, seated: &mut SeatedNode<C>) -> Vec<Caller<Addressee>>
     ensures all { result.items ≡ seated.old.callers.items }
     ensures none { seated.new.callers.items ≡ [] }

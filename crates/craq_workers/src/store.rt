@@ -1,4 +1,4 @@
-//! `Store`, the primary object of the crate: it starts, stops, removes, joins and closes; for whoever runs a store.
+//! `Store`: starts and closes a store, stops, removes and joins nodes, ticks, and sends requests.
 ghost use Rattle.std.specs.Prelude.{◌≡◌, ◌+◌, ◌<◌, ◌≤◌, ◌==◌, ◌⊎◌, ◌↔◌, Err, IfErr, IfOk, IfSome, IsOk, MatchResult, Ok, OnErr, OnOk, Some, if◌then◌else◌, length, map, option_map, string_bytes};
 ghost use Rattle.craq_epochs.specs.Mastered.{joined, opened};
 ghost use Rattle.craq_names.specs.Limits.{greatest};
@@ -22,6 +22,7 @@ use crate::node::{RunningNode, Way};
 use crate::opening::{Form, add_workers, open_chains, open_node};
 use crate::replies::Replies;
 use crate::shared::{Return, Shared};
+use crate::staff::Staff;
 use crate::steps::{dismiss, sent_by_book};
 use crate::told::Unanswered;
 use crate::work::{Worker, master_of, work};
@@ -41,22 +42,25 @@ use std::sync::{Arc, Wait};
 use std::thread;
 use std::thread::{JoinHandle, Threads};
 
-/// A chain's name and its membership as its master's lock was held; it may be an old one by now, and contracts say no more.
+/// The status of a chain: its name, and its membership when its master was locked. It may be an old
+/// one by now, and contracts say no more.
 #[derive(Debug, Drop)]
 pub struct ChainStatus {
     pub name: String,
     pub config: Config,
 }
 
-/// A store that runs: two threads for each node, one for its asks and one for what arrives there, or one for each chain
-/// where it is carried; and one for each chain's master. Whoever has it has to close it. A contract sees the names of its
-/// chains and their masters as they were opened, by id, and whether it keeps journals: what stands behind locks and channels
-/// it does not see.
+/// A store that runs. It has one or two threads for each node, or one for each chain
+/// (`Gate::carried`), and one for each chain's master.
+///
+/// It has no drop: `close` ends it. A contract sees the names of its chains and their masters as
+/// they were opened, by id, and whether it keeps journals. It does not see what is behind locks and
+/// channels.
 pub struct Store<C: Core, G: Gate> {
     pub(crate) alloc: Global,
     form: Form,
     pub(crate) shared: Arc<Shared<C, G>>,
-    /// Ends once no worker is left.
+    /// Disconnects once no worker is left.
     ended: Receiver<()>,
 }
 
@@ -70,7 +74,8 @@ impl<C: Core, G: Gate> Model for Store<C, G> {
     ghost view = { λ s. record { names = map (λ c. string_bytes c.name) s.shared.value.chains.items; masters = map (λ c. opened c.id c.first.members) s.shared.value.chains.items; journals = s.form.journal } };
 }
 
-/// What a chain's status is now. It fails for want of memory, and where another master stands behind the lock.
+/// Returns the status of a chain. Fails when out of memory, and if the lock holds the master of
+/// another chain.
 fn status_of<R: Wait, C: Core>(
     rt: &R,
     alloc: Global,
@@ -91,7 +96,7 @@ fn status_of<R: Wait, C: Core>(
     })
 }
 
-/// What the status of each chain is now. It fails as `status_of` does.
+/// Returns the status of each chain. Fails as `status_of` does.
 fn statuses_of<R: Wait, C: Core>(
     rt: &R,
     alloc: Global,
@@ -107,7 +112,7 @@ fn statuses_of<R: Wait, C: Core>(
     Ok(statuses)
 }
 
-/// A worker begins, in a thread of its own. It fails for want of memory alone, where no thread can be made too.
+/// Starts a worker in a thread of its own. Fails when out of memory, and if no thread can be made.
 fn hire<R, C, G>(
     rt: R,
     alloc: Global,
@@ -125,7 +130,7 @@ where
     Ok(hired)
 }
 
-/// The stamp after this one, or `Exhausted`.
+/// Returns the stamp after this one, or `Exhausted` if there is none.
 fn next(stamp: Stamp) -> Result<Stamp, Refusal>
     ensures { result ≡ (if stamp == greatest then Err Refusal.Exhausted else Ok (stamp + 1)) }
 {
@@ -136,8 +141,8 @@ fn next(stamp: Stamp) -> Result<Stamp, Refusal>
     Ok(Stamp::new(stamp + 1))
 }
 
-/// Whether the master would take this node in: `UsedId` where the id is 0 or ever was a member, `ChainFull` where there
-/// are 8 members, `Exhausted` in the last epoch.
+/// Tests whether the master would take this node in. Refused with `UsedId` if the id is 0 or ever
+/// was a member, `ChainFull` if there are 8 members, and `Exhausted` in the last epoch.
 #[tactic(auto, unfolding(craq_epochs::specs::Mastered::joined))]
 fn test_join(book: &BookCell, node: NodeId) -> Result<(), Refusal>
     ensures node { OnOk result (1 ≤ node) }
@@ -157,21 +162,22 @@ fn test_join(book: &BookCell, node: NodeId) -> Result<(), Refusal>
     Ok(())
 }
 
-/// A node's cell keeps what its type says. It does nothing.
+/// Shows a proof that a node's cell keeps its invariant. Does nothing.
 fn keeps_desk<C: Core>(desk: &Desk<C>)
     ensures { IsKept C.represents desk.now.cell }
 {
     let _ = desk.cell().journal();
 }
 
-/// A master's cell keeps what its type says. It does nothing.
+/// Shows a proof that a master's cell keeps its invariant. Does nothing.
 fn keeps_book(book: &ChainBook)
     ensures { IsBook book.now }
 {
     let _ = book.cell().journal();
 }
 
-/// A node's cell takes the step of a stop, or refuses it with nothing changed. What names the step is answered.
+/// Takes the step of a stop at a node's cell. Returns the receipt of the step; a refused one
+/// changes nothing.
 fn stop_desk<C: Core>(alloc: Global, desk: &mut Desk<C>) -> Result<Receipt, Refusal>
     ensures step { (p : Plain) → C.represents desk.old.cell.inside p → TakesEvent C.represents desk.new.cell (with_inside desk.old.cell p) Event.Stop 0 result }
     ensures receipt { IfOk result (λ receipt. receipt ≡ receipt_of desk.new.cell) }
@@ -183,7 +189,8 @@ fn stop_desk<C: Core>(alloc: Global, desk: &mut Desk<C>) -> Result<Receipt, Refu
     Ok(receipt)
 }
 
-/// A node halts, and the callers that wait at it are told so. What names the step is answered. A refused stop changes nothing.
+/// Stops a node, and refuses the callers that wait there with `Stopped`. Returns the receipt of the
+/// step; a refused stop changes nothing.
 fn stop_node<R: Wait, C: Core>(
     rt: &R,
     alloc: Global,
@@ -204,7 +211,7 @@ fn stop_node<R: Wait, C: Core>(
     Ok(receipt)
 }
 
-/// The master takes a node in. What names the step is answered.
+/// Takes the master's step that lets a node join. Returns the receipt of the step.
 fn join_book(alloc: Global, book: &mut ChainBook, id: NodeId) -> Result<Receipt, Refusal>
     ensures step { TakesTurn book.old book.new (BookEvent.Join id) 0 result }
     ensures master { IfOk result (λ receipt. receipt.node ≡ 0) }
@@ -215,7 +222,7 @@ fn join_book(alloc: Global, book: &mut ChainBook, id: NodeId) -> Result<Receipt,
     taken
 }
 
-/// The master takes a stopped node out. What names the step is answered.
+/// Takes the master's step that removes a stopped node. Returns the receipt of the step.
 fn remove_from_book(
     alloc: Global,
     book: &mut ChainBook,
@@ -232,14 +239,14 @@ fn remove_from_book(
 }
 
 impl<C: Core, G: Gate> Store<C, G> {
-    /// Whether the store keeps journals, so that it can be audited.
+    /// Returns whether the store keeps journals, so that it can be audited.
     pub fn has_journals(&self) -> bool
         ensures { result ≡ self.now.journals }
     {
         self.form.journal
     }
 
-    /// A client of the store's chains, with this pass. It fails for want of memory alone.
+    /// Makes a client of the store with this pass. Fails only when out of memory.
     pub fn client(&self, pass: Pass) -> Result<Client<C, G>, AllocError>
         ensures chains { IfOk result (λ c. c.chains ≡ length self.now.names) }
         ensures pass { IfOk result (λ c. c.pass ≡ pass) }
@@ -247,13 +254,17 @@ impl<C: Core, G: Gate> Store<C, G> {
         Ok(Client::new(self.alloc, Arc::try_clone(&self.shared)?, pass))
     }
 
-    /// Asks a node, shows a pass, and does not wait: the receipt of the call, where its answer is in hand, or none: then just
-    /// one letter with this token comes into the box, with the receipt, or with `Stopped`, `Closed` or `Memory`, or, where
-    /// the ask went through a queue, with that with which the node refuses it. Nothing is known of a receipt but that a desk
-    /// made it (`craq_calls::answer_of_call` tells whether it is the call's own). `few` tells that the caller has few asks at
-    /// hand, and may take their steps itself and carry them on.
+    /// Sends a request to a node with a pass, and does not wait. Returns the receipt of the call if
+    /// the answer is known at once, and else `None`.
     ///
-    /// Refused, and then no letter comes: as `Client::call` is, `UnknownChain` exactly where the store has no such chain.
+    /// After `None` exactly one completion with this token comes into the queue: with the receipt,
+    /// or with `Stopped`, `Closed` or `Memory`, or, if the request was queued, with the node's
+    /// refusal. Of a receipt that comes so nothing is proved but that a desk made it;
+    /// `craq_calls::answer_of_call` tells whether it is of this call. `few` says that the caller
+    /// has few requests, and may take their steps and run the chain's nodes itself.
+    ///
+    /// Refused as `Client::call` is, and then no completion comes: with `UnknownChain` exactly if
+    /// the store has no such chain.
     pub fn submit<R: Wait>(
         &self,
         rt: &R,
@@ -275,16 +286,30 @@ impl<C: Core, G: Gate> Store<C, G> {
             .submit(rt, self.alloc, chain, node, ask, pass, back, few)
     }
 
-    /// Each chain's master, and each node that runs, is to send again what others may lack. After a lost message who asked waits
-    /// until a later tick: for good, where nobody ticks the store.
+    /// Ticks all chains: each master, and each node that runs, sends again what others may lack.
+    /// After a lost message the caller waits until a later tick: forever, if nobody ticks the
+    /// store.
     pub fn tick<R: Wait>(&self, rt: &R) {
         for chain in self.shared.chains.as_slice() {
             chain.tick(rt);
         }
     }
 
-    /// Each chain's name and a membership that its master has after some steps, by id; it may lag. It fails for want
-    /// of memory, and where another master stands behind a lock.
+    /// Ticks one chain: its master, and each of its nodes that runs, sends again what others may
+    /// lack. A program with many chains can so spread their ticks over time, where `tick` makes all
+    /// nodes work at once.
+    ///
+    /// Refused with `UnknownChain` exactly if the store has no such chain; nothing is ticked then.
+    pub fn tick_chain<R: Wait>(&self, rt: &R, chain: ChainId) -> Result<(), Refusal>
+        ensures unknown { (result ≡ Err Refusal.UnknownChain) ↔ (length self.now.names ≤ chain) }
+        ensures refused { IfErr result (λ e. e ≡ Refusal.UnknownChain) }
+    {
+        self.shared.chain(chain)?.tick(rt);
+        Ok(())
+    }
+
+    /// Returns each chain's name and a membership that its master had, by id; it may lag. Fails
+    /// when out of memory, and if a lock holds the master of another chain.
     pub fn status<R: Wait>(&self, rt: &R) -> Result<Vec<ChainStatus>, AllocError>
         ensures names { IfOk result (λ statuses. map (λ s. string_bytes s.name) statuses.items ≡ self.now.names) }
         ensures members { IfOk result (λ statuses. AreMembershipsOf self.now.masters (map (λ s. s.config) statuses.items)) }
@@ -294,8 +319,8 @@ impl<C: Core, G: Gate> Store<C, G> {
 }
 
 impl<C: Core + Send + 'static, G: Gate + Send + Sync + 'static> Store<C, G> {
-    /// Starts the chains of a plan, with journals or without. It is refused for want of memory alone (`Memory`), or
-    /// where no thread can be made, and then leaves no thread.
+    /// Starts the chains of a plan, with journals or without. Refused with `Memory` when out of
+    /// memory or if no thread can be made, and then leaves no thread.
     pub fn start<R: Threads + Wait + Copy + Send + 'static>(
         rt: R,
         alloc: Global,
@@ -311,14 +336,15 @@ impl<C: Core + Send + 'static, G: Gate + Send + Sync + 'static> Store<C, G> {
     {
         let form = Form {
             journal,
-            carried: gate.carried(),
+            staff: Staff::of(&gate),
         };
         let (alive, ended) = crossbeam_channel::unbounded(alloc)?;
         let mut workers = Vec::new(alloc);
         let chains = open_chains(alloc, plan, form, &alive, &mut workers)?;
         let shared = Shared {
             gate,
-            carried: form.carried,
+            carried: form.staff.is_per_chain(),
+            in_place: form.staff != Staff::TwoPerNode,
             chains,
         };
         let shared = Arc::new(alloc, shared)?;
@@ -337,7 +363,7 @@ impl<C: Core + Send + 'static, G: Gate + Send + Sync + 'static> Store<C, G> {
         }
     }
 
-    /// All of these begin.
+    /// Starts all these workers.
     fn hire_all<R: Threads + Wait + Copy + Send + 'static>(
         &self,
         rt: R,
@@ -352,13 +378,14 @@ impl<C: Core + Send + 'static, G: Gate + Send + Sync + 'static> Store<C, G> {
         Ok(())
     }
 
-    /// A node halts for good, in a step that is taken on this thread. The callers that wait at it are told `Stopped`. What
-    /// names the step is answered.
+    /// Stops a node forever, in a step on this thread. The callers that wait there are refused with
+    /// `Stopped`. Returns the receipt of the step.
     ///
-    /// Refused, with nothing changed, for the first of these that applies: `UnknownChain` exactly where the store has no such
-    /// chain; `WrongNode` where the chain never had the node, `Stopped` where it was removed and let go; `Memory` where a
-    /// growth was refused; then as `Cell::take` refuses a stop: `Exhausted` or `Memory`, `Stopped` where the node has stopped.
-    /// `Closed` never comes, since `close` takes the store.
+    /// Refused, with nothing changed, for the first of these that applies: `UnknownChain` exactly
+    /// if the store has no such chain; `WrongNode` if the chain never had the node, `Stopped` if it
+    /// was removed and dropped; `Memory` when out of memory; then as `Cell::take` refuses a stop:
+    /// `Exhausted` or `Memory`, `Stopped` if the node has stopped. `Closed` never comes, since
+    /// `close` takes the store.
     pub fn stop<R: Wait>(&self, rt: &R, chain: ChainId, node: NodeId) -> Result<Receipt, Refusal>
         ensures unknown { (result ≡ Err Refusal.UnknownChain) ↔ (length self.now.names ≤ chain) }
         ensures refused { IfErr result (λ e. (e ≡ Refusal.UnknownChain) ⊎ CanStop e) }
@@ -367,13 +394,14 @@ impl<C: Core + Send + 'static, G: Gate + Send + Sync + 'static> Store<C, G> {
         stop_node(rt, self.alloc, &node)
     }
 
-    /// The master takes out a node that has stopped, and its threads end, where it has any of its own. What names the step is
-    /// answered. A call at the node is refused as before.
+    /// Removes a stopped node from its chain's membership, and ends the node's own threads. Returns
+    /// the receipt of the master's step. A call at the node is refused as before.
     ///
-    /// Refused, with nothing changed, for the first of these that applies: `UnknownChain` exactly where the store has no such
-    /// chain; `NotMember` where the node is no member; `Memory` where a growth was refused; `NotStopped` where it runs; then
-    /// as `BookCell::take` refuses a removal: `Exhausted` or `Memory`, `LastNode` where it is the only member. `Closed` never
-    /// comes, since `close` takes the store.
+    /// Refused, with nothing changed, for the first of these that applies: `UnknownChain` exactly
+    /// if the store has no such chain; `NotMember` if the node is no member; `Memory` when out of
+    /// memory; `NotStopped` if it runs; then as `BookCell::take` refuses a removal: `Exhausted` or
+    /// `Memory`, `LastNode` if it is the only member. `Closed` never comes, since `close` takes the
+    /// store.
     pub fn remove<R: Wait>(&self, rt: &R, chain: ChainId, node: NodeId) -> Result<Receipt, Refusal>
         ensures unknown { (result ≡ Err Refusal.UnknownChain) ↔ (length self.now.names ≤ chain) }
         ensures refused { IfErr result (λ e. (e ≡ Refusal.UnknownChain) ⊎ CanRemove e) }
@@ -398,13 +426,14 @@ impl<C: Core + Send + 'static, G: Gate + Send + Sync + 'static> Store<C, G> {
         Ok(receipt)
     }
 
-    /// A new node joins after the last member, with two threads of its own where chains are not carried. What names the step is
-    /// answered.
+    /// Lets a new node join behind the last member, and starts its own threads, if nodes have any.
+    /// Returns the receipt of the master's step.
     ///
-    /// Refused, with the membership as it was and no thread left of that node, for the first of these that applies:
-    /// `UnknownChain` exactly where the store has no such chain; `UsedId` where the id is 0 or ever was a member, `ChainFull`
-    /// where there are 8 members, `Exhausted` where the master's epochs or stamps are; `Memory` where a growth was refused or
-    /// no thread can be made. `Closed` never comes, since `close` takes the store.
+    /// Refused, with the membership as it was and no thread of the node left, for the first of
+    /// these that applies: `UnknownChain` exactly if the store has no such chain; `UsedId` if the
+    /// id is 0 or ever was a member, `ChainFull` if there are 8 members, `Exhausted` if the
+    /// master's epochs or stamps are used up; `Memory` when out of memory or if no thread can be
+    /// made. `Closed` never comes, since `close` takes the store.
     pub fn join<R: Threads + Wait + Copy + Send + 'static>(
         &self,
         rt: R,
@@ -440,19 +469,20 @@ impl<C: Core + Send + 'static, G: Gate + Send + Sync + 'static> Store<C, G> {
         }
     }
 
-    /// The two workers of a node begin.
-    fn hire_two<R: Threads + Wait + Copy + Send + 'static>(
+    /// Starts a node's own workers.
+    fn hire_workers<R: Threads + Wait + Copy + Send + 'static>(
         &self,
         rt: R,
         place: &Chain<C>,
         way: &Way<C>,
+        staff: Staff,
         hired: &mut Vec<JoinHandle<()>>,
     ) -> Result<(), Refusal>
         ensures refused { IfErr result (λ e. (e ≡ Refusal.Closed) ⊎ (e ≡ Refusal.Memory)) }
-        ensures hired { OnOk result (length hired.new.items ≡ length hired.old.items + length (node_posts (option_map (λ n. n.value.name) way.now.node))) }
+        ensures hired { OnOk result (length hired.new.items ≡ length hired.old.items + length (node_posts staff (option_map (λ n. n.value.name) way.now.node))) }
     {
         let mut workers = Vec::new(self.alloc);
-        add_workers(way, &mut workers)?;
+        add_workers(way, staff, &mut workers)?;
         for worker in workers {
             hired.reserve(1)?;
             hired.push(hire(rt, self.alloc, &self.shared, worker, place.alive(&rt)?)?)?;
@@ -460,9 +490,9 @@ impl<C: Core + Send + 'static, G: Gate + Send + Sync + 'static> Store<C, G> {
         Ok(())
     }
 
-    /// The workers of a node begin, there is room for its way, and then it joins: the master's step is taken under the
-    /// master's lock alone. Where that is refused the node's way is gone, so its workers end. Nobody sees the step before the
-    /// way is there, since the master's lock is held.
+    /// Starts the workers of a node, reserves room for its entry, and then lets it join, under the
+    /// master's lock only. If that is refused the entry is dropped, so the workers end. Nobody sees
+    /// the step before the entry is there, since the master's lock is held.
     fn join_opened<R: Threads + Wait + Copy + Send + 'static>(
         &self,
         rt: R,
@@ -476,22 +506,20 @@ impl<C: Core + Send + 'static, G: Gate + Send + Sync + 'static> Store<C, G> {
         ensures refused { IfErr result (λ e. CanJoin e) }
         ensures master { IfOk result (λ receipt. receipt.node ≡ 0) }
     {
-        if !self.form.carried {
-            self.hire_two(rt, place, &way, hired)?;
-        }
+        self.hire_workers(rt, place, &way, self.form.staff, hired)?;
         place.make_room(&rt)?;
         let receipt = join_book(self.alloc, book, id)?;
         place.add(&rt, way)?;
         Ok(receipt)
     }
 
-    /// The master's messages go out.
+    /// Sends the master's messages.
     fn announce<R: Wait>(&self, rt: &R, chain: ChainId, sent: Vec<Sent>) {
         self.shared.post(rt, &master_of(chain), sent, false);
     }
 
-    /// Ends the workers, and waits until the last one has ended, so a gate that waits holds it up. Callers that still wait are
-    /// told `Closed`, and so is who calls afterwards.
+    /// Ends the workers, and waits until the last one has ended; a gate that waits delays it.
+    /// Callers that still wait, and all that call later, are refused with `Closed`.
     pub fn close<R: Wait>(self, rt: &R) {
         let Store {
             alloc,

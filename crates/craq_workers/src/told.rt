@@ -1,4 +1,5 @@
-//! `Unanswered` and `Told`: a caller that has asked, and what it is told; for `replies` and `steps`.
+//! `Unanswered` and `Told`: a caller that waits for a reply, and a reply with its caller; for
+//! `replies` and `steps`.
 ghost use Rattle.std.specs.Prelude.{◌≡◌, ◌++◌, ◌∷◌, [], None, Some, Err, IfErr, OnErr, OnOk};
 ghost use Rattle.craq_workers.specs.Told.{IsReplyTo, asked_by, waits_as};
 
@@ -9,8 +10,9 @@ use std::alloc::AllocFailed;
 use std::marker::Model;
 use std::sync::Wait;
 
-/// A caller that has asked, and neither waits nor was told: where its reply goes, and the ticket of its ask once a node has
-/// accepted that. It has no drop, so each is told or waits. A contract sees the ticket and the addressee's token.
+/// A caller that has asked and is neither answered nor waiting: the place of its completion, and
+/// the ticket of its request once a node has accepted it. It has no drop, so each caller is
+/// answered or waits. A contract sees the ticket and the token.
 pub(crate) struct Unanswered {
     ticket: Option<Ticket>,
     at: Addressee,
@@ -25,14 +27,14 @@ impl Model for Unanswered {
 }
 
 impl Unanswered {
-    /// A caller whose ask no node has accepted yet.
+    /// Makes the caller of a request that no node has accepted yet.
     pub(crate) fn of(at: Addressee) -> Self
         ensures { result ≡ record { ticket = None; token = at } }
     {
         Unanswered { ticket: None, at }
     }
 
-    /// A caller that waited.
+    /// Makes the caller of one that waited.
     pub(crate) fn waited(caller: Caller<Addressee>) -> Self
         ensures { result ≡ asked_by caller }
     {
@@ -43,7 +45,7 @@ impl Unanswered {
         }
     }
 
-    /// The caller once its ask was accepted under this ticket, if it was.
+    /// Returns the caller with the ticket under which its request was accepted, if it was.
     pub(crate) fn accepted(self, ticket: Option<Ticket>) -> Self
         ensures { result ≡ record { ticket = ticket; token = self.token } }
     {
@@ -51,7 +53,8 @@ impl Unanswered {
         Unanswered { ticket, at }
     }
 
-    /// The caller waits under this ticket, behind the others. Without room it is given back, and they are as they were.
+    /// Makes the caller wait under this ticket, behind the others. Out of memory, gives it back and
+    /// leaves the others unchanged.
     pub(crate) fn wait(
         self,
         callers: &mut Vec<Caller<Addressee>>,
@@ -72,8 +75,8 @@ impl Unanswered {
     }
 }
 
-/// A reply on its way to who asked. A receipt is always that of the call under the caller's own ticket. It has no drop, so that it
-/// is kept until its caller is told (`tell`), and nothing else becomes of it.
+/// A reply on its way to its caller. A receipt in it is always of the call under the caller's own
+/// ticket. It has no drop, so it is kept until it is sent (`tell`).
 pub(crate) struct Told {
     ticket: Option<Ticket>,
     at: Addressee,
@@ -91,7 +94,7 @@ impl Model for Told {
 }
 
 impl Told {
-    /// The reply to this caller.
+    /// Makes the reply to this caller.
     pub(crate) fn new(caller: Unanswered, outcome: Outcome) -> Self
         requires { IsReplyTo caller.ticket outcome }
         ensures { result ≡ record { to = caller; outcome = outcome } }
@@ -104,7 +107,7 @@ impl Told {
         }
     }
 
-    /// The caller is told. It takes no memory.
+    /// Sends the reply to its caller. Takes no memory.
     pub(crate) fn tell<R: Wait>(self, rt: &R) {
         let Told {
             ticket: _,

@@ -1,7 +1,7 @@
-//! `Turn`: a node whose lock is held, the steps that it takes until the lock is let go, and what these send; begun by `work`,
+//! `Turn`: a batch of steps of a node under its lock, and what these steps send; begun by `work`,
 //! `carrying` and `shared`.
 ghost use Rattle.std.specs.Sync.Mutex.{mutex_guard_value};
-ghost use Rattle.std.specs.Prelude.{◌≡◌, ◌⊎◌, [], None, Some, false};
+ghost use Rattle.std.specs.Prelude.{◌≡◌, ◌⊎◌, ℕ, [], None, Some, false};
 ghost use Rattle.craq_held.specs.Held.{cell_in};
 ghost use Rattle.craq_node.specs.Represented.{CanArrive};
 ghost use Rattle.craq_workers.specs.declared.unsent.Unsent.TheVariants as unsent;
@@ -13,14 +13,14 @@ use crate::node::{RunningNode, Waiting};
 use crate::replies::Replies;
 use crate::shared::{Return, Shared};
 use crate::steps::{
-    QueuedAsk, SeatedNode, lone_ack_of, only_sends_entry, refuse_asked, sent_by_node, take_event,
-    take_own, take_queued,
+    QueuedAsk, SeatedNode, entries_by_node, lone_ack_of, lone_entry_of, refuse_asked, sent_by_node,
+    take_event, take_own, take_queued,
 };
 use crate::unsent::Unsent;
 use bytes::Bytes;
 use craq_letters::Outcome;
 use craq_model::{Ask, Event};
-use craq_names::{Pass, Refusal};
+use craq_names::{Pass, Refusal, Seq};
 use craq_node::Core;
 use craq_sending::{LoneAck, Sent};
 use craq_wire::decode;
@@ -28,23 +28,23 @@ use std::alloc::Global;
 use std::mem;
 use std::sync::{MutexGuard, Wait};
 
-/// The way out of a node, for what its turn sends.
+/// The way out of a node, for what its batch sends.
 #[derive(Drop)]
 struct Exit<'a, C: Core, G: Gate> {
     alloc: Global,
     shared: &'a Shared<C, G>,
     node: &'a RunningNode<C>,
-    /// Who takes the turn carries what it sends on itself.
+    /// The thread that takes the batch runs the chain's other nodes too, so nobody has to be woken.
     quiet: bool,
 }
 
 impl<'a, C: Core, G: Gate> Exit<'a, C, G> {
-    /// Messages go out, in order.
+    /// Sends messages, in order.
     fn post<R: Wait>(&self, rt: &R, sent: Vec<Sent>) {
         self.shared.post(rt, &self.node.name, sent, self.quiet);
     }
 
-    /// An acknowledgement goes out. Without memory it is lost.
+    /// Sends an acknowledgement. Out of memory, it is lost.
     fn acknowledge<R: Wait>(&self, rt: &R, ack: LoneAck) {
         if let Ok(sent) = ack.encode(self.alloc) {
             self.shared.send(rt, &self.node.name, sent, self.quiet);
@@ -52,15 +52,18 @@ impl<'a, C: Core, G: Gate> Exit<'a, C, G> {
     }
 }
 
-/// A turn of a node, whose lock it holds. What a step sends goes out at once, but for two kinds of steps.
+/// A batch of steps of a node, whose lock it holds. Sends at once what a step sends, except for two
+/// kinds of steps.
 ///
-/// An acknowledgement alone is owed: it goes out before anything else of the node does, and at the latest before the lock is let
-/// go; or not at all, where one of a later step makes it needless. An entry alone is held back until the turn ends: it goes out then
-/// as its step sends it. Several are lost, as on a link, and a tick of the node brings its successor all that it has not
-/// acknowledged, in batches.
+/// - A step that only acknowledges: its acknowledgement is owed. It goes out before the next
+///   message of another step, and at the latest at the end of the batch. It is dropped if that of a
+///   later step makes it needless.
+/// - A step that only sends an entry: the entry is held back until the end of the batch. One entry
+///   goes out then as its step sends it. Several go out as the entries of one tick, in messages of
+///   up to 16. What else that tick sends is not needed, and is not sent.
 ///
-/// A turn has no drop: `end` alone ends it, after what is held back and owed. That this goes out then no contract says: none sees
-/// what the links take.
+/// A batch has no drop: only `end` ends it, after what is held back and owed. No contract says that
+/// this goes out, since none sees what the links take.
 pub(crate) struct Turn<'a, C: Core, G: Gate> {
     exit: Exit<'a, C, G>,
     seated: MutexGuard<'a, SeatedNode<C>>,
@@ -70,7 +73,8 @@ pub(crate) struct Turn<'a, C: Core, G: Gate> {
 }
 
 impl<'a, C: Core, G: Gate> Turn<'a, C, G> {
-    /// A turn of a node whose lock is this, which owes nothing yet and holds nothing back. It takes no memory.
+    /// Begins a batch of a node whose lock is held. It owes nothing yet and holds nothing back.
+    /// Takes no memory.
     pub(crate) fn begin(
         alloc: Global,
         shared: &'a Shared<C, G>,
@@ -97,14 +101,15 @@ impl<'a, C: Core, G: Gate> Turn<'a, C, G> {
         }
     }
 
-    /// What is held back goes out, and what is owed; the lock is let go, and then callers are told.
+    /// Ends the batch: sends what is held back and what is owed, unlocks the node, and then sends
+    /// the replies to callers.
     pub(crate) fn end<R: Wait>(self, rt: &R) {
         let mut turn = self;
         turn.bring(rt);
         turn.let_go(rt);
     }
 
-    /// What is owed goes out, the lock is let go, and then callers are told.
+    /// Sends what is owed, unlocks the node, and then sends the replies to callers.
     fn let_go<R: Wait>(self, rt: &R)
         requires { self.unsent ≡ unsent.Nothing }
     {
@@ -122,18 +127,21 @@ impl<'a, C: Core, G: Gate> Turn<'a, C, G> {
         replies.tell(rt);
     }
 
-    /// What is held back goes out: the entry of the last step as that sends it, and more by a tick of the node. Without memory for
-    /// the tick they wait for the next one, as what a link loses does.
+    /// Sends what is held back: one entry of the last step as that step sends it; several as the
+    /// entries of one tick of the node, in messages of up to 16.
+    ///
+    /// Nothing else that the tick sends goes out, and no message of entries that went out before.
+    /// Out of memory, the entries wait for the next tick, as what a link loses does.
     fn bring<R: Wait>(&mut self, rt: &R)
         ensures unsent { self.new.unsent ≡ unsent.Nothing }
-        ensures several { self.old.unsent ≡ unsent.Several → ReactsTo C.represents (mutex_guard_value self.old.seated) (mutex_guard_value self.new.seated) Event.Tick self.old.replies self.new.replies }
-        ensures same { ¬ (self.old.unsent ≡ unsent.Several) → (self.new.seated ≡ self.old.seated) × (self.new.replies ≡ self.old.replies) }
+        ensures several { (first : ℕ) → self.old.unsent ≡ unsent.Several first → ReactsTo C.represents (mutex_guard_value self.old.seated) (mutex_guard_value self.new.seated) Event.Tick self.old.replies self.new.replies }
+        ensures same { ((first : ℕ) → ¬ (self.old.unsent ≡ unsent.Several first)) → (self.new.seated ≡ self.old.seated) × (self.new.replies ≡ self.old.replies) }
     {
         let unsent = mem::replace(&mut self.unsent, Unsent::Nothing);
         match unsent {
             Unsent::Nothing => (),
-            Unsent::Last => self.send_step(rt),
-            Unsent::Several => {
+            Unsent::Last(_) => self.send_step(rt),
+            Unsent::Several(first) => {
                 if take_event(
                     rt,
                     self.exit.alloc,
@@ -141,13 +149,13 @@ impl<'a, C: Core, G: Gate> Turn<'a, C, G> {
                     Event::Tick,
                     &mut self.replies,
                 ) {
-                    self.send_step(rt);
+                    self.send_entries(rt, first);
                 }
             }
         }
     }
 
-    /// The step on what was brought. Bytes that no memory is left to decode are a lost message.
+    /// Takes the step on what was brought. Out of memory to decode a message, the message is lost.
     pub(crate) fn take_brought<R: Wait>(&mut self, rt: &R, waiting: Waiting)
         ensures { TakesBrought C.represents (mutex_guard_value self.old.seated) (mutex_guard_value self.new.seated) waiting self.old.replies self.new.replies }
     {
@@ -158,7 +166,7 @@ impl<'a, C: Core, G: Gate> Turn<'a, C, G> {
             }
             Waiting::Message(bytes) => self.hear(rt, bytes),
             Waiting::Ack => {
-                // One that comes from now on waits anew.
+                // An acknowledgement that comes from now on waits anew.
                 self.exit.node.ack.open();
                 if let Some(bytes) = self.exit.node.ack.take(rt) {
                     self.hear(rt, bytes);
@@ -168,13 +176,13 @@ impl<'a, C: Core, G: Gate> Turn<'a, C, G> {
                 if let Some(bytes) = self.exit.node.blank.take(rt) {
                     self.hear(rt, bytes);
                 }
-                // What its sender said while it was answered is answered by that.
+                // What the sender repeated meanwhile is answered by this step.
                 self.exit.node.blank.open();
             }
         }
     }
 
-    /// The step on a message.
+    /// Takes the step on an encoded message.
     fn hear<R: Wait>(&mut self, rt: &R, bytes: Bytes)
         ensures { Hears C.represents (mutex_guard_value self.old.seated) (mutex_guard_value self.new.seated) bytes self.old.replies self.new.replies }
     {
@@ -183,7 +191,7 @@ impl<'a, C: Core, G: Gate> Turn<'a, C, G> {
         }
     }
 
-    /// One step on a message or a tick, and what it sends.
+    /// Takes one step on a message or a tick, and sends what it sends.
     fn step<R: Wait>(&mut self, rt: &R, event: Event)
         requires { CanArrive event }
         ensures { ReactsTo C.represents (mutex_guard_value self.old.seated) (mutex_guard_value self.new.seated) event self.old.replies self.new.replies }
@@ -199,7 +207,8 @@ impl<'a, C: Core, G: Gate> Turn<'a, C, G> {
         }
     }
 
-    /// The step of a queued ask. A node that is closed takes none, since nobody would answer it.
+    /// Takes the step of a queued request. A closed node refuses it with `Closed`, since nobody
+    /// would answer it.
     pub(crate) fn take_asked<R: Wait>(&mut self, rt: &R, asked: QueuedAsk)
         ensures { TakesQueued C.represents (mutex_guard_value self.old.seated) (mutex_guard_value self.new.seated) asked.ask asked.pass asked.caller self.old.replies self.new.replies ⊎ RefusesQueued C.represents (mutex_guard_value self.old.seated) (mutex_guard_value self.new.seated) asked.ask asked.pass asked.caller self.old.replies self.new.replies ⊎ ClosesQueued (mutex_guard_value self.old.seated) (mutex_guard_value self.new.seated) asked.caller self.old.replies self.new.replies }
     {
@@ -216,7 +225,8 @@ impl<'a, C: Core, G: Gate> Turn<'a, C, G> {
         }
     }
 
-    /// The step of an ask that its caller takes itself: the reply where there is one at once, else its letter will come.
+    /// Takes the step of the caller's own request. Returns the reply, or `None` if a completion
+    /// will come.
     pub(crate) fn take_own<R: Wait>(
         &mut self,
         rt: &R,
@@ -246,7 +256,7 @@ impl<'a, C: Core, G: Gate> Turn<'a, C, G> {
         reply
     }
 
-    /// What the node's last step sends goes out, after what is owed; or is owed, or held back.
+    /// Sends what the node's last step sends, after what is owed; or owes it, or holds it back.
     fn post_step<R: Wait>(&mut self, rt: &R)
         ensures last { OwesLast (cell_in self.old.seated) self.new.owed }
         ensures still { OwesStill (cell_in self.old.seated) self.old.owed self.new.owed }
@@ -256,8 +266,8 @@ impl<'a, C: Core, G: Gate> Turn<'a, C, G> {
     {
         let unsent = self.unsent;
         let cell = self.seated.desk.cell();
-        if only_sends_entry(cell) {
-            self.unsent = unsent.with_entry();
+        if let Some(position) = lone_entry_of(cell) {
+            self.unsent = unsent.with_entry(position);
             return;
         }
         match lone_ack_of(cell) {
@@ -267,7 +277,8 @@ impl<'a, C: Core, G: Gate> Turn<'a, C, G> {
         self.unsent = unsent.after_another();
     }
 
-    /// All that the node's last step sends goes out, after what is owed. So messages go out in the order of the steps.
+    /// Sends all that the node's last step sends, after what is owed, so messages go out in the
+    /// order of the steps.
     fn send_step<R: Wait>(&mut self, rt: &R)
         ensures still { OwesStill (cell_in self.old.seated) self.old.owed self.new.owed }
         ensures same { self.new.unsent ≡ self.old.unsent }
@@ -284,7 +295,19 @@ impl<'a, C: Core, G: Gate> Turn<'a, C, G> {
         self.exit.post(rt, sent);
     }
 
-    /// An acknowledgement is owed in place of the one before, if there was one.
+    /// Sends the entries of the node's last step from this position on, and none of its other
+    /// messages.
+    fn send_entries<R: Wait>(&mut self, rt: &R, first: Seq)
+        ensures owed { self.new.owed ≡ self.old.owed }
+        ensures same { self.new.unsent ≡ self.old.unsent }
+        ensures seated { self.new.seated ≡ self.old.seated }
+        ensures replies { self.new.replies ≡ self.old.replies }
+    {
+        let sent = entries_by_node(self.exit.alloc, self.seated.desk.cell(), first);
+        self.exit.post(rt, sent);
+    }
+
+    /// Owes an acknowledgement in place of the one before, if there was one.
     fn owe<R: Wait>(&mut self, rt: &R, ack: LoneAck)
         ensures owed { self.new.owed ≡ Some ack }
         ensures seated { self.new.seated ≡ self.old.seated }
@@ -295,7 +318,7 @@ impl<'a, C: Core, G: Gate> Turn<'a, C, G> {
         }
     }
 
-    /// What was owed before goes out, unless what is owed now makes it needless.
+    /// Sends what was owed before, unless what is owed now makes it needless.
     fn follow<R: Wait>(&self, rt: &R, before: LoneAck) {
         let needed = match &self.owed {
             Some(ack) => before.give_way(ack),

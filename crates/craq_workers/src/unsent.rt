@@ -1,36 +1,39 @@
-//! `Unsent`: the entries that a turn of a node holds back, to send them together; for `turn`.
+//! `Unsent`: the entries that a batch of a node's steps holds back, to send them together; for
+//! `turn`.
 ghost use Rattle.std.specs.Prelude.{◌≡◌};
 ghost use Rattle.craq_workers.specs.Turns.{after_another, with_entry};
 
-/// The entries that a turn's steps made and that have not gone out.
+use craq_names::Seq;
+
+/// The entries that a batch's steps made and that have not been sent.
 #[derive(Clone, Copy, Debug, PartialEq, Eq)]
 pub(crate) enum Unsent {
     /// None.
     Nothing,
-    /// The one that the node's last step sends.
-    Last,
-    /// Those of several steps, or one of a step before the last.
-    Several,
+    /// One entry, of this position, which the node's last step sends.
+    Last(Seq),
+    /// Entries of several steps, or one of a step before the last. The first has this position.
+    Several(Seq),
 }
 
 impl Unsent {
-    /// What is held back after one entry more.
-    pub(crate) fn with_entry(self) -> Self
-        ensures { result ≡ with_entry self }
+    /// Returns what is held back once an entry of this position is held back too.
+    pub(crate) fn with_entry(self, position: Seq) -> Self
+        ensures { result ≡ with_entry position self }
     {
         match self {
-            Unsent::Nothing => Unsent::Last,
-            Unsent::Last | Unsent::Several => Unsent::Several,
+            Unsent::Nothing => Unsent::Last(position),
+            Unsent::Last(first) | Unsent::Several(first) => Unsent::Several(first),
         }
     }
 
-    /// What is held back after a step that holds nothing back.
+    /// Returns what is held back after a step of which nothing is held back.
     pub(crate) fn after_another(self) -> Self
         ensures { result ≡ after_another self }
     {
         match self {
             Unsent::Nothing => Unsent::Nothing,
-            Unsent::Last | Unsent::Several => Unsent::Several,
+            Unsent::Last(first) | Unsent::Several(first) => Unsent::Several(first),
         }
     }
 }

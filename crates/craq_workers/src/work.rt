@@ -1,4 +1,5 @@
-//! What each thread of a store does, from its start to its end; called in the threads that `store` makes.
+//! The work of each thread of a store, from its start to its end; called in the threads that
+//! `store` makes.
 ghost use Rattle.std.specs.Prelude.{◌≡◌};
 
 use crate::carrying::carry;
@@ -16,20 +17,21 @@ use crossbeam_channel::{Receiver, Sender};
 use std::alloc::Global;
 use std::sync::{Arc, Wait};
 
-/// What a thread of the store does.
+/// The task of a thread of the store.
 #[derive(Drop)]
 pub(crate) enum Worker<C: Core> {
-    /// Takes the asks of a node.
+    /// Takes the requests that are queued for a node.
     Asks(Arc<RunningNode<C>>),
     /// Takes what arrives at a node, and its ticks.
     Links(Arc<RunningNode<C>>),
-    /// Takes what waits at the nodes of a chain, in turns.
+    /// Takes what waits at the nodes of a chain, one batch after another.
     Carrier(ChainId),
     /// Takes the ticks of a chain's master.
     Master(ChainId, Receiver<()>),
 }
 
-/// Works until no sender is left, or as a carrier until the store is closed. Its sender `alive` is dropped last: `close` waits for it.
+/// Works until no sender is left, or, as a chain thread, until the store is closed. Drops `alive`
+/// last, since `close` waits for that.
 pub(crate) fn work<R: Wait, C: Core, G: Gate>(
     rt: &R,
     alloc: Global,
@@ -79,7 +81,7 @@ fn take_links<R: Wait, C: Core, G: Gate>(
     }
 }
 
-/// One step of a node on a message or a tick.
+/// Takes one step of a node on a message or a tick.
 fn deliver<R: Wait, C: Core, G: Gate>(
     rt: &R,
     alloc: Global,
@@ -112,7 +114,7 @@ fn take_ticks<R: Wait, C: Core, G: Gate>(
     }
 }
 
-/// One piece of a master's work: it ticks.
+/// Ticks a master: one piece of its work.
 fn announce<R: Wait, C: Core, G: Gate>(
     rt: &R,
     alloc: Global,
@@ -129,7 +131,7 @@ fn announce<R: Wait, C: Core, G: Gate>(
     shared.gate.after(*name, Work::Deliveries, count);
 }
 
-/// A tick of a master under its lock, and what it sends.
+/// Ticks a master under its lock, and returns what it sends.
 fn tick<R: Wait, C: Core, G: Gate>(
     rt: &R,
     alloc: Global,
@@ -146,7 +148,7 @@ fn tick<R: Wait, C: Core, G: Gate>(
     }
 }
 
-/// A chain's master by name.
+/// Returns the name of a chain's master.
 pub(crate) fn master_of(chain: ChainId) -> NodeName
     ensures { result ≡ record { chain = chain; node = 0 } }
 {

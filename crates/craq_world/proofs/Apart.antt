@@ -1,4 +1,4 @@
--- Each chain of a world is what its own moves make of it.
+-- Each chain of a world is the result of its own moves.
 use Rattle.std.proofs.Common.{◌≡◌, ◌≢◌, ◌+◌, ◌++◌, ◌==◌, if◌then◌else◌, ℕ, zero, suc, Bool, true, false, List, [], ◌∷◌, map, set, Option, Some, None, Result, Ok, Err, refl, sym, ap, subst, arith, ◌∙◌, inl, inr, append_assoc}
 use Rattle.std.specs.Prelude.{◌&&◌, is_ok, slice_get}
 use Rattle.std.specs.List.{AllByRecursion}
@@ -40,7 +40,7 @@ other_at : (ws mid : List Chained) (c id : ℕ) (m : Move) (o : Option Chained) 
 other_at ws mid c id m None h n = cc
 other_at ws mid c id m (Some w) h n = other_with ws mid c id (after_taking w m) h n
 
--- and none of another
+-- a chain does not take another's move
 other_move : (ws mid : List Chained) (c id : ℕ) (m : Move) → world_move ws c m ≡ Ok mid → id ≢ c → slice_get mid id ≡ slice_get ws id
 other_move ws mid c id m h n = other_at ws mid c id m (slice_get ws c) h n
 
@@ -63,7 +63,7 @@ after_one : (own : Bool) (w : Chained) (m : Move) (ms : List Move) → chain_aft
 after_one true w m ms = refl
 after_one false w m ms = refl
 
--- each chain is after its taken moves
+-- each chain is the result of its taken moves
 pub runs_apart : (old : List Chained) (ms : List (ℕ × Move)) (rs : List (Result ℕ Refusal)) (new : List Chained) (id : ℕ) (w : Chained) → RunsTo old ms rs new → slice_get old id ≡ Some w → slice_get new id ≡ Some (chain_after w (taken_of id ms rs))
 runs_apart old [] [] new id w h e = subst (λ x. slice_get x id ≡ Some w) (sym h) e
 runs_apart old [] (r ∷ rs) new id w h e = absurd h
@@ -73,7 +73,7 @@ runs_apart old (m ∷ ms) (r ∷ rs) new id w h e =
     runs_apart h.0 ms rs new id (after_own own w m.1) h.2 (one_taken old h.0 m r id w (m.0 == id) refl h.1 e)
     ∙ ap Some (after_one own w m.1 (taken_of id ms rs))
 
--- where memory never lacks, a move that is not taken is refused by its chain
+-- if memory never runs out, a move that is not taken is refused by its chain
 refused_with : (ws : List Chained) (id : ℕ) (w : Chained) (f : Refusal) (r : Result Chained Refusal) → with_chain ws id r ≡ Err f → result_unwrap_or r w ≡ w
 refused_with ws id w f (Ok v) h = cc
 refused_with ws id w f (Err g) h = refl

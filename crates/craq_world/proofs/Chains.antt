@@ -20,7 +20,7 @@ use Rattle.craq_chain_invariants.proofs.Invariants.{runs_keep_invariants}
 use Rattle.craq_world.specs.Promise.{AreExplained, BeginsAs, NothingIsTakenBack}
 use Rattle.craq_world.specs.Worlds.{AreRunning, GivesWorld, HasFoundIn, opened_from, RunsTo, moves_in}
 
--- a list begins as itself, and as what begins as it
+-- the prefix order of lists is reflexive and transitive
 prefix_self : {A : Type 0} (xs : List A) → IsPrefix xs xs
 prefix_self xs = record { rest = []; is = append-nil xs }
 
@@ -39,7 +39,7 @@ begins_on e f g p q =
       places = prefix_on e.places f.places g.places p.places q.places;
     }
 
--- nothing is taken back where nothing happens, and by one change after another
+-- nothing is taken back if nothing happens, and by one change after another
 pub nothing_changes : (ws : List Chained) → NothingIsTakenBack ws ws
 nothing_changes [] = tt
 nothing_changes (w ∷ ws) = (begins_self (explain w.chain w.run), nothing_changes ws)
@@ -53,7 +53,7 @@ nothing_yet (u ∷ us) [] ws p q = absurd p
 nothing_yet [] [] (w ∷ ws) p q = absurd q
 nothing_yet (u ∷ us) (v ∷ vs) [] p q = absurd q
 
--- each chain that runs is explained
+-- each running chain is explained
 pub all_explained : (id : ℕ) (ws : List Chained) → AreRunning id ws → AreExplained id ws
 all_explained id [] h = tt
 all_explained id (w ∷ ws) h =
@@ -101,7 +101,7 @@ chain_at first (v ∷ ws) (suc i) w h m is =
       begins = λ u b. (begins_self (explain v.chain v.run), p.begins u b);
     }
 
--- the id of what a move leads to
+-- the id of the chain after a move
 abbrev chain_in : Chained → Result Chained Refusal → ℕ
 chain_in w (Ok v) = v.chain
 chain_in w (Err e) = w.chain
@@ -115,7 +115,7 @@ pub kept_id : (w v : Chained) (m : Move) (r : Result ℕ Refusal) → GivesMove 
 kept_id w v m (Ok n) h = moved_id w v m (chain_step (chain_of w) m) h.0
 kept_id w v m (Err e) h = ap (λ (x : Chained). x.chain) h.1
 
--- what was explained of the chain before the move stays
+-- the explanation of the chain before the move stays
 moved_begins : (w v : Chained) (m : Move) (r : Result Progress Refusal) → moved w m r ≡ Ok v → IsTypedRunOf v.chain v.run → BeginsAs w v
 moved_begins w v m (Ok x) h typed =
     let t : Taken = record { chosen = m; step = x.1 } in
@@ -136,7 +136,7 @@ world_gives ws i w v m (Err e) p h = (
   ap (λ x. set ws i x) h.1 ∙ p.same,
 )
 
--- what the chain of an id finds, the world finds
+-- the search in the chain of an id is the world's
 pub found_in : (ws : List Chained) (id : ℕ) (m : Move) (w : Chained) (r : Result Unit Refusal) → slice_get ws id ≡ Some w → HasFound (chain_of w) m r → HasFoundIn ws id m r
 unfolding chain_step
 found_in ws id m w (Ok done) at h = rw at h

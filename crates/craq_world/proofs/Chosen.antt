@@ -19,7 +19,7 @@ pub record AreMoves (run : Run) (ts : List Taken) : Type 0 where
 typed_run : (run : Run) (ts : List Taken) → AreMoves run ts → (chain : ℕ) → IsRunOf chain run → IsTypedRunOf chain run
 typed_run run ts m chain i = record { run_of = i; typed = subst AreOfType m.are m.typed }
 
--- what is chosen in each chain
+-- the explanation chosen in each chain
 abbrev pub IsChosen : Run → Explanation → Type 0
 IsChosen run e = (chain : ℕ) → IsRunOf chain run → e ≡ explain chain run
 

@@ -1,4 +1,4 @@
--- The first ask of a run names the run's chain.
+-- The first request of a run names the run's chain.
 use Rattle.std.proofs.Common.{◌≡◌, ⊎_elim, ℕ, ◌+◌, ◌<◌, ◌==◌, nat_le, Bool, true, false, not, cond, ◌||◌, List, [], ◌∷◌, ◌++◌, map, length, is_some, Option, Some, None, Result, Ok, Err, refl, ap, sym, subst, ◌∙◌, arith}
 use Rattle.std.specs.Prelude.{⊤}
 use Rattle.std.proofs.lemmas.Bool.{eqb-true, and_parts, not-false}
@@ -35,7 +35,7 @@ use Rattle.craq_updates.proofs.Places.{AtNode, AtMaster, happens_at}
 use Rattle.craq_chain.proofs.Steps.{AreOf, own_name, names_push, set_names}
 use Rattle.craq_world.specs.Named.{named_first, named_in}
 
--- ---- each node of a chain bears the chain's id
+-- ---- each node of a chain has the chain's id
 
 abbrev IsOf : ℕ → Chain → Type 0
 IsOf chain c = (c.chain ≡ chain) × AreOf chain c.nodes
@@ -111,7 +111,7 @@ opening_is : (chain : ℕ) (members ids : List ℕ) → AreOf chain (map (λ id.
 opening_is chain members [] = tt
 opening_is chain members (id ∷ ids) = (refl, opening_is chain members ids)
 
--- ---- an ask that is taken names the chain
+-- ---- a request that is accepted names the chain
 
 some_named : (t : Command) → IsOfType t → 0 < length (objects_named t)
 some_named (Put o v) l = omega arith

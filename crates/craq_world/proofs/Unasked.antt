@@ -1,4 +1,5 @@
--- A run that asks nothing commits nothing and answers nothing, so its explanation is the same in each chain.
+-- A run without a request commits nothing and answers nothing, so its explanation is the same in
+-- each chain.
 use Rattle.std.proofs.Common.{◌≡◌, ℕ, suc, ◌+◌, cond, Bool, true, false, List, [], ◌∷◌, ◌++◌, map, length, replicate, Option, Some, None, refl, ap, sym, subst, ◌∙◌, append_assoc, append-nil}
 use Rattle.craq_commands.specs.declared.entry.Entry.{Entry}
 use Rattle.craq_commands.specs.SingleCopy.{opening_state}
@@ -30,7 +31,7 @@ no_asks (t ∷ ts) number is =
     let n : _ = no_ask t.chosen (named_in ts) is in
     ap (λ l. l ++ asks_from (number + 1) ts) (n.0 number t.step.ticket) ∙ no_asks ts (number + 1) n.1
 
--- entries that were not asked are none
+-- entries without a request do not exist
 none_genuine : (es : List Entry) → AllGenuine [] opening_state es → es ≡ []
 unfolding ask_with
 none_genuine [] g = refl
@@ -63,7 +64,7 @@ same_places : (places : List Place) (asked : List Asked) (due : List Place) (es 
 same_places places asked due es p word answers none =
     ap (λ (l : List Asked). places ++ places_of l due es p word answers) none ∙ (ap (λ l. places ++ l) (no_places due es p word answers) ∙ append-nil places)
 
--- the account of moves that ask nothing, where nothing is committed after them
+-- the account of moves without a request, if nothing is committed after them
 record IsQuiet (a b : Account) (count : ℕ) : Type 0 where
   pub before : a.committed ≡ []
   pub lens : b.lens ≡ a.lens ++ replicate count 0

@@ -15,7 +15,7 @@ abbrev pub moves_of : ℕ → List (ℕ × Move) → List Move
 moves_of id [] = []
 moves_of id (m ∷ ms) = if m.0 == id then m.1 ∷ moves_of id ms else moves_of id ms
 
--- those of them that were taken, by their results
+-- the moves that were taken, by their results
 abbrev pub taken_of : ℕ → List (ℕ × Move) → List (Result ℕ Refusal) → List Move
 taken_of id [] rs = []
 taken_of id (m ∷ ms) [] = []
@@ -30,7 +30,8 @@ chain_after w (m ∷ ms) = chain_after (result_unwrap_or (after_taking w m) w) m
 abbrev pub chosen_in : Run → List Move
 chosen_in run = map (λ (t : Taken). t.chosen) run.moves
 
--- a world that was opened with chains of these members, and then took or refused these moves, with these results
+-- a world that was opened with chains of these members, and then took or refused these moves, with
+-- these results
 pub record Execution : Type 0 where
   pub lists : List (List ℕ)
   pub moves : List (ℕ × Move)
@@ -42,9 +43,10 @@ pub record Execution : Type 0 where
 abbrev pub given_to : Execution → ℕ → List Move
 given_to e id = moves_of id e.moves
 
+-- the moves that a chain took
 abbrev pub taken_by : Execution → ℕ → List Move
 taken_by e id = taken_of id e.moves e.results
 
--- no move was refused for want of memory
+-- no move was refused as out of memory
 abbrev pub HadMemory : Execution → Type 0
 HadMemory e = AllByRecursion (λ r. r ≢ Err Memory) e.results

@@ -1,4 +1,4 @@
--- A world: chains that run, numbered from 0.
+-- A world: running chains, numbered from 0.
 use Rattle.std.specs.Prelude.{◌≡◌, ◌≤◌, ⊤, ℕ, ◌+◌, List, [], ◌∷◌, length, set, Option, Some, None, Result, Ok, Err, slice_get}
 use Rattle.std.specs.List.{AllByRecursion}
 use Rattle.craq_names.specs.Order.{RefusesWhere}
@@ -29,10 +29,11 @@ abbrev pub move_of : List Chained → ℕ → Move → Option Chained → Result
 move_of ws id m None = Err UnknownChain
 move_of ws id m (Some w) = with_chain ws id (after_taking w m)
 
+-- a move of the chain of this id
 abbrev pub world_move : List Chained → ℕ → Move → Result (List Chained) Refusal
 world_move ws id m = move_of ws id m (slice_get ws id)
 
--- how many moves a chain has taken
+-- the number of moves that a chain has taken
 abbrev pub moves_in : Option Chained → ℕ
 moves_in None = 0
 moves_in (Some w) = length w.run.moves
@@ -42,13 +43,13 @@ abbrev pub FindsIn : Option Chained → Move → Type 0
 FindsIn None m = ⊥
 FindsIn (Some w) m = Finds (chain_of w) m
 
--- a look for them found them, or refuses the move as the world does
+-- the search found them, or refuses the move as the world does
 abbrev pub HasFoundIn : List Chained → ℕ → Move → Result Unit Refusal → Type 0
 HasFoundIn ws id m (Ok done) = FindsIn (slice_get ws id) m
 HasFoundIn ws id m (Err e) = world_move ws id m ≡ Err e
 
--- the move was taken and has this number in its chain; or nothing changed, and it was refused as wanted, or for want of
--- memory, which comes after the look for the chain, the node and the message
+-- the move was taken and has this number in its chain; or nothing changed, and it was refused as
+-- wanted, or out of memory, which comes after the search for the chain, the node and the message
 abbrev pub GivesWorld : List Chained → List Chained → ℕ → Move → Result ℕ Refusal → Type 0
 GivesWorld old new id m (Ok number) = (world_move old id m ≡ Ok new) × (number ≡ moves_in (slice_get new id))
 GivesWorld old new id m (Err e) = RefusesWhere (FindsIn (slice_get old id) m) e (world_move old id m) × (new ≡ old)

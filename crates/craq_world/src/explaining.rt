@@ -1,4 +1,5 @@
-//! `explain_run`: the explanation of any run, valid by the theorem; for tests, which explain audited runs with it.
+//! `explain_run`: the explanation of any run, valid by the theorem; used by tests, which explain
+//! audited runs with it.
 ghost use Rattle.std.specs.Prelude.{◌≡◌, ℕ, IfOk};
 ghost use Rattle.craq_runs.specs.Explain.{explain};
 ghost use Rattle.craq_runs.specs.Runs.{IsRun, IsRunOf};
@@ -13,7 +14,8 @@ use craq_promise::every_run_is_explained;
 use craq_runs::{Explanation, Move, Run, Taken};
 use std::alloc::{AllocError, Global};
 
-/// Each transaction that the moves asked is within the limits that its type keeps. It does nothing.
+/// States that each transaction that the moves requested is within the limits that its type keeps.
+/// Does nothing.
 fn keep_all_limits(moves: &[Taken])
     ensures { AreOfType moves.now }
 {
@@ -22,7 +24,7 @@ fn keep_all_limits(moves: &[Taken])
     }
 }
 
-/// The chain that the first ask names, where something was asked.
+/// Returns the chain that the first request names, if there is a request.
 fn named_chain(moves: &[Taken]) -> Option<ChainId>
     ensures { result ≡ named_in moves.now }
 {
@@ -34,7 +36,7 @@ fn named_chain(moves: &[Taken]) -> Option<ChainId>
     None
 }
 
-/// The explanation of so many moves that ask nothing. It fails for want of memory alone.
+/// Returns the explanation of `count` moves without a request. Fails only when out of memory.
 fn explain_unasked(alloc: Global, count: usize) -> Result<Explanation, AllocError>
     ensures { IfOk result (λ e. e ≡ unasked count) }
 {
@@ -46,9 +48,9 @@ fn explain_unasked(alloc: Global, count: usize) -> Result<Explanation, AllocErro
     })
 }
 
-/// The explanation of a run, whoever made it: the one that the definitions choose in each chain in which the run can
-/// happen, and it holds of the run. The run's first ask names its chain, and the explanation of a run that asks nothing
-/// depends on none. It fails for want of memory alone.
+/// Returns the explanation of a run from any source. It is the one that the definitions choose in
+/// each chain in which the run can happen, and it holds of the run. The run's first request names
+/// its chain; without a request the explanation depends on no chain. Fails only when out of memory.
 pub fn explain_run(alloc: Global, run: &Run) -> Result<Explanation, AllocError>
     requires { IsRun run.now }
     ensures chosen { IfOk result (λ e. (chain : ℕ) → IsRunOf chain run.now → e ≡ explain chain run.now) }

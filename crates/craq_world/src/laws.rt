@@ -1,11 +1,13 @@
-//! Laws of worlds: chains do not touch one another; no code calls them, they are stated for readers.
+//! States that the chains of a world are independent; no code calls these laws, they are stated for
+//! readers.
 ghost use Rattle.std.specs.Prelude.{◌≡◌, ℕ, List, Some, slice_get};
 ghost use Rattle.craq_chain.specs.Chained.{Chained, opened};
 ghost use Rattle.craq_world.specs.Apart.{Execution, HadMemory, chain_after, chosen_in, given_to, taken_by};
 
-/// What becomes of a chain in a world is what its own moves make of its opening members: its run has just the taken
-/// moves in order. So two worlds in which a chain has the same members and takes the same moves have equal runs of it,
-/// whatever other chains they have, and whatever those take between. It has no body: the contract is the law.
+/// States that a chain of a world is its opening members after its own moves: its run has exactly
+/// the taken moves in order. So two worlds in which a chain has the same members and takes the same
+/// moves have equal runs of it. Other chains and their moves make no difference. The body is empty:
+/// the contract is the law.
 pub fn runs_depend_on_their_own_moves_alone()
     ensures run { (e : Execution) (id : ℕ) (members : List ℕ)
         → slice_get e.lists id ≡ Some members
@@ -15,7 +17,8 @@ pub fn runs_depend_on_their_own_moves_alone()
         → slice_get e.chains id ≡ Some w
         → chosen_in w.run ≡ taken_by e id }
 
-    // two worlds in which the chain takes the same moves, and two in which it is given the same and memory never lacks
+    // two worlds in which the chain takes the same moves, and two in which it is given the same and
+    // memory never runs out
     ensures taken { (e f : Execution) (id : ℕ) (members : List ℕ)
         → slice_get e.lists id ≡ Some members
         → slice_get f.lists id ≡ Some members

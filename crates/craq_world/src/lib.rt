@@ -1,6 +1,5 @@
-//! Worlds of 1 to 64 chains that take moves; the calls' contracts are the promise of the store. A crate apart since it joins
-//! running chains to the theorem, on which no program stands; for `craq_node_tests`.
-//! Code that runs in tests alone.
+//! Worlds of 1 to 64 chains that take moves; their contracts are the promise of the store.
+//! Runs in tests only (`craq_node_tests`), since it joins running chains to the theorem.
 #![tactic(auto)]
 
 mod explaining;

@@ -1,4 +1,5 @@
-//! `World`, the primary object of the crate: 1 to 64 chains, with the promise in the contracts of its calls; for tests.
+//! `World`, the primary object of the crate: 1 to 64 chains, with the promise in the contracts of
+//! its functions; used by tests.
 ghost use Rattle.std.specs.Prelude.{◌≡◌, ◌≢◌, ◌≤◌, ◌<◌, ◌+◌, ◌⊎◌, ◌↔◌, ℕ, Some, None, Err, IfOk, IfErr, IsTrue, OnOk, OnErr, length, slice_get};
 ghost use Rattle.std.specs.List.{AllByRecursion};
 ghost use Rattle.craq_model.specs.Members.{IsMembership};
@@ -20,8 +21,8 @@ use craq_runs::{Explanation, Move, Run};
 use std::alloc::{AllocError, Global};
 use std::marker::Model;
 
-/// Chains with the ids from 0 on, which take moves one after another. A contract sees the chains in order, each as its
-/// id and its run.
+/// Chains with the ids from 0 on, which take moves one after another. A contract sees the chains in
+/// order, each as its id and its run.
 #[derive(Drop)]
 pub struct World<C: Core> {
     chains: Vec<ChainCore<C>>,
@@ -39,13 +40,13 @@ impl<C: Core> Model for World<C> {
     ghost invariant = { λ s. AreRunning 0 s.chains.items };
 }
 
-/// What became of each move of a list, in order: its number in its chain, or its refusal.
+/// The result of each move of a list, in order: its number in its chain, or its refusal.
 #[derive(Debug, Drop)]
 pub struct Report {
     pub results: Items<Result<u64, Refusal>>,
 }
 
-/// Whether each list is a membership.
+/// Returns true if each list is a membership.
 fn are_memberships(lists: &[Items<NodeId>]) -> bool
     ensures { IsTrue result ↔ AllByRecursion IsMembership lists.now }
 {
@@ -57,7 +58,8 @@ fn are_memberships(lists: &[Items<NodeId>]) -> bool
     true
 }
 
-/// The chains of these members, before any move, with the ids from 0 on. It fails for want of memory alone.
+/// Opens the chains of these members, before any move, with the ids from 0 on. Fails only when out
+/// of memory.
 fn opened_chains<C: Core>(
     alloc: Global,
     lists: &[Items<NodeId>],
@@ -76,10 +78,11 @@ fn opened_chains<C: Core>(
 }
 
 impl<C: Core> World<C> {
-    /// Chains of these members, each list head first, with the ids from 0 on, before any move.
+    /// Opens chains of these members, each list head first, with the ids from 0 on, before any
+    /// move.
     ///
-    /// `BadConfig` exactly where they are not 1 to 64 lists of 1 to 8 ids from 1, none twice in a list.
-    /// `Memory` where a growth was refused.
+    /// `BadConfig` exactly if they are not 1 to 64 lists of 1 to 8 ids from 1, none twice in a
+    /// list. `Memory` if they are and an allocation failed.
     pub fn open(alloc: Global, lists: &[Items<NodeId>]) -> Result<Self, Refusal>
         ensures ok { IfOk result (λ w. w ≡ opened_from 0 lists.now) }
         ensures chains { OnOk result (AreChains lists.now) }
@@ -101,12 +104,13 @@ impl<C: Core> World<C> {
         Ok(World { chains })
     }
 
-    /// One move of the chain of this id: its number in the chain, from 1. Every other chain is as it was. Each chain's
-    /// run is explained and each chain has its invariants (`AreExplained`), and what was explained before is explained
-    /// so now.
+    /// Takes one move of the chain of this id and returns its number in the chain, from 1. Every
+    /// other chain is unchanged. Each chain's run is explained and each chain has its invariants
+    /// (`AreExplained`); the earlier explanation is kept.
     ///
-    /// Refused, with nothing changed: first `UnknownChain` where the world has no such chain; then as
-    /// `ChainCore::take` is, so `Memory` comes only once the chain, the node and the message were found.
+    /// Refused, with nothing changed: first `UnknownChain` if the world has no such chain; then as
+    /// `ChainCore::take`, so `Memory` comes only once the chain, the node and the message were
+    /// found.
     pub fn take(&mut self, alloc: Global, chain: ChainId, chosen: Move) -> Result<u64, Refusal>
         ensures gives { GivesWorld self.old self.new chain chosen result }
         ensures others { (other : ℕ) → other ≢ chain → slice_get self.new other ≡ slice_get self.old other }
@@ -121,7 +125,7 @@ impl<C: Core> World<C> {
         self.chains[place].take(alloc, chosen)
     }
 
-    /// Looks for the chain, the node and the message of a move. It takes no memory.
+    /// Finds the chain, the node and the message of a move. Never allocates.
     fn find(&self, chain: ChainId, chosen: &Move) -> Result<(), Refusal>
         ensures { HasFoundIn self.now chain chosen.now result }
     {
@@ -132,7 +136,8 @@ impl<C: Core> World<C> {
         core.find(chosen)
     }
 
-    /// The same as `take`, of a copy of the move, which is made once the chain, the node and the message were found.
+    /// Takes a copy of the move as `take` does; copies it once the chain, the node and the message
+    /// were found.
     fn take_copy(&mut self, alloc: Global, chain: ChainId, chosen: &Move) -> Result<u64, Refusal>
         ensures gives { GivesWorld self.old self.new chain chosen.now result }
         ensures explained { AreExplained 0 self.new }
@@ -144,7 +149,7 @@ impl<C: Core> World<C> {
         self.take(alloc, chain, chosen)
     }
 
-    /// Each chain's run is explained. It does nothing.
+    /// States that each chain's run is explained. Does nothing.
     fn keep_explained(&self)
         ensures explained { AreExplained 0 self.now }
         ensures stays { NothingIsTakenBack self.now self.now }
@@ -152,10 +157,10 @@ impl<C: Core> World<C> {
         let _ = &self.chains;
     }
 
-    /// Each of these moves in order, taken or refused as by `take`; a refused one changes nothing, and the
-    /// next follows. So each chain takes its own moves in order, whatever other chains take between. Each chain's run
-    /// is explained afterwards, and what was explained before is explained so then. Room for the report is made first:
-    /// where that is refused nothing is taken.
+    /// Takes each of these moves in order, or refuses it as `take` does; a refused move changes
+    /// nothing, and the next follows. So each chain takes its own moves in order, whatever other
+    /// chains take between. Each chain's run is explained afterwards, and the earlier explanation
+    /// is kept. Allocates the report first: if that fails, no move is taken.
     pub fn run(&mut self, alloc: Global, moves: &[(ChainId, Move)]) -> Result<Report, AllocError>
         ensures runs { IfOk result (λ report. RunsTo self.old moves.now report.results self.new) }
         ensures each { IfOk result (λ report. (id : ℕ) (w : Chained) → slice_get self.old id ≡ Some w
@@ -176,8 +181,10 @@ impl<C: Core> World<C> {
         })
     }
 
-    /// The run of the chain of this id: its opening members and its moves, each with its step. The explanation that the
-    /// definitions choose holds of it, and its chain has the invariants of chains. `UnknownChain` exactly where the world has no such chain. It takes no memory.
+    /// Returns the run of the chain of this id: its opening members and its moves, each with its
+    /// step. The explanation that the definitions choose holds of it, and its chain has the
+    /// invariants of chains. `UnknownChain` exactly if the world has no such chain. Never
+    /// allocates.
     pub fn run_of(&self, chain: ChainId) -> Result<&Run, Refusal>
         ensures ok { IfOk result (λ run. (w : Chained) → slice_get self.now chain ≡ Some w → run.now ≡ w.run) }
         ensures run { IfOk result (λ run. IsTypedRunOf chain run.now) }
@@ -194,10 +201,12 @@ impl<C: Core> World<C> {
         }
     }
 
-    /// The explanation of the run of the chain of this id: the asks of the committed updates, how many were committed
-    /// after each move, and where each strong answer stands. It is the one that the definitions choose, and it holds.
+    /// Returns the explanation of the run of the chain of this id: the requests of the committed
+    /// updates, the number committed after each move, and the linearization point of each strong
+    /// reply. It is the one that the definitions choose, and it holds.
     ///
-    /// `UnknownChain` exactly where the world has no such chain. `Memory` where a growth was refused, and it has one.
+    /// `UnknownChain` exactly if the world has no such chain. `Memory` if it has one and an
+    /// allocation failed.
     pub fn explain(&self, alloc: Global, chain: ChainId) -> Result<Explanation, Refusal>
         ensures ok { IfOk result (λ e. (w : Chained) → slice_get self.now chain ≡ Some w → e ≡ explain chain w.run) }
         ensures valid { IfOk result (λ e. (w : Chained) → slice_get self.now chain ≡ Some w → IsValid w.run e) }

@@ -10,14 +10,14 @@ use Rattle.craq_model.specs.Plain.{Plain, length_of, newest, predecessor, with_e
 use Rattle.craq_write.specs.Rows.{why_ignored}
 use Rattle.craq_write.proofs.Rows.{one_above}
 
--- nothing speaks against the entries
+-- there is no reason to ignore the entries
 none_of : (a b c : Bool) → (if not a then Some NotNeighbour else if b then Some AlreadyHave else if c then Some OutOfOrder else None) ≡ None → (a ≡ true) × (b ≡ false) × (c ≡ false)
 none_of true true c h = absurd cc
 none_of true false true h = absurd cc
 none_of true false false h = (refl, refl, refl)
 none_of false b c h = absurd cc
 
--- those that the node lacks are taken, if they are applicable
+-- the entries that the node lacks are taken, if they are applicable
 pub lacking_taken : (p : Plain) (sender : ℕ) (es next : List Entry) → why_ignored p sender (first_position es) (final_position es) ≡ None → entries_above (length_of p) es ≡ next → are_applicable (newest p) next ≡ true → entries_turn p sender es ≡ taken_entries_turn (with_entries p next) next
 unfolding entries_turn
 lacking_taken p sender es next h e a =

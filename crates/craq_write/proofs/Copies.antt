@@ -1,4 +1,4 @@
--- A node that becomes ready by a state: all that it holds is committed, and nothing waits.
+-- A node that becomes ready by a state: all its entries are committed, and no request waits.
 use Rattle.std.proofs.Common.{◌≡◌, ℕ, ◌+◌, ◌-◌, Bool, true, false, [], None, arith, refl, sym, subst}
 use Rattle.std.specs.Prelude.{◌==◌, if◌then◌else◌}
 use Rattle.craq_commands.specs.declared.state.State.{State}
@@ -18,7 +18,7 @@ ready_with p position state =
 no_more : (n : ℕ) → n + 0 ≡ n
 no_more n = search arith
 
--- the node without what waits
+-- the node without its waiting requests
 abbrev pub idle : Plain → Plain
 idle p = record p { waiting_updates = []; waiting_reads = [] }
 

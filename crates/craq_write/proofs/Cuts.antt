@@ -1,4 +1,4 @@
--- A state that is cut into parts from its end.
+-- A state that is cut into parts, from its end.
 use Rattle.std.proofs.Common.{◌≡◌, ℕ, suc, ◌+◌, ◌-◌, ◌*◌, ◌≤◌, List, ◌∷◌, map, length, take, drop, refl, ap, ◌∙◌, arith}
 use Rattle.std.proofs.lemmas.List.{take_all}
 use Rattle.std.specs.List.{range_with_len}
@@ -21,7 +21,7 @@ all_objects s count e = ap (λ n. take (64 * n) s.objects) e ∙ take_all (64 * 
 pub all_kept : (s : State) (count : ℕ) → count ≡ part_count s → take (64 * count - length s.objects) s.kept ≡ s.kept
 all_kept s count e = ap (λ n. take (64 * n - length s.objects) s.kept) e ∙ take_all (64 * part_count s - length s.objects) s.kept (enough_later (length s.objects) (length s.kept))
 
--- the part before those that are cut off
+-- the part before those that are cut off already
 pub part_is : (position : ℕ) (s : State) (count k i : ℕ) (objects : List (List ℕ × (ℕ × List ℕ))) (kept : List (ℕ × Window)) → i + 1 ≡ k → count ≡ part_count s
     → objects ≡ drop (64 * i) (take (64 * k) s.objects) → kept ≡ drop (64 * i - length s.objects) (take (64 * k - length s.objects) s.kept)
     → record { position = position; number = i + 1; count = count; state = record { objects = objects; kept = kept } } ≡ part_of position s k

@@ -1,4 +1,4 @@
--- Parts of a state that are gathered.
+-- Gathering the parts of a state.
 use Rattle.std.proofs.Common.{◌≡◌, eq-eqb, ℕ, ◌+◌, ◌≤◌, Bool, true, false, cond, List, [], length, Option, None, Some, is_some, refl, sym, ap, subst, ◌∙◌, arith}
 use Rattle.std.proofs.lemmas.Bool.{cond-false}
 use Rattle.std.proofs.lemmas.Bool.Decides.{nat_tests}
@@ -25,7 +25,7 @@ use Rattle.craq_model.specs.Settle.{Turn, readiness_turn, turn_ignoring, without
 use Rattle.craq_write.specs.Gathered.{AreInOrder, IsInOrder, gathering_at, is_beside}
 use Rattle.std.proofs.lemmas.List.Elements.{All-from_recursion}
 
--- the code's test of numbers is that by which a map is searched
+-- the code's equality of numbers is the one by which maps are searched
 pub same_numbers : (x y : ℕ) → (x == y) ≡ eq_by_cmp nat_cmp x y
 same_numbers x y = unsigned_ties x y
 
@@ -33,7 +33,7 @@ dropped_or_not : (b : Bool) (p : Plain) → (if b then record p { gathering = No
 dropped_or_not true p = refl
 dropped_or_not false p = refl
 
--- the node that drops what it has reached
+-- the node without a gathering whose position it has reached
 pub without_reached_is : (p : Plain) → without_reached p ≡ record p { gathering = gathering_by (gathering_at p.gathering (length_of p)) p.gathering }
 unfolding without_reached
 without_reached_is p = dropped_or_not (nat_le (gathered_position p.gathering) (length_of p)) p
@@ -45,11 +45,11 @@ apart_or_not false h = tt
 pub apart : (g : Option Gathering) (count : ℕ) (h : HistoryChange) → IsApart (gathering_at g count) h
 apart g count h = apart_or_not (nat_le (gathered_position g) count) h
 
--- one more part
+-- inserting one more part
 pub one_more : (parts : List (ℕ × State)) (n : ℕ) (s : State) → T (is_sorted nat_cmp parts) → is_some (at_number parts n) ≡ false → length (put_number parts n s) ≡ length parts + 1
 one_more parts n s rise none = length-put nat_cmp nat_cmp_total n s parts rise ∙ ap (λ b. cond b (length parts) (length parts + 1)) none
 
--- a part that is not outdated is of the state that is gathered then
+-- a part that is not outdated belongs to the state that is gathered then
 pub gathering_position : (g : Option Gathering) (part : StatePart) → nat_lt part.position (gathered_position g) ≡ false → (gathering_for part g).position ≡ part.position
 gathering_position None part h = refl
 gathering_position (Some g) part h =
@@ -72,7 +72,7 @@ is_current p part h = gathering_position p.gathering part (second (nat_le part.p
 pub none_in_order : AreInOrder []
 none_in_order = record { numbers = tt; states = All-from_recursion (λ (held : ℕ × State). IsInOrder held.1) [] tt }
 
--- the last part that was missing
+-- the last missing part completes the state
 pub completes : (p : Plain) (g : Gathering) (part : StatePart) (parts : List (ℕ × State)) (count : ℕ) (state : State) → parts ≡ g.parts → count ≡ g.count → g.position ≡ part.position → T (is_sorted nat_cmp parts)
     → is_some (at_number parts part.number) ≡ false → (length parts + 1 == count) ≡ true → state ≡ joined_state (put_number parts part.number part.state)
     → gathered_turn p (with_part g part) ≡ readiness_turn (with_copy p part.position state)
@@ -83,7 +83,7 @@ completes p g part parts count state same total at rise none whole is =
     let joined : state ≡ joined_state (put_number g.parts part.number part.state) = is ∙ ap (λ (l : List (ℕ × State)). joined_state (put_number l part.number part.state)) same in
     rw (one_more g.parts part.number part.state rising absent, all, at, joined) refl
 
--- one more part, and some still missing
+-- one more part is kept, and some are still missing
 pub gains : (p : Plain) (part : StatePart) (parts : List (ℕ × State)) (count : ℕ) (c : Change) (s : Step) → parts ≡ (gathering_for part p.gathering).parts → count ≡ (gathering_for part p.gathering).count
     → T (is_sorted nat_cmp parts) → is_some (at_number parts part.number) ≡ false → (length parts + 1 == count) ≡ false → c ≡ record no_change { gathering = Gains part }
     → s ≡ record { ticket = None; outs = []; ignored = None } → IsPlanOf p (c, s) (gathered_turn p (with_part (gathering_for part p.gathering) part))
@@ -109,7 +109,7 @@ gains p part parts count c s same total rise none missing is st =
     gathers_on : (p : Plain) (g : Gathering) → is_whole g ≡ false → gathered_turn p g ≡ (record p { gathering = Some g }, record { ticket = None; outs = []; ignored = None })
     gathers_on p g e = rw e refl
 
--- a part that fits
+-- a part that fits is kept
 pub fits : (p : Plain) (g : Gathering) (part : StatePart) (parts : List (ℕ × State)) (count : ℕ) → parts ≡ g.parts → count ≡ g.count → part.count ≡ count → is_some (at_number parts part.number) ≡ false
     → list_all (is_beside part) parts ≡ true → gathering_turn p g part ≡ gathered_turn p (with_part g part)
 unfolding is_in_order

@@ -1,4 +1,4 @@
--- Messages that a node has a use for: its turns by them ignore nothing.
+-- Messages that the node uses: its steps on them ignore nothing.
 use Rattle.std.proofs.Common.{◌≡◌, Bool, true, false, List, Option, None, refl}
 use Rattle.std.specs.Prelude.{not, ◌&&◌, if◌then◌else◌}
 use Rattle.craq_commands.specs.declared.entry.Entry.{Entry}

@@ -1,4 +1,4 @@
--- Lists of entries by rising key, one after the other.
+-- Concatenations of lists sorted by key.
 use Rattle.std.proofs.Common.{◌≡◌, ℕ, ◌-◌, Bool, true, false, ◌&&◌, T, List, [], ◌∷◌, ◌++◌, length, Some, refl, sym, ap, subst, ◌∙◌, arith}
 use Rattle.std.specs.Prelude.{slice_get}
 use Rattle.std.specs.Ordering.{is_lt}
@@ -70,7 +70,7 @@ module _ {K X : Type 0} (cmp : K → K → Ordering) (total : IsTotalOrder cmp) 
   joined x (z ∷ zs) y ys last a b l =
       more_before x z (zs ++ y ∷ ys) (is_lt (cmp last.0 y.0)) (first_two x z zs a) (joined z zs y ys last (second (below_all cmp x.0 (z ∷ zs)) (is_sorted cmp (z ∷ zs)) a) b l)
 
-  -- entries by rising key come before others exactly where the last of them comes before the first of the others
+  -- a sorted list comes before another exactly if its last key is below the other's first
   pub by_ends : (xs ys : List (K × X)) (x y : K × X) → T (is_sorted cmp xs) → T (is_sorted cmp ys) → slice_get xs (length xs - 1) ≡ Some x → slice_get ys 0 ≡ Some y → is_lt (cmp x.0 y.0) ≡ is_sorted cmp (xs ++ ys)
   by_ends [] ys x y s t l f = absurd cc
   by_ends (a ∷ more) [] x y s t l f = absurd cc

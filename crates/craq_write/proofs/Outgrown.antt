@@ -1,4 +1,4 @@
--- A state of more parts than 32 bits count makes a step that cannot be sent.
+-- A state with more parts than 32 bits count makes a step that cannot be sent.
 use Rattle.std.proofs.Common.{◌≡◌, ℕ, zero, suc, ◌+◌, ◌<◌, ◌≤◌, Bool, true, false, ◌&&◌, List, [], ◌∷◌, ◌++◌, map, Ok, Err, refl, sym, ap, subst, inl, inr, arith}
 use Rattle.std.proofs.lemmas.Bool.Decides.{nat_tests}
 use Rattle.std.proofs.lemmas.Bool.{lt-ltb}
@@ -22,7 +22,7 @@ and_false : (a : Bool) → (a && false) ≡ false
 and_false true = refl
 and_false false = refl
 
--- where one of the messages does not fit, the step does not
+-- if one of the messages does not fit, the step does not
 unsent : (p : Plain) (to : ℕ) (front more : List Body) → list_all counts_fit front ≡ false → list_all out_fits (map (send p to) (front ++ more)) ≡ false
 unsent p to [] more h = absurd cc
 unsent p to (b ∷ bs) more h =
@@ -53,12 +53,12 @@ filled p to count ahead big =
     rw (lt-ltb count p.past.acknowledged ahead)
     (rw (unsent p to (copy_bodies p.past.acknowledged (clean p)) (catch_up p (max count p.past.acknowledged)) (copy_outgrows p.past.acknowledged (clean p) big)) (and_false _))
 
--- what an unready successor lacks cannot be sent
+-- the sends that an unready successor needs do not fit
 pub fill_outgrown : (p : Plain) (to count : ℕ) (e : Refusal) → (count < p.past.acknowledged) × CannotSend (clean p) e → CannotFill p to count e
 fill_outgrown p to count e (ahead, inl lacks) = inl lacks
 fill_outgrown p to count e (ahead, inr grown) = inr (grown.0, filled p to count ahead grown.1)
 
--- a refusal that is handed on
+-- a refusal that is passed on
 pub handed_on : {A : Type 0} (r : Result A Refusal) (e : Refusal) (P : Refusal → Type 0) → IsErr r × IsErrAnd r (λ x. x ≡ e) → P e → IfErr r P
 handed_on (Ok x) e P h q = tt
 handed_on (Err x) e P h q = subst P (sym h.1) q

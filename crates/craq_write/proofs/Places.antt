@@ -1,4 +1,4 @@
--- What becomes of an update that can be taken, or not.
+-- The result of an update that can be taken, or not.
 use Rattle.std.proofs.Common.{◌≡◌, ℕ, ◌+◌, ◌==◌, Bool, true, false, List, [], ◌∷◌, Some, None, Err, inl, refl, sym, ap, subst, arith, ◌∙◌, length-append}
 use Rattle.std.specs.Prelude.{nat_le, ◌||◌, not, IsOk, if◌then◌else◌, Result, Ok}
 use Rattle.std.specs.Result.{IsErr, IsErrAnd}
@@ -29,7 +29,7 @@ turned_away : (q : Plain) (position : ℕ) (reply : Reply) (sends : List Out) �
 unfolding reply_turn
 turned_away q position reply sends h = grind (arith, h)
 
--- the node that commits what it holds where it is last, or does not
+-- the node with all its entries committed if it is last, or unchanged
 known_taken_at : (b : Bool) (p : Plain) (position : ℕ) (reply : Reply) → (nat_le position (if b then length_of p else p.past.acknowledged) || not (is_full p)) ≡ true → IsOk (reply_turn (if b then acknowledging p (length_of p) else p) position reply [])
 unfolding is_full
 known_taken_at true p position reply h = taken (acknowledging p (length_of p)) position reply [] h
@@ -61,7 +61,7 @@ unfolding is_full
 new_refused_at true p e sends h = turned_away (acknowledging (with_entry p e) (length_of (with_entry p e))) e.position e.reply sends h
 new_refused_at false p e sends h = turned_away (with_entry p e) e.position e.reply sends h
 
--- a new update
+-- a new update with its entry
 new_taken : (p : Plain) (e : Entry) → has_place p (length_of p + 1) e.position ≡ true → IsOk (new_update_turn p e)
 new_taken p e h =
     new_taken_at (is_last p) p e (to_neighbour (successor p) (λ to. send_all p to (entry_bodies (e ∷ [])))) (subst (λ n. has_place p n e.position ≡ true) (sym (one_more p e)) h)
@@ -73,7 +73,7 @@ new_refused p e h =
 differs : (a b : ℕ) → (a ≡ b → ⊥) → (a == b) ≡ false
 differs a b h = grind (arith, h)
 
--- a new update that finds a next position, and versions
+-- a new update with a next position and next versions
 pub update_taken : (p : Plain) (u : Update) → (length_of p ≡ greatest → ⊥) → some_used_up (newest p).objects (objects_named u.command) ≡ false → has_place p (length_of p + 1) (length_of p + 1) ≡ true → IsOk (update_turn p u None)
 unfolding update_turn
 update_taken p u room versions h = rw (differs (length_of p) greatest room, versions) (new_taken p (entry_of p u (eval (newest p).objects u.command)) h)
@@ -86,7 +86,7 @@ pub update_entered : (p : Plain) (u : Update) → (length_of p ≡ greatest → 
 unfolding update_turn
 update_entered p u room versions = rw (differs (length_of p) greatest room, versions) refl
 
--- the node after a new update is the one that the definitions name
+-- the node after a new update is the one that the definitions give
 no_other : (b : Bool) → (b || false) ≡ b
 no_other true = refl
 no_other false = refl
@@ -99,7 +99,7 @@ pub new_plan : (p : Plain) (e : Entry) (es : List Entry) (g c : Change) (count :
 new_plan p e es g c count reply sends one none is here next said sent =
     rw (is, none, here, said, sent, one) (ap (λ (q : Plain). reply_turn q e.position e.reply (to_neighbour (successor p) (λ to. send_all p to (entry_bodies (e ∷ []))))) (added_at (is_last p) p e next))
 
--- memory runs out in what was to succeed
+-- out of memory in a call that was to succeed
 pub lacks_memory : (p : Plain) (r : Result (Change × Step) Refusal) (wanted : Result Turn Refusal) → IsErr r × IsErrAnd r (λ e. e ≡ Memory) → IsOk wanted → Plans p r wanted
 lacks_memory p (Ok x) wanted h k = let no = h.0 in cc
 lacks_memory p (Err e) wanted h k = inl (h.1, k)

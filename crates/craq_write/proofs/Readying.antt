@@ -23,7 +23,7 @@ use Rattle.craq_write.proofs.Ends.{nothing_after_all, more_after}
 abbrev pub told : List Out → Step
 told outs = record { ticket = None; outs = outs; ignored = None }
 
--- the last member commits all; any other one knows as much to be committed as before
+-- the last member commits all its entries; any other keeps its commit index
 abbrev ready_last : Plain → List Entry → ℕ → Turn
 ready_last p es end =
     turn_with (record (acknowledging (with_entries p es) end) { ready = true; gathering = None })

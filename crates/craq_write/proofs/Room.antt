@@ -1,4 +1,4 @@
--- What a command writes has a next version, unless a named object is used up.
+-- Each write of a command has a next version, unless a named object is at the greatest.
 use Rattle.std.proofs.Common.{◌≡◌, ◌≢◌, ℕ, Bool, false, List, [], ◌∷◌, ◌++◌, map, Option, Some, None, arith}
 use Rattle.std.specs.Prelude.{◌==◌, All}
 use Rattle.std.specs.List.{AllByRecursion, list_any}

@@ -1,4 +1,4 @@
--- Entries in a row, of which a node has the first.
+-- Consecutive entries of which a node holds a prefix.
 use Rattle.std.proofs.Common.{◌≡◌, ◌≤◌, ◌<◌, ℕ, ◌+◌, nat_lt, List, [], ◌∷◌, length, sym, ap, ◌∙◌, arith}
 use Rattle.std.proofs.lemmas.Bool.{cond_both, cond-true, ltb-true, ltb-false, lt-ltb}
 use Rattle.craq_commands.specs.declared.entry.Entry.{Entry}
@@ -10,7 +10,7 @@ pub one_above : (n : ℕ) (e : Entry) → n < e.position → entries_above n (e 
 unfolding entries_above
 one_above n e h = cond-true (nat_lt n e.position) (e ∷ []) [] (lt-ltb n e.position h)
 
--- where the first of entries in a row is above a position, all are
+-- if the first of consecutive entries is above a position, all are
 all_above : (n : ℕ) (e : Entry) (es : List Entry) → IsConsecutive (e ∷ es) → n < e.position → entries_above n (e ∷ es) ≡ e ∷ es
 unfolding entries_above
 all_above n e [] c h = one_above n e h
@@ -18,18 +18,18 @@ all_above n e (f ∷ es) c h =
     cond-true (nat_lt n e.position) (e ∷ entries_above n (f ∷ es)) (entries_above n (f ∷ es)) (lt-ltb n e.position h)
     ∙ ap (λ (l : List Entry). e ∷ l) (all_above n f es c.1 (omega (arith, c.0, h)))
 
--- the last position of entries in a row
+-- the last position of consecutive entries
 end_of_row : (e : Entry) (es : List Entry) → IsConsecutive (e ∷ es) → final_position (e ∷ es) ≡ e.position + length es
 end_of_row e [] c = omega arith
 end_of_row e (f ∷ es) c = omega (arith, end_of_row f es c.1, c.0)
 
--- where the first entry is not above, the others are looked at
+-- if the first entry is not above, the others decide
 later_end : (n : ℕ) (e : Entry) (es : List Entry) → IsConsecutive (e ∷ es) → e.position ≤ n → n < final_position (e ∷ es)
     → (IsConsecutive es → n < final_position es → first_position es ≤ n + 1 → final_position es ≡ n + length (entries_above n es)) → final_position (e ∷ es) ≡ n + length (entries_above n es)
 later_end n e [] c l h rest = absurd (omega (arith, l, h))
 later_end n e (f ∷ fs) c l h rest = rest c.1 h (omega (arith, c.0, l))
 
--- a node takes entries up to the last position
+-- after taking the entries, the node's length is their last position
 pub row_end : (n : ℕ) (es : List Entry) → IsConsecutive es → n < final_position es → first_position es ≤ n + 1 → final_position es ≡ n + length (entries_above n es)
 unfolding entries_above
 row_end n [] c h f = absurd (omega (arith, h))

@@ -1,4 +1,4 @@
--- Writes that take their versions, one after another.
+-- Writes that get their versions one after another.
 use Rattle.std.proofs.Common.{◌≡◌, ℕ, ◌+◌, List, [], ◌∷◌, ◌++◌, map, subst, append_assoc}
 use Rattle.craq_commands.specs.declared.entry.Write.{Write}
 use Rattle.craq_commands.specs.Objects.{Objects, version_of}

@@ -1,4 +1,5 @@
--- A node that is not ready, and does not become so: what it has taken, and that it drops what it has reached.
+-- A node that is not ready and stays so: it has taken entries and drops the gathering that it
+-- reached.
 use Rattle.std.proofs.Common.{◌≡◌, ◌<◌, ◌≤◌, ℕ, ◌+◌, Bool, true, false, ◌&&◌, List, [], length, None, Some, refl, sym, ap, subst, ◌∙◌, arith, length-append}
 use Rattle.std.proofs.lemmas.Bool.{cond-false}
 use Rattle.std.proofs.lemmas.Bool.Decides.{nat_tests}
@@ -24,7 +25,7 @@ and_false : (a : Bool) → (a && false) ≡ false
 and_false true = refl
 and_false false = refl
 
--- where the floor is not reached
+-- the floor is not reached
 goes_on : (q : Plain) → is_reached q.floor (length_of q) ≡ false → readiness_turn q ≡ turn_with (without_reached q) []
 unfolding readiness_turn
 goes_on q f =

@@ -1,4 +1,4 @@
--- What a node sends on.
+-- The entries that a node forwards.
 use Rattle.std.specs.Prelude.{ℕ, ◌+◌, List, map}
 use Rattle.craq_names.specs.declared.name.NodeName.{NodeName}
 use Rattle.craq_commands.specs.declared.entry.Entry.{Entry}
@@ -10,7 +10,7 @@ use Rattle.craq_model.specs.Plain.{Plain, length_of, id_of}
 use Rattle.craq_model.specs.Sends.{to_neighbour, entry_bodies}
 use Rattle.craq_history.specs.Standing.{sent_from}
 
--- entries in a row, to the successor if there is one
+-- consecutive entries, to the successor if there is one
 abbrev pub forwarded : NodeName → ℕ → List ℕ → List Entry → List Out
 forwarded name epoch members es = to_neighbour (successor_in members name.node) (λ to. map (sent_from name epoch to) (entry_bodies es))
 

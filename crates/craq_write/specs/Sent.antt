@@ -1,4 +1,4 @@
--- A state as it is sent.
+-- Sending a state.
 use Rattle.std.specs.Prelude.{◌≡◌, ◌<◌, ◌⊎◌, ℕ, false}
 use Rattle.craq_names.specs.Limits.{greatest_count}
 use Rattle.craq_names.specs.declared.refusal.Refusal.{Refusal}
@@ -11,14 +11,15 @@ use Rattle.craq_model.specs.Plain.{Plain}
 use Rattle.craq_model.specs.Sends.{send_all}
 use Rattle.craq_model.specs.Settle.{Turn}
 
--- memory ran out; or the state has more parts than 32 bits count
+-- out of memory, or the state has more parts than 32 bits count
 abbrev pub CannotSend : State → Refusal → Type 0
 CannotSend s e = (e ≡ Memory) ⊎ ((e ≡ Exhausted) × (greatest_count < part_count s))
 
--- memory ran out; or what a successor with so many entries lacks has more parts, or sends, than messages count
+-- out of memory, or a successor with this many entries needs more parts, or sends, than messages
+-- count
 abbrev pub CannotFill : Plain → ℕ → ℕ → Refusal → Type 0
 CannotFill p to count e = (e ≡ Memory) ⊎ ((e ≡ Exhausted) × (outs_fit (send_all p to (fill_bodies p count)) ≡ false))
 
--- memory ran out; or what the turn sends has more parts, or sends, than messages count
+-- out of memory, or the step's sends have more parts, or are more, than messages count
 abbrev pub LacksOrOutgrows : Turn → Refusal → Type 0
 LacksOrOutgrows turn e = (e ≡ Memory) ⊎ ((e ≡ Exhausted) × (outs_fit turn.1.outs ≡ false))

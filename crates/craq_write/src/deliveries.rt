@@ -1,4 +1,4 @@
-//! The rules of entries, batches, acknowledgements and blanks that arrive; called by `craq_node`.
+//! The rules of entries, batches, acknowledgements and blanks that arrive. `craq_node` calls them.
 ghost use Rattle.std.specs.Prelude.{◌≡◌, ◌≤◌, ◌<◌, ◌+◌, ◌++◌, ◌∷◌, [], length, true, false, nat_lt, if◌then◌else◌, Some, None, Ok, IfOk, IfErr, OnOk, IsOk, IsSome, map};
 ghost use Rattle.craq_model.specs.Deliveries.{ack_turn, blank_turn, due_updates, entries_above, entries_turn, fill_bodies, final_position, first_position, forwarding_turn, taken_entries_turn};
 ghost use Rattle.craq_model.specs.Past.{length_in, entries_in, clean_in};
@@ -27,14 +27,14 @@ use craq_names::{Copied, Items, NodeId, Refusal, Seq};
 use std::alloc::{AllocError, Global};
 use std::slice;
 
-/// A step that ignores its message.
+/// Returns a step that ignores its message.
 fn ignored(alloc: Global, why: Why) -> Result<(Change, Step), AllocError>
     ensures { result ≡ Ok (no_change, record { ticket = None; outs = []; ignored = Some why }) }
 {
     Ok((Change::none(), ignoring(alloc, why)))
 }
 
-/// Answers each update that waits for no more than the position, in order of asking.
+/// Adds the replies to the updates that wait for at most this position, in order of their requests.
 #[tactic(auto, unfolding(craq_model::specs::Deliveries::due_updates))]
 fn answer_due(
     outs: &mut Vec<Out>,
@@ -55,9 +55,10 @@ fn answer_due(
     Ok(())
 }
 
-/// The entries up to a position are committed: what waited for them is answered, and the predecessor is
-/// told (OSDI 2004). Ignored where the sender is not the successor (`NotNeighbour`), where the node is
-/// not ready (`NotReadyHere`), where it knows as much (`AlreadyHave`), or where it holds less (`TooFar`).
+/// Plans an acknowledgement: the history is committed up to a position. Updates that waited for it
+/// get their replies, and the acknowledgement goes to the predecessor (OSDI 2004). Ignored if the
+/// sender is not the successor (`NotNeighbour`), if the node is not ready (`NotReadyHere`), if its
+/// commit index is as high (`AlreadyHave`), or if it holds fewer entries (`TooFar`).
 #[tactic(auto, unfolding(craq_model::specs::Deliveries::ack_turn, craq_model::specs::Deliveries::acknowledgement_turn))]
 pub fn plan_ack<H: History>(
     alloc: Global,
@@ -94,7 +95,7 @@ pub fn plan_ack<H: History>(
     Ok((change, done(outs)))
 }
 
-/// Sends the clean state, where that is ahead of so many entries.
+/// Adds the clean state to the sends, if it is ahead of this many entries.
 fn state_ahead<H: History>(
     outs: &mut Vec<Out>,
     alloc: Global,
@@ -120,7 +121,7 @@ fn state_ahead<H: History>(
     )
 }
 
-/// The entries after a position that is not below the acknowledged one, then how many there are.
+/// Adds the entries after a position, which is at least the commit index, and then their count.
 fn entries_ahead<H: History>(
     outs: &mut Vec<Out>,
     alloc: Global,
@@ -138,9 +139,9 @@ fn entries_ahead<H: History>(
     Ok(())
 }
 
-/// What an unready successor lacks that has so many entries: the clean state if that is ahead of it, then
-/// the entries after it, then how many there are. Refused for want of memory (`Memory`), and where the state has
-/// more parts than 32 bits count (`Exhausted`).
+/// Returns what an unready successor with this many entries still needs: the clean state if that is
+/// ahead of it, then the entries after it, then the count of entries. Fails with `Memory` when out
+/// of memory, and with `Exhausted` if the state has more parts than 32 bits count.
 #[tactic(auto, unfolding(craq_model::specs::Deliveries::fill_bodies, craq_model::specs::Sends::catch_up, craq_model::specs::Plain::clean, craq_model::specs::Plain::entries_after))]
 fn filling<H: History>(
     alloc: Global,
@@ -158,10 +159,11 @@ fn filling<H: History>(
     Ok(outs)
 }
 
-/// An unready successor has so many entries: it is sent what it lacks, the clean state if that is ahead of it, the
-/// entries after it, and how many there are. Ignored where the sender is not the successor
-/// (`NotNeighbour`) or this node is not ready (`NotReadyHere`). Refused for want of memory (`Memory`), and
-/// where the state has more parts than 32 bits count (`Exhausted`). This project's profile.
+/// Plans the reply to an unready successor with this many entries: the clean state if that is ahead
+/// of it, the entries after it, and the count of entries. Ignored if the sender is not the
+/// successor (`NotNeighbour`) or this node is not ready (`NotReadyHere`). Fails with `Memory` when
+/// out of memory, and with `Exhausted` if the state has more parts than 32 bits count. This
+/// project's profile.
 #[tactic(auto, unfolding(craq_model::specs::Deliveries::blank_turn))]
 pub fn plan_blank<H: History>(
     alloc: Global,
@@ -183,8 +185,8 @@ pub fn plan_blank<H: History>(
     Ok((Change::none(), done(outs)))
 }
 
-/// Entries of the predecessor, at a ready node that takes them: the tail commits them and says so to its
-/// predecessor, once for all of them; any other node sends them on.
+/// Plans new entries at a ready node. The tail commits them and sends one acknowledgement for all
+/// to its predecessor; any other node forwards them.
 #[tactic(auto, unfolding(craq_model::specs::Deliveries::forwarding_turn))]
 fn passed_on<H: History>(
     alloc: Global,
@@ -214,7 +216,7 @@ fn passed_on<H: History>(
     Ok((growing(entries, acknowledged), done(outs)))
 }
 
-/// The position of the first of some entries; 0 where there is none.
+/// Returns the position of the first entry, 0 if there is none.
 fn start_of(entries: &[Entry]) -> Seq
     ensures { result ≡ first_position entries.now }
 {
@@ -224,7 +226,7 @@ fn start_of(entries: &[Entry]) -> Seq
     }
 }
 
-/// The position of the last of some entries; 0 where there is none.
+/// Returns the position of the last entry, 0 if there is none.
 #[tactic(auto, using(craq_model::proofs::Batches::final_last))]
 fn end_of(entries: &[Entry]) -> Seq
     ensures { result ≡ final_position entries.now }
@@ -235,7 +237,7 @@ fn end_of(entries: &[Entry]) -> Seq
     }
 }
 
-/// Those of some entries whose positions are above this one; the others are let go.
+/// Returns the entries above a position; drops the others.
 fn entries_above(entries: Items<Entry>, position: u64) -> Items<Entry>
     ensures { result ≡ entries_above position entries }
 {
@@ -244,7 +246,8 @@ fn entries_above(entries: Items<Entry>, position: u64) -> Items<Entry>
     Items::of(above)
 }
 
-/// Why entries that start and end at these positions are ignored, whatever they write.
+/// Returns why entries with these first and last positions are ignored, whatever they write; `None`
+/// if they are not.
 fn why_ignored<H: History>(node: &Node<H>, sender: NodeId, start: Seq, end: Seq) -> Option<Why>
     ensures { result ≡ why_ignored (plain_of H.past node.now) sender start end }
 {
@@ -261,7 +264,7 @@ fn why_ignored<H: History>(node: &Node<H>, sender: NodeId, start: Seq, end: Seq)
     None
 }
 
-/// Entries that follow the node's own, and that the node takes: all of them.
+/// Plans entries that follow the node's own and are all taken.
 fn taken<H: History>(
     alloc: Global,
     node: &Node<H>,
@@ -279,9 +282,9 @@ fn taken<H: History>(
     taken_unready(alloc, node, entries, end)
 }
 
-/// One entry from the predecessor, a row of one: it is ignored, appended and sent on as `plan_entries` says of
-/// entries in a row. It is moved into the history, and copied only for the successor; where it is ignored this takes
-/// no memory.
+/// Plans one entry from the predecessor, as `plan_entries` plans a batch of one: it is ignored, or
+/// appended and forwarded. The entry is moved into the history, and copied only for the successor.
+/// Ignoring it allocates nothing.
 #[tactic(auto, using(crate::proofs::Rows::one_above, crate::proofs::Heard::taken_heard), unfolding(craq_model::specs::Deliveries::entries_turn, craq_model::specs::Plain::newest))]
 pub fn plan_entry<H: History>(
     alloc: Global,
@@ -305,14 +308,17 @@ pub fn plan_entry<H: History>(
     taken(alloc, node, next, position)
 }
 
-/// Entries in a row from the predecessor. Those that the node has already are left out; the others are
-/// appended, all of them or none. The tail commits them, any other ready node sends them on (OSDI 2004), and a
-/// node that is not ready may become so by them. Ignored where the sender is not the
-/// predecessor (`NotNeighbour`), where the node has all of them (`AlreadyHave`), where the first is further on
-/// than the next (`OutOfOrder`), or where one does not fit after those before it: a write whose version is not
-/// the next of its object, or a number that is not new (`TooFar`). Batches are this project's profile. The
-/// entries are moved into the history, and copied only for the successor; where they are ignored this takes no
-/// memory.
+/// Plans consecutive entries from the predecessor. Those that the node already holds are left out;
+/// of the others all are appended, or none. The tail commits them, any other ready node forwards
+/// them (OSDI 2004), and a node that is not ready may become ready.
+///
+/// Ignored if the sender is not the predecessor (`NotNeighbour`), if the node holds all of them
+/// (`AlreadyHave`), if the first is beyond the next position (`OutOfOrder`), or if one does not fit
+/// after those before it: a write whose version is not its object's next, or a request number that
+/// is not new (`TooFar`). Batches are this project's profile.
+///
+/// The entries are moved into the history, and copied only for the successor. Ignoring them
+/// allocates nothing.
 #[tactic(auto, using(crate::proofs::Rows::row_end, crate::proofs::Heard::taken_heard), unfolding(craq_model::specs::Deliveries::entries_turn, craq_model::specs::Plain::newest))]
 pub fn plan_entries<H: History>(
     alloc: Global,

@@ -1,4 +1,4 @@
-//! A node that joined, and gathers a state that comes in parts; called by `craq_node`.
+//! A joining node that gathers a state in parts. `craq_node` calls this.
 ghost use Rattle.std.specs.Prelude.{◌≡◌, ◌==◌, ◌+◌, ◌++◌, length, T, true, false, is_some, List, ℕ, All, IfOk, IsOk, IsSome};
 ghost use Rattle.std.specs.List.{list_all};
 ghost use Rattle.std.specs.Ordering.{nat_cmp};
@@ -20,7 +20,7 @@ use craq_model::{Gathering, StatePart, Step, Why};
 use craq_names::{Copied, Items, NodeId};
 use std::alloc::{AllocError, Global};
 
-/// Whether items by rising key come before others by rising key.
+/// Returns true exactly if the first items, sorted by key, come before the others.
 fn are_before<K: Ord, V>(items: &[(K, V)], later: &[(K, V)]) -> bool
     requires items { T (is_sorted K.cmp items.now) }
     requires later { T (is_sorted K.cmp later.now) }
@@ -32,7 +32,7 @@ fn are_before<K: Ord, V>(items: &[(K, V)], later: &[(K, V)]) -> bool
     }
 }
 
-/// Whether each item of a state comes before each item of another.
+/// Returns true exactly if each item of `state` comes before each item of `later`.
 fn comes_before(state: &State, later: &State) -> bool
     requires state { IsInOrder state.now }
     requires later { IsInOrder later.now }
@@ -43,7 +43,8 @@ fn comes_before(state: &State, later: &State) -> bool
         && (state.kept.as_slice().is_empty() || later.objects.as_slice().is_empty())
 }
 
-/// Whether a part's items come after those of the lower parts held, and before those of the higher ones.
+/// Returns true exactly if the part's items come after those of the lower parts held and before
+/// those of the higher ones.
 fn stands_between(parts: &[(u32, State)], part: &StatePart) -> bool
     requires held { All (λ (held : ℕ × State). IsInOrder held.1) parts.now }
     requires part { IsInOrder part.now.state }
@@ -62,7 +63,7 @@ fn stands_between(parts: &[(u32, State)], part: &StatePart) -> bool
     true
 }
 
-/// Whether the part of a number is held.
+/// Returns true exactly if the part of this number is held.
 #[tactic(auto, using(crate::proofs::Gathers::same_numbers))]
 fn is_held(parts: &[(u32, State)], number: u32) -> bool
     ensures { result ≡ is_some (at_number parts.now number) }
@@ -75,7 +76,7 @@ fn is_held(parts: &[(u32, State)], number: u32) -> bool
     false
 }
 
-/// The parts held of the state that a part is of, and how many there are to be.
+/// Returns the held parts of the state that the part belongs to, and the state's part count.
 #[tactic(auto, using(crate::proofs::Gathers::none_in_order))]
 fn held_with<'a>(gathering: &'a Option<Gathering>, part: &StatePart) -> (&'a [(u32, State)], u32)
     requires { IsOrdered gathering.now }
@@ -89,7 +90,7 @@ fn held_with<'a>(gathering: &'a Option<Gathering>, part: &StatePart) -> (&'a [(u
     }
 }
 
-/// Whether the node's history, or the state that it gathers, goes further than the part.
+/// Returns true exactly if the node's history, or the state that it gathers, is beyond the part.
 fn is_outdated<H: History>(node: &Node<H>, part: &StatePart) -> bool
     ensures { result ≡ is_outdated (plain_of H.past node.now) part.now }
 {
@@ -100,14 +101,14 @@ fn is_outdated<H: History>(node: &Node<H>, part: &StatePart) -> bool
     part.position.get() <= node.history.len() || part.position.get() < gathered
 }
 
-/// Whether no part but one is missing.
+/// Returns true exactly if only one part is missing.
 fn is_last_missing(parts: &[(u32, State)], count: u32) -> bool
     ensures { result ≡ (length parts.now + 1 == count) }
 {
     parts.len() + 1 == count as usize
 }
 
-/// Copies of the parts held.
+/// Copies the parts held.
 fn parts_copied(alloc: Global, parts: &[(u32, State)]) -> Result<Vec<(u32, State)>, AllocError>
     ensures { IfOk result (λ copies. copies.items ≡ parts.now) }
 {
@@ -118,7 +119,7 @@ fn parts_copied(alloc: Global, parts: &[(u32, State)]) -> Result<Vec<(u32, State
     Ok(copies)
 }
 
-/// The state of all these parts, whose items are moved.
+/// Joins all parts into a state; the items are moved.
 #[tactic(auto, unfolding(craq_model::specs::Parts::joined_state))]
 fn joined(alloc: Global, parts: Items<(u32, State)>) -> Result<State, AllocError>
     ensures { IfOk result (λ state. state ≡ joined_state parts) }
@@ -135,7 +136,7 @@ fn joined(alloc: Global, parts: Items<(u32, State)>) -> Result<State, AllocError
     })
 }
 
-/// The state that copies of the parts held are with one more part.
+/// Joins copies of the held parts and one more part into a state.
 fn joined_with(alloc: Global, parts: &[(u32, State)], part: StatePart) -> Result<State, AllocError>
     ensures { IfOk result (λ state. state ≡ joined_state (put_number parts.now part.number part.state)) }
 {
@@ -144,8 +145,8 @@ fn joined_with(alloc: Global, parts: &[(u32, State)], part: StatePart) -> Result
     joined(alloc, all)
 }
 
-/// A part that fits is kept with those held of its state. Where it is the last that was missing, their state
-/// takes the place of the history.
+/// Plans a part that fits: it is kept with the other parts of its state. If it was the last missing
+/// part, the state replaces the history.
 fn part_kept<H: History>(
     alloc: Global,
     node: &Node<H>,
@@ -172,9 +173,10 @@ fn part_kept<H: History>(
     Ok((change, done(Vec::new(alloc))))
 }
 
-/// A part of a state that is ahead of the node's history, and of the state that it gathers or the same: kept where
-/// it fits those held. Ignored where its state has another count of parts (`TooFar`), where it is held
-/// (`AlreadyHave`), or where its items do not stand between those of the parts held (`TooFar`).
+/// Plans a part of a state that is ahead of the node's history and not behind the state that it
+/// gathers. Keeps the part if it fits those held. Ignored if its part count differs (`TooFar`), if
+/// it is held (`AlreadyHave`), or if its items do not stand between those of the held parts
+/// (`TooFar`).
 #[tactic(auto, using(crate::proofs::Gathers::is_current), unfolding(craq_model::specs::Parts::is_in_order))]
 fn part_fitted<H: History>(
     alloc: Global,
@@ -202,12 +204,14 @@ fn part_fitted<H: History>(
     Ok((Change::none(), ignoring(alloc, Why::TooFar)))
 }
 
-/// A part of a state from the predecessor, at a node that is not ready. It is kept with those held of the same
-/// state, or alone where its state is ahead of the one that was gathered; once none is missing, their state
-/// takes the place of the history, as one that comes whole. Ignored where the sender is not the predecessor
-/// (`NotNeighbour`); where the node is ready, holds as many entries, gathers a later state, or holds the part
-/// (`AlreadyHave`); where its state has another count of parts, or its items are not after those of the
-/// lower parts held and before those of the higher ones (`TooFar`). This project's profile.
+/// Plans a part of a state from the predecessor, at a node that is not ready. The part is kept with
+/// the others of its state, or alone if its state is ahead of the gathered one. Once none is
+/// missing, the state replaces the history, as a state in one message does.
+///
+/// Ignored if the sender is not the predecessor (`NotNeighbour`); if the node is ready, holds as
+/// many entries, gathers a later state, or holds the part (`AlreadyHave`); if the part count
+/// differs, or its items do not stand after those of the lower parts held and before those of the
+/// higher ones (`TooFar`). This project's profile.
 #[tactic(auto, unfolding(craq_model::specs::Deliveries::part_turn))]
 pub fn plan_part<H: History>(
     alloc: Global,

@@ -1,5 +1,5 @@
-//! The update rules of a node: each call plans what changes and what is sent, and changes nothing; called by `craq_node`.
-//! Code that runs in the program.
+//! The update rules of a node: each plans a change and the sends, and changes nothing itself.
+//! Runs in the program; `craq_node` calls it.
 #![tactic(auto)]
 
 mod answers;

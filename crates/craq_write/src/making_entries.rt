@@ -1,4 +1,5 @@
-//! A command made into an entry at the head: its versions, its writes and its reply; called by `updates`.
+//! Evaluation of a command into an entry at the head: its versions, writes and reply. `updates`
+//! calls this.
 ghost use Rattle.std.specs.Prelude.{◌≡◌, ◌≢◌, ◌∷◌, [], ℕ, List, All, map, is_none, ◌++◌, IfOk, IfSome, OnOk};
 ghost use Rattle.craq_names.specs.Limits.{greatest};
 ghost use Rattle.craq_commands.specs.Evaluation.{objects_named, some_used_up};
@@ -28,16 +29,16 @@ impl<H: History> Look for Newest<'_, H> {
     }
 }
 
-/// A command of which each object that it names has a next version.
+/// A command whose named objects all have a next version.
 #[derive(Drop)]
 pub(crate) enum Checked {
-    /// A put, by the write that it makes.
+    /// A put, as the write that it makes.
     Put(Write),
-    /// Another command, which is still to be evaluated.
+    /// Another command, not evaluated yet.
     Other(Command),
 }
 
-/// A put as its write, where the object has a next version. The object is looked up once.
+/// Returns a put as its write; `None` if the object has no next version. Looks the object up once.
 #[tactic(auto, unfolding(craq_commands::specs::Evaluation::some_used_up))]
 fn check_put<H: History>(history: &H, object: ObjectId, value: Value) -> Option<Checked>
     ensures found { some_used_up (newest_in (H.past history.now)).objects (object ∷ []) ≡ is_none result }
@@ -53,7 +54,7 @@ fn check_put<H: History>(history: &H, object: ObjectId, value: Value) -> Option<
     }))
 }
 
-/// The command, where each object that it names has a next version.
+/// Returns the command; `None` if some object that it names has no next version.
 pub(crate) fn check<H: History>(history: &H, command: Command) -> Option<Checked>
     ensures found { some_used_up (newest_in (H.past history.now)).objects (objects_named command) ≡ is_none result }
     ensures same { IfSome result (λ c. outcome_in (newest_in (H.past history.now)).objects c ≡ outcome_of (newest_in (H.past history.now)).objects command) }
@@ -70,7 +71,7 @@ pub(crate) fn check<H: History>(history: &H, command: Command) -> Option<Checked
     }
 }
 
-/// The writes with their versions, each the next one of its object. Keys and values are moved.
+/// Returns the writes with their versions, each its object's next. Moves keys and values.
 fn versioned<H: History>(
     alloc: Global,
     history: &H,
@@ -92,7 +93,8 @@ fn versioned<H: History>(
     Ok(made)
 }
 
-/// What a command writes, with the versions, and its reply. The key and the value of a put are moved.
+/// Returns the command's writes with their versions, and its reply. Moves the key and the value of
+/// a put.
 pub(crate) fn outcome<H: History>(
     alloc: Global,
     history: &H,
@@ -114,7 +116,7 @@ pub(crate) fn outcome<H: History>(
     }
 }
 
-/// A list of one item.
+/// Returns a list of one item.
 pub(crate) fn only<T: Drop>(alloc: Global, item: T) -> Result<Items<T>, AllocError>
     ensures { IfOk result (λ items. items ≡ item ∷ []) }
 {
@@ -123,7 +125,7 @@ pub(crate) fn only<T: Drop>(alloc: Global, item: T) -> Result<Items<T>, AllocErr
     Ok(items)
 }
 
-/// Adds entries in a row as they are sent to the successor, if there is one.
+/// Adds the sends of consecutive entries to the successor, if there is one.
 pub(crate) fn forward(
     outs: &mut Vec<Out>,
     alloc: Global,

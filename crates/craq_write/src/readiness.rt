@@ -1,5 +1,5 @@
-//! A node that joined: entries, states and floors that reach it until it is ready; called by `craq_node`, `deliveries` and
-//! `gathering`.
+//! A joining node: the entries, states and floors that it receives until it is ready. `craq_node`,
+//! `deliveries` and `gathering` call this.
 ghost use Rattle.std.specs.Prelude.{◌≡◌, ◌≤◌, ◌+◌, ◌==◌, ◌++◌, [], length, Some, true, false, if◌then◌else◌, OnOk, IfOk, IsOk, IsSome};
 ghost use Rattle.craq_model.specs.Deliveries.{copy_turn, floor_turn, with_copy};
 ghost use Rattle.craq_model.specs.Plain.{length_of, with_entries};
@@ -20,7 +20,7 @@ use craq_model::{Out, Step, Why};
 use craq_names::{Items, NodeId, Seq};
 use std::alloc::{AllocError, Global};
 
-/// Whether the floor is known and reached.
+/// Returns true exactly if the floor is known and reached.
 fn is_floor_reached(floor: Option<Seq>, count: Seq) -> bool
     ensures { result ≡ is_reached floor count }
 {
@@ -30,8 +30,8 @@ fn is_floor_reached(floor: Option<Seq>, count: Seq) -> bool
     }
 }
 
-/// What a node sends that becomes ready with these entries after the acknowledged position, in two parts;
-/// nothing where it has no membership.
+/// Returns the sends of a node that becomes ready with these entries, in two parts, after the
+/// commit index; none if it has no membership.
 fn outs_when_ready<H: History>(
     alloc: Global,
     node: &Node<H>,
@@ -60,8 +60,8 @@ fn outs_when_ready<H: History>(
     Ok(outs)
 }
 
-/// What the node does to the parts that it gathers of a state once it holds so many entries: it drops those
-/// of a position that it has reached.
+/// Returns the change of the gathered parts when the node holds this many entries: those of a
+/// reached position are dropped.
 fn gathering_at<H>(node: &Node<H>, count: Seq) -> GatheringChange
     ensures { result ≡ gathering_at node.now.gathering count }
 {
@@ -71,7 +71,7 @@ fn gathering_at<H>(node: &Node<H>, count: Seq) -> GatheringChange
     }
 }
 
-/// The change by more entries.
+/// Returns the change that appends entries.
 pub(crate) fn growing(entries: Items<Entry>, acknowledged: Option<Seq>) -> Change
     ensures { result ≡ record no_change { history = HistoryChange.Grows entries; acknowledged = acknowledged } }
 {
@@ -81,7 +81,7 @@ pub(crate) fn growing(entries: Items<Entry>, acknowledged: Option<Seq>) -> Chang
     change
 }
 
-/// The same, by which the node becomes ready; it gathers no more.
+/// Returns the change that appends entries and makes the node ready; it drops its gathered parts.
 fn growing_ready(entries: Items<Entry>, acknowledged: Option<Seq>) -> Change
     ensures { result ≡ record no_change { history = HistoryChange.Grows entries; acknowledged = acknowledged; becomes_ready = true; gathering = GatheringChange.Dropped } }
 {
@@ -91,7 +91,7 @@ fn growing_ready(entries: Items<Entry>, acknowledged: Option<Seq>) -> Change
     change
 }
 
-/// Entries by which a node becomes ready. The last member commits all that it holds.
+/// Plans entries by which a node becomes ready. The last member commits all its entries.
 fn ready_by_entries<H: History>(
     alloc: Global,
     node: &Node<H>,
@@ -122,8 +122,8 @@ fn ready_by_entries<H: History>(
     Ok((growing_ready(entries, None), done(outs)))
 }
 
-/// The next entries of the predecessor, at a node that is not ready: they are appended, and the node becomes
-/// ready where it then holds as many entries as its floor says.
+/// Plans the predecessor's next entries, at a node that is not ready. They are appended, and the
+/// node becomes ready if it then holds as many entries as its floor.
 pub(crate) fn taken_unready<H: History>(
     alloc: Global,
     node: &Node<H>,
@@ -144,7 +144,7 @@ pub(crate) fn taken_unready<H: History>(
     Ok((change, done(Vec::new(alloc))))
 }
 
-/// The change of a state that is taken.
+/// Returns the change that installs a state.
 fn copying(state: State, position: Seq, becomes_ready: bool, gathering: GatheringChange) -> Change
     ensures { result ≡ record no_change { history = HistoryChange.IsCopied position state; becomes_ready = becomes_ready; gathering = gathering } }
 {
@@ -155,7 +155,7 @@ fn copying(state: State, position: Seq, becomes_ready: bool, gathering: Gatherin
     change
 }
 
-/// A state by which a node becomes ready. All of it is committed, and nothing waits.
+/// Plans a state by which a node becomes ready. All of it is committed, and no request waits.
 fn ready_by_copy<H: History>(
     alloc: Global,
     node: &Node<H>,
@@ -174,8 +174,8 @@ fn ready_by_copy<H: History>(
     ))
 }
 
-/// A state takes the place of the history of a node that is not ready, which becomes ready where it then
-/// holds as many entries as its floor says.
+/// Plans a state that replaces the history of a node that is not ready. The node becomes ready if
+/// it then holds as many entries as its floor.
 pub(crate) fn state_taken<H: History>(
     alloc: Global,
     node: &Node<H>,
@@ -196,11 +196,11 @@ pub(crate) fn state_taken<H: History>(
     ))
 }
 
-/// A state from the predecessor, at a node that is not ready: it takes the place of the history where it is
-/// ahead of it, and the node becomes ready where it then holds as many entries as its floor says. Ignored
-/// where the sender is not the predecessor (`NotNeighbour`), and where the node is ready or holds as much
-/// (`AlreadyHave`). A new server gets its history behind the tail (OSDI 2004); that it comes as a state, and
-/// floors, are this project's profile.
+/// Plans a state from the predecessor, at a node that is not ready. It replaces the history if it
+/// is ahead of it, and the node becomes ready if it then holds as many entries as its floor.
+/// Ignored if the sender is not the predecessor (`NotNeighbour`), and if the node is ready or holds
+/// as many entries (`AlreadyHave`). A new server gets its history behind the tail (OSDI 2004);
+/// sending it as a state, and floors, are this project's profile.
 #[tactic(auto, using(crate::proofs::Heard::readiness_heard), unfolding(craq_model::specs::Deliveries::copy_turn))]
 pub fn plan_copy<H: History>(
     alloc: Global,
@@ -222,7 +222,8 @@ pub fn plan_copy<H: History>(
     state_taken(alloc, node, position, state)
 }
 
-/// A floor that is reached already: the node becomes ready, and the last member commits all that it holds.
+/// Plans a floor that is reached already: the node becomes ready, and the last member commits all
+/// its entries.
 #[tactic(auto, using(crate::proofs::Ends::nothing_after_all), unfolding(craq_model::specs::Settle::readiness_turn, craq_model::specs::Settle::settling_turn, craq_model::specs::Settle::all_given, craq_model::specs::Settle::by_ticket, craq_model::specs::Sends::tick_sends, craq_model::specs::Sends::ready_sends, craq_model::specs::Sends::catch_up, craq_model::specs::Plain::entries_after))]
 fn ready_by_floor<H: History>(
     alloc: Global,
@@ -254,7 +255,8 @@ fn ready_by_floor<H: History>(
     Ok((change, done(outs)))
 }
 
-/// A floor is told to a node that is not ready, which becomes so at once where it holds as many entries.
+/// Plans a floor at a node that is not ready. The node becomes ready at once if it holds as many
+/// entries.
 fn floor_taken<H: History>(
     alloc: Global,
     node: &Node<H>,
@@ -274,9 +276,10 @@ fn floor_taken<H: History>(
     Ok((change, done(Vec::new(alloc))))
 }
 
-/// The floor of a node that is not ready, from its ready predecessor: how many entries the node must hold
-/// to become ready, which it does at once where it holds as many. Ignored where the sender is not the
-/// predecessor (`NotNeighbour`) or the node is ready (`AlreadyHave`). This project's profile.
+/// Plans a floor from the ready predecessor, at a node that is not ready: the number of entries
+/// that the node must hold to become ready. It becomes ready at once if it holds as many. Ignored
+/// if the sender is not the predecessor (`NotNeighbour`) or the node is ready (`AlreadyHave`). This
+/// project's profile.
 #[tactic(auto, using(crate::proofs::Heard::readiness_heard), unfolding(craq_model::specs::Deliveries::floor_turn))]
 pub fn plan_floor<H: History>(
     alloc: Global,

@@ -1,4 +1,5 @@
-//! A state as it is sent: whole, or in parts. Its items are moved into the messages, not copied. Called by `deliveries`.
+//! Sending a state, whole or in parts. Its items are moved into the messages, not copied.
+//! `deliveries` calls this.
 ghost use Rattle.std.specs.Prelude.{◌≡◌, ◌<◌, ◌++◌, map, take, drop, IfOk, IfErr, OnOk, MatchOption};
 ghost use Rattle.craq_names.specs.Limits.{greatest_count};
 ghost use Rattle.craq_model.specs.declared.message.Body.TheVariants.{Part as part_body};
@@ -14,7 +15,7 @@ use craq_names::{Items, NodeId, Refusal, Seq};
 use std::alloc::{AllocError, Global};
 use std::collections::VecDeque;
 
-/// How many parts a state has, where 32 bits count them.
+/// Returns the number of parts of a state, `None` if 32 bits cannot count them.
 fn part_count_of(state: &State) -> Option<u32>
     ensures { MatchOption result (greatest_count < part_count state.now) (λ count. count ≡ part_count state.now) }
 {
@@ -26,7 +27,7 @@ fn part_count_of(state: &State) -> Option<u32>
     Some(count as u32)
 }
 
-/// Takes the items from a place on; there may be fewer than so many.
+/// Removes and returns the items from an index on; fewer may be there.
 fn take_from<T: Drop>(items: &mut Vec<T>, place: usize, alloc: Global) -> Result<Vec<T>, AllocError>
     ensures taken { IfOk result (λ taken. taken.items ≡ drop place items.old.items) }
     ensures left { OnOk result (items.new.items ≡ take place items.old.items) }
@@ -37,7 +38,7 @@ fn take_from<T: Drop>(items: &mut Vec<T>, place: usize, alloc: Global) -> Result
     Ok(Vec::new(alloc))
 }
 
-/// The parts of a state, in order, cut off from its end.
+/// Cuts a state into its parts, from its end; returns them in order.
 #[tactic(auto, unfolding(craq_model::specs::Parts::parts_of))]
 fn cut_into_parts(
     alloc: Global,
@@ -69,7 +70,7 @@ fn cut_into_parts(
     Ok(parts)
 }
 
-/// Sends parts in order.
+/// Adds the sends of these parts, in order.
 fn send_parts(
     outs: &mut Vec<Out>,
     sender: &Sender,
@@ -84,9 +85,9 @@ fn send_parts(
     Ok(())
 }
 
-/// Sends the state after a position: whole where it has up to 64 items, else in parts of 64 (this project's
-/// profile). Refused for want of memory (`Memory`), and where it has more parts than 32 bits count
-/// (`Exhausted`).
+/// Adds the sends of the state after a position: whole if it has at most 64 items, else in parts of
+/// 64 (this project's profile). Fails with `Memory` when out of memory, and with `Exhausted` if it
+/// has more parts than 32 bits count.
 #[tactic(auto, unfolding(craq_model::specs::Sends::copy_bodies))]
 pub(crate) fn send_state(
     outs: &mut Vec<Out>,

@@ -1,4 +1,4 @@
-//! Settling in a membership, and what a node repeats in it; called by `craq_node`.
+//! Adopting a membership, and the sends that a node repeats in it. `craq_node` calls this.
 ghost use Rattle.std.specs.Prelude.{◌≡◌, ◌&&◌, ◌==◌, ◌++◌, true, false, Some, OnOk, OnErr, IfOk, IsOk, IsSome};
 ghost use Rattle.craq_model.specs.Deliveries.{config_turn};
 ghost use Rattle.craq_model.specs.Members.{last_of};
@@ -17,7 +17,7 @@ use craq_model::{Config, Out, Step, Why};
 use craq_names::{Epoch, Items, NodeId, Seq};
 use std::alloc::{AllocError, Global};
 
-/// What a node repeats in this membership, added to the outs. Where it fails, the outs are as before.
+/// Adds the sends that a node repeats in this membership. The outs are unchanged on error.
 #[tactic(auto, unfolding(craq_model::specs::Sends::tick_sends, craq_model::specs::Sends::ready_sends, craq_model::specs::Sends::unready_sends, craq_model::specs::Sends::catch_up, craq_model::specs::Plain::entries_after))]
 fn add_outs_in<H: History>(
     outs: &mut Vec<Out>,
@@ -53,9 +53,9 @@ fn add_outs_in<H: History>(
     )
 }
 
-/// What a tick sends: an unready node tells its predecessor how many entries it has; a ready one repeats
-/// what it has to send. A node without a membership sends nothing. It fails for want of memory alone, and
-/// the outs are then as before.
+/// Adds the sends of a tick: an unready node sends its entry count to its predecessor, a ready one
+/// repeats its pending sends, and a node without a membership sends nothing. Fails only when out of
+/// memory; the outs are unchanged on error.
 #[tactic(auto, unfolding(craq_model::specs::Sends::tick_sends, craq_model::specs::Sends::ready_sends, craq_model::specs::Sends::unready_sends, craq_model::specs::Sends::catch_up, craq_model::specs::Plain::entries_after))]
 pub fn add_tick_outs<H: History>(
     outs: &mut Vec<Out>,
@@ -68,7 +68,7 @@ pub fn add_tick_outs<H: History>(
     add_outs_in(outs, alloc, node, node.epoch, node.members.as_slice())
 }
 
-/// What a tail repeats in this membership, once all that it holds is committed.
+/// Adds the sends that a tail repeats in this membership after it committed all its entries.
 #[tactic(auto, using(crate::proofs::Ends::nothing_after_all), unfolding(craq_model::specs::Sends::tick_sends, craq_model::specs::Sends::ready_sends, craq_model::specs::Sends::catch_up, craq_model::specs::Plain::entries_after))]
 fn add_tail_outs<H: History>(
     outs: &mut Vec<Out>,
@@ -92,7 +92,7 @@ fn add_tail_outs<H: History>(
     add_ready_outs(outs, alloc, &sender, members, &[], &[], length, length, &[])
 }
 
-/// The membership is taken, and what was gathered in the old one is dropped.
+/// Puts the membership into the change, and drops what was gathered in the old one.
 fn take_membership(change: &mut Change, config: Config)
     ensures { change.new ≡ record change.old { membership = Some config; gathering = GatheringChange.Dropped } }
 {
@@ -100,7 +100,8 @@ fn take_membership(change: &mut Change, config: Config)
     change.gathering = GatheringChange::Dropped;
 }
 
-/// Settling as the tail: all that the node holds is committed, and all that waits is answered.
+/// Plans adopting a membership as its tail: all entries are committed, and all waiting requests get
+/// replies.
 #[tactic(auto, unfolding(craq_model::specs::Settle::settling_turn, craq_model::specs::Settle::all_given, craq_model::specs::Plain::newest))]
 fn settled_as_tail<H: History>(
     alloc: Global,
@@ -127,7 +128,7 @@ fn settled_as_tail<H: History>(
     Ok((change, done(outs)))
 }
 
-/// Settling where the node is not the tail: it repeats what it has to send.
+/// Plans adopting a membership in any other role: the node repeats its pending sends.
 #[tactic(auto, unfolding(craq_model::specs::Settle::settling_turn))]
 fn settled_in_line<H: History>(
     alloc: Global,
@@ -150,11 +151,11 @@ fn settled_in_line<H: History>(
     Ok((change, done(outs)))
 }
 
-/// A membership of a later epoch is taken; the floor of the old one and the parts of a state that were
-/// gathered in it are forgotten; the tail of it
-/// commits all that it holds and answers all that waits; then the node repeats what it has to send in it
-/// (the master tells the servers of each new chain, and neighbours send what is not acknowledged: OSDI
-/// 2004; epochs and floors are this project's profile). Ignored where the epoch is not later than the node's (`OtherEpoch`), or where the node is no member
+/// Plans adopting a membership of a later epoch. The floor and the gathered parts of the old one
+/// are dropped. The tail commits all its entries and replies to all waiting requests. Then the node
+/// repeats its pending sends. The master sends each new chain to its servers, and neighbours resend
+/// what is not acknowledged (OSDI 2004); epochs and floors are this project's profile. Ignored if
+/// the epoch is not later than the node's (`OtherEpoch`), or if the node is no member
 /// (`NotNeighbour`).
 #[tactic(auto, unfolding(craq_model::specs::Deliveries::config_turn, craq_model::specs::Settle::settling_turn))]
 pub fn plan_config<H: History>(

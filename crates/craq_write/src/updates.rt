@@ -1,4 +1,4 @@
-//! `plan_update`: the rule of an update that is asked, at the head; called by `craq_node`.
+//! `plan_update`: the rule of an update at the head. `craq_node` calls it.
 ghost use Rattle.std.specs.Prelude.{◌≡◌, ◌<◌, ◌+◌, ◌-◌, ◌^◌, ◌∷◌, [], true, false, Some, None, ◌||◌, if◌then◌else◌, not, nat_le, IfOk};
 ghost use Rattle.craq_commands.specs.SingleCopy.{said};
 ghost use Rattle.craq_model.specs.Asks.{reply_turn, update_turn, new_update_turn, committed_if_last, is_full};
@@ -21,7 +21,7 @@ use craq_model::{Answer, Out, Step, WaitingUpdate};
 use craq_names::{ClientId, Copied, Refusal, RequestNo, Seq, Ticket};
 use std::alloc::{AllocError, Global};
 
-/// The change, with an accepted ask and what it does to the asks that wait.
+/// Returns the change with an accepted request and its effect on the waiting requests.
 fn accepting(change: Change, waiting: WaitingChange) -> Change
     ensures { result ≡ record change { accepted = true; waiting = waiting } }
 {
@@ -37,7 +37,7 @@ fn accepting(change: Change, waiting: WaitingChange) -> Change
     }
 }
 
-/// The outs behind the reply under its ticket.
+/// Returns the outs with the reply under its ticket in front.
 fn answer_first(mut outs: Vec<Out>, ticket: Ticket, reply: Reply) -> Result<Vec<Out>, AllocError>
     ensures { IfOk result (λ all. all.items ≡ Out.Answer ticket (Answer.Update reply) ∷ outs.items) }
 {
@@ -46,8 +46,8 @@ fn answer_first(mut outs: Vec<Out>, ticket: Ticket, reply: Reply) -> Result<Vec<
     Ok(outs)
 }
 
-/// How much is committed once the history has this length: all of it where the node is last in its
-/// membership.
+/// Returns the commit index once the history has this length: the length itself if the node is last
+/// in its membership.
 fn committed_then<H: History>(node: &Node<H>, length: u64) -> u64
     ensures { result ≡ committed_then (plain_of H.past node.now) length }
 {
@@ -58,8 +58,8 @@ fn committed_then<H: History>(node: &Node<H>, length: u64) -> u64
     }
 }
 
-/// Whether an update that is due at a position is answered in its step, once the history has this
-/// length, or can wait. It takes no memory.
+/// Returns true exactly if an update that waits for a position gets its reply at this history
+/// length, or can wait. Allocates nothing.
 #[tactic(auto, unfolding(craq_model::specs::Asks::is_full))]
 fn has_place<H: History>(node: &Node<H>, length: u64, position: u64) -> bool
     ensures { result ≡ has_place (plain_of H.past node.now) length position }
@@ -67,8 +67,8 @@ fn has_place<H: History>(node: &Node<H>, length: u64, position: u64) -> bool
     position <= committed_then(node, length) || !node.is_full()
 }
 
-/// The reply to an update that can be taken is due once the history up to a position is committed: it
-/// is answered in this step if that is so after the change, else it waits.
+/// Plans the reply to an update that can be taken. It is sent once the history is committed up to a
+/// position: in this step if that is so after the change, else the update waits.
 #[tactic(auto, unfolding(craq_model::specs::Asks::reply_turn, craq_model::specs::Asks::is_full))]
 fn replied<H: History>(
     node: &Node<H>,
@@ -102,8 +102,8 @@ fn replied<H: History>(
     Ok((change, accepted(ticket, sends)))
 }
 
-/// The change with all committed that the history has then, where the node is last in its membership;
-/// and how much is committed then.
+/// Returns the change that also commits the whole history if the node is last in its membership,
+/// and the commit index after it.
 fn committing<H: History>(node: &Node<H>, change: Change, length: u64) -> (Change, u64)
     requires { change.acknowledged ≡ None }
     ensures change { result.0 ≡ (if is_last (plain_of H.past node.now) then record change { acknowledged = Some length } else change) }
@@ -125,7 +125,8 @@ fn committing<H: History>(node: &Node<H>, change: Change, length: u64) -> (Chang
     (change, length)
 }
 
-/// An update whose number is not new, and that can be taken: a reply is due at a position of the history.
+/// Plans an update whose number is not new and that can be taken: its reply waits for a position of
+/// the history.
 fn told_again<H: History>(
     alloc: Global,
     node: &Node<H>,
@@ -142,7 +143,7 @@ fn told_again<H: History>(
     replied(node, change, acknowledged, position, reply, sends)
 }
 
-/// An update whose number is not new: what is said to it is due at its client's newest entry.
+/// Plans an update whose number is not new: its reply waits for its client's newest entry.
 fn asked_before<H: History>(
     alloc: Global,
     node: &Node<H>,
@@ -160,7 +161,7 @@ fn asked_before<H: History>(
     Ok(plan)
 }
 
-/// A new update that can be taken makes an entry of its outcome, which goes to the successor.
+/// Plans a new update that can be taken: its outcome becomes an entry, which goes to the successor.
 fn entered<H: History>(
     alloc: Global,
     node: &Node<H>,
@@ -189,7 +190,7 @@ fn entered<H: History>(
     replied(node, change, acknowledged, length, reply, sends)
 }
 
-/// The outcome of a new update as the next entry.
+/// Returns the outcome of a new update as the next entry.
 fn entry_made<H: History>(
     alloc: Global,
     node: &Node<H>,
@@ -214,8 +215,8 @@ fn entry_made<H: History>(
     })
 }
 
-/// A new update at the head: it is evaluated on the newest state, and becomes the next entry. The
-/// refusals are found before anything is made: `Exhausted`, `PendingFull`; then comes `Memory`.
+/// Plans a new update at the head: it is evaluated on the newest state and becomes the next entry.
+/// The errors `Exhausted` and `PendingFull` are found before anything is made; then comes `Memory`.
 #[tactic(auto, unfolding(craq_model::specs::Asks::update_turn, craq_model::specs::Plain::newest))]
 fn plan_new<H: History>(
     alloc: Global,
@@ -240,16 +241,16 @@ fn plan_new<H: History>(
     Ok(plan)
 }
 
-/// An update at a ready head that has a ticket left. A number that was asked before has what is said to
-/// it, at the position of its client's newest entry; a new one makes an entry. It is answered in this
-/// step if its position is committed, else it waits. The head decides an update and sends the resulting
-/// values (USENIX ATC 2009); that refused commands make entries, and that up to eight replies are kept
-/// for a client, are this project's profile.
+/// Plans an update at a ready head that has a ticket left. A number that was requested before gets
+/// the kept reply, or `Stale`, at the position of its client's newest entry; a new one makes an
+/// entry. The reply is sent in this step if its position is committed, else the update waits. The
+/// head decides an update and sends the resulting values (USENIX ATC 2009); entries for updates
+/// that write nothing, and at most 8 kept replies for a client, are this project's profile.
 ///
-/// The refusals, in order: `Exhausted` where a new one finds no next position, or names an object without
-/// a next version; `PendingFull` where it would have to wait and 1,024 asks wait; `Memory` only where none
-/// of these applies. They are found before anything is evaluated or copied. The value of a put is moved into
-/// the entry, and copied only for the successor.
+/// The errors, in order: `Exhausted` if a new one finds no next position, or names an object
+/// without a next version; `PendingFull` if it would have to wait and 1,024 requests wait; `Memory`
+/// only if none of these applies. They are found before anything is evaluated or copied. The value
+/// of a put is moved into the entry, and copied only for the successor.
 #[tactic(auto, unfolding(craq_model::specs::Asks::update_turn, craq_model::specs::Plain::newest))]
 pub fn plan_update<H: History>(
     alloc: Global,

@@ -1,5 +1,5 @@
-//! Why `craqd` ends or serves nothing, with the text and the status of each reason; for `main`, `serving`, `plans`, `audits`
-//! and `closing`.
+//! Why `craqd` ends or serves nothing, with the text and the status of each reason; for `main`,
+//! `serving`, `plans`, `audits` and `closing`.
 ghost use Rattle.std.specs.Prelude.{◌≡◌, Some, IfOk};
 ghost use Rattle.craqd.specs.Statuses.{status_of};
 
@@ -51,7 +51,8 @@ impl<T: Drop> From<AllocFailed<T>> for Fault {
 }
 
 impl Fault {
-    /// The fault of an audit that was refused so: one for want of memory is told as that, any other by the refusal's number.
+    /// Returns the fault of a refused audit: `Memory` when out of memory, else `AuditRefused` with
+    /// the refusal.
     pub fn of_audit(refusal: Refusal) -> Self
         ensures memory { refusal ≡ Refusal.Memory → result ≡ Fault.Memory }
         ensures other { ¬ (refusal ≡ Refusal.Memory) → result ≡ Fault.AuditRefused refusal }
@@ -62,8 +63,8 @@ impl Fault {
         }
     }
 
-    /// Tells what was wrong of a server whose plan file has this name, as `FaultLine` spells it, and gives the status. Where the
-    /// output takes no text nothing is told, and the error is handed on.
+    /// Prints what was wrong with a server whose plan file has this name, as `FaultLine` writes it.
+    /// Returns the status. A fault of the output is not printed; its error is returned.
     pub fn report<R: Eprint>(self, rt: &R, plan: &str) -> io::Result<u8>
         ensures { IfOk result (λ status. status_of self ≡ Some status) }
     {

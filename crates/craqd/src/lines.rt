@@ -1,4 +1,4 @@
-//! What `craqd` prints of an audit, and tells of a fault, as texts; for `audits` and `fault`.
+//! The lines that `craqd` prints of an audit and of a fault; for `audits` and `fault`.
 ghost use Rattle.std.specs.Prelude.{Some};
 ghost use Rattle.craqd.specs.Printed.{audit_text, fault_text};
 
@@ -6,7 +6,7 @@ use crate::fault::Fault;
 use craq_audit::Audit;
 use std::fmt;
 
-/// What an audit with so many receipts found, as it is printed.
+/// The printed result of an audit, with its number of receipts.
 #[derive(Clone, Copy)]
 pub struct AuditLine<'a> {
     pub audit: &'a Audit,
@@ -35,7 +35,7 @@ impl fmt::Display for AuditLine<'_> {
     }
 }
 
-/// A fault of a server whose plan file has this name, as it is told; nothing of one of the output.
+/// The printed fault of a server whose plan file has this name; nothing for a fault of the output.
 #[derive(Clone, Copy)]
 pub struct FaultLine<'a> {
     pub fault: Fault,

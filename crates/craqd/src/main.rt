@@ -1,4 +1,5 @@
-//! The program that runs and serves the store of a plan, which `./serve` starts too: `craqd [OPTION ..] PLAN ADDRESS`.
+//! The program that runs and serves the store of a plan, which `./serve` starts too: `craqd [OPTION
+//! ..] PLAN ADDRESS`.
 #![tactic(auto)]
 
 mod audits;
@@ -21,7 +22,7 @@ use std::sync::Wait;
 use std::thread::Threads;
 use std::time::Clock;
 
-/// Serves as the words of a command line ask for, and tells what was wrong. Gives the status.
+/// Serves as a command line asks for, and prints a fault. Returns the status.
 fn run_words<R>(rt: R, words: &[&str]) -> io::Result<u8>
 where
     R: AllocGlobal + Files + Input<Reader = StdinLock<'static>> + Print + Eprint + Clock,
@@ -37,7 +38,7 @@ where
     }
 }
 
-/// Does what these words of a command line ask for. Gives the status.
+/// Does what these words of a command line ask for. Returns the status.
 fn run_texts<R>(rt: R, words: &[String]) -> io::Result<u8>
 where
     R: AllocGlobal + Files + Input<Reader = StdinLock<'static>> + Print + Eprint + Clock,
@@ -51,7 +52,7 @@ where
     run_words(rt, texts.as_slice())
 }
 
-/// Does what the command line asks for, where its words are text. Gives the status.
+/// Does what the command line asks for, where its words are text. Returns the status.
 fn run<R>(rt: R) -> io::Result<u8>
 where
     R: AllocGlobal + Env + Files + Input<Reader = StdinLock<'static>> + Print + Eprint + Clock,

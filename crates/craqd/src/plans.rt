@@ -20,8 +20,8 @@ fn bytes_of<R: AllocGlobal + Files>(rt: &R, path: &str) -> Result<Vec<u8>, Fault
     }
 }
 
-/// The plan that the bytes of a file stand for as text. `BadPlan` exactly where they are no text or stand for no plan; `Memory`
-/// where a growth was refused.
+/// The plan that the bytes of a file stand for as text. `BadPlan` exactly where they are no text or
+/// stand for no plan; `Memory` where a growth was refused.
 fn plan_of_bytes(alloc: Global, bytes: &[u8]) -> Result<Plan, Fault>
     ensures found { IfOk result (λ p. IsUtf8 bytes.now × StandsFor bytes.now p) }
     ensures only { IfOk result (λ p. (other : List Chain) → StandsFor bytes.now other → other ≡ p) }

@@ -1,14 +1,15 @@
-//! A store started, listened for, ticked and served, as a command line asks for; called by `main`.
+//! Starts a store, listens, ticks the store and serves it, as a command line asks for; called by
+//! `main`.
 ghost use Rattle.std.specs.Prelude.{◌≡◌, if◌then◌else◌, nat_lt, true, IfOk};
 
 use crate::audits::print_audits;
-use crate::closing::{wake, watch_input};
+use crate::closing::watch_input;
 use crate::fault::Fault;
 use crate::plans::plan_of;
 use crate::telling::tell_serving;
 use craq_line::Line;
 use craq_list::ListCore;
-use craq_server::{Connections, Crowds, Log, Served as Accepted, Serving, accept};
+use craq_server::{Connections, Crowds, Log, Served as Accepted, Serving, accept_with};
 use craq_workers::{OpenGate, Store};
 use std::alloc::AllocError;
 use std::io::{ErrorKind, Input, StdinLock};
@@ -23,10 +24,10 @@ use std::time::{Clock, Duration};
 /// The stores that are served.
 pub type RunningStore = Store<ListCore, OpenGate>;
 
-/// How often the nodes and masters are told to send again what others may lack.
+/// The milliseconds between two ticks, at which nodes and masters send again what others may lack.
 const TICK_MILLISECONDS: u64 = 50;
 
-/// Listens at an address.
+/// Listens on an address.
 fn listen<R>(rt: &R, address: &str) -> Result<TcpListener, Fault>
 where
     R: Net<Listener = TcpListener, Stream = TcpStream>,
@@ -38,14 +39,14 @@ where
     }
 }
 
-/// Prints at which port clients can connect.
+/// Prints the port that clients can connect to.
 fn print_port<R: Print>(rt: &R, address: SocketAddr) -> Result<(), Fault> {
     let port = address.port();
     println!(rt; "listening {port}")?;
     Ok(())
 }
 
-/// A store that is served, and where and how.
+/// A store that is served, and its listener.
 #[derive(Drop)]
 struct Service<'s, R: Wait> {
     rt: R,
@@ -53,11 +54,11 @@ struct Service<'s, R: Wait> {
     listener: &'s TcpListener,
     address: SocketAddr,
     connections: &'s Connections,
-    /// Whether the server is over.
+    /// True where the server is over.
     over: AtomicBool,
 }
 
-/// What came of following a server and of accepting its connections.
+/// Returns the outcome of accepting connections, or the fault of following the server.
 fn came_of(
     followed: Result<(), Fault>,
     accepted: Result<Accepted, AllocError>,
@@ -86,11 +87,11 @@ where
         }
     }
 
-    /// Serves the connections until the server is to end and all are over. It fails where a thread cannot be made, or what it
-    /// needs, and then no connection was taken.
+    /// Serves the connections until the server is to end and all are over. Fails where a thread, or
+    /// what it needs, cannot be made; no connection was taken then.
     fn accept(&self, crowds: Crowds) -> Result<Accepted, AllocError> {
         let (store, connections) = (self.store, self.connections);
-        accept(
+        accept_with(
             self.rt,
             self.rt.alloc(),
             store,
@@ -100,11 +101,11 @@ where
         )
     }
 
-    /// Prints at which port clients can connect, once all that the server needs has been made, and waits until it is to end.
-    /// Where nothing can be printed it ends at once.
+    /// Prints the port that clients can connect to once all that the server needs has been made,
+    /// and waits until it is to end. Ends the server at once where nothing can be printed.
     fn follow(&self) -> Result<(), Fault>
     where
-        R: Print + Net<Listener = TcpListener, Stream = TcpStream>,
+        R: Print,
     {
         if !self.connections.wait_for_begin(&self.rt) {
             return Ok(());
@@ -115,16 +116,13 @@ where
             self.connections.cut(&self.rt);
         }
         self.connections.wait_for_end(&self.rt);
-        if self.connections.is_ending(&self.rt) {
-            wake(&self.rt, self.address);
-        }
         printed
     }
 
-    /// Serves the connections on a thread of their own, while the store is ticked on another, until all are over.
+    /// Serves the connections on one thread while another ticks the store, until all are over.
     fn run<'e, E>(&'e self, scope: &Scope<'e, E>, crowds: Crowds) -> Result<Accepted, Fault>
     where
-        R: Print + Net<Listener = TcpListener, Stream = TcpStream>,
+        R: Print,
     {
         if scope.spawn(move || self.tick()).is_err() {
             return Err(Fault::Memory);
@@ -144,9 +142,9 @@ impl<R> Service<'_, R>
 where
     R: AllocGlobal + Print + Eprint + Clock + Threads + Wait + Copy,
     R: Drop + Send + Sync + 'static,
-    R: Net<Listener = TcpListener, Stream = TcpStream>,
 {
-    /// Serves the connections while the store is ticked, until all of them and both threads are over.
+    /// Serves the connections while the store is ticked, until all of them and both threads are
+    /// over.
     fn serve(&self, crowds: Crowds) -> Result<Accepted, Fault> {
         thread::scope(thread::scope_env(), &self.rt, |scope| {
             self.run(scope, crowds)
@@ -154,16 +152,25 @@ where
     }
 }
 
-/// Prints what the audits of a store with journals find. `Memory` where some connection was ended at once for want of it.
+/// Prints what the audits of a store with journals find. Then `CannotListen` where the listener
+/// failed, or `Memory` where some connection was ended at once because the process was out of
+/// memory or threads.
 fn finish<R>(rt: &R, store: &RunningStore, accepted: Accepted) -> Result<(), Fault>
 where
     R: AllocGlobal + Print + Wait,
 {
-    let Accepted { receipts, lacked } = accepted;
+    let Accepted {
+        receipts,
+        lacked,
+        listener_failed,
+    } = accepted;
     if store.has_journals() {
         print_audits(rt, store, receipts)?;
     } else {
         drop(receipts);
+    }
+    if listener_failed {
+        return Err(Fault::CannotListen);
     }
     if lacked {
         return Err(Fault::Memory);
@@ -171,27 +178,29 @@ where
     Ok(())
 }
 
-/// What a command line asks to be told.
+/// Returns the log that a command line asks for.
 const fn log_of(line: &Line<'_>) -> Log
     ensures { result ≡ (if line.now.log then Log.Lines else Log.Silent) }
 {
     if line.log { Log::Lines } else { Log::Silent }
 }
 
-/// How a command line asks that connections are served: by so many threads, and their receipts are kept where journals are.
+/// Returns how connections are served as a command line asks for. Receipts are kept where journals
+/// are.
 const fn serving_of(line: &Line<'_>) -> Serving
-    ensures { result ≡ record { keeps = line.now.journal; connections = line.now.connections; threads = line.now.threads; idle = line.now.idle; log = if line.now.log then Log.Lines else Log.Silent } }
+    ensures { result ≡ record { keeps = line.now.journal; connections = line.now.connections; threads = line.now.threads; idle = line.now.idle; most_leap = line.now.most_leap; log = if line.now.log then Log.Lines else Log.Silent } }
 {
     Serving {
         keeps: line.journal,
         connections: line.connections,
         threads: line.threads,
         idle: line.idle,
+        most_leap: line.most_leap,
         log: log_of(line),
     }
 }
 
-/// Serves the connections of a listener to a store, as a command line asks for.
+/// Serves the connections of a listener to a store as a command line asks for.
 fn serve_listener<'s, R>(
     rt: R,
     store: &'s RunningStore,
@@ -225,7 +234,7 @@ where
     finish(&rt, store, accepted?)
 }
 
-/// Listens as a command line asks for, and serves the connections to a store.
+/// Listens as a command line asks for and serves the connections to a store.
 fn serve_store<R>(rt: R, store: &RunningStore, line: &Line<'_>) -> Result<(), Fault>
 where
     R: AllocGlobal + Input<Reader = StdinLock<'static>> + Print + Eprint + Clock,
@@ -237,7 +246,8 @@ where
     serve_listener(rt, store, line, &listener, &connections)
 }
 
-/// How a command line asks that the chains' work is done: a thread for each chain where threads serve all connections.
+/// Returns how the chains' work is done: by a thread for each chain where a few threads serve all
+/// connections.
 const fn gate_of(line: &Line<'_>) -> OpenGate
     ensures { result ≡ record { in_place = true; carried = nat_lt 0 line.now.threads } }
 {
@@ -247,7 +257,8 @@ const fn gate_of(line: &Line<'_>) -> OpenGate
     }
 }
 
-/// A store of the chains of a plan file, which keeps journals just where the command line asks for them.
+/// Starts a store of the chains of a plan file, with journals exactly where the command line asks
+/// for them.
 fn store_of<R>(rt: R, line: &Line<'_>) -> Result<RunningStore, Fault>
 where
     R: AllocGlobal + Files + Threads + Wait + Copy + Send + 'static,

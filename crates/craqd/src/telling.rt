@@ -1,4 +1,6 @@
-//! What `craqd` serves and where, told on standard error once it listens; called by `serving`.
+//! Prints what `craqd` serves and where on standard error, once it listens; called by `serving`.
+ghost use Rattle.std.specs.Prelude.{◌<◌, ◌⊎◌, ◌↔◌, IsTrue};
+
 use crate::serving::RunningStore;
 use craq_line::{Line, VERSION};
 use craq_names::NodeId;
@@ -26,29 +28,41 @@ fn push_chains(text: &mut String, chains: &[ChainStatus]) -> Result<(), AllocErr
     Ok(())
 }
 
-/// Adds how connections are served.
+/// The text about journals of a server without an end in order.
+const NO_AUDIT: &str =
+    ", journals, of which no audit will be printed (--connections N or --until-input-ends ends the server in order)";
+
+/// Returns whether the server ends in order, as far as its command line says.
+const fn has_end(line: &Line<'_>) -> bool
+    ensures { IsTrue result ↔ ((0 < line.now.connections) ⊎ IsTrue line.now.until_input_ends) }
+{
+    line.connections > 0 || line.until_input_ends
+}
+
+/// Adds how connections are served, and whether journals are kept.
 fn push_way(text: &mut String, line: &Line<'_>) -> Result<(), AllocError> {
     let (threads, most, idle) = (line.threads, line.most, line.idle);
     if threads == 0 {
-        write!(text, " a thread for each connection, at most {most}")?;
+        write!(text, " a thread for each connection")?;
     } else {
-        write!(
-            text,
-            " {threads} threads for all connections, at most {most}"
-        )?;
+        write!(text, " {threads} threads for all connections")?;
+    }
+    if most > 0 {
+        write!(text, ", at most {most}")?;
     }
     if idle > 0 {
         write!(text, ", each ended after {idle} silent seconds")?;
     }
-    text.push_str(if line.journal {
-        ", journals"
-    } else {
-        ", no journals"
+    text.push_str(match (line.journal, has_end(line)) {
+        (true, true) => ", journals",
+        (true, false) => NO_AUDIT,
+        (false, _) => ", no journals",
     })
 }
 
-/// What a command line serves: the plan file, the address with its port, the chains and their nodes, how connections are
-/// served, and whether journals are kept.
+/// Returns what a command line serves: the plan file, the address with its port, the chains and
+/// their nodes, how connections are served, and whether journals are kept. Fails only when out of
+/// memory.
 fn served_text(
     alloc: Global,
     line: &Line<'_>,
@@ -66,7 +80,8 @@ fn served_text(
     Ok(text)
 }
 
-/// Tells on standard error, in one line, what is served and where. Where standard error takes no text nothing is told.
+/// Prints on standard error, in one line, what is served and where. Nothing is printed where
+/// standard error takes no text. Fails only when out of memory.
 pub fn tell_serving<R: AllocGlobal + Eprint + Wait>(
     rt: &R,
     store: &RunningStore,

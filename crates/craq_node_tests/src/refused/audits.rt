@@ -1,4 +1,4 @@
-//! The audit of the cells that took a script's moves; called by `ways`.
+//! Audits the nodes that took a script's moves; called by `ways`.
 use super::rows::{MOST_NODES, Row};
 use super::teller::{Call, TRIES, Teller};
 use crate::audits::cells_in;
@@ -10,7 +10,7 @@ use craq_seat::{BookCell, CallReceipt, Cell, Seated};
 use std::alloc::Global;
 use std::sync::{MutexGuard, Wait};
 
-/// The locks of all nodes' cells, held. One for which there is no memory is left out: the audit then lacks its cell.
+/// Locks all nodes. A lock for which memory runs out is left out; the audit then lacks its node.
 fn held_in<'a, C: Core, R: Wait>(
     rt: &R,
     alloc: Global,
@@ -25,7 +25,7 @@ fn held_in<'a, C: Core, R: Wait>(
     held
 }
 
-/// The audit of these cells.
+/// Audits these nodes and prints the result.
 fn tell<C: Core>(teller: Teller, book: &BookCell, cells: &[&Cell<C>], calls: &[CallReceipt]) {
     for _ in 0..TRIES {
         teller.begin(Call::Audit);
@@ -41,7 +41,7 @@ fn tell<C: Core>(teller: Teller, book: &BookCell, cells: &[&Cell<C>], calls: &[C
     }
 }
 
-/// The run that the cells merge into, under the locks of all of them.
+/// Audits the nodes after the script, under the locks of all of them.
 pub fn play<C: Core, R: Wait>(rt: &R, teller: Teller, row: &Row) -> Result<(), Refusal> {
     let (cells, calls): (LockedChain<C>, Vec<CallReceipt>) = row.cells(rt, teller.alloc)?;
     let book = cells.book().lock(rt);

@@ -1,4 +1,5 @@
-//! A connection that brings a script's asks, served by a door that takes no memory; called by `ways` and `messages`.
+//! Serves a connection with a script's requests, by a handler that takes no memory; called by
+//! `ways` and `messages`.
 ghost use Rattle.std.specs.Prelude.{⊤};
 
 use super::rows::Row;
@@ -14,13 +15,13 @@ use std::alloc::{AllocError, Global};
 use std::io;
 use std::io::{Read, Write};
 
-/// So many bytes come at once.
+/// The number of bytes that arrive at once.
 const PIECE: usize = 97;
 
-/// Room for all replies.
+/// The room for replies, enough for all.
 const ROOM: usize = 1_000_000;
 
-/// A reader of bytes that come in pieces.
+/// A reader that returns its bytes in pieces.
 #[derive(Drop)]
 struct Pieces<'a> {
     rest: &'a [u8],
@@ -36,7 +37,7 @@ impl Read for Pieces<'_> {
     }
 }
 
-/// A writer with room for all that comes.
+/// A writer with room for all replies.
 #[derive(Drop)]
 struct Written {
     bytes: Vec<u8>,
@@ -53,7 +54,7 @@ impl Write for Written {
     }
 }
 
-/// Answers each update that version 1 is written, with pass 9, and refuses all else.
+/// Replies to each update that version 1 was written, with pass 9, and refuses everything else.
 #[derive(Drop)]
 struct Answers;
 
@@ -74,7 +75,7 @@ impl Door for Answers {
     }
 }
 
-/// The message of a client that asks this, in a script's move.
+/// Returns a move's request as a client sends it; `None` if the move is not a request.
 fn message_of(alloc: Global, chosen: &Move) -> Result<Option<ClientMessage>, AllocError> {
     let Move::Ask { node, ask } = chosen else {
         return Ok(None);
@@ -95,7 +96,7 @@ fn message_of(alloc: Global, chosen: &Move) -> Result<Option<ClientMessage>, All
     }))
 }
 
-/// The messages of clients that ask what the script does. One that finds no memory is left out.
+/// Returns the script's requests as clients send them. Leaves out one for which memory runs out.
 pub fn messages_of(alloc: Global, row: &Row) -> Vec<ClientMessage> {
     let mut messages = Vec::new(alloc);
     for chosen in &row.moves {
@@ -106,7 +107,8 @@ pub fn messages_of(alloc: Global, row: &Row) -> Vec<ClientMessage> {
     messages
 }
 
-/// The frames of these messages, one after another. One that finds no memory is left out.
+/// Returns the frames of these requests, one after another. Leaves out one for which memory runs
+/// out.
 fn frames_of(alloc: Global, messages: &[ClientMessage]) -> Result<BytesMut, AllocError> {
     let mut frames = BytesMut::with_capacity(alloc, 0)?;
     for message in messages {
@@ -117,7 +119,7 @@ fn frames_of(alloc: Global, messages: &[ClientMessage]) -> Result<BytesMut, Allo
     Ok(frames)
 }
 
-/// How many whole frames there are.
+/// Returns the number of whole frames.
 fn count_of(bytes: &[u8]) -> usize {
     let mut rest = bytes;
     let mut count = 0usize;
@@ -135,8 +137,8 @@ fn count_of(bytes: &[u8]) -> usize {
     count
 }
 
-/// Serves a connection that brings these frames. What was written comes after what was. Whether serving need not be tried
-/// again.
+/// Serves a connection with these frames, and appends the replies to `written`. Returns true unless
+/// serving ran out of memory.
 fn serve_once(teller: Teller, frames: &[u8], written: &mut Vec<u8>) -> Result<bool, AllocError> {
     let bytes = Vec::with_capacity(teller.alloc, ROOM)?;
     let mut reader = Stream::new(Pieces { rest: frames });
@@ -149,8 +151,8 @@ fn serve_once(teller: Teller, frames: &[u8], written: &mut Vec<u8>) -> Result<bo
     Ok(is_done)
 }
 
-/// The replies to all asks. Where serving is refused memory, those that were not replied to come once more, in a new
-/// connection.
+/// Prints the replies to all requests. If serving runs out of memory, sends the unanswered requests
+/// once more on a new connection.
 pub fn play(teller: Teller, row: &Row) {
     let messages = messages_of(teller.alloc, row);
     let mut written = Vec::new(teller.alloc);

@@ -1,4 +1,5 @@
-//! The messages between nodes and the asks of clients, read from their bytes; called by `ways`.
+//! Decodes the messages between nodes and the requests of clients from their bytes; called by
+//! `ways`.
 use super::connections::messages_of;
 use super::rows::{Row, chain};
 use super::teller::{Call, TRIES, Teller};
@@ -9,7 +10,7 @@ use craq_node::Core;
 use craq_wire::{decode, encode, spelled};
 use craq_world::World;
 
-/// The message of a link that the bytes spell.
+/// Decodes a link message.
 fn read(teller: Teller, bytes: &[u8]) {
     for _ in 0..TRIES {
         teller.begin(Call::Decode);
@@ -25,7 +26,7 @@ fn read(teller: Teller, bytes: &[u8]) {
     }
 }
 
-/// The ask of a client that the bytes spell.
+/// Decodes a client's request.
 fn read_ask(teller: Teller, bytes: &[u8]) {
     for _ in 0..TRIES {
         teller.begin(Call::Decode);
@@ -41,7 +42,7 @@ fn read_ask(teller: Teller, bytes: &[u8]) {
     }
 }
 
-/// Each message that a step sends.
+/// Decodes each message that a step sends.
 fn read_sends(teller: Teller, step: &Step) {
     for out in step.outs.as_slice() {
         if let Out::Send { message, .. } = out {
@@ -54,7 +55,7 @@ fn read_sends(teller: Teller, step: &Step) {
     }
 }
 
-/// All asks.
+/// Decodes all requests.
 fn read_asks(teller: Teller, row: &Row) {
     for message in &messages_of(teller.alloc, row) {
         if let Ok(bytes) = message.encode(teller.alloc) {
@@ -63,7 +64,7 @@ fn read_asks(teller: Teller, row: &Row) {
     }
 }
 
-/// All asks, and all messages that nodes and the master send.
+/// Decodes all requests, and all messages that nodes and the master send.
 pub fn play<C: Core>(teller: Teller, row: &Row) -> Result<(), Refusal> {
     read_asks(teller, row);
     let mut world: World<C> = row.world(teller.alloc)?;

@@ -1,4 +1,4 @@
-//! A script with its nodes: what it asks of the one chain; read by `refused`, played by each way.
+//! Holds a script and its nodes, for one chain; read by `refused`, and played in each mode.
 use crate::{cells, worlds};
 use craq_locked::LockedChain;
 use craq_names::{ChainId, Copied, Pass, Refusal};
@@ -10,22 +10,23 @@ use craq_world::World;
 use std::alloc::{AllocError, Global};
 use std::sync::Wait;
 
-/// The chain of each script.
+/// Returns the chain of every script.
 pub fn chain() -> ChainId {
     ChainId::new(0)
 }
 
-/// The greatest id of a node that a script may have.
+/// The greatest node id that a script may have.
 pub const MOST_NODES: u32 = 32;
 
-/// The moves of a script, and the ids of its chain's members before them, from 1 on, 1 the head.
+/// The moves of a script, and the ids of its chain's opening members: from 1 on, with 1 as the
+/// head.
 #[derive(Drop)]
 pub struct Row {
     pub ids: Vec<u32>,
     pub moves: Vec<Move>,
 }
 
-/// The ids from 1 to the count.
+/// Returns the ids from 1 to `count`.
 fn first_ids(alloc: Global, count: u32) -> Result<Vec<u32>, AllocError> {
     let mut ids = Vec::new(alloc);
     for id in 1..=count {
@@ -34,8 +35,8 @@ fn first_ids(alloc: Global, count: u32) -> Result<Vec<u32>, AllocError> {
     Ok(ids)
 }
 
-/// The moves that the script's lines ask for; lines that ask for none, or whose ask is refused before a chain has it, are left
-/// out, as is what finds no memory: it is then missing in what is printed.
+/// Returns the moves of the script's lines. Leaves out lines without a move, lines refused before
+/// the chain sees them, and a line for which memory runs out; the output then lacks it.
 fn moves_in(alloc: Global, script: &Script) -> Vec<Move> {
     let mut moves = Vec::new(alloc);
     for line in script.lines.as_slice() {
@@ -47,7 +48,7 @@ fn moves_in(alloc: Global, script: &Script) -> Vec<Move> {
 }
 
 impl Row {
-    /// A script on so many nodes.
+    /// Parses a script for `nodes` nodes.
     pub fn read(alloc: Global, nodes: u32, script: &[u8]) -> Result<Row, Refusal> {
         let script = Script::read(alloc, script)?;
         let moves = moves_in(alloc, &script);
@@ -61,7 +62,7 @@ impl Row {
         }
     }
 
-    /// The moves, each of the one chain.
+    /// Returns the moves, each with the chain's id.
     pub fn listed(&self, alloc: Global) -> Vec<(ChainId, Move)> {
         let mut list = Vec::new(alloc);
         for chosen in &self.moves {
@@ -72,13 +73,13 @@ impl Row {
         list
     }
 
-    /// A world of the row's chain, before any move.
+    /// Opens a world of the row's chain, before any move.
     pub fn world<C: Core>(&self, alloc: Global) -> Result<World<C>, Refusal> {
         worlds::opened(alloc, 1, self.ids.as_slice())
     }
 
-    /// Cells with journals after the moves, each of which shows the pass of the step before, and the receipts of the
-    /// answered calls.
+    /// Returns journaled nodes after the moves, each of which has the pass of the step before, and
+    /// the receipts of the answered calls.
     pub fn cells<C: Core, R: Wait>(
         &self,
         rt: &R,

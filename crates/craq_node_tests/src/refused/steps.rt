@@ -1,4 +1,5 @@
-//! All that happened at each node, taken again by a new node, and at a new desk; called by `ways`.
+//! Replays the events of each node on a new node, and on a new pending-call table; called by
+//! `ways`.
 ghost use Rattle.std.specs.Prelude.{IfOk, IsTrue};
 ghost use Rattle.craq_node.specs.Represented.{CanArrive, CanOpen};
 
@@ -14,7 +15,7 @@ use craq_wire::spelled;
 use std::alloc::{AllocError, Global};
 use std::sync::Wait;
 
-/// Whether a node may be given the event: a message that arrives can be spelled.
+/// Returns true if a node may be given the event: a message that arrives can be encoded.
 fn arrives(event: &Event) -> bool
     ensures { IsTrue result → CanArrive event.now }
 {
@@ -24,7 +25,7 @@ fn arrives(event: &Event) -> bool
     }
 }
 
-/// A copy of an event that a node may be given.
+/// Copies an event that a node may be given.
 fn arriving(alloc: Global, event: &Event) -> Result<Event, Refusal>
     ensures { IfOk result CanArrive }
 {
@@ -34,7 +35,8 @@ fn arriving(alloc: Global, event: &Event) -> Result<Event, Refusal>
     Ok(event.copied(alloc)?)
 }
 
-/// Whether a node may be opened so: it has an id, and is in the membership that it is given, a first one.
+/// Returns true if a node may be opened so: it has an id, and is a member of the first membership
+/// it is given.
 fn can_open(opening: &Opening) -> bool
     ensures { IsTrue result → CanOpen opening.now.name opening.now.config }
 {
@@ -50,7 +52,7 @@ fn can_open(opening: &Opening) -> bool
         }
 }
 
-/// The call that the step of this event is: a stop and a message that is ignored take no memory.
+/// Returns the kind of call that the event's step is: a stop and an ignored message take no memory.
 fn call_of(record: &Record<Event>) -> Call {
     match &record.event {
         Event::Stop => Call::QuietStep,
@@ -59,7 +61,7 @@ fn call_of(record: &Record<Event>) -> Call {
     }
 }
 
-/// Tells a step, and whether it is the wanted one.
+/// Prints a step, and whether it equals the wanted one.
 fn tell_step(teller: Teller, step: &Result<Step, Refusal>, wanted: &Step) {
     let is_same = match step {
         Ok(step) => step.is_same(wanted),
@@ -68,7 +70,7 @@ fn tell_step(teller: Teller, step: &Result<Step, Refusal>, wanted: &Step) {
     let _ = println!(teller.host; "same: {is_same} {step:?}");
 }
 
-/// The step of a node where this happens.
+/// Takes the step of an event on a node.
 fn step<C: Core>(teller: Teller, node: &mut C, record: &Record<Event>) {
     let call = call_of(record);
     for _ in 0..TRIES {
@@ -87,7 +89,7 @@ fn step<C: Core>(teller: Teller, node: &mut C, record: &Record<Event>) {
     }
 }
 
-/// The steps of a new node in the place of this cell's, each of which has to be the cell's own.
+/// Takes the steps of this journaled node on a new node; each must equal the recorded step.
 fn step_again<C: Core>(teller: Teller, cell: &Cell<C>) -> Result<(), Refusal> {
     let opening = cell.opening();
     if !can_open(opening) {
@@ -100,7 +102,8 @@ fn step_again<C: Core>(teller: Teller, cell: &Cell<C>) -> Result<(), Refusal> {
     Ok(())
 }
 
-/// The receipt of a desk's step, and those of the calls that it answers, in lines that begin with `call`.
+/// Prints the receipt of a step, and those of the calls that it answers, in lines that begin with
+/// `call`.
 fn tell_taken(teller: Teller, receipt: &Receipt, calls: &Result<Vec<CallReceipt>, AllocError>) {
     let _ = println!(teller.host; "{receipt:?}");
     match calls {
@@ -113,7 +116,7 @@ fn tell_taken(teller: Teller, receipt: &Receipt, calls: &Result<Vec<CallReceipt>
     }
 }
 
-/// What a desk does where this happens.
+/// Takes the step of an event on a pending-call table.
 fn take<C: Core>(teller: Teller, desk: &mut Desk<C>, record: &Record<Event>) {
     for _ in 0..TRIES {
         if let Ok(event) = arriving(teller.alloc, &record.event) {
@@ -133,7 +136,8 @@ fn take<C: Core>(teller: Teller, desk: &mut Desk<C>, record: &Record<Event>) {
     }
 }
 
-/// What a new desk in the place of this cell's does, whose steps have to be the cell's own.
+/// Takes the steps of this journaled node on a new pending-call table; each must equal the recorded
+/// step.
 fn take_again<C: Core>(teller: Teller, cell: &Cell<C>) -> Result<(), Refusal> {
     let opening = cell.opening();
     if !can_open(opening) {
@@ -158,7 +162,7 @@ fn take_again<C: Core>(teller: Teller, cell: &Cell<C>) -> Result<(), Refusal> {
     Ok(())
 }
 
-/// The steps of a new node, or a new desk, in the place of each.
+/// Replays the steps of each node on a new node, or on a new pending-call table.
 pub fn play<C: Core, R: Wait>(
     rt: &R,
     teller: Teller,

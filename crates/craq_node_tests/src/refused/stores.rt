@@ -1,5 +1,5 @@
-//! A store that starts with a script's members, is asked what the script asks, and takes one more node in where the chain is
-//! not full; called by `ways`.
+//! Starts a store with a script's members, sends it the script's requests, and adds a node unless
+//! the chain is full; called by `ways`.
 ghost use Rattle.std.specs.Prelude.{IfOk};
 ghost use Rattle.craq_place.specs.Plan.{IsPlan};
 
@@ -17,7 +17,7 @@ use std::thread::Threads;
 use std::time::Duration;
 use std::{fs, thread};
 
-/// The plans of a chain of 1 to 8 nodes.
+/// The configurations of a chain of 1 to 8 nodes.
 const PLANS: [&str; 8] = [
     "[[chain]]\nname = \"a\"\nnodes = [1]\n",
     "[[chain]]\nname = \"a\"\nnodes = [1, 2]\n",
@@ -29,15 +29,15 @@ const PLANS: [&str; 8] = [
     "[[chain]]\nname = \"a\"\nnodes = [1, 2, 3, 4, 5, 6, 7, 8]\n",
 ];
 
-/// The most turns of a wait.
+/// The largest number of polls of a wait.
 const LIMIT: u32 = 1000;
 
-/// Rests for a turn, of 10 milliseconds.
+/// Rests for one poll, 10 milliseconds.
 fn rest(clock: HostRuntime) {
     thread::sleep(&clock, Duration::from_millis(10));
 }
 
-/// How many threads the system tells that this process has, 0 where it does not.
+/// Returns the number of threads of this process as the system reports it, or 0 if it does not.
 fn threads(host: HostRuntime) -> u64 {
     let Ok(status) = fs::read_to_string(&host, "/proc/self/status") else {
         return 0;
@@ -50,7 +50,7 @@ fn threads(host: HostRuntime) -> u64 {
     0
 }
 
-/// Whether the process comes to have so many threads.
+/// Polls until the process has `wanted` threads. Returns false if it never does.
 fn comes_to(host: HostRuntime, wanted: u64) -> bool {
     for _ in 0..LIMIT {
         if threads(host) == wanted {
@@ -61,7 +61,7 @@ fn comes_to(host: HostRuntime, wanted: u64) -> bool {
     false
 }
 
-/// The plan of a chain with the row's members, of which it has 1 to 8.
+/// Returns the configuration of a chain with the row's members, of which there are 1 to 8.
 fn plan(alloc: Global, row: &Row) -> Result<Plan, Refusal>
     ensures { IfOk result IsPlan }
 {
@@ -71,7 +71,7 @@ fn plan(alloc: Global, row: &Row) -> Result<Plan, Refusal>
     }
 }
 
-/// The store of a plan, whose chain one thread carries, or each node has threads of its own. A start that is refused leaves no
+/// Starts a store, run by one chain thread or by threads of each node. A start that fails leaves no
 /// thread.
 fn start<C, R>(
     rt: R,
@@ -107,7 +107,7 @@ where
     Err(Refusal::Memory)
 }
 
-/// The epoch of the store's chain, which names its membership.
+/// Returns the epoch of the store's chain, which identifies its membership.
 fn epoch<C, R>(rt: &R, store: &Store<C, OpenGate>) -> Result<u64, Refusal>
 where
     C: Core,
@@ -119,8 +119,9 @@ where
     }
 }
 
-/// A node joins, unless the chain is full. A join that is refused leaves the membership as it was, and no thread of the node.
-/// Whether it joined.
+/// Adds a node, unless the chain is full. Returns true if it joined.
+///
+/// A join that fails leaves the membership unchanged, and no thread of the node.
 fn join<C, R>(
     rt: R,
     teller: Teller,
@@ -151,7 +152,7 @@ where
     Err(Refusal::Memory)
 }
 
-/// What a client is answered at a node.
+/// Sends a client's request to a node, and returns the reply.
 fn answer<C, R>(
     rt: &R,
     alloc: Global,
@@ -173,7 +174,8 @@ where
     Ok(answer)
 }
 
-/// What a new client is answered at the node, once it is ready.
+/// Sends a request to the node with a new client, retries until the node is ready, and prints the
+/// reply.
 fn tell_when_ready<C, R>(
     rt: &R,
     teller: Teller,
@@ -202,7 +204,7 @@ where
     Ok(())
 }
 
-/// What the store answers to the script's reads at this node.
+/// Prints the store's replies to the script's reads at this node.
 fn tell_reads<C, R>(
     rt: &R,
     teller: Teller,
@@ -224,7 +226,8 @@ where
     Ok(())
 }
 
-/// What the store answers to all that the script asks, and its reads at a node that joins.
+/// Prints the store's replies to all requests of the script, and those to its reads at a node that
+/// joins.
 fn tell<C, R>(rt: R, teller: Teller, row: &Row, store: &Store<C, OpenGate>) -> Result<(), Refusal>
 where
     C: Core + Send + 'static,
@@ -244,8 +247,8 @@ where
     Ok(())
 }
 
-/// What a store with the row's members answers while one more joins, where one thread carries its chain or each node has threads
-/// of its own. No thread is left of it.
+/// Prints the replies of a store with the row's members while one more joins. The store is run by
+/// one chain thread, or by threads of each node. Fails if a thread is left at the end.
 pub fn play<C, R>(rt: R, teller: Teller, row: &Row, carried: bool) -> Result<(), Refusal>
 where
     C: Core + Send + 'static,

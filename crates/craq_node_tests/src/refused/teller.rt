@@ -1,12 +1,13 @@
-//! Marks of where each call begins and ends, and whether it was refused memory; told by each way around the calls that it makes.
+//! Marks where each call begins and ends, and whether it ran out of memory; every mode marks the
+//! calls it makes.
 use std::alloc::Global;
 
-/// A call of the library that may run out of memory.
+/// A library call that may run out of memory.
 #[derive(Clone, Copy)]
 pub enum Call {
     /// `Core::step` of an event that may take memory.
     Step,
-    /// `Core::step` of a stop, or of a message that is ignored: it takes none.
+    /// `Core::step` of a stop, or of an ignored message: it takes no memory.
     QuietStep,
     WorldTake,
     WorldRun,
@@ -20,7 +21,7 @@ pub enum Call {
 }
 
 impl Call {
-    /// The call's name in marks.
+    /// Returns the call's name in marks.
     fn name(self) -> &'static str {
         match self {
             Call::Step => "Core::step",
@@ -38,24 +39,24 @@ impl Call {
     }
 }
 
-/// How often a call is made that is refused memory.
+/// The largest number of times that a call is made if it runs out of memory.
 pub const TRIES: u32 = 2;
 
 /// Writes marks to standard error.
 #[derive(Clone, Copy)]
 pub struct Teller {
     pub host: HostRuntime,
-    /// Where memory comes from.
+    /// The source of memory.
     pub alloc: Global,
 }
 
 impl Teller {
-    /// The call begins.
+    /// Marks the beginning of a call.
     pub fn begin(self, call: Call) {
         let _ = eprintln!(self.host; "begin {}", call.name());
     }
 
-    /// The call ends. Whether it need not be made again, since it was not refused memory.
+    /// Marks the end of a call. Returns true unless the call ran out of memory.
     pub fn end(self, call: Call, is_refused: bool) -> bool {
         let _ = eprintln!(self.host; "end {}", call.name());
         if is_refused {
@@ -64,7 +65,7 @@ impl Teller {
         !is_refused
     }
 
-    /// The call took its step, and found no memory for what the step answers.
+    /// Marks that the call took its step and then ran out of memory for the step's results.
     pub fn took_step(self, call: Call) {
         let _ = eprintln!(self.host; "no memory after the step of {}", call.name());
     }

@@ -1,4 +1,4 @@
-//! The ways in which a script is played by calls; called by `refused`.
+//! Defines the modes in which a script is played by calls; called by `refused`.
 use super::rows::Row;
 use super::teller::Teller;
 use super::{audits, connections, messages, steps, stores, worlds};
@@ -7,30 +7,32 @@ use craq_node::Core;
 use std::sync::Wait;
 use std::thread::Threads;
 
-/// What is called.
+/// The calls that are made.
 #[derive(Clone, Copy)]
 pub enum Way {
-    /// `World::take` of each move, and `World::explain` in the end.
+    /// Makes `World::take` for each move, and `World::explain` at the end.
     Worlds,
-    /// `World::run` of all moves at once.
+    /// Makes `World::run` for all moves at once.
     Runs,
-    /// `Core::step` of all that happens at each node.
+    /// Makes `Core::step` for every event of each node.
     Steps,
-    /// `Desk::take` of the same.
+    /// Makes `Desk::take` for every event of each node.
     Desks,
-    /// `audit` of the cells that took the moves.
+    /// Makes `audit` of the nodes that took the moves.
     Audits,
-    /// `decode` of all messages between nodes, and of the asks of clients.
+    /// Makes `decode` for all messages between nodes, and for the requests of clients.
     Decodes,
-    /// `serve` of a connection with the asks.
+    /// Makes `serve` for a connection with the requests.
     Serves,
-    /// `Store::start` with the members, and `Store::join` of one more.
+    /// Makes `Store::start` with the members, and `Store::join` of one more; each node has threads
+    /// of its own.
     Stores,
-    /// The same where one thread carries the chain.
+    /// Makes `Store::start` with the members, and `Store::join` of one more; one chain thread runs
+    /// the store.
     Carried,
 }
 
-/// All ways, each with its word.
+/// All modes, each with its word.
 pub const WAYS: [(Way, &str); 9] = [
     (Way::Worlds, "worlds"),
     (Way::Runs, "runs"),
@@ -43,7 +45,7 @@ pub const WAYS: [(Way, &str); 9] = [
     (Way::Carried, "carried"),
 ];
 
-/// Plays a script in one way, and prints what the calls answer.
+/// Plays a script in one mode, and prints the results of the calls.
 pub fn play<C, R>(rt: R, teller: Teller, way: Way, row: &Row) -> Result<(), Refusal>
 where
     C: Core + Send + 'static,

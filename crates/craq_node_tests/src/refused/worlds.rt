@@ -1,4 +1,4 @@
-//! A world that takes the moves one by one or all at once, and is explained; called by `ways`.
+//! Plays the moves in a world, one by one or all at once, and explains the run; called by `ways`.
 use super::rows::{Row, chain};
 use super::teller::{Call, TRIES, Teller};
 use craq_check::check;
@@ -8,7 +8,7 @@ use craq_runs::Move;
 use craq_world::{Report, World};
 use std::alloc::AllocError;
 
-/// A move of the chain.
+/// Takes a move of the chain.
 fn take<C: Core>(teller: Teller, world: &mut World<C>, chosen: &Move) {
     for _ in 0..TRIES {
         if let Ok(copy) = chosen.copied(teller.alloc) {
@@ -22,7 +22,7 @@ fn take<C: Core>(teller: Teller, world: &mut World<C>, chosen: &Move) {
     }
 }
 
-/// The run of the chain, and its explanation.
+/// Prints the run of the chain, and its linearization witness.
 fn tell<C: Core>(teller: Teller, world: &World<C>) {
     let _ = println!(teller.host; "{:?}", world.run_of(chain()));
     for _ in 0..TRIES {
@@ -39,7 +39,7 @@ fn tell<C: Core>(teller: Teller, world: &World<C>) {
     }
 }
 
-/// The moves one by one.
+/// Plays the moves one by one.
 pub fn play<C: Core>(teller: Teller, row: &Row) -> Result<(), Refusal> {
     let mut world: World<C> = row.world(teller.alloc)?;
     for chosen in &row.moves {
@@ -49,7 +49,7 @@ pub fn play<C: Core>(teller: Teller, row: &Row) -> Result<(), Refusal> {
     Ok(())
 }
 
-/// How many moves of a list were taken, and how many were refused memory.
+/// Returns how many moves of a list were taken, and how many ran out of memory.
 fn counts(report: &Report) -> (usize, usize) {
     let (mut taken, mut refused) = (0usize, 0usize);
     for each in report.results.as_slice() {
@@ -62,7 +62,8 @@ fn counts(report: &Report) -> (usize, usize) {
     (taken, refused)
 }
 
-/// The same of what a world told of a list: where that is nothing, none was taken.
+/// Returns how many moves of a list were taken, and how many ran out of memory. Without a report
+/// none was taken.
 fn taken_of(told: &Result<Report, AllocError>) -> (usize, usize) {
     match told {
         Ok(report) => counts(report),
@@ -70,7 +71,8 @@ fn taken_of(told: &Result<Report, AllocError>) -> (usize, usize) {
     }
 }
 
-/// Whether a world that was refused memory has a run of just so many moves, with an explanation that holds.
+/// Returns true if the world's run has exactly `taken` moves, with a linearization witness that
+/// holds.
 fn stands<C: Core>(teller: Teller, world: &World<C>, taken: usize) -> bool {
     let Ok(run) = world.run_of(chain()) else {
         return false;
@@ -83,7 +85,7 @@ fn stands<C: Core>(teller: Teller, world: &World<C>, taken: usize) -> bool {
     }
 }
 
-/// All moves at once, in a new world. Whether none was refused memory.
+/// Plays all moves at once in a new world. Returns true if none ran out of memory.
 fn run_once<C: Core>(
     teller: Teller,
     row: &Row,
@@ -103,7 +105,7 @@ fn run_once<C: Core>(
     Ok(is_whole)
 }
 
-/// All moves at once; in a new world where the first was refused memory.
+/// Plays all moves at once; a second time, in a new world, if one ran out of memory.
 pub fn play_at_once<C: Core>(teller: Teller, row: &Row) {
     let moves = row.listed(teller.alloc);
     for _ in 0..TRIES {

@@ -4,7 +4,8 @@ use Rattle.std.specs.List.{list_all}
 use Rattle.craq_check.specs.Tests.{asked_in_time}
 use Rattle.craq_check.proofs.form.are_asked_in_time.Given as goal
 
--- after each move so far they are, and those that were looked at are by the last of them
+-- the test holds after each move so far, and the requests looked at are in time for the last of
+-- them
 abbrev pub invariant-loop-count : goal.invariant-loop-count
 invariant-loop-count l = record {
   number : l.number ≡ l.count-index;

@@ -2,7 +2,7 @@ use Rattle.std.proofs.Common.{◌≡◌, ◌+◌, ◌++◌, drop}
 use Rattle.craq_runs.specs.Seen.{asks_from}
 use Rattle.craq_check.proofs.seen.asks_of.Given as goal
 
--- the asks so far, and then those of the rest
+-- the requests so far, and then those of the rest
 abbrev pub invariant-loop-taken : goal.invariant-loop-taken
 invariant-loop-taken l = record {
   count : l.number ≡ l.taken-index;

@@ -4,7 +4,8 @@ use Rattle.craq_check.specs.Tests.{found_in, HasVersionsUpTo, are_said}
 use Rattle.craq_check.proofs.Placed.{Rise}
 use Rattle.craq_check.proofs.strong.are_said_in_order.Given as goal
 
--- the rest goes on from the copy so far, which each update raised by 16 versions at most, and has its places from there on
+-- the rest goes on from the copy so far, whose versions each update raised by 16 at most, with the
+-- places from there on
 abbrev pub invariant-loop-update : goal.invariant-loop-update
 invariant-loop-update l = record {
   count : l.count ≡ l.update-index;

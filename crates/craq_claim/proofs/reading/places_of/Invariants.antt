@@ -3,6 +3,6 @@ use Rattle.serde_json.specs.View.{view}
 use Rattle.craq_play.specs.Explained.{place_data}
 use Rattle.craq_claim.proofs.reading.places_of.Given as goal
 
--- the places are the items so far
+-- the linearization points are the items so far
 abbrev pub invariant-loop-index : goal.invariant-loop-index
 invariant-loop-index l = map place_data l.places ++ map view (drop l.index l.items) ≡ map view l.items

@@ -2,7 +2,7 @@ use Rattle.std.proofs.Common.{◌≡◌, drop}
 use Rattle.craq_commands.specs.Evaluation.{first_difference}
 use Rattle.craq_commands.proofs.evaluation.failed_compare.Given as goal
 
--- no compare so far failed
+-- no visited compare failed
 abbrev pub invariant-loop-object : goal.invariant-loop-object
 invariant-loop-object g l =
     record {

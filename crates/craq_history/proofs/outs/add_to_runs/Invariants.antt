@@ -3,7 +3,7 @@ use Rattle.craq_commands.specs.declared.entry.Entry.{Entry}
 use Rattle.craq_model.specs.Sends.{entry_bodies}
 use Rattle.craq_history.proofs.outs.add_to_runs.Given as goal
 
--- what is made, and the run with the entries that are left, come to the same
+-- the finished messages and those of the run and the remaining entries are invariant
 abbrev pub invariant-loop-entry : goal.invariant-loop-entry
 invariant-loop-entry l = record {
   room : length l.run.items < 16;

@@ -3,7 +3,7 @@ use Rattle.std.specs.Prelude.{vec_len, vec_capacity}
 use Rattle.std.specs.FinMap.Entries.{put}
 use Rattle.craq_names.proofs.map.put_at.Given as goal
 
--- the place is after those so far, and the list is as it was
+-- the insertion point is not before the visited items, and the list is unchanged
 abbrev pub invariant-loop-place : goal.invariant-loop-place
 invariant-loop-place g l = record {
   same : l.items.items ≡ l.fn.items.items;

@@ -3,7 +3,7 @@ use Rattle.craq_model.specs.Past.{values_in, values_after}
 use Rattle.craq_plain.specs.Scans.{last_value}
 use Rattle.craq_plain.proofs.lookups.object_past.Given as goal
 
--- the values to come, after the one found so far, end in the one that is sought
+-- a scan of the remaining values from the one found so far gives the result
 abbrev pub invariant-loop-entry : goal.invariant-loop-entry
 invariant-loop-entry l = record {
   goes_on : last_value (l.last, l.bytes) (values_after (drop l.entry-index l.entries) l.key) ≡ last_value (l.fn.version, l.fn.value) (values_after l.entries l.key);

@@ -2,7 +2,7 @@ use Rattle.std.proofs.Common.{◌≡◌, ◌+◌, ◌≤◌, ◌++◌, length, d
 use Rattle.craq_model.specs.Past.{values_in, values_after, newest_within}
 use Rattle.craq_plain.proofs.lookups.object_up_to.Given as goal
 
--- the values to come, after the one found so far, end in the one that is sought
+-- a scan of the remaining values from the one found so far gives the result
 abbrev pub invariant-loop-entry : goal.invariant-loop-entry
 invariant-loop-entry l = record {
   goes_on : newest_within (l.base + l.above) (l.last, l.bytes) (values_after (drop l.entry-index l.later) l.key) ≡ newest_within (l.base + l.above) (l.fn.version, l.fn.value) (values_after l.later l.key);

@@ -2,7 +2,7 @@ use Rattle.std.proofs.Common.{◌≡◌, ◌+◌, ◌≤◌, length, drop}
 use Rattle.craq_plain.specs.Slots.{slots_after}
 use Rattle.craq_plain.proofs.slots.add_entries.Given as goal
 
--- the rest goes on from the slots so far
+-- the rest, added to the slots so far, gives the result
 abbrev pub invariant-loop-entry : goal.invariant-loop-entry
 invariant-loop-entry l = record {
   index : l.index ≡ l.first + l.entry-index;

@@ -2,7 +2,7 @@ use Rattle.std.proofs.Common.{◌≡◌, ◌++◌, take, drop}
 use Rattle.craq_names.specs.Maps.{put_number}
 use Rattle.craq_plain.proofs.slots.put_slot.Given as goal
 
--- the place is after those so far, and the slots are as they were
+-- the insertion point is not before the visited slots, and the slots are unchanged
 abbrev pub invariant-loop-place : goal.invariant-loop-place
 invariant-loop-place l = record {
   same : l.slots.items ≡ l.fn.slots.items;

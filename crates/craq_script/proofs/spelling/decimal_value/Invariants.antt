@@ -2,7 +2,7 @@ use Rattle.std.proofs.Common.{◌≡◌, ◌<◌, ◌^◌, drop}
 use Rattle.craq_script.specs.Words.{number_behind}
 use Rattle.craq_script.proofs.spelling.decimal_value.Given as goal
 
--- the digits that are left go on from the number so far
+-- the number so far, continued with the remaining digits, is the whole number
 abbrev pub invariant-loop-digit : goal.invariant-loop-digit
 invariant-loop-digit l =
     record {

@@ -3,7 +3,7 @@ use Rattle.craq_script.specs.Reading.{◌>>=◌}
 use Rattle.craq_script.specs.Words.{hexadecimal_bytes, hexadecimal}
 use Rattle.craq_script.proofs.spelling.hexadecimal_bytes.Goals as goal
 
--- a byte in front of what is left stands behind the bytes so far
+-- a byte in front of the rest stands after the bytes so far
 behind : (bytes : List ℕ) (byte : ℕ) (left : Option (List ℕ)) → option_map (λ more. bytes ++ more) (left >>= λ more. Some (byte ∷ more)) ≡ option_map (λ more. (bytes ++ byte ∷ []) ++ more) left
 behind bytes byte None = refl
 behind bytes byte (Some more) = ap Some (sym (append_assoc bytes (byte ∷ []) more))

@@ -8,7 +8,7 @@ use Rattle.craq_settled.specs.Placed.{objects_of, state_at, IsPlaced}
 use Rattle.craq_settled.specs.Room.{AreFoldable, HasRoomForReplies}
 use Rattle.craq_settled.proofs.folding.fold.Given as goal
 
--- the entries so far are folded
+-- the entries so far are applied
 abbrev pub invariant-loop-alloc : goal.invariant-loop-alloc
 invariant-loop-alloc l = record {
   from : l.initial.entries.base ≤ l.entries.base;

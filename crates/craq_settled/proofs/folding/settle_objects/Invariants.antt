@@ -5,7 +5,7 @@ use Rattle.craq_settled.specs.Followed.{CanFold}
 use Rattle.craq_settled.specs.Placed.{objects_of, count_of, later_of, versions_of, IsPlaced}
 use Rattle.craq_settled.proofs.folding.settle_objects.Given as goal
 
--- what is written so far, and the writes that are left, come to all writes
+-- the settled writes and the remaining ones are all writes
 abbrev pub invariant-loop-write : goal.invariant-loop-write
 invariant-loop-write l = record {
   written : with_writes (objects_of l.table) l.write-iterator.rest.items ≡ with_writes (objects_of l.initial.table) l.fn.writes;

@@ -4,7 +4,7 @@ use Rattle.craq_settled.specs.Placed.{objects_of, IsPlaced}
 use Rattle.craq_settled.specs.Room.{HasRoomForVersions}
 use Rattle.craq_settled.proofs.listing.list_entries.Given as goal
 
--- the entries so far are listed
+-- the entries so far are indexed
 abbrev pub invariant-loop-table : goal.invariant-loop-table
 invariant-loop-table l = record {
   objects : objects_of l.table ≡ objects_of l.initial.table;

@@ -6,7 +6,7 @@ use Rattle.craq_settled.specs.Listed.{written_in}
 use Rattle.craq_settled.specs.Placed.{count_of, later_of, newest_version, objects_of, versions_of, IsPlaced}
 use Rattle.craq_settled.proofs.listing.list_writes.Given as goal
 
--- the writes so far are listed, and the others give the next versions
+-- the writes so far are indexed, and the others give the next versions
 abbrev pub invariant-loop-index : goal.invariant-loop-index
 invariant-loop-index l = record {
   objects : objects_of l.table ≡ objects_of l.initial.table;

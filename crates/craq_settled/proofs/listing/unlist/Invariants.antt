@@ -2,7 +2,7 @@ use Rattle.std.proofs.Common.{◌≡◌, take}
 use Rattle.craq_settled.specs.Placed.{objects_of, IsPlaced, LaterTakenBack}
 use Rattle.craq_settled.proofs.listing.unlist.Given as goal
 
--- of each object as many are taken back as the writes so far give it
+-- from each object as many versions are removed as the visited writes give it
 abbrev pub invariant-loop-write : goal.invariant-loop-write
 invariant-loop-write l = record {
   objects : objects_of l.table ≡ objects_of l.initial.table;

@@ -2,6 +2,6 @@ use Rattle.std.proofs.Common.{◌≡◌, [], drop}
 use Rattle.craq_model.specs.Past.{values_in}
 use Rattle.craq_settled.proofs.lookups.last_written.Given as goal
 
--- the writes that were looked at give the object nothing
+-- the visited writes give the object no version
 abbrev pub invariant-loop-index : goal.invariant-loop-index
 invariant-loop-index l = values_in (drop l.index l.writes) l.key ≡ []

@@ -6,7 +6,7 @@ use Rattle.craq_settled.specs.Placed.{settled_in}
 use Rattle.craq_settled.proofs.Found.{refs_in}
 use Rattle.craq_settled.proofs.lookups.within_list.Given as goal
 
--- the values that the places to come give, and those that are not listed, end in the one that is sought
+-- a scan of the values at the remaining locations, and of those not indexed, gives the result
 abbrev pub invariant-loop-place : goal.invariant-loop-place
 invariant-loop-place l = record {
   goes_on : (vs : List (ℕ × List ℕ)) × AllZip (Gives l.entries) (refs_in (l.place-iterator.head.now ++ l.place-iterator.wrapped.now)) vs × (newest_within (l.version + l.above) (l.last, l.bytes) (vs ++ values_after (drop (l.listed - l.entries.base) l.entries.entries) l.key) ≡ newest_within (l.version + l.above) (unwrap_or (settled_in l.list.versions) (0, [])) (values_after l.entries.entries l.key));

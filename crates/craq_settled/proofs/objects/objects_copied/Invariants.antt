@@ -3,6 +3,6 @@ use Rattle.craq_names.specs.Places.{filled}
 use Rattle.craq_settled.specs.Placed.{objects_of, shown}
 use Rattle.craq_settled.proofs.objects.objects_copied.Given as goal
 
--- what is copied, with what is settled of the keys that are left, are all objects
+-- the copies and the settled objects of the remaining keys are all objects
 abbrev pub invariant-loop-key : goal.invariant-loop-key
 invariant-loop-key l = l.objects.items ++ filled shown l.key-iterator ≡ objects_of l.table

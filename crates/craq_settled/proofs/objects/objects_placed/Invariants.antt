@@ -3,7 +3,7 @@ use Rattle.std.specs.List.{AllByRecursion}
 use Rattle.craq_settled.specs.Placed.{later_of, objects_of, IsPlaced}
 use Rattle.craq_settled.proofs.objects.objects_placed.Given as goal
 
--- what is placed, with the objects that are left, are all objects, and each has one version
+-- the moved objects and the remaining ones are all objects, and each has one version
 abbrev pub invariant-loop-key : goal.invariant-loop-key
 invariant-loop-key l = record {
   moved : objects_of l.table ++ l.key-iterator.rest.items ≡ l.fn.objects;

@@ -5,7 +5,7 @@ use Rattle.craq_commands.specs.declared.entry.Entry.{Entry}
 use Rattle.craq_unsettled.specs.Indexed.{positions_of, told_of}
 use Rattle.craq_unsettled.proofs.places.let_entries_go.Given as goal
 
--- the entries that are left are told
+-- the remaining entries are indexed
 abbrev pub invariant-loop-entry : goal.invariant-loop-entry
 invariant-loop-entry l = record {
   told : (after : ℕ) (later : List Entry) (q : ℕ) → told_of l.initial.places.entries q ≡ positions_of q after (l.entries ++ later) → told_of l.places.entries q ≡ positions_of q (after + l.entry-index) (drop l.entry-index l.entries ++ later);

@@ -3,7 +3,7 @@ use Rattle.craq_plain.specs.Slots.{slots_after}
 use Rattle.craq_unsettled.proofs.Keeping.{GoesOn}
 use Rattle.craq_unsettled.proofs.replies.keep_told.Given as goal
 
--- the entries that are left lead to the wanted slots
+-- the remaining entries lead to the wanted slots
 abbrev pub invariant-loop-place : goal.invariant-loop-place
 invariant-loop-place l = record {
   few : length l.slots.items ≤ 8;

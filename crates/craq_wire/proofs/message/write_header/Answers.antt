@@ -19,7 +19,7 @@ kind_is (bodies.Floor count) = refl
 kind_is (bodies.Part p) = refl
 kind_is (bodies.Batch es) = refl
 
--- what is written behind what was written stands behind both
+-- bytes appended to appended bytes follow both
 behind : (before mid after own own' rest : List ℕ) → mid ≡ before ++ own → own ≡ own' → after ≡ mid ++ rest → after ≡ before ++ (own' ++ rest)
 behind before mid after own own' rest e s f =
     f

@@ -35,6 +35,6 @@ loop-node-preserved g c =
       subst (AllByRecursion (λ w. (option_map (λ n. n.value.name) w.node ≡ Some w.name) × IsSome w.entrances)) (sym grown)
           (each_more (λ w. (option_map (λ n. n.value.name) w.node ≡ Some w.name) × IsSome w.entrances) c.loop-node.nodes.items c.in_ok-way.way c.loop-node.invariant.1
           (c.in_ok-way.ensures.node ∙ ap (λ (n : NodeName). Some n) (sym c.in_ok-way.ensures.name), c.in_ok-way.ensures.entrances)),
-      next_posted c.args.form.carried c.args.chain xs i c.node-item.result (map post_of c.args.workers.now.items) (map post_of c.loop-node.workers.items) (map post_of c.add_own_workers.new.workers.items) _
-          within c.node-item.is c.in_ok-way.ensures.node c.loop-node.invariant.2 c.in_ok-add_own_workers.ensures,
+      next_posted c.args.form.staff c.args.chain xs i c.node-item.result (map post_of c.args.workers.now.items) (map post_of c.loop-node.workers.items) (map post_of c.add_workers.new.workers.items) _
+          within c.node-item.is c.in_ok-way.ensures.node c.loop-node.invariant.2 c.in_ok-add_workers.ensures,
     )

@@ -6,7 +6,7 @@ use Rattle.craq_model.specs.Asks.{versioned_write}
 use Rattle.craq_model.specs.Past.{newest_in}
 use Rattle.craq_write.proofs.making_entries.versioned.Given as goal
 
--- the writes that are left have a next version each, and come after those made
+-- each remaining write has a next version, and follows those made
 abbrev pub invariant-loop-key : goal.invariant-loop-key
 invariant-loop-key g l = record {
   left : All (λ (w : List ℕ × List ℕ). version_of (newest_in (g.H.History.past l.history)).objects w.0 ≢ greatest) l.key-iterator.rest.items;

@@ -9,7 +9,7 @@ use Rattle.craq_compaction.specs.Compacted.{compacted_in}
 use Rattle.craq_list.specs.Stored.{stored}
 use Rattle.craq_list.proofs.history.ListHistory.is_next.Given as goal
 
--- each write so far has the next version
+-- each visited write has the next version
 abbrev pub invariant-loop-write : goal.invariant-loop-write
 invariant-loop-write l =
     list_all (λ (w : Write). w.version == version_of (after_entries (newest_in (compacted_in (stored l.self.held.base l.self.held.state l.self.held.entries l.self.acknowledged))) l.earlier).objects w.key + 1) (drop l.write-index l.entry.writes)

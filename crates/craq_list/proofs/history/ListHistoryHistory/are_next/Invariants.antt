@@ -6,7 +6,7 @@ use Rattle.craq_compaction.specs.Compacted.{compacted_in}
 use Rattle.craq_list.specs.Stored.{stored}
 use Rattle.craq_list.proofs.history.ListHistoryHistory.are_next.Given as goal
 
--- each entry so far fits; the rest goes on after them
+-- each visited entry fits; the rest follows them
 abbrev pub invariant-loop-place : goal.invariant-loop-place
 invariant-loop-place l =
     are_applicable (after_entries (newest_in (compacted_in (stored l.self.held.base l.self.held.state l.self.held.entries l.self.acknowledged))) (take l.place l.entries)) (drop l.place l.entries)

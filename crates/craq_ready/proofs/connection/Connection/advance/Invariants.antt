@@ -11,5 +11,5 @@ invariant-loop-step g l =
     × (l.self.place ≡ l.fn.self.place)
     × (l.self.receipts ≡ l.fn.self.receipts)
     × (l.self.readiness ≡ l.fn.self.readiness)
-    × (l._step ≤ 64)
+    × (l._step ≤ l.fn.share.steps)
     × TakesSteps (g.H.Reached.tells l.fn.host) (g.H.Reached.refuses l.fn.host) (under_key (g.H.CallTaker.submits l.fn.host) l.fn.key) l.fn.self.dialogue l.fn.self.calls l._step l.self.dialogue l.self.calls

@@ -3,7 +3,7 @@ use Rattle.craq_names.specs.Places.{filled}
 use Rattle.craq_replies.specs.Replies.{shown}
 use Rattle.craq_replies.proofs.items.KeptRepliesIterator.next.Given as goal
 
--- nothing stood in the places so far
+-- no visited slot has replies
 abbrev pub invariant-loop-client : goal.invariant-loop-client
 invariant-loop-client l = filled shown l.self-inside.places ≡ filled shown l.initial.self-inside.places
 

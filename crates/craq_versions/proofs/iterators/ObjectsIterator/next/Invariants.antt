@@ -3,7 +3,7 @@ use Rattle.craq_names.specs.Places.{filled}
 use Rattle.craq_versions.specs.Tables.{shown}
 use Rattle.craq_versions.proofs.iterators.ObjectsIterator.next.Given as goal
 
--- no list so far had versions
+-- no visited list has versions
 abbrev pub invariant-loop-key : goal.invariant-loop-key
 invariant-loop-key g l = filled shown l.self-inside.lists ≡ filled shown l.initial.self-inside.lists
 

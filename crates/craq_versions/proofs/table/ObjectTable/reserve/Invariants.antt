@@ -3,7 +3,7 @@ use Rattle.std.specs.List.{AllByRecursion}
 use Rattle.craq_versions.specs.Tables.{room_at, KeepsRoom}
 use Rattle.craq_versions.proofs.table.ObjectTable.reserve.Given as goal
 
--- the keys so far have room, and the table holds what it held
+-- the visited keys have room, and the table's versions are unchanged
 abbrev pub invariant-loop-key : goal.invariant-loop-key
 invariant-loop-key g l =
     record {

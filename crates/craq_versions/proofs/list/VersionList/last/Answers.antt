@@ -1,6 +1,6 @@
 use Rattle.std.proofs.Common.{refl}
 use Rattle.craq_versions.proofs.Numbered.{newest_is, newest_none}
-use Rattle.craq_versions.proofs.list.VersionList.newest.Goals as goal
+use Rattle.craq_versions.proofs.list.VersionList.last.Goals as goal
 
 pub returns-in-Some : goal.returns-in-Some
 returns-in-Some g c =

@@ -75,7 +75,7 @@ impl Window {
 
     /// Looks up a request number. Allocates nothing.
     pub fn look(&self, number: RequestNo) -> Said<'_>
-        ensures told { told result ≡ said_of self.now number }
+        ensures reply { told result ≡ said_of self.now number }
         ensures known { known_by result ≡ known_of self.now number }
     {
         look_in(self.replies.as_slice(), number)
@@ -130,7 +130,7 @@ fn reply_in(replies: &[Kept], number: RequestNo) -> Option<&Reply>
 /// Looks up a request number among the replies of a window. Allocates nothing.
 #[tactic(auto, using(crate::proofs::Windows::largest_last), unfolding(crate::specs::Kept::said_of, crate::specs::Kept::is_stale))]
 pub fn look_in(replies: &[Kept], number: RequestNo) -> Said<'_>
-    ensures told { told result ≡ said_of replies.now number }
+    ensures reply { told result ≡ said_of replies.now number }
     ensures known { known_by result ≡ known_of replies.now number }
 {
     if let Some((largest, _)) = replies.last() {

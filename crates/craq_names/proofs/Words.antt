@@ -6,7 +6,6 @@ use Rattle.std.specs.Ordering.{nat_cmp, ordering_then}
 use Rattle.std.specs.Cmp.Lexicographic.{slice_cmp}
 use Rattle.std.specs.declared.cmp.Ordering.{Ordering}
 use Rattle.std.specs.declared.cmp.Ordering.TheVariants.{Less, Equal, Greater}
-use Rattle.craq_names.specs.Words.{first_word}
 use Rattle.std.proofs.lemmas.Bool.{cases_lt}
 use Rattle.std.proofs.lemmas.Grind.{common_steps}
 
@@ -129,86 +128,4 @@ word_leaves xs ys us vs n m bx by isu isv lx ly isn ism same =
     sym (λ i. slice_cmp nat_cmp (take-append-drop 8 xs i) (take-append-drop 8 ys i))
     ∙ leave (take 8 xs) (take 8 ys) (drop 8 xs) (drop 8 ys) 0 (lu ∙ sym lv) (front 8 xs bx) (front 8 ys by) (sym n_is ∙ same ∙ m_is)
 
--- ---- first words
 
--- the first n bytes, padded with zeros
-abbrev padded : ℕ → List ℕ → List ℕ
-padded zero bs = []
-padded (suc n) [] = 0 ∷ padded n []
-padded (suc n) (b ∷ bs) = b ∷ padded n bs
-
-length_padded : (n : ℕ) (bs : List ℕ) → length (padded n bs) ≡ n
-length_padded zero bs = refl
-length_padded (suc n) [] = ap suc (length_padded n [])
-length_padded (suc n) (b ∷ bs) = ap suc (length_padded n bs)
-
-bytes_padded : (n : ℕ) (bs : List ℕ) → AreBytes bs → AreBytes (padded n bs)
-bytes_padded zero bs h = tt
-bytes_padded (suc n) [] h = (omega arith, bytes_padded n [] h)
-bytes_padded (suc n) (b ∷ bs) h = (h.0, bytes_padded n bs h.1)
-
--- no bytes compare below nonzero padded bytes
-zeros_below : (n : ℕ) (bs : List ℕ) → (padded n [] ≡ padded n bs → ⊥) → slice_cmp nat_cmp (padded n []) (padded n bs) ≡ Less
-zeros_below zero bs d = absurd (d refl)
-zeros_below (suc n) [] d = absurd (d refl)
-zeros_below (suc n) (b ∷ bs) d =
-    elim (cases_lt 0 b) [
-      | inl below ↦ ap (λ o. ordering_then o (slice_cmp nat_cmp (padded n []) (padded n bs))) (is_less 0 b below)
-      | inr up ↦
-          let same : 0 ≡ b = omega arith in
-          ap (λ o. ordering_then o (slice_cmp nat_cmp (padded n []) (padded n bs))) (is_equal 0 b same)
-          ∙ zeros_below n bs (λ e. d (λ i. same i ∷ e i))
-    ]
-
-zeros_above : (n : ℕ) (bs : List ℕ) → (padded n bs ≡ padded n [] → ⊥) → slice_cmp nat_cmp (padded n bs) (padded n []) ≡ Greater
-zeros_above zero bs d = absurd (d refl)
-zeros_above (suc n) [] d = absurd (d refl)
-zeros_above (suc n) (b ∷ bs) d =
-    elim (cases_lt 0 b) [
-      | inl below ↦ ap (λ o. ordering_then o (slice_cmp nat_cmp (padded n bs) (padded n []))) (is_greater b 0 below)
-      | inr up ↦
-          let same : b ≡ 0 = omega arith in
-          ap (λ o. ordering_then o (slice_cmp nat_cmp (padded n bs) (padded n []))) (is_equal b 0 same)
-          ∙ zeros_above n bs (λ e. d (λ i. same i ∷ e i))
-    ]
-
--- byte strings compare as their padded prefixes, if these differ
-pads : (n : ℕ) (bs cs : List ℕ) → (padded n bs ≡ padded n cs → ⊥) → slice_cmp nat_cmp bs cs ≡ slice_cmp nat_cmp (padded n bs) (padded n cs)
-pads zero bs cs d = absurd (d refl)
-pads (suc n) [] [] d = absurd (d refl)
-pads (suc n) [] (c ∷ cs) d = sym (zeros_below (suc n) (c ∷ cs) d)
-pads (suc n) (b ∷ bs) [] d = sym (zeros_above (suc n) (b ∷ bs) d)
-pads (suc n) (b ∷ bs) (c ∷ cs) d =
-    let short : Ordering → Ordering = λ o. ordering_then o (slice_cmp nat_cmp bs cs) in
-    let long : Ordering → Ordering = λ o. ordering_then o (slice_cmp nat_cmp (padded n bs) (padded n cs)) in
-    elim (cases_lt b c) [
-      | inl below ↦ ap short (is_less b c below) ∙ sym (ap long (is_less b c below))
-      | inr up ↦ elim (cases_lt c b) [
-        | inl above ↦ ap short (is_greater b c above) ∙ sym (ap long (is_greater b c above))
-        | inr down ↦
-            let same : b ≡ c = omega arith in
-            ap short (is_equal b c same) ∙ pads n bs cs (λ e. d (λ i. same i ∷ e i)) ∙ sym (ap long (is_equal b c same))
-      ]
-    ]
-
-first_is : (bs : List ℕ) → first_word bs ≡ from_be_bytes w64 (padded 8 bs)
-first_is [] = refl
-first_is (a ∷ []) = refl
-first_is (a ∷ b ∷ []) = refl
-first_is (a ∷ b ∷ c ∷ []) = refl
-first_is (a ∷ b ∷ c ∷ d ∷ []) = refl
-first_is (a ∷ b ∷ c ∷ d ∷ e ∷ []) = refl
-first_is (a ∷ b ∷ c ∷ d ∷ e ∷ f ∷ []) = refl
-first_is (a ∷ b ∷ c ∷ d ∷ e ∷ f ∷ g ∷ []) = refl
-first_is (a ∷ b ∷ c ∷ d ∷ e ∷ f ∷ g ∷ h ∷ rest) = refl
-
-pub first_decides : (xs ys : List ℕ) → AreBytes xs → AreBytes ys → (first_word xs ≡ first_word ys → ⊥) → slice_cmp nat_cmp xs ys ≡ nat_cmp (first_word xs) (first_word ys)
-first_decides xs ys bx by differ =
-    let lx : length (padded 8 xs) ≡ 8 = length_padded 8 xs in
-    let ly : length (padded 8 ys) ≡ 8 = length_padded 8 ys in
-    let x_is : first_word xs ≡ spelled 0 (padded 8 xs) = first_is xs ∙ word_of (padded 8 xs) lx in
-    let y_is : first_word ys ≡ spelled 0 (padded 8 ys) = first_is ys ∙ word_of (padded 8 ys) ly in
-    pads 8 xs ys (λ e. differ (first_is xs ∙ ap (λ w. from_be_bytes w64 w) e ∙ sym (first_is ys)))
-    ∙ sym (λ i. slice_cmp nat_cmp (append-nil (padded 8 xs) i) (append-nil (padded 8 ys) i))
-    ∙ decide (padded 8 xs) (padded 8 ys) [] [] 0 (lx ∙ sym ly) (bytes_padded 8 xs bx) (bytes_padded 8 ys by) (λ e. differ (x_is ∙ e ∙ sym y_is))
-    ∙ sym (λ i. nat_cmp (x_is i) (y_is i))

@@ -3,4 +3,4 @@ pub mod Maps
 pub mod Places
 pub mod Refused
 pub mod Order
-pub mod Words
+pub mod Short

@@ -3,31 +3,28 @@
 ghost use Rattle.std.specs.Prelude.{◌≡◌, ◌<◌, ◌≤◌, ◌⊎◌, ◌↔◌, ℕ, List, [], length, nat_eq, refl, Err, Some, IfOk, IfErr};
 ghost use Rattle.std.specs.Ordering.{nat_cmp};
 ghost use Rattle.std.specs.Cmp.{partial_equiv_from_equiv};
-ghost use Rattle.std.specs.Arc.{arc_slice_items};
-ghost use Rattle.craq_names.specs.Words.{first_word};
 ghost use Rattle.std.specs.Cmp.Lexicographic.{pointwise, slice_cmp, nat_list_eq_equiv, nat_list_cmp_total, texts_ties, texts_po};
 
 use crate::Refusal;
-use crate::order::{are_equal, first_word, order_by_word};
+use crate::order::{are_equal, order_of};
+use crate::short::FixedBytes;
 use std::alloc::{AllocError, Global};
 use std::cmp::Ordering;
 use std::marker::Model;
-use std::sync::ArcSlice;
 
-/// The key of an object: 1 to 128 bytes, ordered lexicographically. The first 8 bytes are cached as
-/// one number, because they usually decide a comparison.
+/// The key of an object: 1 to 128 bytes, ordered lexicographically. Keys of up to 22 bytes are held
+/// in place; copies of longer ones share their bytes.
 #[derive(Debug, Drop)]
 pub struct Key {
-    first: u64,
-    bytes: Vec<u8>,
+    bytes: FixedBytes,
 }
 
 impl Model for Key {
     ghost Value = { List ℕ };
 
-    ghost view = { λ k. k.bytes.items };
+    ghost view = { λ k. k.bytes };
 
-    ghost invariant = { λ k. (1 ≤ length k.bytes.items) × (length k.bytes.items ≤ 128) × (k.first ≡ first_word k.bytes.items) };
+    ghost invariant = { λ k. (1 ≤ length k.bytes) × (length k.bytes ≤ 128) };
 }
 
 impl Key {
@@ -45,8 +42,7 @@ impl Key {
             return Err(Refusal::BadKey);
         }
         Ok(Key {
-            first: first_word(bytes),
-            bytes: Vec::from_slice(alloc, bytes)?,
+            bytes: FixedBytes::from_slice(alloc, bytes)?,
         })
     }
 
@@ -64,8 +60,7 @@ impl Key {
         ensures { IfOk result (λ k. k ≡ key.now) }
     {
         Ok(Key {
-            first: key.first,
-            bytes: Vec::from_slice(alloc, key.bytes.as_slice())?,
+            bytes: key.bytes.copied()?,
         })
     }
 }
@@ -75,8 +70,7 @@ impl Clone for Key {
 
     fn clone(&self) -> Result<Self, AllocError> {
         Ok(Key {
-            first: self.first,
-            bytes: self.bytes.clone()?,
+            bytes: self.bytes.copied()?,
         })
     }
 }
@@ -87,7 +81,7 @@ impl PartialEq for Key {
     ghost laws = { partial_equiv_from_equiv nat_list_eq_equiv };
 
     fn eq(&self, other: &Self) -> bool {
-        are_equal(&self.bytes, &other.bytes)
+        are_equal(self.bytes.as_slice(), other.bytes.as_slice())
     }
 }
 
@@ -115,22 +109,23 @@ impl Ord for Key {
     ghost matches_eq = { texts_ties };
 
     fn cmp(&self, other: &Self) -> Ordering {
-        order_by_word(self.first, &self.bytes, other.first, &other.bytes)
+        order_of(self.bytes.as_slice(), other.bytes.as_slice())
     }
 }
 
-/// The value of an object: 0 to 4,096 bytes. Values are immutable, so copies share their bytes.
+/// The value of an object: 0 to 4,096 bytes. Values of up to 22 bytes are held in place; copies of
+/// longer ones share their bytes.
 #[derive(Debug, Drop)]
 pub struct Value {
-    bytes: ArcSlice<u8>,
+    bytes: FixedBytes,
 }
 
 impl Model for Value {
     ghost Value = { List ℕ };
 
-    ghost view = { λ v. arc_slice_items v.bytes };
+    ghost view = { λ v. v.bytes };
 
-    ghost invariant = { λ v. length (arc_slice_items v.bytes) ≤ 4096 };
+    ghost invariant = { λ v. length v.bytes ≤ 4096 };
 }
 
 impl Value {
@@ -147,7 +142,9 @@ impl Value {
         if bytes.len() > Value::MAX {
             return Err(Refusal::ValueTooLong);
         }
-        Ok(Value::of(Vec::from_slice(alloc, bytes)?)?)
+        Ok(Value {
+            bytes: FixedBytes::from_slice(alloc, bytes)?,
+        })
     }
 
     /// Returns the value's bytes.
@@ -165,7 +162,7 @@ impl Value {
         ensures { IfOk result (λ v. v ≡ bytes.items) }
     {
         Ok(Value {
-            bytes: ArcSlice::from_vec(bytes)?,
+            bytes: FixedBytes::of(bytes)?,
         })
     }
 
@@ -175,7 +172,7 @@ impl Value {
         ensures { IfOk result (λ v. v ≡ value.now) }
     {
         Ok(Value {
-            bytes: value.bytes.clone()?,
+            bytes: value.bytes.copied()?,
         })
     }
 }
@@ -186,7 +183,7 @@ impl PartialEq for Value {
     ghost laws = { partial_equiv_from_equiv nat_list_eq_equiv };
 
     fn eq(&self, other: &Self) -> bool {
-        self.bytes == other.bytes
+        are_equal(self.bytes.as_slice(), other.bytes.as_slice())
     }
 }
 

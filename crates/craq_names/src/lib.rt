@@ -11,6 +11,7 @@ mod number;
 mod order;
 mod refusal;
 mod same;
+mod short;
 
 pub use copied::{Copied, copies_of};
 pub use key::{Key, Value};

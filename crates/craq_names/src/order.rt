@@ -1,9 +1,8 @@
-//! Comparison of byte strings: by their cached first word, then by words of 8 bytes, then byte by
-//! byte. Only `Key` calls it.
-ghost use Rattle.std.specs.Prelude.{◌≡◌, get_or, nat_eq};
+//! Comparison of byte strings: by words of 8 bytes, then byte by byte. Only `Key` and `Value` call
+//! it.
+ghost use Rattle.std.specs.Prelude.{◌≡◌, nat_eq};
 ghost use Rattle.std.specs.Ordering.{nat_cmp};
 ghost use Rattle.std.specs.Cmp.Lexicographic.{pointwise, slice_cmp};
-ghost use Rattle.craq_names.specs.Words.{first_word};
 
 use std::cmp::Ordering;
 
@@ -29,7 +28,7 @@ fn order_by_byte(bytes: &[u8], others: &[u8]) -> Ordering
 
 /// Compares two byte strings lexicographically; a proper prefix orders first. While both have 8
 /// bytes left, it compares these as one number.
-fn order_of(bytes: &[u8], others: &[u8]) -> Ordering
+pub(crate) fn order_of(bytes: &[u8], others: &[u8]) -> Ordering
     ensures { result ≡ slice_cmp nat_cmp bytes.now others.now }
 {
     let mut left = bytes;
@@ -47,44 +46,6 @@ fn order_of(bytes: &[u8], others: &[u8]) -> Ordering
         right = others;
     }
     order_by_byte(left, right)
-}
-
-/// Returns the byte at an index, 0 if there is none.
-fn byte_at(bytes: &[u8], place: usize) -> u8
-    ensures { result ≡ get_or bytes.now place 0 }
-{
-    match bytes.get(place) {
-        Some(byte) => *byte,
-        None => 0,
-    }
-}
-
-/// Returns the first 8 bytes as a big-endian number. Fewer bytes are padded with zeros at the end.
-pub(crate) fn first_word(bytes: &[u8]) -> u64
-    ensures { result ≡ first_word bytes.now }
-{
-    u64::from_be_bytes([
-        byte_at(bytes, 0),
-        byte_at(bytes, 1),
-        byte_at(bytes, 2),
-        byte_at(bytes, 3),
-        byte_at(bytes, 4),
-        byte_at(bytes, 5),
-        byte_at(bytes, 6),
-        byte_at(bytes, 7),
-    ])
-}
-
-/// Compares two byte strings whose first words are known. The first words decide if they differ.
-pub(crate) fn order_by_word(first: u64, bytes: &[u8], other: u64, others: &[u8]) -> Ordering
-    requires left { first ≡ first_word bytes.now }
-    requires right { other ≡ first_word others.now }
-    ensures { result ≡ slice_cmp nat_cmp bytes.now others.now }
-{
-    if first != other {
-        return first.cmp(&other);
-    }
-    order_of(bytes, others)
 }
 
 /// Returns true exactly if the two byte strings are equal: the same length and the same bytes.

@@ -52,7 +52,7 @@ impl ReplyTable {
     /// Looks up a client's request number: its kept reply, `Stale` if it is below all of a full
     /// window, or `New`. A number whose kept reply is itself `Stale` is `Kept`. Allocates nothing.
     pub fn look(&self, client: ClientId, number: RequestNo) -> Said<'_>
-        ensures told { told result ≡ said_of (window_of self.now client) number }
+        ensures reply { told result ≡ said_of (window_of self.now client) number }
         ensures known { known_by result ≡ known_of (window_of self.now client) number }
     {
         match self.places.get(&client.get()) {

@@ -1,5 +1,5 @@
 -- The newest written version, and the newest within a bound.
-use Rattle.std.proofs.Common.{◌≡◌, ℕ, ◌+◌, ◌-◌, ◌<◌, ◌≤◌, Bool, true, false, cond, List, [], ◌∷◌, ◌++◌, map, take, drop, Option, Some, None, unwrap_or, refl, sym, ◌∙◌, ap, subst, append_assoc, arith}
+use Rattle.std.proofs.Common.{◌≡◌, ℕ, zero, suc, length, slice_index_or, ◌+◌, ◌-◌, ◌<◌, ◌≤◌, Bool, true, false, cond, List, [], ◌∷◌, ◌++◌, map, take, drop, Option, Some, None, unwrap_or, refl, sym, ◌∙◌, ap, subst, append_assoc, add-one, arith}
 use Rattle.std.proofs.lemmas.List.{take-append-drop}
 use Rattle.std.specs.List.{AllZip, last_or}
 use Rattle.std.specs.Prelude.{nat_le}
@@ -79,6 +79,19 @@ refs_in (p ∷ ps) = ref_before p (refs_in ps)
 
 abbrev pub places_in : List (ℕ × Place) → List Place
 places_in vs = map (λ (v : ℕ × Place). v.1) vs
+
+drop_next : (ps : List Place) (i : ℕ) (p : Place) → i < length ps → p ≡ slice_index_or ps i p → drop i ps ≡ p ∷ drop (suc i) ps
+drop_next [] i p within is = absurd (omega (arith, within))
+drop_next (q ∷ ps) zero p within is = ap (λ x. x ∷ ps) (sym is)
+drop_next (q ∷ ps) (suc i) p within is = drop_next ps i p (omega (arith, within)) is
+
+length_places : (vs : List (ℕ × Place)) → length (places_in vs) ≡ length vs
+length_places [] = refl
+length_places (v ∷ vs) = ap suc (length_places vs)
+
+-- the place at an index, and those after it
+pub place_next : (vs : List (ℕ × Place)) (i : ℕ) (p : Place) → i < length vs → p ≡ slice_index_or (places_in vs) i p → drop i (places_in vs) ≡ p ∷ drop (i + 1) (places_in vs)
+place_next vs i p within is = rw add-one (drop_next (places_in vs) i p (omega (arith, within, length_places vs)) is)
 
 refs_of_later : (s : Suffixed) (vs : List (ℕ × Place)) (values : List (ℕ × List ℕ)) → AllZip (IsGiven s) vs values → AllZip (Gives s) (refs_in (places_in vs)) values
 refs_of_later s [] [] all = tt

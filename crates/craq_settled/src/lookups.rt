@@ -169,8 +169,8 @@ fn within_list<'a>(
     ensures short { length result.1.now ≤ 4096 }
 {
     let (mut last, mut bytes) = settled_object(list);
-    for place in list.held() {
-        let at = match place {
+    for index in 0..list.len() {
+        let at = match list.held(index) {
             Place::Settled(_) => continue,
             Place::Written(at) => at,
         };

@@ -54,7 +54,7 @@ pub fn has_later(list: &VersionList<Place>) -> bool
     match list.oldest() {
         None => false,
         Some((_, place)) => match place {
-            Place::Settled(_) => list.held().len() > 1,
+            Place::Settled(_) => list.len() > 1,
             Place::Written(_) => true,
         },
     }

@@ -231,6 +231,11 @@ settled_at first version has_clean values h one (inr held) from = held_within va
 pub settled_below : {V : Type 0} (first version clean : ℕ) (values : List V) → CanSettle (numbered first values) clean version → version < first → version ≤ clean
 settled_below first version clean values can below = settled_case first version clean values can.1 below
 
+-- there are versions if an older one can be settled
+pub some_below : {V : Type 0} (first version : ℕ) (has_clean : Bool) (values : List V) → IsStored first has_clean values → CanSettle (numbered first values) (if has_clean then first else 0) version → version < first → 0 < length values
+some_below first version true values stored can below = stored.clean_is_held refl
+some_below first version false values stored can below = absurd (omega (arith, can.0, settled_below first version 0 values can below))
+
 -- a version that may be settled and is at least the first is in the list
 pub settled_from : {V : Type 0} (first version : ℕ) (has_clean : Bool) (values : List V) → IsStored first has_clean values → CanSettle (numbered first values) (if has_clean then first else 0) version → first ≤ version → version - first < length values
 settled_from first version has_clean values h can from = settled_at first version has_clean values h can.0 can.1 from

@@ -3,6 +3,7 @@
 #![tactic(auto)]
 
 mod iterators;
+mod kept;
 mod list;
 mod lists;
 mod table;

@@ -1,17 +1,13 @@
 //! The versions of one object. A table has one such list for each key.
-ghost use Rattle.std.specs.Prelude.{◌≡◌, ◌≢◌, ◌+◌, ◌-◌, ◌<◌, ◌≤◌, [], ◌∷◌, ◌++◌, ◌==◌, if◌then◌else◌, max, drop, false, length, map, IfOk, IsOk, OnOk, OnErr, IsTrue, ◌↔◌};
+ghost use Rattle.std.specs.Prelude.{◌≡◌, ◌≢◌, ◌+◌, ◌-◌, ◌<◌, ◌≤◌, [], ◌∷◌, ◌++◌, ◌==◌, if◌then◌else◌, max, drop, false, length, map, slice_index_or, IfOk, IsOk, OnOk, OnErr, IsTrue, ◌↔◌};
 ghost use Rattle.std.specs.Option.{option_copied, option_map};
-ghost use Rattle.std.specs.VecDeque.{deque_len, deque_capacity};
 ghost use Rattle.craq_names.specs.Maps.{at_number};
 ghost use Rattle.craq_versions.specs.Versions.{clean_without, first_of, newest_of, newest_or_none, newest_within, versions_from, versions_settled, without_newest, AreVersions, CanPush, CanSettle, CanSettleAs};
 
+use crate::kept::KeptItems;
 use craq_names::{Value, Version};
 use std::alloc::{AllocError, Global};
-use std::collections::VecDeque;
 use std::marker::Model;
-
-// The capacity, in items, that a queue keeps even if it has fewer items.
-const KEPT_ROOM: usize = 4;
 
 /// A node's versions of one object, each with a held item such as its value. They are consecutive
 /// and ascending. At most one is clean, the first; the others are dirty (clean and dirty versions
@@ -20,12 +16,11 @@ const KEPT_ROOM: usize = 4;
 pub struct VersionList<V> {
     first: u64,
     has_clean: bool,
-    items: VecDeque<V>,
+    items: KeptItems<V>,
 }
 
 impl<V> Model for VersionList<V> {
-    ghost use Rattle.std.specs.Prelude.{◌-◌, if◌then◌else◌};
-    ghost use Rattle.std.specs.VecDeque.{deque_len, deque_capacity};
+    ghost use Rattle.std.specs.Prelude.{if◌then◌else◌};
     ghost use Rattle.craq_versions.specs.Versions.{Versions, numbered, IsStored};
 
     ghost Value = { Versions V };
@@ -33,7 +28,7 @@ impl<V> Model for VersionList<V> {
     ghost view = { λ l. record {
       versions = numbered l.first l.items.items;
       clean = (if l.has_clean then l.first else 0);
-      room = deque_capacity l.items - deque_len l.items;
+      room = l.items.room;
     } };
 
     ghost invariant = { λ l. IsStored l.first l.has_clean l.items.items };
@@ -48,7 +43,7 @@ impl<V: Drop> VersionList<V> {
         VersionList {
             first: 1,
             has_clean: false,
-            items: VecDeque::new(alloc),
+            items: KeptItems::new(alloc),
         }
     }
 
@@ -62,43 +57,41 @@ impl<V: Drop> VersionList<V> {
         Ok(VersionList {
             first: 1,
             has_clean: false,
-            items: VecDeque::with_capacity(alloc, room)?,
+            items: KeptItems::with_room(alloc, room)?,
         })
     }
 
-    /// Returns a list of one clean version with its held item, without room for more. Fails only
-    /// when out of memory.
-    pub fn of_clean(alloc: Global, version: Version, held: V) -> Result<Self, AllocError>
+    /// Returns a list of one clean version with its held item. Allocates nothing.
+    pub fn of_clean(alloc: Global, version: Version, held: V) -> Self
         requires { 1 ≤ version }
-        ensures versions { IfOk result (λ list. list.versions ≡ (version, held) ∷ []) }
-        ensures clean { IfOk result (λ list. list.clean ≡ version) }
+        ensures versions { result.versions ≡ (version, held) ∷ [] }
+        ensures clean { result.clean ≡ version }
     {
-        let mut items = VecDeque::with_capacity(alloc, 1)?;
-        items.push_back(held)?;
-        Ok(VersionList {
+        VersionList {
             first: version.get(),
             has_clean: true,
-            items,
-        })
+            items: KeptItems::of_one(alloc, held),
+        }
     }
 
     /// Returns true exactly if there are no versions.
     pub fn is_empty(&self) -> bool
         ensures { IsTrue result ↔ (self.now.versions ≡ []) }
     {
-        self.items.is_empty()
+        self.items.len() == 0
     }
 
     /// Returns the newest version with its held item, `None` if there is none. Allocates nothing.
     pub fn last(&self) -> Option<(Version, &V)>
         ensures { option_map (λ found. (found.0, found.1.now)) result ≡ newest_of self.now.versions }
     {
-        match self.items.back() {
+        let count = self.items.len();
+        if count == 0 {
+            return None;
+        }
+        match self.items.get(count - 1) {
             None => None,
-            Some(held) => Some((
-                Version::new(self.first + (self.items.len() as u64 - 1)),
-                held,
-            )),
+            Some(held) => Some((Version::new(self.first + (count as u64 - 1)), held)),
         }
     }
 
@@ -106,17 +99,25 @@ impl<V: Drop> VersionList<V> {
     pub fn oldest(&self) -> Option<(Version, &V)>
         ensures { option_map (λ found. (found.0, found.1.now)) result ≡ first_of self.now.versions }
     {
-        match self.items.front() {
+        match self.items.get(0) {
             None => None,
             Some(held) => Some((Version::new(self.first), held)),
         }
     }
 
-    /// Returns the held items, oldest version first. Allocates nothing.
-    pub fn held(&self) -> &VecDeque<V>
-        ensures { result.now.items ≡ map (λ v. v.1) self.now.versions }
+    /// Returns the number of versions. Allocates nothing.
+    pub fn len(&self) -> usize
+        ensures { result ≡ length self.now.versions }
     {
-        &self.items
+        self.items.len()
+    }
+
+    /// Returns the held item at an index, from 0, oldest version first. Allocates nothing.
+    pub fn held(&self, index: usize) -> &V
+        requires { index < length self.now.versions }
+        ensures { result.now ≡ slice_index_or (map (λ v. v.1) self.now.versions) index result.now }
+    {
+        self.items.at(index)
     }
 
     /// Returns the clean version, 0 if none is clean. Allocates nothing.
@@ -152,10 +153,10 @@ impl<V: Drop> VersionList<V> {
             return None;
         }
         let index = (bound - self.first).min(count - 1);
-        Some((
-            Version::new(self.first + index),
-            &self.items[index as usize],
-        ))
+        match self.items.get(index as usize) {
+            None => None,
+            Some(held) => Some((Version::new(self.first + index), held)),
+        }
     }
 
     /// Reserves room for this many more versions, whose `push` then allocates nothing. Fails only
@@ -184,7 +185,7 @@ impl<V: Drop> VersionList<V> {
         let version = version.get();
         self.items.reserve(1)?;
         self.first = first_with(self.items.len(), self.first, version);
-        self.items.push_back_reserved(held);
+        self.items.push_reserved(held);
         Ok(())
     }
 
@@ -201,7 +202,7 @@ impl<V: Drop> VersionList<V> {
         if version < self.first {
             return;
         }
-        let_go(&mut self.items, (version - self.first) as usize);
+        self.items.remove_first((version - self.first) as usize);
         self.first = version;
         self.has_clean = true;
     }
@@ -217,7 +218,7 @@ impl<V: Drop> VersionList<V> {
         let settled = version.get();
         let last = self.items.len() - 1;
         let index = ((settled - self.first) as usize).min(last);
-        replace_first(&mut self.items, index, held);
+        self.items.replace_first(index, held);
         self.first = settled;
         self.has_clean = true;
     }
@@ -231,7 +232,7 @@ impl<V: Drop> VersionList<V> {
         ensures are_versions { AreVersions self.new.versions self.new.clean }
         ensures room { self.old.room ≤ self.new.room }
     {
-        self.items.pop_back();
+        self.items.pop();
         self.has_clean = still_clean(self.items.len(), self.has_clean);
     }
 }
@@ -250,41 +251,9 @@ fn still_clean(count: usize, has_clean: bool) -> bool
     if count == 0 { false } else { has_clean }
 }
 
-// Drops the first `count` items. The queue keeps its capacity.
-fn let_go<V: Drop>(items: &mut VecDeque<V>, count: usize)
-    requires { count ≤ deque_len items.old }
-    ensures items { items.new.items ≡ drop count items.old.items }
-    ensures capacity { deque_capacity items.new ≡ deque_capacity items.old }
-{
-    items.drain(..count);
-}
-
-// Drops the first `count` items and replaces the item after them. Releases excess capacity if one
-// item is left.
-fn replace_first<V: Drop>(items: &mut VecDeque<V>, count: usize, first: V)
-    requires { count < deque_len items.old }
-    ensures items { items.new.items ≡ first ∷ drop (count + 1) items.old.items }
-{
-    let_go(items, count);
-    if let Some(oldest) = items.front_mut() {
-        *oldest = first;
-    }
-    if items.len() == 1 {
-        trim(items);
-    }
-}
-
-// Releases excess capacity if few items are left.
-fn trim<V: Drop>(items: &mut VecDeque<V>)
-    ensures items { items.new.items ≡ items.old.items }
-{
-    if items.capacity() > KEPT_ROOM {
-        items.shrink_to_fit();
-    }
-}
-
 impl VersionList<Value> {
-    /// Returns the newest version and its value: version 0 and no bytes on an empty list. It takes no memory.
+    /// Returns the newest version and its value, version 0 and no bytes on an empty list. Allocates
+    /// nothing.
     pub fn newest(&self) -> (Version, &[u8])
         ensures { (result.0, result.1.now) ≡ newest_or_none self.now.versions }
     {

@@ -142,7 +142,7 @@ pub fn put_clean_in<V: Drop>(
     ensures rooms { KeepsOthersRoom (table_of lists.old.entries) (table_of lists.new.entries) key }
     ensures ordered { IsOrdered key_cmp lists.new }
 {
-    let list = VersionList::of_clean(alloc, version, held)?;
+    let list = VersionList::of_clean(alloc, version, held);
     put_list(lists, key, list)
 }
 

@@ -10,7 +10,7 @@ use Rattle.craq_check.proofs.single.said_in.Goals as goal
 
 pub returns-in-Some : goal.returns-in-Some
 returns-in-Some c =
-    c.look.ensures.told ∙ ap (λ (o : Option Window). said_of (unwrap_or o []) c.args.number) (c.in-Some.ensures.value ∙ ap (λ n. lookup (is_at (nat_cmp n)) c.args.kept.now.entries) c.get.ensures ∙ found_is nat_cmp c.args.client c.args.kept.now.entries)
+    c.look.ensures.reply ∙ ap (λ (o : Option Window). said_of (unwrap_or o []) c.args.number) (c.in-Some.ensures.value ∙ ap (λ n. lookup (is_at (nat_cmp n)) c.args.kept.now.entries) c.get.ensures ∙ found_is nat_cmp c.args.client c.args.kept.now.entries)
 
 pub returns-in-None : goal.returns-in-None
 unfolding said_of is_stale

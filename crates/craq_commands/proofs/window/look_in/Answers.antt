@@ -6,9 +6,9 @@ use Rattle.craq_names.specs.Maps.{at_number}
 use Rattle.craq_commands.proofs.Windows.{largest_last}
 use Rattle.craq_commands.proofs.window.look_in.Goals as goal
 
-pub returns-then-is_stale_in-clause-told : goal.returns-then-is_stale_in-clause-told
+pub returns-then-is_stale_in-clause-reply : goal.returns-then-is_stale_in-clause-reply
 unfolding said_of
-returns-then-is_stale_in-clause-told c =
+returns-then-is_stale_in-clause-reply c =
     let w = c.args.replies.now in
     let stale = sym c.is_stale_in.ensures ∙ c.if-is_stale_in.true in
     ap (λ n. Some (replies.Stale n)) (sym (largest_last w c.in-Some.field-0.now (sym c.in-Some.ensures.value)))

@@ -26,6 +26,19 @@ loop-write-preserved c =
       placed = c.settle_object.ensures.placed;
     }
 
+pub loop-write-preserved-in-Some : goal.loop-write-preserved-in-Some
+loop-write-preserved-in-Some c =
+    let left = c.next.new.self.rest.items in
+    let step = c.in-Some.ensures.steps.0 in
+    let w = c.in-Some.write in
+    record {
+      written = search rules;
+      later = λ q. write_settled _ (later_of c.loop-write.table q) _ _ left w q step (c.loop-write.invariant.later q) (c.settle_object.ensures.later q);
+      ready = λ q. folds_on w left q (versions_of c.loop-write.table q) (versions_of c.settle_object.new.table q) (versions_of c.loop-write.table w.key) w.value (c.settle_object.ensures.versions q) (c.settle_object.ensures.later q)
+          (subst (λ (l : List Write). CanFold (values_in l q) (versions_of c.loop-write.table q)) step (c.loop-write.invariant.ready q));
+      placed = c.settle_object.ensures.placed;
+    }
+
 pub returns-clause-later : goal.returns-clause-later
 returns-clause-later c =
     let rest = c.loop-write.write-iterator.rest in

@@ -3,12 +3,12 @@ use Rattle.std.specs.List.{AllZip}
 use Rattle.craq_model.specs.Past.{newest_within, values_after}
 use Rattle.craq_settled.specs.Listed.{Gives}
 use Rattle.craq_settled.specs.Placed.{settled_in}
-use Rattle.craq_settled.proofs.Found.{refs_in}
+use Rattle.craq_settled.proofs.Found.{places_in, refs_in}
 use Rattle.craq_settled.proofs.lookups.within_list.Given as goal
 
--- a scan of the values at the remaining locations, and of those not indexed, gives the result
-abbrev pub invariant-loop-place : goal.invariant-loop-place
-invariant-loop-place l = record {
-  goes_on : (vs : List (ℕ × List ℕ)) × AllZip (Gives l.entries) (refs_in (l.place-iterator.head.now ++ l.place-iterator.wrapped.now)) vs × (newest_within (l.version + l.above) (l.last, l.bytes) (vs ++ values_after (drop (l.listed - l.entries.base) l.entries.entries) l.key) ≡ newest_within (l.version + l.above) (unwrap_or (settled_in l.list.versions) (0, [])) (values_after l.entries.entries l.key));
+-- the values that the places to come give, and those that are not listed, end in the one that is sought
+abbrev pub invariant-loop-index : goal.invariant-loop-index
+invariant-loop-index l = record {
+  goes_on : (vs : List (ℕ × List ℕ)) × AllZip (Gives l.entries) (refs_in (drop l.index (places_in l.list.versions))) vs × (newest_within (l.version + l.above) (l.last, l.bytes) (vs ++ values_after (drop (l.listed - l.entries.base) l.entries.entries) l.key) ≡ newest_within (l.version + l.above) (unwrap_or (settled_in l.list.versions) (0, [])) (values_after l.entries.entries l.key));
   short : length l.bytes ≤ 4096;
 }

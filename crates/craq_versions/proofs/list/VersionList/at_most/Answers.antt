@@ -1,4 +1,4 @@
-use Rattle.std.proofs.Common.{arith, sym}
+use Rattle.std.proofs.Common.{arith, length, refl, sym}
 use Rattle.craq_versions.proofs.Numbered.{within_below, within_is, within_none}
 use Rattle.craq_versions.proofs.list.VersionList.at_most.Goals as goal
 
@@ -7,11 +7,9 @@ returns-then-bound-self g c = rw (← c.self.view_is) (sym (within_below c.self.
 
 pub returns-then-count-eq0 : goal.returns-then-count-eq0
 returns-then-count-eq0 g c =
-    let all = c.self.inside.items.ok.0 in
     rw (← c.self.view_is) (within_none c.self.inside.first c.args.bound c.self.inside.items.items (omega arith))
 
-pub returns : goal.returns
-returns g c =
-    let all = c.self.inside.items.ok.0 in
+pub returns-in-Some : goal.returns-in-Some
+returns-in-Some g c =
     rw (← c.self.view_is, c.new.ensures, ← c.get-bound.ensures)
-    (within_is c.self.inside.first c.get-bound.result c.self.inside.items.len c.min-index.result c.self.inside.items.items c.index.result.now all (omega arith) (omega arith) (rw c.len-count.ensures at c.min-index.ensures) c.index.ensures)
+    (within_is c.self.inside.first c.get-bound.result (length c.self.inside.items.items) c.min-index.result c.self.inside.items.items c.in-Some.held.now refl (omega arith) (omega arith) (rw c.len-count.ensures at c.min-index.ensures) c.in-Some.ensures.lookup)

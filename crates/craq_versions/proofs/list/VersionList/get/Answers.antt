@@ -1,4 +1,4 @@
-use Rattle.std.proofs.Common.{arith, sym}
+use Rattle.std.proofs.Common.{arith, length, refl, sym}
 use Rattle.craq_versions.proofs.Numbered.{found_below, held_is}
 use Rattle.craq_versions.proofs.list.VersionList.get.Goals as goal
 
@@ -8,4 +8,4 @@ returns-then-version-self g c = rw (← c.self.view_is) (sym (found_below c.self
 pub returns : goal.returns
 returns g c =
     rw (← c.self.view_is, ← c.get-version.ensures)
-    (held_is c.self.inside.first c.get-version.result c.self.inside.items.len c.self.inside.items.items c.get.result c.self.inside.items.ok.0 c.if-version-self.false c.get.ensures.variant c.get.ensures.lookup)
+    (held_is c.self.inside.first c.get-version.result (length c.self.inside.items.items) c.self.inside.items.items c.get.result refl c.if-version-self.false c.get.ensures.variant c.get.ensures.lookup)

@@ -1,12 +1,11 @@
 //! Prints a whole run: its picture, or the verdict on a linearization witness; called by `main`.
 ghost use Rattle.std.specs.Prelude.{◌≤◌};
 
-use craq_chain::ChainCore;
 use craq_check::check;
-use craq_explain::explain_run_of;
 use craq_names::Refusal;
 use craq_node::Core;
 use craq_picture::picture_of;
+use craq_play::PlayedChain;
 use craq_runs::Explanation;
 use craq_schedules::chain_after;
 use std::alloc::Global;
@@ -15,8 +14,8 @@ use std::alloc::Global;
 pub fn picture<C: Core>(alloc: Global, nodes: u32, script: &[u8]) -> Result<String, Refusal>
     requires { (1 ≤ nodes) × (nodes ≤ 8) }
 {
-    let chain: ChainCore<C> = chain_after(alloc, nodes, script)?;
-    let explanation = explain_run_of(alloc, chain.chain(), chain.run())?;
+    let chain: PlayedChain<C> = chain_after(alloc, nodes, script)?;
+    let explanation = chain.explain(alloc)?;
     Ok(picture_of(alloc, chain.run(), &explanation)?)
 }
 
@@ -30,7 +29,7 @@ pub fn verdict<C: Core>(
 ) -> Result<String, Refusal>
     requires { (1 ≤ nodes) × (nodes ≤ 8) }
 {
-    let chain: ChainCore<C> = chain_after(alloc, nodes, script)?;
+    let chain: PlayedChain<C> = chain_after(alloc, nodes, script)?;
     let holds = check(alloc, chain.run(), explanation)?;
     Ok(format!(in alloc; "{holds}\n")?)
 }

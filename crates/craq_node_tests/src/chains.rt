@@ -9,7 +9,7 @@ use craq_explain::explain_run_of;
 use craq_model::{Answer, Ask, Out, Step};
 use craq_names::{ChainId, Items, Key, NodeId, ObjectId, Refusal, Ticket, Value, Version};
 use craq_node::Core;
-use craq_play::explanation_text;
+use craq_play::{PlayedChain, explanation_text};
 use craq_runs::{Explanation, Move, Run, Taken};
 use craq_schedules::chain_after;
 use craq_world::explain_run;
@@ -281,8 +281,8 @@ fn print_verdict<C: Core>(
 pub fn told<C: Core>(alloc: Global, case: &Case) -> Result<String, Refusal> {
     let mut text = String::new(alloc);
     let nodes = case.nodes.max(1).min(8);
-    let chain: ChainCore<C> = chain_after(alloc, nodes, case.script.as_bytes())?;
-    print_verdict(alloc, &chain, case.explained, &mut text)?;
+    let chain: PlayedChain<C> = chain_after(alloc, nodes, case.script.as_bytes())?;
+    print_verdict(alloc, chain.as_chain(), case.explained, &mut text)?;
     Ok(text)
 }
 

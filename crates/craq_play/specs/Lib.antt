@@ -3,3 +3,4 @@ pub mod Moves
 pub mod Printed
 pub mod Played
 pub mod OnCells
+pub mod Alone

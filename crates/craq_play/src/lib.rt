@@ -1,6 +1,5 @@
-//! Plays scripts on one chain, from bytes to printed lines; used by `craq_lab`, and in parts by
-//! `craq_schedules` and `craq_picture`. It reads no files and no command line.
-//! Runs in the program.
+//! Plays scripts on a world of one chain, and on locked nodes beside it, from bytes to printed
+//! lines; used by `craq_lab`, `craq_schedules` and `craq_picture`. Runs in the program.
 #![tactic(auto)]
 
 mod explanation;
@@ -8,6 +7,7 @@ mod fault;
 mod moving;
 mod on_cells;
 mod plain_core;
+mod played_chain;
 mod playing;
 mod printing;
 
@@ -18,5 +18,6 @@ pub use fault::PlayFault;
 pub use moving::move_of;
 pub use on_cells::play;
 pub use plain_core::PlainCore;
+pub use played_chain::PlayedChain;
 pub use playing::{opened, play_line, play_move};
 pub use printing::{print_message, print_step, word_of};

@@ -10,9 +10,9 @@ ghost use Rattle.craq_play.specs.OnCells.{EndsPlay, PlaysOnCells};
 
 use crate::PlayFault;
 use crate::moving::move_of;
+use crate::played_chain::PlayedChain;
 use crate::playing::{first_ids, opened, print_explanation};
 use crate::printing::print_step;
-use craq_chain::ChainCore;
 use craq_locked::{CellStep, LockedChain};
 use craq_model::Step;
 use craq_names::{ChainId, NodeId, Pass, Refusal, Same};
@@ -102,7 +102,7 @@ fn play_move<C: Core, R: Wait>(
     rt: &R,
     alloc: Global,
     cells: &mut LockedChain<C>,
-    chain: &mut ChainCore<C>,
+    chain: &mut PlayedChain<C>,
     text: &mut String,
     chosen: Move,
 ) -> Result<(), PlayFault>
@@ -130,7 +130,7 @@ fn play_line<C: Core, R: Wait>(
     rt: &R,
     alloc: Global,
     cells: &mut LockedChain<C>,
-    chain: &mut ChainCore<C>,
+    chain: &mut PlayedChain<C>,
     text: &mut String,
     line: &Line,
 ) -> Result<(), PlayFault>
@@ -169,7 +169,7 @@ fn play_lines<C: Core, R: Wait>(
     ensures err { IfErr result EndsPlay }
 {
     let mut cells: LockedChain<C> = cells_of(alloc, nodes)?;
-    let mut chain: ChainCore<C> = opened(alloc, nodes)?;
+    let mut chain: PlayedChain<C> = opened(alloc, nodes)?;
     let mut text = String::new(alloc);
     for line in lines {
         play_line(rt, alloc, &mut cells, &mut chain, &mut text, line)?;

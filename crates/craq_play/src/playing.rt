@@ -17,10 +17,9 @@ ghost use Rattle.craq_play.specs.Played.{
 
 use crate::explanation::explanation_text;
 use crate::moving::move_of;
+use crate::played_chain::PlayedChain;
 use crate::printing::print_step;
-use craq_chain::ChainCore;
-use craq_explain::explain_run_of;
-use craq_names::{ChainId, NodeId, Refusal};
+use craq_names::{NodeId, Refusal};
 use craq_node::Core;
 use craq_runs::{Move, Run};
 use craq_script::Line;
@@ -40,12 +39,12 @@ pub(crate) fn first_ids(alloc: Global, count: u32) -> Result<Vec<NodeId>, AllocE
 
 /// Opens chain 0 of the nodes 1 to `nodes`, with 1 as the head, before any move. `nodes` is from 1
 /// to 8. Fails only when out of memory.
-pub fn opened<C: Core>(alloc: Global, nodes: u32) -> Result<ChainCore<C>, AllocError>
+pub fn opened<C: Core>(alloc: Global, nodes: u32) -> Result<PlayedChain<C>, AllocError>
     requires { (1 ≤ nodes) × (nodes ≤ 8) }
     ensures { IfOk result (λ w. w ≡ opening nodes) }
 {
     let members = first_ids(alloc, nodes)?;
-    match ChainCore::open(alloc, ChainId::new(0), members.as_slice()) {
+    match PlayedChain::open(alloc, members.as_slice()) {
         Ok(chain) => Ok(chain),
         Err(_) => Err(AllocError),
     }
@@ -67,7 +66,7 @@ fn print_last(text: &mut String, node: NodeId, sent: u64, run: &Run) -> Result<(
 /// is unspecified.
 pub fn play_move<C: Core>(
     alloc: Global,
-    chain: &mut ChainCore<C>,
+    chain: &mut PlayedChain<C>,
     text: &mut String,
     chosen: Move,
 ) -> Result<(), AllocError>
@@ -88,12 +87,12 @@ pub fn play_move<C: Core>(
 /// memory.
 pub(crate) fn print_explanation<C: Core>(
     alloc: Global,
-    chain: &ChainCore<C>,
+    chain: &PlayedChain<C>,
     text: &mut String,
 ) -> Result<(), AllocError>
     ensures { OnOk result (string_bytes text.new ≡ string_bytes text.old ++ explanation_line (explain chain.now.chain chain.now.run)) }
 {
-    let explanation = explain_run_of(alloc, chain.chain(), chain.run())?;
+    let explanation = chain.explain(alloc)?;
     let line = explanation_text(alloc, &explanation)?;
     text.push_str(line.as_str())?;
     text.push_str("\n")
@@ -105,7 +104,7 @@ pub(crate) fn print_explanation<C: Core>(
 /// text is unspecified.
 pub fn play_line<C: Core>(
     alloc: Global,
-    chain: &mut ChainCore<C>,
+    chain: &mut PlayedChain<C>,
     text: &mut String,
     line: &Line,
 ) -> Result<(), AllocError>

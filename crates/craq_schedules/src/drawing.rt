@@ -11,10 +11,9 @@ ghost use Rattle.craq_schedules.specs.Drawn.{IsPlayed, after_choices, choices_te
 ghost use Rattle.craq_schedules.specs.Verdicts.{AnswersAsCheck};
 
 use crate::verdict::{print_verdict, verdict_of};
-use craq_chain::ChainCore;
 use craq_names::{NodeId, Refusal};
 use craq_node::Core;
-use craq_play::{opened, play_line};
+use craq_play::{PlayedChain, opened, play_line};
 use craq_script::{Line, Script};
 use std::alloc::{AllocError, Global};
 
@@ -71,7 +70,7 @@ fn event_at(sent: u64, running: &[NodeId], place: u64) -> Option<Line>
 /// Plays an event as a line of a script, and prints what it did. Fails only when out of memory.
 fn play_event<C: Core>(
     alloc: Global,
-    chain: &mut ChainCore<C>,
+    chain: &mut PlayedChain<C>,
     text: &mut String,
     event: Line,
 ) -> Result<(), AllocError>
@@ -87,7 +86,7 @@ fn play_event<C: Core>(
 /// Returns the lines left after it, or `None` if nothing is enabled. Fails only when out of memory.
 fn play_choice<'a, C: Core>(
     alloc: Global,
-    chain: &mut ChainCore<C>,
+    chain: &mut PlayedChain<C>,
     text: &mut String,
     lines: &'a [Line],
     choice: u32,
@@ -128,7 +127,7 @@ fn play_choice<'a, C: Core>(
 /// Prints what each did. Fails only when out of memory.
 fn play_choices<C: Core>(
     alloc: Global,
-    chain: &mut ChainCore<C>,
+    chain: &mut PlayedChain<C>,
     text: &mut String,
     lines: &[Line],
     choices: &[u32],
@@ -157,7 +156,7 @@ fn draw_lines<C: Core>(
     requires { (1 ≤ nodes) × (nodes ≤ 8) }
     ensures { IfOk result (λ text. (holds : Run → Explanation → Bool) → AnswersAsCheck holds → string_bytes text ≡ drawn_text holds nodes choices.now lines.now) }
 {
-    let mut chain: ChainCore<C> = opened(alloc, nodes)?;
+    let mut chain: PlayedChain<C> = opened(alloc, nodes)?;
     let mut text = String::new(alloc);
     play_choices(alloc, &mut chain, &mut text, lines, choices)?;
     print_verdict(&mut text, verdict_of(alloc, &chain)?)?;

@@ -9,10 +9,9 @@ ghost use Rattle.craq_schedules.specs.Stopped.{after_lines, chain_after, cut_lin
 ghost use Rattle.craq_schedules.specs.Verdicts.{AnswersAsCheck};
 
 use crate::verdict::{Verdict, print_verdict, verdict_of};
-use craq_chain::ChainCore;
 use craq_names::{NodeId, Refusal};
 use craq_node::Core;
-use craq_play::{move_of, opened};
+use craq_play::{PlayedChain, move_of, opened};
 use craq_runs::Move;
 use craq_script::{Line, Script};
 use std::alloc::{AllocError, Global};
@@ -23,7 +22,7 @@ const MOST_DELIVERIES: u64 = 10_000;
 /// Takes a move; a refused move changes nothing. Fails only when out of memory.
 fn take_move<C: Core>(
     alloc: Global,
-    chain: &mut ChainCore<C>,
+    chain: &mut PlayedChain<C>,
     chosen: Move,
 ) -> Result<(), AllocError>
     ensures { OnOk result (chain.new ≡ after_one chain.old chosen) }
@@ -39,7 +38,7 @@ fn take_move<C: Core>(
 /// memory.
 fn take_line<C: Core>(
     alloc: Global,
-    chain: &mut ChainCore<C>,
+    chain: &mut PlayedChain<C>,
     line: &Line,
 ) -> Result<(), AllocError>
     ensures { OnOk result (chain.new ≡ after_line chain.old (move_of line.now)) }
@@ -55,7 +54,7 @@ fn take_line<C: Core>(
 /// Takes the moves of the lines in order. Fails only when out of memory.
 fn take_lines<C: Core>(
     alloc: Global,
-    chain: &mut ChainCore<C>,
+    chain: &mut PlayedChain<C>,
     lines: &[Line],
 ) -> Result<(), AllocError>
     ensures { OnOk result (chain.new ≡ after_lines chain.old lines.now) }
@@ -75,12 +74,12 @@ pub fn chain_after<C: Core>(
     alloc: Global,
     nodes: u32,
     script: &[u8],
-) -> Result<ChainCore<C>, Refusal>
+) -> Result<PlayedChain<C>, Refusal>
     requires { (1 ≤ nodes) × (nodes ≤ 8) }
     ensures { Answers (λ w. w) result (chain_after nodes script.now) }
 {
     let script = Script::read(alloc, script)?;
-    let mut chain: ChainCore<C> = opened(alloc, nodes)?;
+    let mut chain: PlayedChain<C> = opened(alloc, nodes)?;
     take_lines(alloc, &mut chain, script.lines.as_slice())?;
     Ok(chain)
 }
@@ -89,7 +88,7 @@ pub fn chain_after<C: Core>(
 /// memory.
 fn take_up_to<C: Core>(
     alloc: Global,
-    chain: &mut ChainCore<C>,
+    chain: &mut PlayedChain<C>,
     lines: &[Line],
     cut: usize,
 ) -> Result<(), AllocError>
@@ -108,7 +107,7 @@ fn take_up_to<C: Core>(
 /// left or `most` have arrived. Fails only when out of memory.
 fn deliver_after<C: Core>(
     alloc: Global,
-    chain: &mut ChainCore<C>,
+    chain: &mut PlayedChain<C>,
     earlier: u64,
     most: u64,
 ) -> Result<(), AllocError>
@@ -129,7 +128,7 @@ fn deliver_after<C: Core>(
 /// refused, delivers none. Fails only when out of memory.
 fn stop_and_remove<C: Core>(
     alloc: Global,
-    chain: &mut ChainCore<C>,
+    chain: &mut PlayedChain<C>,
     node: NodeId,
 ) -> Result<(), AllocError>
     ensures { OnOk result (chain.new ≡ without_node chain.old node) }
@@ -165,7 +164,7 @@ fn print_cut<C: Core>(
     requires { (1 ≤ nodes) × (nodes ≤ 8) }
     ensures { (holds : Run → Explanation → Bool) → AnswersAsCheck holds → OnOk result (string_bytes text.new ≡ string_bytes text.old ++ cut_text holds nodes node lines.now cut) }
 {
-    let mut chain: ChainCore<C> = opened(alloc, nodes)?;
+    let mut chain: PlayedChain<C> = opened(alloc, nodes)?;
     take_up_to(alloc, &mut chain, lines, cut)?;
     stop_and_remove(alloc, &mut chain, node)?;
     print_line(text, cut, verdict_of(alloc, &chain)?)
@@ -181,7 +180,7 @@ fn stop_lines<C: Core>(
     requires { (1 ≤ nodes) × (nodes ≤ 8) }
     ensures { IfOk result (λ text. (holds : Run → Explanation → Bool) → AnswersAsCheck holds → string_bytes text ≡ stops_text holds nodes node lines.now) }
 {
-    let mut whole: ChainCore<C> = opened(alloc, nodes)?;
+    let mut whole: PlayedChain<C> = opened(alloc, nodes)?;
     take_lines(alloc, &mut whole, lines)?;
     let mut text = String::new(alloc);
     for cut in 0..whole.run().moves.as_slice().len() + 1 {

@@ -6,10 +6,9 @@ ghost use Rattle.craq_runs.specs.declared.run.Run.{Run};
 ghost use Rattle.craq_runs.specs.Explain.{explain};
 ghost use Rattle.craq_schedules.specs.Verdicts.{AnswersAsCheck, answer_on, verdict_text};
 
-use craq_chain::ChainCore;
 use craq_check::check;
-use craq_explain::explain_run_of;
 use craq_node::Core;
+use craq_play::PlayedChain;
 use std::alloc::{AllocError, Global};
 
 /// The verdict on a run: the number of committed updates, and whether its linearization witness
@@ -23,12 +22,12 @@ pub(crate) struct Verdict {
 /// Computes the verdict on the run of a chain. Fails only when out of memory.
 pub(crate) fn verdict_of<C: Core>(
     alloc: Global,
-    chain: &ChainCore<C>,
+    chain: &PlayedChain<C>,
 ) -> Result<Verdict, AllocError>
     ensures committed { IfOk result (λ v. v.committed ≡ length (explain chain.now.chain chain.now.run).asks) }
     ensures valid { IfOk result (λ v. (holds : Run → Explanation → Bool) → AnswersAsCheck holds → v.is_valid ≡ answer_on holds chain.now) }
 {
-    let explanation = explain_run_of(alloc, chain.chain(), chain.run())?;
+    let explanation = chain.explain(alloc)?;
     Ok(Verdict {
         committed: explanation.asks.as_slice().len() as u64,
         is_valid: check(alloc, chain.run(), &explanation)?,

@@ -1,5 +1,5 @@
 //! Worlds of 1 to 64 chains that take moves; their contracts are the promise of the store.
-//! Runs in tests only (`craq_node_tests`), since it joins running chains to the theorem.
+//! Runs in the program: `craq_play` plays scripts on them.
 #![tactic(auto)]
 
 mod explaining;

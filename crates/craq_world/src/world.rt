@@ -1,5 +1,5 @@
 //! `World`, the primary object of the crate: 1 to 64 chains, with the promise in the contracts of
-//! its functions; used by tests.
+//! its functions; used by `craq_play`.
 ghost use Rattle.std.specs.Prelude.{◌≡◌, ◌≢◌, ◌≤◌, ◌<◌, ◌+◌, ◌⊎◌, ◌↔◌, ℕ, Some, None, Err, IfOk, IfErr, IsTrue, OnOk, OnErr, length, slice_get};
 ghost use Rattle.std.specs.List.{AllByRecursion};
 ghost use Rattle.craq_model.specs.Members.{IsMembership};
@@ -179,6 +179,20 @@ impl<C: Core> World<C> {
         Ok(Report {
             results: Items::of(results),
         })
+    }
+
+    /// Lends the chain of this id. Returns `UnknownChain` exactly if the world has no such chain.
+    /// Never allocates.
+    pub fn chain(&self, chain: ChainId) -> Result<&ChainCore<C>, Refusal>
+        ensures ok { IfOk result (λ core. slice_get self.now chain ≡ Some core.now) }
+        ensures err { IfErr result (λ e. e ≡ Refusal.UnknownChain) }
+        ensures unknown { OnErr result (slice_get self.now chain ≡ None) }
+    {
+        let place = usize::from(chain.get());
+        match self.chains.get(place) {
+            None => Err(Refusal::UnknownChain),
+            Some(core) => Ok(core),
+        }
     }
 
     /// Returns the run of the chain of this id: its opening members and its moves, each with its

@@ -48,14 +48,19 @@ class Library:
 
 
 class Under(NamedTuple):
-    """What the library tells of a program: whether something was refused; how many asks for memory
-    and threads counted, as far as that was told; and how often it told that, which is once for each
-    call of REFUSE_CALL, and once where the program ends by `exit`."""
+    """The report of the library about a program.
+
+    `refused` is true if something was refused. `memory` and `threads` are the numbers of allocations
+    and of started threads that counted, as last reported. The library reports them `tells` times: at
+    the end of each call of REFUSE_CALL, and at the end of a program that ends by `exit`. `before` is
+    the number of calls that had ended at the first refusal, so the place of the refused call from 0.
+    """
 
     refused: bool
     memory: int
     threads: int
     tells: int
+    before: int
 
 
 def told_in(env):
@@ -68,7 +73,8 @@ def told_in(env):
         text = ""
     counts = re.findall(r"memory (\d+) threads (\d+)\n", text)
     memory, threads = map(int, counts[-1]) if counts else (0, 0)
-    return Under("refused\n" in text, memory, threads, len(counts))
+    before = text.partition("refused\n")[0].count("\n")
+    return Under("refused\n" in text, memory, threads, len(counts), before)
 
 
 def keeps_frames(program, start):

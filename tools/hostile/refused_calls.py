@@ -1,37 +1,57 @@
-"""Each ask for memory, and each thread, refused in turn in the calls of the library that may run out of them.
+"""Refuses each allocation and each thread in turn within one call of the library.
 
-craq_node_tests plays a script by calls, marks where each call begins and ends, and makes a call
-that is refused memory once more. The library refusals.c refuses the Nth ask for memory within the
-calls of one name alone, from the first to the first run that meets no refusal. The program then
-prints what it prints with ample memory, and says that the call was refused; so a call that tries
-again by itself, and one that takes its step all the same, is found. Two calls need not say so: see
-FOLDS and POSTS. What it prints with ample memory has the answers, and the explanation, that the
-stored script says.
+craq_node_tests plays a script by calls, marks the beginning and the end of each, and makes a call
+that ran out of memory once more. The library refusals.c refuses the Nth allocation of the calling
+thread within the calls of one name, for each N from 1 to the first run that meets no refusal; each
+run below that one has to meet its refusal. The program then has to print what it prints with enough
+memory, and to say that the call ran out of memory. So a call that tries again by itself is found,
+and so is one that takes its step all the same. The output with enough memory has the stored answers
+and explanation.
 
-A store starts with as many nodes as the script, with threads of their own and with one that carries
-the chain. A start that is refused leaves as many threads as there were, a join the membership and
-the threads: the program looks at both. A stop, and a message that is ignored, ask for no memory in
-the step of a node: the scripts have as many of them as the steps that are looked at.
+Two kinds of calls may succeed in silence:
+
+- A step of a node that forgets settled entries (`--core list`). It puts off what it has no memory
+  for: the entries that it appended are indexed later, settled ones are applied to the state later.
+  So the refused call has to be one that appended an entry, or one that leaves settled entries
+  unapplied; the program prints both after each `Core::step` and `World::take`. For each script
+  `World::take`, `World::run` and `Desk::take` succeed in silence as often as `Core::step`. If the
+  program keeps the names of its calls, the number of silent runs equals the number of allocations
+  within those that index and apply entries. The programs of the gate keep no names.
+- `Store::join`: a message that the master has no memory to send is lost, and sent again on a tick.
+  The silent allocations are the last ones of the call. Some of them make room in the queues to the
+  nodes, so their number depends on how far the threads of the nodes have come; the number of those
+  before is fixed. Each other call makes exactly as many allocations as with enough memory.
+
+A store starts with as many nodes as the script, with threads of their own and with one chain
+thread. A start that fails leaves as many threads as before, a join the membership and the threads:
+the program looks at both. A stop and an ignored message allocate nothing in the step of a node: the
+scripts have as many of them as the steps that are looked at.
 """
 import json
 import re
 import tempfile
 
 from tools.hostile import every_stop
-from tools.hostile.refused import Library, told_under
+from tools.hostile.refused import Library, ranges, told_under
 from tools.rows import playing
 
+PAYLOADS = ("ClientMessage::decode", "Payload::decode", "ClientReply::decode", "Answered::decode")
 WAYS = {"worlds": ("World::take", "World::explain"), "runs": ("World::run",), "steps": ("Core::step",),
-        "desks": ("Desk::take",),
-        "audits": ("audit",), "decodes": ("decode",), "serves": ("serve",),
-        "stores": ("Store::start", "Store::join"),
+        "desks": ("Desk::take",), "audits": ("audit",), "decodes": ("decode",), "payloads": PAYLOADS,
+        "plans": ("Plan::read",), "serves": ("serve",), "stores": ("Store::start", "Store::join"),
         "carried": ("Store::start", "Store::join")}
 QUIET = "Core::step, quiet"
-# A node that forgets settled entries keeps them for the moment where it has no memory to fold them:
-# the step is made.
-FOLDS = ("World::take", "World::run", "Core::step", "Desk::take")
-# A message that the master has no memory to send is lost, and sent again on a tick: the join is
-# made, and all that it asks for afterwards is for such messages.
+# The calls that take steps of nodes, by mode. With the core of this kind a step puts off what it has
+# no memory for.
+STEPS = {"steps": "Core::step", "worlds": "World::take", "runs": "World::run", "desks": "Desk::take"}
+PUTS_OFF = "list"
+# The calls of the program that index appended entries, and that apply settled ones to the state.
+PUT_OFF = (r"craq_settled::listing::list_entries$|craq_settled::folding::fold$|"
+           r"craq_unsettled::places::add_entries$")
+# The line that the program prints after a step: the entries that it appended, and the settled ones
+# left unapplied.
+HISTORY = re.compile(rb"^history: appended (\d+), unfolded (\d+)$", re.M)
+# The call whose last allocations are those of the master's messages.
 POSTS = ("Store::join",)
 # So many members a chain has at most.
 FULL = 8
@@ -41,15 +61,15 @@ CALL = re.compile(r"call CallReceipt .*?id: (\d+).*?Ticket \{ ticket: (\d+) \}.*
 
 
 def asks(words, limit):
-    """Whether a join asks for this: it is refused right away where the chain is full, and makes no
-    thread where one carries the chain."""
+    """Returns true if a join asks for this. A join at a full chain is refused at once, and one makes
+    no thread where one chain thread runs the store."""
     way, _, nodes, _ = words
     return int(nodes) < FULL and (limit == "memory" or way != "carried")
 
 
 def is_after_its_step(found, ample, call):
-    """Whether the call took its step and had no memory for what the step answers: the steps are
-    those that it takes with ample memory, and some of the answers are lacking."""
+    """Returns true if the call took its step and then ran out of memory for the replies of the step:
+    the steps are those with enough memory, and some of the replies are missing."""
     if found.status or found.errors != f"no memory after the step of {call}\n".encode():
         return False
     steps, answers = parted(found.output)
@@ -65,13 +85,38 @@ def parted(output):
                                                                  if it.startswith(b"call ")]
 
 
-def fits(found, ample, call, kind, limit, was_refused):
-    """Whether this may be told where an ask in a call of this name was refused, or none was."""
-    said = f"no memory for {call}\n".encode() if was_refused else b""
-    may_be_silent = limit == "memory" and (call in POSTS or call in FOLDS and kind == "list")
-    if found == ample._replace(errors=said) or found == ample and may_be_silent:
+def histories(told):
+    """Returns the numbers of the lines about histories, in order: for each step the appended entries,
+    and the settled ones left unapplied."""
+    return [tuple(map(int, it)) for it in HISTORY.findall(told.output)]
+
+
+def applied(told):
+    """Returns the output as it is if each step applies all settled entries."""
+    return told._replace(output=HISTORY.sub(rb"history: appended \1, unfolded 0", told.output))
+
+
+def puts_off(found, under):
+    """Returns true if the refused step appended an entry or left some unapplied, or if no histories
+    are printed."""
+    told = histories(found)
+    return not told or under.before < len(told) and any(told[under.before])
+
+
+def is_silent(found, ample, call, kind, limit, under):
+    """Returns true if the refused call succeeded in silence and was allowed to."""
+    if not under.refused or limit != "memory" or found.errors or applied(found) != ample:
+        return False
+    return call in POSTS or call in STEPS.values() and kind == PUTS_OFF and puts_off(found, under)
+
+
+def fits(found, ample, call, kind, limit, under):
+    """Returns true if the program may tell this after an allocation in a call of this name was
+    refused, or none."""
+    said = f"no memory for {call}\n".encode() if under.refused else b""
+    if found == ample._replace(errors=said) or is_after_its_step(found, ample, call):
         return True
-    return is_after_its_step(found, ample, call)
+    return is_silent(found, ample, call, kind, limit, under)
 
 
 def differing(found, ample):
@@ -118,70 +163,100 @@ def quiet_steps(script, expected):
 
 
 class Tried:
-    """How many asks of each call were refused, and how many steps had to ask for none."""
+    """Counts the refused allocations of each call, and the steps that must allocate nothing."""
 
     def __init__(self, checks, library, program):
         self.checks, self.library, self.program = checks, library, program
-        self.memory, self.threads, self.silent, self.quiet_steps = {}, {}, 0, 0
+        self.put_off = ranges(program, PUT_OFF)
+        self.memory, self.threads, self.silent, self.quiet_steps = {}, {}, {}, 0
 
     def each(self, what, words, script, call):
-        """Each ask of the calls of this name is refused; gives what is told with ample memory."""
+        """Refuses each allocation and each thread of the calls of this name. Returns the output
+        with enough memory, and how many runs succeeded in silence."""
         ample, under = told_under(self.library, self.program, words, script, call=call)
-        self.checks.that(ample.status == 0 and not ample.errors and ample.output
-                         and b"refused" not in ample.output, f"{what}: {ample}")
-        asked = ("memory", self.memory, under.memory), ("thread", self.threads, under.threads)
-        for limit, of, count in asked:
-            numbers = range(1, count + 2)
-            runs = playing.side_by_side(lambda at: told_under(self.library, self.program, words, script,
-                                                              call=call, **{limit: at}), numbers)
-            for at, (found, told) in zip(numbers, runs):
-                # How often a store asks for memory depends on what its threads did meanwhile.
-                of_all = f"{what}, {call}, {limit} {at} of {count}"
-                self.checks.that(told.refused == (at <= count) or call in WAYS["stores"] and at > 1,
-                                 f"{of_all}: whether it was refused: {told.refused}")
-                self.checks.that(fits(found, ample, call, words[1], limit, told.refused),
-                                 f"{of_all} refused: {differing(found, ample)}")
-                self.silent += told.refused and not found.errors
+        is_sound = ample.status == 0 and not ample.errors and b"refused" not in ample.output
+        is_sound = is_sound and ample.output
+        self.checks.that(is_sound and applied(ample) == ample, f"{what}: {ample}")
+        silent = 0
+        limits = ("memory", self.memory, under.memory), ("thread", self.threads, under.threads)
+        for limit, of, count in limits:
+            runs = self.runs(f"{what}, {call}, {limit}", words, script, call, limit, ample, count)
+            silent += sum(runs)
             if call in POSTS:
-                self.checks.same(f"{what}: whether {call} asks for {limit}", count > 0, asks(words, limit))
-            if call in POSTS and count:
-                self.lost_last(f"{what}, {call}", count,
-                               [(at, bool(found.errors)) for at, (found, told) in zip(numbers, runs)
-                                if told.refused])
-            of[call] = of.get(call, 0) + count
-        return ample
+                asked = f"{what}: whether {call} asks for {limit}"
+                self.checks.same(asked, count > 0, asks(words, limit))
+                is_last = runs == sorted(runs) and not all(runs)
+                last = f"{what}, {call}, {limit}: the silent ones are the last: {runs}"
+                self.checks.that(is_last or not count, last)
+            of[call] = of.get(call, 0) + len(runs)
+        self.silent[call] = self.silent.get(call, 0) + silent
+        return ample, silent
 
-    def lost_last(self, what, count, refused):
-        """All refused asks up to one are told, and those after it are for messages, which are lost."""
-        told, silent = ([at for at, is_told in refused if is_told == wanted] for wanted in (True, False))
-        self.checks.that(told and max(told) < min(silent, default=count + 2), f"{what}: all asks up to one "
-                         f"are told, {told}, and those after it are for messages, {silent}")
+    def refused_in_turn(self, words, script, call, limit, count):
+        """Refuses the first, the second and so on, at least up to the one after `count`, and up to
+        one that a run does not meet. Returns what was told of each, in order."""
+        def refusing(at):
+            return told_under(self.library, self.program, words, script, call=call, **{limit: at})
+
+        runs = playing.side_by_side(refusing, range(1, count + 2))
+        while runs[-1][1].refused and len(runs) < 2 * count:
+            runs.append(refusing(len(runs) + 1))
+        return runs
+
+    def runs(self, what, words, script, call, limit, ample, count):
+        """Checks the runs up to the first that meets no refusal. Returns for each refused one
+        whether the call succeeded in silence."""
+        runs = self.refused_in_turn(words, script, call, limit, count)
+        first = next((at for at, (_, under) in enumerate(runs, 1) if not under.refused), None)
+        told = [at for at, (found, _) in enumerate(runs, 1) if found.errors]
+        is_right = first and max(told, default=0) < first if call in POSTS else first == count + 1
+        seen = f"{first} is the first of {count} that is not met, {told} are told"
+        self.checks.that(is_right, f"{what}: {seen}")
+        for at, (found, under) in enumerate(runs, 1):
+            is_fit = fits(found, ample, call, words[1], limit, under)
+            self.checks.that(is_fit, f"{what} {at} of {count} refused: {differing(found, ample)}")
+        return [not found.errors for found, under in runs if under.refused]
+
+    def steps(self, what, words, script, call, silent, wanted):
+        """Checks that the steps of the script succeed in silence as often as by `Core::step`, and as
+        often as they allocate to index and apply entries."""
+        often = f"{what}: how often {call} succeeds in silence"
+        self.checks.same(f"{often}, and Core::step", silent, wanted)
+        if self.put_off:
+            _, under = told_under(self.library, self.program, words, script, call=call, within=self.put_off)
+            self.checks.same(f"{often}, and allocates to index and apply entries", silent, under.memory)
 
     def quiet(self, what, words, script, expected):
-        """A stop, and a message that is ignored, ask for none, and there are as many as in the script."""
+        """Checks that a stop and an ignored message allocate nothing, and that there are as many as in
+        the script."""
         ample, under = told_under(self.library, self.program, words, script, call=QUIET)
-        self.checks.same(f"{what}: how often stops and ignored messages ask for memory",
-                         (ample.status, under.memory), (0, 0))
-        self.checks.same(f"{what}: stops and ignored messages", under.tells, quiet_steps(script, expected))
+        quiet = f"{what}: stops and ignored messages"
+        self.checks.same(f"{quiet}, their allocations", (ample.status, under.memory), (0, 0))
+        self.checks.same(quiet, under.tells, quiet_steps(script, expected))
         self.quiet_steps += under.tells
 
     def script(self, name, nodes, script, expected, kind):
-        """A script in each way, on nodes of this kind."""
+        """Plays a script in each mode, on nodes of this kind."""
+        silent = {}
         for way, calls in WAYS.items():
             what, words = f"{name} by {way} on nodes of kind {kind}", [way, kind, str(nodes), "/dev/stdin"]
-            ample = [self.each(what, words, script, call) for call in calls][-1]
+            for call in calls:
+                ample, silent[call] = self.each(what, words, script, call)
             if way == "steps":
                 self.quiet(what, words, script, expected)
             if way == "desks":
-                self.checks.same(f"{what}: the stored answers", answered(ample.output),
-                                 stored_answers(expected))
+                answers = answered(ample.output), stored_answers(expected)
+                self.checks.same(f"{what}: the stored answers", *answers)
             if way == "worlds" and script.splitlines()[-1:] == [b"explain"]:
-                self.checks.same(f"{what}: the stored explanation", explained(ample.output),
-                                 stored_explanation(expected))
+                explanations = explained(ample.output), stored_explanation(expected)
+                self.checks.same(f"{what}: the stored explanation", *explanations)
+        for way, call in STEPS.items():
+            what, words = f"{name} by {way} on nodes of kind {kind}", [way, kind, str(nodes), "/dev/stdin"]
+            self.steps(what, words, script, call, silent[call], silent[STEPS["steps"]])
 
 
 def tried(checks, program):
-    """Each stored script, and what was tried, in words."""
+    """Tries each stored script. Returns what was tried, in words."""
     with tempfile.TemporaryDirectory(prefix="refused-") as folder:
         run = Tried(checks, Library(folder), program)
         for name, nodes, script, expected in every_stop.stored():
@@ -189,8 +264,11 @@ def tried(checks, program):
                 run.script(name, nodes, script, expected, kind)
     memory = ", ".join(f"{count} in {call}" for call, count in run.memory.items())
     threads = ", ".join(f"{count} in {call}" for call, count in run.threads.items() if count)
-    checks.that(all(run.memory.values()) and run.quiet_steps,
-                f"each call asks for memory, and some steps do not: {memory}; {run.quiet_steps}")
-    return (f"{len(every_stop.stored())} scripts, {sum(run.memory.values())} refused asks for memory: "
-            f"{memory}; threads: {threads}; {run.silent} left entries "
-            f"unfolded, or lost a message; {run.quiet_steps} stops and ignored messages ask for none")
+    put_off = sum(run.silent[it] for it in STEPS.values())
+    is_seen = "as many as allocate for that" if run.put_off else "in which call is not seen in this program"
+    checks.that(all(run.memory.values()) and put_off and run.quiet_steps,
+                f"each call allocates, and some steps do not: {memory}; {put_off}; {run.quiet_steps}")
+    scripts, allocations = len(every_stop.stored()), sum(run.memory.values())
+    return (f"{scripts} scripts, {allocations} refused allocations: {memory}; threads: {threads}; "
+            f"{put_off} put off indexing or applying entries ({is_seen}), {run.silent[POSTS[0]]} lost a "
+            f"message; {run.quiet_steps} stops and ignored messages allocate nothing")

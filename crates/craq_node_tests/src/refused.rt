@@ -6,7 +6,9 @@
 //! A call that runs out of memory is made once more.
 mod audits;
 mod connections;
+mod histories;
 mod messages;
+mod payloads;
 mod rows;
 mod steps;
 mod stores;

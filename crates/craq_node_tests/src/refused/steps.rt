@@ -3,6 +3,7 @@
 ghost use Rattle.std.specs.Prelude.{IfOk, IsTrue};
 ghost use Rattle.craq_node.specs.Represented.{CanArrive, CanOpen};
 
+use super::histories::{Kept, entries_of, tell_entries};
 use super::rows::{MOST_NODES, Row};
 use super::teller::{Call, TRIES, Teller};
 use craq_epochs::{is_among, is_membership};
@@ -70,16 +71,21 @@ fn tell_step(teller: Teller, step: &Result<Step, Refusal>, wanted: &Step) {
     let _ = println!(teller.host; "same: {is_same} {step:?}");
 }
 
-/// Takes the step of an event on a node.
-fn step<C: Core>(teller: Teller, node: &mut C, record: &Record<Event>) {
+/// Takes the step of an event on a node. Prints what it did to the node's history, unless the step
+/// takes no memory.
+fn step<C: Kept>(teller: Teller, node: &mut C, record: &Record<Event>) {
     let call = call_of(record);
     for _ in 0..TRIES {
         if let Ok(event) = arriving(teller.alloc, &record.event) {
+            let before = entries_of(node);
             teller.begin(call);
             let stepped = node.step(teller.alloc, event);
             let is_done = teller.end(call, matches!(&stepped, Err(Refusal::Memory)));
             if is_done {
                 tell_step(teller, &stepped, &record.step);
+                if matches!(call, Call::Step) {
+                    tell_entries(teller, before, entries_of(node));
+                }
             }
             drop(stepped);
             if is_done {
@@ -90,7 +96,7 @@ fn step<C: Core>(teller: Teller, node: &mut C, record: &Record<Event>) {
 }
 
 /// Takes the steps of this journaled node on a new node; each must equal the recorded step.
-fn step_again<C: Core>(teller: Teller, cell: &Cell<C>) -> Result<(), Refusal> {
+fn step_again<C: Kept>(teller: Teller, cell: &Cell<C>) -> Result<(), Refusal> {
     let opening = cell.opening();
     if !can_open(opening) {
         return Err(Refusal::UsedId);
@@ -163,7 +169,7 @@ fn take_again<C: Core>(teller: Teller, cell: &Cell<C>) -> Result<(), Refusal> {
 }
 
 /// Replays the steps of each node on a new node, or on a new pending-call table.
-pub fn play<C: Core, R: Wait>(
+pub fn play<C: Kept, R: Wait>(
     rt: &R,
     teller: Teller,
     row: &Row,

@@ -62,7 +62,7 @@ fn comes_to(host: HostRuntime, wanted: u64) -> bool {
 }
 
 /// Returns the configuration of a chain with the row's members, of which there are 1 to 8.
-fn plan(alloc: Global, row: &Row) -> Result<Plan, Refusal>
+pub fn plan(alloc: Global, row: &Row) -> Result<Plan, Refusal>
     ensures { IfOk result IsPlan }
 {
     match PLANS.get(row.ids.len().saturating_sub(1)) {

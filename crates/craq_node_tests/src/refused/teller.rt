@@ -14,7 +14,17 @@ pub enum Call {
     WorldExplain,
     DeskTake,
     Audit,
+    /// `decode` of a message between nodes.
     Decode,
+    /// `ClientMessage::decode`, of version 1.
+    DecodeMessage,
+    /// `ClientReply::decode`, of version 1.
+    DecodeReply,
+    /// `Payload::decode`, of requests of both versions.
+    DecodePayload,
+    /// `Answered::decode`, of replies of both versions.
+    DecodeAnswered,
+    ReadPlan,
     Serve,
     Start,
     Join,
@@ -32,6 +42,11 @@ impl Call {
             Call::DeskTake => "Desk::take",
             Call::Audit => "audit",
             Call::Decode => "decode",
+            Call::DecodeMessage => "ClientMessage::decode",
+            Call::DecodeReply => "ClientReply::decode",
+            Call::DecodePayload => "Payload::decode",
+            Call::DecodeAnswered => "Answered::decode",
+            Call::ReadPlan => "Plan::read",
             Call::Serve => "serve",
             Call::Start => "Store::start",
             Call::Join => "Store::join",

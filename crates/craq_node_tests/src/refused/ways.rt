@@ -1,9 +1,9 @@
 //! Defines the modes in which a script is played by calls; called by `refused`.
+use super::histories::Kept;
 use super::rows::Row;
 use super::teller::Teller;
 use super::{audits, connections, messages, steps, stores, worlds};
 use craq_names::Refusal;
-use craq_node::Core;
 use std::sync::Wait;
 use std::thread::Threads;
 
@@ -20,8 +20,12 @@ pub enum Way {
     Desks,
     /// Makes `audit` of the nodes that took the moves.
     Audits,
-    /// Makes `decode` for all messages between nodes, and for the requests of clients.
+    /// Makes `decode` for all messages between nodes.
     Decodes,
+    /// Makes the decoders of payloads for the requests of clients and for their replies.
+    Payloads,
+    /// Makes `Plan::read` for the configuration of the members.
+    Plans,
     /// Makes `serve` for a connection with the requests.
     Serves,
     /// Makes `Store::start` with the members, and `Store::join` of one more; each node has threads
@@ -33,13 +37,15 @@ pub enum Way {
 }
 
 /// All modes, each with its word.
-pub const WAYS: [(Way, &str); 9] = [
+pub const WAYS: [(Way, &str); 11] = [
     (Way::Worlds, "worlds"),
     (Way::Runs, "runs"),
     (Way::Steps, "steps"),
     (Way::Desks, "desks"),
     (Way::Audits, "audits"),
     (Way::Decodes, "decodes"),
+    (Way::Payloads, "payloads"),
+    (Way::Plans, "plans"),
     (Way::Serves, "serves"),
     (Way::Stores, "stores"),
     (Way::Carried, "carried"),
@@ -48,7 +54,7 @@ pub const WAYS: [(Way, &str); 9] = [
 /// Plays a script in one mode, and prints the results of the calls.
 pub fn play<C, R>(rt: R, teller: Teller, way: Way, row: &Row) -> Result<(), Refusal>
 where
-    C: Core + Send + 'static,
+    C: Kept + Send + 'static,
     R: Threads + Wait + Copy + Send + 'static,
 {
     match way {
@@ -61,6 +67,11 @@ where
         Way::Desks => steps::play::<C, R>(&rt, teller, row, true),
         Way::Audits => audits::play::<C, R>(&rt, teller, row),
         Way::Decodes => messages::play::<C>(teller, row),
+        Way::Payloads => messages::play_payloads::<C, R>(&rt, teller, row),
+        Way::Plans => {
+            messages::play_plan(teller, row);
+            Ok(())
+        }
         Way::Serves => {
             connections::play(teller, row);
             Ok(())

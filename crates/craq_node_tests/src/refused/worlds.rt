@@ -1,4 +1,5 @@
 //! Plays the moves in a world, one by one or all at once, and explains the run; called by `ways`.
+use super::histories::{Entries, Kept, entries_in, tell_entries};
 use super::rows::{Row, chain};
 use super::teller::{Call, TRIES, Teller};
 use craq_check::check;
@@ -8,14 +9,24 @@ use craq_runs::Move;
 use craq_world::{Report, World};
 use std::alloc::AllocError;
 
-/// Takes a move of the chain.
-fn take<C: Core>(teller: Teller, world: &mut World<C>, chosen: &Move) {
+/// Returns the entries of the chain's nodes.
+fn entries_of<C: Kept>(world: &World<C>) -> Entries {
+    match world.chain(chain()) {
+        Ok(seen) => entries_in(seen.cores()),
+        Err(_) => entries_in::<C>(&[]),
+    }
+}
+
+/// Takes a move of the chain. Prints what it did to the histories of the nodes.
+fn take<C: Kept>(teller: Teller, world: &mut World<C>, chosen: &Move) {
     for _ in 0..TRIES {
         if let Ok(copy) = chosen.copied(teller.alloc) {
+            let before = entries_of(world);
             teller.begin(Call::WorldTake);
             let taken = world.take(teller.alloc, chain(), copy);
             if teller.end(Call::WorldTake, taken == Err(Refusal::Memory)) {
                 let _ = println!(teller.host; "{taken:?}");
+                tell_entries(teller, before, entries_of(world));
                 break;
             }
         }
@@ -40,7 +51,7 @@ fn tell<C: Core>(teller: Teller, world: &World<C>) {
 }
 
 /// Plays the moves one by one.
-pub fn play<C: Core>(teller: Teller, row: &Row) -> Result<(), Refusal> {
+pub fn play<C: Kept>(teller: Teller, row: &Row) -> Result<(), Refusal> {
     let mut world: World<C> = row.world(teller.alloc)?;
     for chosen in &row.moves {
         take(teller, &mut world, chosen);

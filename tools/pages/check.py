@@ -12,7 +12,7 @@
 - commands: docs/use/SCRIPTS.md, docs/use/SERVER.md, README.md, the helps of craq_lab and craq, and
   that of craq's prompt have the commands of craq_script/src/reading.rt
 - handles: docs/proof/PROVED.md names the crates that start threads or use sockets
-- options: docs/use/SERVER.md has craqd's options of craq_line/src/server.rt and options.rt
+- options: docs/use/SERVER.md has craqd's options of craq_cli/src/server.rt and options.rt
 - lists: docs/develop/CHANGING.md lists each file that names the newest command, message or refusal
 - the drawing: each function that docs/develop/ARCHITECTURE.md draws is in the crate beside it
 - threads: each function and type that docs/develop/THREADS.md names is in the crate beside it, or
@@ -172,7 +172,7 @@ def refusals(checks):
     lab = re.search(r"^Refusals: (.*?)\n\n", text_of("crates/craq_lab/src/command_line.rt"), re.M | re.S)
     missing = played - numbers(lab[1] if lab else "")
     checks.that(not missing, f"the help of craq_lab lacks the refusals {sorted(missing)}")
-    craq = re.search(r"^  refused N(.*?)\n\n", text_of("crates/craq_line/src/client.rt"), re.M | re.S)
+    craq = re.search(r"^  refused N(.*?)\n\n", text_of("crates/craq_cli/src/client.rt"), re.M | re.S)
     # Refusals that a client finds itself, and those that a running server gives to a request.
     missing = {it for it in played | set(table) if it <= 14
                or by_number[it] == "WrongNode"} - numbers(craq[1] if craq else "")
@@ -201,7 +201,7 @@ def commands(checks):
     checks.that(asked <= server, f"docs/use/SERVER.md lacks the commands {sorted(asked - server)}")
     prompt = re.search(r'const HELP: &str = "(.*?)";', text_of("crates/craq/src/shell.rt"), re.S)
     for file, text in (("README.md", text_of("README.md")),
-                       ("crates/craq_line/src/client.rt", text_of("crates/craq_line/src/client.rt")),
+                       ("crates/craq_cli/src/client.rt", text_of("crates/craq_cli/src/client.rt")),
                        ("the help of crates/craq/src/shell.rt", prompt[1] if prompt else "")):
         missing = [it for it in sorted(asked) if not re.search(rf"\b{it}\b", text)]
         checks.that(not missing, f"{file} lacks the commands {missing}")
@@ -231,10 +231,10 @@ def handles(checks, names):
 
 def options(checks):
     """Compares the options of craqd in docs/use/SERVER.md with those that its command line takes."""
-    numbers_of = re.search(r"fn name<.*?\{(.*?)\n    \}\n\n", text_of("crates/craq_line/src/options.rt"),
+    numbers_of = re.search(r"fn name<.*?\{(.*?)\n    \}\n\n", text_of("crates/craq_cli/src/options.rt"),
                            re.S)
     names = re.findall(r'=> "([a-z-]+)"', numbers_of[1] if numbers_of else "")
-    names += re.findall(r'flag_arg\(alloc, "([a-z-]+)"', text_of("crates/craq_line/src/server.rt"))
+    names += re.findall(r'flag_arg\(alloc, "([a-z-]+)"', text_of("crates/craq_cli/src/server.rt"))
     part = section(text_of("docs/use/SERVER.md"), "The server")
     told = [found[1] for row in rows(part) if (found := re.match(r"`--([a-z-]+)", row[0]))]
     checks.same_items("docs/use/SERVER.md, the options of craqd,", sorted(told), sorted(names))

@@ -4,7 +4,7 @@ import re
 import shutil
 import subprocess
 
-from tools import repository, wrong_bodies
+from tools import repository, mutants
 
 PARTS = ("src", "specs", "proofs")
 ENDINGS = {"src": ".rt", "specs": ".antt", "proofs": ".antt", "must-fail": ".edit", "wrong": ".edit"}
@@ -89,15 +89,15 @@ def fault_of(name, edit):
 
 
 def edits(checks):
-    """Each edit can be applied, and docs/proof/WRONG_BODIES.md names those that there are."""
+    """Each edit can be applied, and docs/proof/MUTANTS.md names those that there are."""
     for name in repository.crates():
         for folder in "must-fail", "wrong":
             for edit in repository.edits_in(name, folder):
                 fault = fault_of(name, repository.path("crates", name, folder, f"{edit}.edit"))
                 checks.that(not fault, f"crates/{name}/{folder}/{edit}.edit: {fault}")
-    checks.same("edits of wrong/ that docs/proof/WRONG_BODIES.md lacks, or has too many (./refuse --write "
-                "NAME)", wrong_bodies.unlike(), [])
-    checks.same("edits that docs/proof/WRONG_BODIES.md names and that are not there", wrong_bodies.strange(),
+    checks.same("edits of wrong/ that docs/proof/MUTANTS.md lacks, or has too many (./refuse --write "
+                "NAME)", mutants.unlike(), [])
+    checks.same("edits that docs/proof/MUTANTS.md names and that are not there", mutants.strange(),
                 [])
 
 

@@ -3,9 +3,9 @@
 use crate::calling::{Asker, connection, exchange_over};
 use crate::fault::Fault;
 use crate::tally::Tally;
+use craq_cli::Load;
 use craq_commands::{Command, ReadMode, Update};
 use craq_frames::{ClientMessage, ClientReply};
-use craq_line::Load;
 use craq_names::{ChainId, ClientId, Key, ObjectId, RequestNo, Value};
 use std::alloc::Global;
 use std::net::{Net, TcpListener, TcpStream};
@@ -56,7 +56,7 @@ fn is_read(number: u64, reads: u64) -> bool {
 }
 
 /// The object that a client of the load reads and writes, on chain 0.
-fn object_of(alloc: Global, client: u64) -> Result<ObjectId, Fault> {
+fn bench_object(alloc: Global, client: u64) -> Result<ObjectId, Fault> {
     let key = format!(in alloc; "bench-{client}")?;
     match Key::new(alloc, key.as_str().as_bytes()) {
         Ok(key) => Ok(ObjectId {
@@ -73,13 +73,13 @@ fn read_message(alloc: Global, caller: &Caller<'_>) -> Result<ClientMessage, Fau
         node: caller.asker.node,
         pass: caller.asker.pass,
         mode: ReadMode::Strong,
-        object: object_of(alloc, caller.client)?,
+        object: bench_object(alloc, caller.client)?,
     })
 }
 
 /// The message of the connection's put of this number, from 1.
 fn put_message(alloc: Global, caller: &Caller<'_>, number: u64) -> Result<ClientMessage, Fault> {
-    let object = object_of(alloc, caller.client)?;
+    let object = bench_object(alloc, caller.client)?;
     let (Ok(value), Ok(number)) = (
         Value::new(alloc, PUT_VALUE.as_bytes()),
         RequestNo::new(number),

@@ -2,12 +2,12 @@
 ghost use Rattle.std.specs.Prelude.{◌≡◌};
 
 use crate::fault::Fault;
+use craq_cli::Request;
 use craq_frames::{ClientMessage, ClientReply};
 use craq_front::{Stream, exchange};
-use craq_line::Request;
 use craq_model::{Answer, Ask};
 use craq_names::{NodeId, Pass, Refusal};
-use craq_words::{print_answer, print_refusal, read_of, update_of};
+use craq_text::{asked_update, print_answer, print_refusal, read_of};
 use std::alloc::{AllocError, Global};
 use std::io::ErrorKind;
 use std::net::{Net, TcpListener, TcpStream};
@@ -67,7 +67,7 @@ fn message_in(
 ) -> Result<ClientMessage, Refusal> {
     match request {
         Request::Status => Ok(ClientMessage::Status),
-        Request::Update(update) => Ok(message_of(node, pass, update_of(alloc, update)?)),
+        Request::Update(update) => Ok(message_of(node, pass, asked_update(alloc, update)?)),
         Request::Read { mode, object } => {
             Ok(message_of(node, pass, read_of(alloc, *mode, object)?))
         }
@@ -93,7 +93,7 @@ fn answered(alloc: Global, answer: &Answer, pass: Pass) -> Result<Shown, AllocEr
 }
 
 /// The text of a status, which bears no pass: it stays the one that was shown.
-fn told(alloc: Global, status: &str, pass: Pass) -> Result<Shown, AllocError> {
+fn reported(alloc: Global, status: &str, pass: Pass) -> Result<Shown, AllocError> {
     let mut text = String::from_str(alloc, status)?;
     text.push_str("\n")?;
     Ok(Shown {
@@ -112,7 +112,7 @@ fn shown_of(alloc: Global, reply: ClientReply, pass: Pass) -> Result<Shown, Allo
             value,
         } => answered(alloc, &Answer::Read { version, value }, pass),
         ClientReply::Refused(refusal) => refused(alloc, &refusal),
-        ClientReply::Status(status) => told(alloc, status.as_str(), pass),
+        ClientReply::Status(status) => reported(alloc, status.as_str(), pass),
     }
 }
 

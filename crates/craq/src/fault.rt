@@ -1,6 +1,6 @@
 //! Why `craq` ends without an answer once its command line was read, with the text and the status
 //! of each reason; for `main`, `calling`, `shell`, `watch` and `bench`.
-use craq_line::{CANNOT_PRINT, report_memory};
+use craq_cli::{CANNOT_PRINT, report_memory};
 use std::alloc::AllocError;
 use std::io;
 

@@ -11,7 +11,7 @@ mod tally;
 mod watch;
 
 use calling::{Asker, Shown, shown_for};
-use craq_line::{
+use craq_cli::{
     CallLine, Request, Task, report_failure, report_memory, report_no_text, report_words, words_of,
 };
 use fault::{Fault, REFUSED};
@@ -90,14 +90,14 @@ where
 
 /// Prints what is wrong with a command line, or the help that it asks for. Words of a command that
 /// fit no script line are `script line 1`, then what was expected. Returns the status.
-fn report_unread<R: Print + Eprint>(rt: &R, fault: &craq_line::Fault) -> io::Result<u8> {
+fn report_unread<R: Print + Eprint>(rt: &R, fault: &craq_cli::Fault) -> io::Result<u8> {
     match fault {
-        craq_line::Fault::Words(error) => report_words(rt, error, REFUSED),
-        craq_line::Fault::Command(error) => {
+        craq_cli::Fault::Words(error) => report_words(rt, error, REFUSED),
+        craq_cli::Fault::Command(error) => {
             eprintln!(rt; "script line 1")?;
             report_words(rt, error, REFUSED)
         }
-        craq_line::Fault::Memory => report_memory(rt, REFUSED),
+        craq_cli::Fault::Memory => report_memory(rt, REFUSED),
     }
 }
 

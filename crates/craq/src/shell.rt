@@ -3,7 +3,7 @@
 use crate::calling::{Asker, Shown, shown_for};
 use crate::fault::Fault;
 use crate::session::Session;
-use craq_line::{BadWord, Request, Unread, VERSION, request_of};
+use craq_cli::{BadWord, Request, UsageError, VERSION, request_of};
 use craq_names::NodeId;
 use craq_script::{GREATEST_NODE, number_up_to};
 use std::alloc::{AllocError, Global};
@@ -73,8 +73,8 @@ fn print_text<R: Print>(rt: &R, text: &str) -> Result<(), Fault> {
 }
 
 /// Prints what was wrong with a line.
-fn print_wrong<R: Eprint>(rt: &R, told: &str) -> Result<(), Fault> {
-    match eprintln!(rt; "error: {told}") {
+fn print_wrong<R: Eprint>(rt: &R, reported: &str) -> Result<(), Fault> {
+    match eprintln!(rt; "error: {reported}") {
         Ok(()) => Ok(()),
         Err(error) => Err(Fault::CannotPrint(error)),
     }
@@ -88,8 +88,8 @@ where
 {
     match request_of(rt.alloc(), session.asker().node, words) {
         Ok(request) => ask_for(rt, session, &request),
-        Err(Unread::Memory) => Err(Fault::Memory),
-        Err(Unread::Bad(bad)) => print_bad(rt, &bad, words),
+        Err(UsageError::Memory) => Err(Fault::Memory),
+        Err(UsageError::Bad(bad)) => print_bad(rt, &bad, words),
     }
 }
 
@@ -115,8 +115,8 @@ fn print_shown<R: Print>(rt: &R, session: &mut Session<'_>, shown: &Shown) -> Re
 
 /// Prints which word of a line is not what is expected.
 fn print_bad<R: AllocGlobal + Eprint>(rt: &R, bad: &BadWord, words: &[&str]) -> Result<(), Fault> {
-    let told = bad.told(rt.alloc(), words)?;
-    print_wrong(rt, told.as_str())
+    let reported = bad.reported(rt.alloc(), words)?;
+    print_wrong(rt, reported.as_str())
 }
 
 /// From now on the node that the words name is asked.

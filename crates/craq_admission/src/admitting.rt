@@ -10,7 +10,7 @@ use craq_model::{Ask, Event};
 use craq_names::Refusal;
 
 /// Returns the refusal of a request at a running node, if there is one.
-#[tactic(auto, unfolding(craq_model::specs::Asks::ask_turn, craq_commands::specs::Evaluation::all_of_chain))]
+#[tactic(auto, unfolding(craq_model::specs::Asks::ask_transition, craq_commands::specs::Evaluation::all_of_chain))]
 fn admit_ask<H: History>(node: &Node<H>, ask: &Ask) -> Result<(), Refusal>
     ensures { AdmitsAsk (plain_of H.past node.now) ask.now result }
 {

@@ -1,8 +1,8 @@
 //! The epoch test of a message. `NodeCore` calls it before the rules of messages.
 ghost use Rattle.std.specs.Prelude.{◌≡◌, false};
 ghost use Rattle.craq_history.specs.Nodes.{plain_of};
-ghost use Rattle.craq_model.specs.Deliveries.{delivery_turn};
-ghost use Rattle.craq_model.specs.Settle.{turn_ignoring};
+ghost use Rattle.craq_model.specs.Deliveries.{delivery_transition};
+ghost use Rattle.craq_model.specs.Settle.{transition_ignoring};
 ghost use Rattle.craq_admission.specs.Admitted.{is_heeded};
 
 use craq_history::{History, Node};
@@ -13,7 +13,7 @@ use craq_model::{Body, LinkMessage, Why};
 #[tactic(auto, using(crate::proofs::Ignored::not_heeded))]
 pub fn is_heeded<H: History>(node: &Node<H>, message: &LinkMessage) -> bool
     ensures heeded { result ≡ is_heeded (plain_of H.past node.now) message.now }
-    ensures ignored { result ≡ false → delivery_turn (plain_of H.past node.now) message.now ≡ turn_ignoring (plain_of H.past node.now) Why.OtherEpoch }
+    ensures ignored { result ≡ false → delivery_transition (plain_of H.past node.now) message.now ≡ transition_ignoring (plain_of H.past node.now) Why.OtherEpoch }
 {
     if let Body::Config { .. } = &message.body {
         return true;

@@ -11,8 +11,8 @@ use Rattle.craq_runs.specs.declared.run.Run.{Run}
 use Rattle.craq_runs.specs.Seen.{Answered, Asked, Seen, ask_of, is_strong_answer, is_strong_ask, seen, strong_answers}
 use Rattle.craq_runs.specs.Valid.{IsExplained, IsValid, OnlyGrows, answer_name, place_name, same_name}
 use Rattle.craq_seat.specs.Calls.{Called}
-use Rattle.craq_seat.specs.Merge.{Journals, Line, run_of}
-use Rattle.craq_merge.specs.Within.{IsWithin, answer_of_call, ask_of_call}
+use Rattle.craq_seat.specs.Merge.{Journals, MergedStep, run_of}
+use Rattle.craq_merge.specs.Within.{IsWithin, run_answer_of_call, ask_of_call}
 use Rattle.craq_merge.proofs.Orders.{IsIn, all_in, from_contains, to_contains}
 use Rattle.craq_merge.proofs.Positions.{no_older}
 use Rattle.craq_audit.specs.Audited.{IsAudited}
@@ -83,35 +83,35 @@ explained_at R (b ∷ ans) (q ∷ ps) a p e z d (inr i) (inl t) n =
 explained_at R (b ∷ ans) (q ∷ ps) a p e z d (inr i) (inr k) n =
     explained_at R ans ps a p (tails (place_name q) (answer_name b) (map place_name ps) (map answer_name ans) e) z.1 d.1 i k n
 
-named_as : (c : Called) (p : Place) (answered : ℕ) → p.node ≡ c.call.asked.node → p.ticket ≡ c.call.ticket → place_name p ≡ answer_name (answer_of_call c answered)
+named_as : (c : Called) (p : Place) (answered : ℕ) → p.node ≡ c.call.asked.node → p.ticket ≡ c.call.ticket → place_name p ≡ answer_name (run_answer_of_call c answered)
 named_as c p answered e f = rw (e, f) refl
 
 -- a strong call in a run whose explanation is valid
-strong_call : (lines : List Line) (run : Run) (c : Called) (w : IsWithin lines run c) → is_strong_ask c.call.ask ≡ true → IsIn (strong_answers (seen run)) (answer_of_call c w.answered)
-strong_call lines run c w t = strong_in (seen run) (answer_of_call c w.answered) (ask_of_call c w.asked) w.is_answer w.is_ask t
+strong_call : (lines : List MergedStep) (run : Run) (c : Called) (w : IsWithin lines run c) → is_strong_ask c.call.ask ≡ true → IsIn (strong_answers (seen run)) (run_answer_of_call c w.answered)
+strong_call lines run c w t = strong_in (seen run) (run_answer_of_call c w.answered) (ask_of_call c w.asked) w.is_answer w.is_ask t
 
-explained : (lines : List Line) (run : Run) (e : Explanation) (c : Called) (p : Place) (w : IsWithin lines run c) → IsValid run e → is_strong_ask c.call.ask ≡ true → IsPlaceOf e c p → IsExplained (seen run) e (answer_of_call c w.answered) p
+explained : (lines : List MergedStep) (run : Run) (e : Explanation) (c : Called) (p : Place) (w : IsWithin lines run c) → IsValid run e → is_strong_ask c.call.ask ≡ true → IsPlaceOf e c p → IsExplained (seen run) e (run_answer_of_call c w.answered) p
 explained lines run e c p w v t at =
-    explained_at (IsExplained (seen run) e) (strong_answers (seen run)) e.places (answer_of_call c w.answered) p v.checked.form.places v.checked.strong.explained v.checked.strong.once (strong_call lines run c w t) (from_contains e.places p at.there) (named_as c p w.answered at.node at.ticket)
+    explained_at (IsExplained (seen run) e) (strong_answers (seen run)) e.places (run_answer_of_call c w.answered) p v.checked.form.places v.checked.strong.explained v.checked.strong.once (strong_call lines run c w t) (from_contains e.places p at.there) (named_as c p w.answered at.node at.ticket)
 
 pub has_place : (chain : ℕ) (j : Journals) (receipts : List Called) (run : Run) (e : Explanation) (c : Called) → IsAudited chain j receipts run → IsValid run e → Contains receipts c → is_strong_ask c.call.ask ≡ true → (p : Place) × IsPlaceOf e c p
 has_place chain j receipts run e c a v i t =
-    let lines : List Line = a.merged.merge.0 in
+    let lines : List MergedStep = a.merged.merge.0 in
     let w = all_in (λ (x : Called). IsWithin lines run x) receipts c a.calls (from_contains receipts c i) in
-    let p = place_at (strong_answers (seen run)) e.places (answer_of_call c w.answered) v.checked.form.places (strong_call lines run c w t) in
+    let p = place_at (strong_answers (seen run)) e.places (run_answer_of_call c w.answered) v.checked.form.places (strong_call lines run c w t) in
     (p.0, record { there = to_contains e.places p.0 p.1; node = ap (λ (x : ℕ × ℕ). x.0) p.2; ticket = ap (λ (x : ℕ × ℕ). x.1) p.2 })
 
 pub no_lower : (chain : ℕ) (j : Journals) (receipts : List Called) (run : Run) (e : Explanation) (earlier later : Called) (p q : Place) → IsAudited chain j receipts run → IsValid run e → Contains receipts earlier → Contains receipts later → is_strong_ask earlier.call.ask ≡ true → is_strong_ask later.call.ask ≡ true → IsPlaceOf e earlier p → IsPlaceOf e later q → earlier.answered.stamp ≤ later.call.pass → p.position ≤ q.position
 no_lower chain j receipts run e earlier later p q a v i k s t at bt le =
-    let lines : List Line = a.merged.merge.0 in
+    let lines : List MergedStep = a.merged.merge.0 in
     let is : run ≡ run_of j.members lines = a.merged.merge.2 in
     let first = all_in (λ (c : Called). IsWithin lines run c) receipts earlier a.calls (from_contains receipts earlier i) in
     let second = all_in (λ (c : Called). IsWithin lines run c) receipts later a.calls (from_contains receipts later k) in
     by_run j.members lines run is first second v.checked.list (explained lines run e earlier p first v s at) (explained lines run e later q second v t bt)
   where
-    by_run : (members : List ℕ) (lines : List Line) (r : Run) → r ≡ run_of members lines → (first : IsWithin lines r earlier) (second : IsWithin lines r later) → OnlyGrows (seen r) e → IsExplained (seen r) e (answer_of_call earlier first.answered) p → IsExplained (seen r) e (answer_of_call later second.answered) q → p.position ≤ q.position
+    by_run : (members : List ℕ) (lines : List MergedStep) (r : Run) → r ≡ run_of members lines → (first : IsWithin lines r earlier) (second : IsWithin lines r later) → OnlyGrows (seen r) e → IsExplained (seen r) e (run_answer_of_call earlier first.answered) p → IsExplained (seen r) e (run_answer_of_call later second.answered) q → p.position ≤ q.position
     by_run members lines r is first second g x y =
-        let P : Run → Type 0 = λ r. (first : IsWithin lines r earlier) (second : IsWithin lines r later) → OnlyGrows (seen r) e → IsExplained (seen r) e (answer_of_call earlier first.answered) p → IsExplained (seen r) e (answer_of_call later second.answered) q → p.position ≤ q.position in
+        let P : Run → Type 0 = λ r. (first : IsWithin lines r earlier) (second : IsWithin lines r later) → OnlyGrows (seen r) e → IsExplained (seen r) e (run_answer_of_call earlier first.answered) p → IsExplained (seen r) e (run_answer_of_call later second.answered) q → p.position ≤ q.position in
         let here : P (run_of members lines) = λ first second g x y. no_older members lines e earlier later p q first second g x y le in
         let there : P r = subst P (sym is) here in
         there first second g x y

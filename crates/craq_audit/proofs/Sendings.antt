@@ -14,7 +14,7 @@ use Rattle.craq_seat.specs.declared.journal.Record.{Record}
 use Rattle.craq_seat.specs.Audits.{IsAnswered, IsAsked, IsHeld, WasSent, id_of}
 use Rattle.craq_seat.specs.Calls.{Called}
 use Rattle.craq_seat.specs.Cells.{Celled}
-use Rattle.craq_seat.specs.Merge.{AtMaster, AtNode, Happening, Journals, Line, all_lines, book_line, node_line}
+use Rattle.craq_seat.specs.Merge.{AtMaster, AtNode, Happening, Journals, MergedStep, all_lines, book_line, node_line}
 use Rattle.craq_seat.specs.Numbered.{named, numbered_from}
 use Rattle.craq_merge.proofs.Journals.{book_in, node_in, of_flat}
 use Rattle.craq_merge.proofs.Orders.{IsIn, from_contains, in_either, of_map, to_contains}
@@ -104,26 +104,26 @@ sent_by_node book cs stamp m less f =
     )
 
 -- a line is of the master or of a node
-from_book : (rs : List (Record BookEvent)) (l : Line) (m : LinkMessage) → IsIn (map book_line rs) l → l.node ≡ m.sender → l.stamp ≡ m.stamp → slice_get (numbered_from 0 (record { node = l.node; stamp = l.stamp }) (sent_in l.step.outs)) m.index ≡ Some m → (m.sender ≡ 0) × HaveSent rs m
+from_book : (rs : List (Record BookEvent)) (l : MergedStep) (m : LinkMessage) → IsIn (map book_line rs) l → l.node ≡ m.sender → l.stamp ≡ m.stamp → slice_get (numbered_from 0 (record { node = l.node; stamp = l.stamp }) (sent_in l.step.outs)) m.index ≡ Some m → (m.sender ≡ 0) × HaveSent rs m
 from_book rs l m i e f h =
     let t = of_map book_line rs l i in
     let r : Record BookEvent = t.0 in
-    let node : 0 ≡ l.node = ap (λ (x : Line). x.node) t.2 in
-    let stamp : r.stamp ≡ l.stamp = ap (λ (x : Line). x.stamp) t.2 in
-    let step : r.step ≡ l.step = ap (λ (x : Line). x.step) t.2 in (
+    let node : 0 ≡ l.node = ap (λ (x : MergedStep). x.node) t.2 in
+    let stamp : r.stamp ≡ l.stamp = ap (λ (x : MergedStep). x.stamp) t.2 in
+    let step : r.step ≡ l.step = ap (λ (x : MergedStep). x.step) t.2 in (
       sym (node ∙ e),
       (r, to_contains rs r t.1, stamp ∙ f, subst (λ s. IsSend s m) (sym step) (of_named m l.node l.stamp l.step e f h)),
     )
 
-from_nodes : (ns : List (ℕ × List (Record Event))) (l : Line) (m : LinkMessage) → IsIn (flat_map (λ (n : ℕ × List (Record Event)). map (node_line n.0) n.1) ns) l → l.node ≡ m.sender → l.stamp ≡ m.stamp → slice_get (numbered_from 0 (record { node = l.node; stamp = l.stamp }) (sent_in l.step.outs)) m.index ≡ Some m → (n : ℕ × List (Record Event)) × IsIn ns n × Sent m n
+from_nodes : (ns : List (ℕ × List (Record Event))) (l : MergedStep) (m : LinkMessage) → IsIn (flat_map (λ (n : ℕ × List (Record Event)). map (node_line n.0) n.1) ns) l → l.node ≡ m.sender → l.stamp ≡ m.stamp → slice_get (numbered_from 0 (record { node = l.node; stamp = l.stamp }) (sent_in l.step.outs)) m.index ≡ Some m → (n : ℕ × List (Record Event)) × IsIn ns n × Sent m n
 from_nodes ns l m i e f h =
     let s = of_flat (λ (n : ℕ × List (Record Event)). map (node_line n.0) n.1) ns l i in
     let n : ℕ × List (Record Event) = s.0 in
     let t = of_map (node_line n.0) n.1 l s.2 in
     let r : Record Event = t.0 in
-    let node : n.0 ≡ l.node = ap (λ (x : Line). x.node) t.2 in
-    let stamp : r.stamp ≡ l.stamp = ap (λ (x : Line). x.stamp) t.2 in
-    let step : r.step ≡ l.step = ap (λ (x : Line). x.step) t.2 in (
+    let node : n.0 ≡ l.node = ap (λ (x : MergedStep). x.node) t.2 in
+    let stamp : r.stamp ≡ l.stamp = ap (λ (x : MergedStep). x.stamp) t.2 in
+    let step : r.step ≡ l.step = ap (λ (x : MergedStep). x.step) t.2 in (
       n,
       s.1,
       (node ∙ e, (r, to_contains n.1 r t.1, stamp ∙ f, subst (λ x. IsSend x m) (sym step) (of_named m l.node l.stamp l.step e f h))),
@@ -150,7 +150,7 @@ same_kind x a b h k = cc
 
 -- a line in which the node of a receipt stopped, under its stamp
 abbrev pub IsStopLine : Journals → Receipt → Type 0
-IsStopLine j stop = (l : Line) × Contains (all_lines j) l × (l.node ≡ stop.node) × (l.stamp ≡ stop.stamp) × (l.event ≡ AtNode events.Stop)
+IsStopLine j stop = (l : MergedStep) × Contains (all_lines j) l × (l.node ≡ stop.node) × (l.stamp ≡ stop.stamp) × (l.event ≡ AtNode events.Stop)
 
 pub stop_line : {C : Type 0} (book : Celled Mastered BookEvent) (cs : List (Lent C)) (stop : Receipt) → Found (HasStop stop) cs → IsStopLine (journals_of book (cells_of cs)) stop
 stop_line book cs stop f =
@@ -170,15 +170,15 @@ pub where_stopped : {C : Type 0} (book : Celled Mastered BookEvent) (cs : List (
 where_stopped book cs stop (l, there, e, f, h) =
     let j : Journals = journals_of book (cells_of cs) in
     elim (in_either (map book_line j.book) (flat_map (λ (n : ℕ × List (Record Event)). map (node_line n.0) n.1) j.nodes) l (from_contains (all_lines j) l there)) [
-      | inl i ↦ (let t = of_map book_line j.book l i in absurd (other_kind l.event events.Stop t.0.event (ap (λ (x : Line). x.event) t.2) h))
+      | inl i ↦ (let t = of_map book_line j.book l i in absurd (other_kind l.event events.Stop t.0.event (ap (λ (x : MergedStep). x.event) t.2) h))
       | inr i ↦ (
           let s = of_flat (λ (n : ℕ × List (Record Event)). map (node_line n.0) n.1) j.nodes l i in
           let n : ℕ × List (Record Event) = s.0 in
           let t = of_map (node_line n.0) n.1 l s.2 in
           let r : Record Event = t.0 in
-          let node : n.0 ≡ l.node = ap (λ (x : Line). x.node) t.2 in
-          let stamp : r.stamp ≡ l.stamp = ap (λ (x : Line). x.stamp) t.2 in
-          let event : AtNode r.event ≡ l.event = ap (λ (x : Line). x.event) t.2 in
+          let node : n.0 ≡ l.node = ap (λ (x : MergedStep). x.node) t.2 in
+          let stamp : r.stamp ≡ l.stamp = ap (λ (x : MergedStep). x.stamp) t.2 in
+          let event : AtNode r.event ≡ l.event = ap (λ (x : MergedStep). x.event) t.2 in
           found_at (HasStop stop) (Stopped stop) cs n (λ c q. q) s.1 (node ∙ e, (r, to_contains n.1 r t.1, stamp ∙ f, same_kind l.event r.event events.Stop event h))
           )
     ]

@@ -19,7 +19,7 @@ use Rattle.craq_seat.specs.Audits.{IsHeld, IsMergedRun, SaysNoReceipt}
 use Rattle.craq_seat.specs.Books.{IsBook}
 use Rattle.craq_seat.specs.Calls.{Called}
 use Rattle.craq_seat.specs.Cells.{Celled}
-use Rattle.craq_seat.specs.Merge.{AreInOrder, IsMerge, Journals, Line, all_lines, run_of}
+use Rattle.craq_seat.specs.Merge.{AreInOrder, IsMerge, Journals, MergedStep, all_lines, run_of}
 use Rattle.craq_seat.specs.Numbered.{numbered_from}
 use Rattle.craq_merge.specs.Merged.{AreSeated, CanBeNumbered}
 use Rattle.craq_merge.specs.Sorted.{AreSorted}
@@ -42,7 +42,7 @@ index_within base receipt [] i m h = cc
 index_within base receipt (x ∷ ms) zero m h = omega arith
 index_within base receipt (x ∷ ms) (suc i) m h = let t = index_within (base + 1) receipt ms i m h in omega (arith, t)
 
-sent_in_lines : (lines : List Line) (stamp : ℕ) (m : LinkMessage) → Sending lines stamp m → IsSentIn lines m
+sent_in_lines : (lines : List MergedStep) (stamp : ℕ) (m : LinkMessage) → Sending lines stamp m → IsSentIn lines m
 sent_in_lines lines stamp m s =
     record {
       line = s.line;
@@ -52,7 +52,7 @@ sent_in_lines lines stamp m s =
       index = index_within 0 (record { node = s.line.node; stamp = s.line.stamp }) (sent_in s.line.step.outs) m.index m s.message;
     }
 
-module _ {C : Type 0} (R : C → Plain → Type 0) (book : Celled Mastered BookEvent) (cs : List (Bor (Celled C Event))) (b : IsBook book) (ks : AllByRecursion (KeepsType R) cs) (can : CanBeAudited book (cells_of cs)) (sent : AreSent (journals_of book (cells_of cs))) (lines : List Line) (all : IsPermutation (all_lines (journals_of book (cells_of cs))) lines) (sorted : AreSorted lines) where
+module _ {C : Type 0} (R : C → Plain → Type 0) (book : Celled Mastered BookEvent) (cs : List (Bor (Celled C Event))) (b : IsBook book) (ks : AllByRecursion (KeepsType R) cs) (can : CanBeAudited book (cells_of cs)) (sent : AreSent (journals_of book (cells_of cs))) (lines : List MergedStep) (all : IsPermutation (all_lines (journals_of book (cells_of cs))) lines) (sorted : AreSorted lines) where
   seated : AreSeated R book (cells_of cs) (journals_of book (cells_of cs))
   seated = record { master = b; nodes = types_kept R cs ks; journals = can.0; chain = can.1; sent = sent }
 

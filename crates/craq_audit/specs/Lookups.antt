@@ -18,7 +18,7 @@ use Rattle.craq_seat.specs.Calls.{Called}
 use Rattle.craq_seat.specs.Cells.{Celled}
 use Rattle.craq_seat.specs.Journal.{RisesTo}
 use Rattle.craq_seat.specs.Kept.{IsKept}
-use Rattle.craq_seat.specs.Merge.{Journals, Line, node_line}
+use Rattle.craq_seat.specs.Merge.{Journals, MergedStep, node_line}
 use Rattle.craq_seat.specs.Numbered.{named, numbered_from}
 use Rattle.craq_audit.specs.Journals.{records_in}
 
@@ -114,6 +114,6 @@ abbrev pub IsOut : Out → Out → Type 0
 IsOut wanted out = out ≡ wanted
 
 -- the lines of these cells
-abbrev pub cell_lines : {C : Type 0} → List (Bor (Celled C Event)) → List Line
+abbrev pub cell_lines : {C : Type 0} → List (Bor (Celled C Event)) → List MergedStep
 cell_lines [] = []
 cell_lines (c ∷ cs) = map (node_line (id_of c.now)) (records_in c.now.journal) ++ cell_lines cs

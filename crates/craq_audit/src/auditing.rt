@@ -1,5 +1,5 @@
 //! `audit`, the function of the crate: its tests in order, and the merge that it returns; used by
-//! `craq_held`.
+//! `craq_locked_chain`.
 ghost use Rattle.std.specs.Prelude.{◌≡◌};
 ghost use Rattle.craq_audit.specs.Audited.{Audits};
 ghost use Rattle.craq_audit.specs.Lookups.{cells_of};

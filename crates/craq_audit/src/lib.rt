@@ -1,5 +1,5 @@
 //! Audits a chain: merges its cells' journals into one run; tests each message and each call.
-//! Runs in the program, on cells that `craq_held` lends, without locks; states two laws.
+//! Runs in the program, on cells that `craq_locked_chain` lends, without locks; states two laws.
 #![tactic(auto)]
 
 mod auditing;

@@ -30,10 +30,10 @@ pub(crate) struct LentLine<'a> {
 }
 
 impl<'a> Model for LentLine<'a> {
-    ghost use Rattle.craq_seat.specs.Merge.{Line};
+    ghost use Rattle.craq_seat.specs.Merge.{MergedStep};
     ghost use Rattle.craq_audit.specs.Lines.{happening};
 
-    ghost Value = { Line };
+    ghost Value = { MergedStep };
 
     ghost view = { λ l. record { node = l.node; stamp = l.stamp; event = happening l.event; step = l.step.now } };
 }

@@ -5,7 +5,7 @@ ghost use Rattle.craq_names.specs.Limits.{greatest};
 ghost use Rattle.craq_model.specs.declared.message.LinkMessage.{LinkMessage};
 ghost use Rattle.craq_runs.specs.Chain.{sent_in};
 ghost use Rattle.craq_runs.specs.Typed.{AreOfType, IsMoveOfType};
-ghost use Rattle.craq_seat.specs.Merge.{AreInOrder, AtMaster, AtNode, Line, move_among};
+ghost use Rattle.craq_seat.specs.Merge.{AreInOrder, AtMaster, AtNode, MergedStep, move_among};
 ghost use Rattle.craq_seat.specs.Audits.{IsHeld};
 ghost use Rattle.craq_seat.specs.Calls.{Called};
 ghost use Rattle.craq_seat.specs.Merge as merge;
@@ -19,7 +19,7 @@ use crate::belonging::members_of;
 use crate::copies::copied_step;
 use crate::journals::{keep_book, keep_cells};
 use crate::lines::{Happened, LentLine, lines_of};
-use crate::numbers::{number_of, sums_of};
+use crate::numbers::{message_number, sums_of};
 use craq_chain::keep_limits;
 use craq_model::{Event, Step};
 use craq_names::{Copied, Items, NodeId, Refusal};
@@ -38,7 +38,7 @@ fn node_move(
 ) -> Result<Move, AllocError>
     requires order { AreInOrder lines.now }
     requires sums { sums.now ≡ sums_from 0 lines.now }
-    requires fits { length (flat_map (λ (l : Line). sent_in l.step.outs) lines.now) ≤ greatest }
+    requires fits { length (flat_map (λ (l : MergedStep). sent_in l.step.outs) lines.now) ≤ greatest }
     requires sent { (m : LinkMessage) → event.now ≡ Event.Deliver m → IsSentIn lines.now m }
     ensures { IfOk result (λ m. m ≡ move_among lines.now node (AtNode event.now)) }
 {
@@ -47,7 +47,7 @@ fn node_move(
             node,
             ask: ask.copied(alloc)?,
         }),
-        Event::Deliver(message) => Ok(Move::Deliver(number_of(lines, sums, message))),
+        Event::Deliver(message) => Ok(Move::Deliver(message_number(lines, sums, message))),
         Event::Tick => Ok(Move::Tick(node)),
         Event::Stop => Ok(Move::Stop(node)),
     }
@@ -55,7 +55,7 @@ fn node_move(
 
 /// Returns the move of an event at the master.
 fn book_move(event: &BookEvent) -> Move
-    ensures { (lines : List Line) (node : ℕ) → result ≡ move_among lines node (AtMaster event.now) }
+    ensures { (lines : List MergedStep) (node : ℕ) → result ≡ move_among lines node (AtMaster event.now) }
 {
     match event {
         BookEvent::Join(id) => Move::Join(*id),
@@ -73,7 +73,7 @@ fn move_of(
 ) -> Result<Move, AllocError>
     requires order { AreInOrder lines.now }
     requires sums { sums.now ≡ sums_from 0 lines.now }
-    requires fits { length (flat_map (λ (l : Line). sent_in l.step.outs) lines.now) ≤ greatest }
+    requires fits { length (flat_map (λ (l : MergedStep). sent_in l.step.outs) lines.now) ≤ greatest }
     requires sent { IsArrivalIn lines.now line.now }
     ensures { IfOk result (λ m. m ≡ move_among lines.now line.now.node line.now.event) }
 {
@@ -92,7 +92,7 @@ fn taken_of(
 ) -> Result<Taken, AllocError>
     requires order { AreInOrder lines.now }
     requires sums { sums.now ≡ sums_from 0 lines.now }
-    requires fits { length (flat_map (λ (l : Line). sent_in l.step.outs) lines.now) ≤ greatest }
+    requires fits { length (flat_map (λ (l : MergedStep). sent_in l.step.outs) lines.now) ≤ greatest }
     requires sent { IsArrivalIn lines.now line.now }
     ensures taken { IfOk result (λ t. t ≡ taken_among lines.now line.now) }
     ensures typed { IfOk result (λ t. IsMoveOfType t.chosen) }
@@ -109,7 +109,7 @@ fn taken_of(
 fn moves_of(alloc: Global, lines: &[LentLine], sums: &[u64]) -> Result<Vec<Taken>, AllocError>
     requires order { AreInOrder lines.now }
     requires sums { sums.now ≡ sums_from 0 lines.now }
-    requires fits { length (flat_map (λ (l : Line). sent_in l.step.outs) lines.now) ≤ greatest }
+    requires fits { length (flat_map (λ (l : MergedStep). sent_in l.step.outs) lines.now) ≤ greatest }
     requires sent { AllByRecursion (IsArrivalIn lines.now) lines.now }
     ensures moves { IfOk result (λ moves. moves.items ≡ map (taken_among lines.now) lines.now) }
     ensures typed { IfOk result (λ moves. AreOfType moves.items) }

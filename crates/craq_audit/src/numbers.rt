@@ -3,7 +3,7 @@
 ghost use Rattle.std.specs.Prelude.{◌≡◌, ◌≤◌, ◌<◌, flat_map, length, IfOk, IfErr, OnOk};
 ghost use Rattle.craq_names.specs.Limits.{greatest};
 ghost use Rattle.craq_runs.specs.Chain.{sent_in};
-ghost use Rattle.craq_seat.specs.Merge.{AreInOrder, Line, number_among};
+ghost use Rattle.craq_seat.specs.Merge.{AreInOrder, MergedStep, number_among};
 ghost use Rattle.craq_audit.specs.Lines.{IsSentIn, sums_from};
 
 use crate::lines::LentLine;
@@ -17,7 +17,7 @@ use std::alloc::Global;
 pub(crate) fn sums_of(alloc: Global, lines: &[LentLine]) -> Result<Vec<u64>, Refusal>
     ensures sums { IfOk result (λ sums. sums.items ≡ sums_from 0 lines.now) }
     ensures count { OnOk result (length lines.now ≤ greatest) }
-    ensures fits { OnOk result (length (flat_map (λ (l : Line). sent_in l.step.outs) lines.now) ≤ greatest) }
+    ensures fits { OnOk result (length (flat_map (λ (l : MergedStep). sent_in l.step.outs) lines.now) ≤ greatest) }
     ensures err { IfErr result (λ e. e ≡ Refusal.Memory) }
 {
     let mut sums = Vec::with_capacity(alloc, lines.len())?;
@@ -34,10 +34,10 @@ pub(crate) fn sums_of(alloc: Global, lines: &[LentLine]) -> Result<Vec<u64>, Ref
 }
 
 /// Returns the number of a message, from 1, among all that were sent. Looks at few of the lines.
-pub(crate) fn number_of(lines: &[LentLine], sums: &[u64], message: &LinkMessage) -> u64
+pub(crate) fn message_number(lines: &[LentLine], sums: &[u64], message: &LinkMessage) -> u64
     requires order { AreInOrder lines.now }
     requires sums { sums.now ≡ sums_from 0 lines.now }
-    requires fits { length (flat_map (λ (l : Line). sent_in l.step.outs) lines.now) ≤ greatest }
+    requires fits { length (flat_map (λ (l : MergedStep). sent_in l.step.outs) lines.now) ≤ greatest }
     requires sent { IsSentIn lines.now message.now }
     ensures { result ≡ number_among lines.now message.now }
 {

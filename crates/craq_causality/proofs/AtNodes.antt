@@ -16,7 +16,7 @@ use Rattle.craq_laws.proofs.Nodes.{node_here, node_elsewhere, node_id, ids_stay}
 use Rattle.craq_seat.specs.declared.journal.Receipt.{Receipt}
 use Rattle.craq_seat.specs.declared.journal.Record.{Record}
 use Rattle.craq_seat.specs.Journal.{Replays}
-use Rattle.craq_seat.specs.Merge.{AtNode, Line, move_among, node_line, number_among}
+use Rattle.craq_seat.specs.Merge.{AtNode, MergedStep, move_among, node_line, number_among}
 use Rattle.craq_causality.proofs.Arrivals.{named_from, unnamed}
 use Rattle.craq_causality.proofs.Nodes.{halts, is_receiver, runs, same_or_not, takes, counted}
 use Rattle.craq_causality.proofs.Numbers.{all_sent, number_names}
@@ -35,11 +35,11 @@ abbrev pub receivers_of : List LinkMessage → List ℕ
 receivers_of ms = map (λ (m : LinkMessage). m.receiver) ms
 
 -- a message of those that were sent does what the delivered one does
-abbrev pub StandsFor : Chain → List Line → Plain → LinkMessage → Type 0
+abbrev pub StandsFor : Chain → List MergedStep → Plain → LinkMessage → Type 0
 StandsFor c lines p m =
     (n : LinkMessage) × (message_at c.messages (number_among lines m) ≡ Some n) × (node_step p (events.Deliver n) ≡ node_step p (events.Deliver m))
 
-moves : (lines : List Line) (c : Chain) (id : ℕ) (p q : Plain) (e : Event) (step : Step) → id ≢ 0 → node_at c.nodes id ≡ Some p → node_step p e ≡ Ok (q, step) → ((m : LinkMessage) → e ≡ events.Deliver m → StandsFor c lines p m) → move_progress c (move_among lines id (AtNode e)) ≡ Ok (record c { nodes = set_node c.nodes q }, step)
+moves : (lines : List MergedStep) (c : Chain) (id : ℕ) (p q : Plain) (e : Event) (step : Step) → id ≢ 0 → node_at c.nodes id ≡ Some p → node_step p e ≡ Ok (q, step) → ((m : LinkMessage) → e ≡ events.Deliver m → StandsFor c lines p m) → move_progress c (move_among lines id (AtNode e)) ≡ Ok (record c { nodes = set_node c.nodes q }, step)
 moves lines c id p q (events.Ask ask) step z at h f = rw (at, h) refl
 moves lines c id p q (events.Deliver m) step z at h f =
     let s = f m refl in
@@ -63,7 +63,7 @@ receiver_at ms zero n h = cc
 receiver_at ms (suc i) n h = index_of (λ (m : LinkMessage). m.receiver) ms i n h
 
 -- the move happens at the node
-places : (lines : List Line) (c : Chain) (id : ℕ) (p q : Plain) (e : Event) (step : Step) → node_at c.nodes id ≡ Some p → node_step p e ≡ Ok (q, step) → ((m : LinkMessage) → e ≡ events.Deliver m → StandsFor c lines p m) → node_of (receivers_of c.messages) (move_among lines id (AtNode e)) ≡ id
+places : (lines : List MergedStep) (c : Chain) (id : ℕ) (p q : Plain) (e : Event) (step : Step) → node_at c.nodes id ≡ Some p → node_step p e ≡ Ok (q, step) → ((m : LinkMessage) → e ≡ events.Deliver m → StandsFor c lines p m) → node_of (receivers_of c.messages) (move_among lines id (AtNode e)) ≡ id
 places lines c id p q (events.Ask ask) step at h f = refl
 places lines c id p q (events.Deliver m) step at h f =
     let s = f m refl in
@@ -72,7 +72,7 @@ places lines c id p q events.Tick step at h f = refl
 places lines c id p q events.Stop step at h f = refl
 
 -- what was delivered was sent
-sent_before : (chain : ℕ) (members : List ℕ) (lines done rest : List Line) (l : Line) (c : Chain) (p : Plain) (m : LinkMessage) → lines ≡ done ++ l ∷ rest → AreApart lines → IsReached chain members done (l ∷ rest) c → WasSent done m → StandsFor c lines p m
+sent_before : (chain : ℕ) (members : List ℕ) (lines done rest : List MergedStep) (l : MergedStep) (c : Chain) (p : Plain) (m : LinkMessage) → lines ≡ done ++ l ∷ rest → AreApart lines → IsReached chain members done (l ∷ rest) c → WasSent done m → StandsFor c lines p m
 sent_before chain members lines done rest l c p m e apart r s =
     let there : IsIn done s.line = from_contains done s.line s.there in
     let receipt : Receipt = record { node = s.line.node; stamp = s.line.stamp } in
@@ -82,7 +82,7 @@ sent_before chain members lines done rest l c p m e apart r s =
     let at : message_at (all_sent done) (number_among (done ++ l ∷ rest) m) ≡ Some n = number_names done (l ∷ rest) s.line m n (subst AreApart e apart) there s.node s.stamp t.1 in
     (n, rw (r.sent, e) at, sym (unnamed p receipt m.index n from) ∙ ap (λ x. node_step p (events.Deliver x)) t.2)
 
-stands_for : (chain : ℕ) (members : List ℕ) (lines done rest : List Line) (l : Line) (c : Chain) (p : Plain) (m : LinkMessage) → lines ≡ done ++ l ∷ rest → AreSound members lines → IsReached chain members done (l ∷ rest) c → l.event ≡ AtNode (events.Deliver m) → StandsFor c lines p m
+stands_for : (chain : ℕ) (members : List ℕ) (lines done rest : List MergedStep) (l : MergedStep) (c : Chain) (p : Plain) (m : LinkMessage) → lines ≡ done ++ l ∷ rest → AreSound members lines → IsReached chain members done (l ∷ rest) c → l.event ≡ AtNode (events.Deliver m) → StandsFor c lines p m
 stands_for chain members lines done rest l c p m e sound r is =
     sent_before chain members lines done rest l c p m e sound.apart r
     (subst (MayFollow members done l.node) is (follows members lines done rest l e sound)).1
@@ -101,7 +101,7 @@ same_event a b h = cc
 pub true_false : (b : Bool) → b ≡ true → b ≡ false → ⊥
 true_false b h k = cc
 
-changes : (chain : ℕ) (members : List ℕ) (done rest : List Line) (c : Chain) (id : ℕ) (r : Record Event) (p q last : Plain) (rs : List (Record Event)) → IsReached chain members done (node_line id r ∷ rest) c → id ≢ 0 → node_at c.nodes id ≡ Some p → node_step p r.event ≡ Ok (q, r.step) → lines_of id rest ≡ map (node_line id) rs → Replays node_step q rs last → IsChanged chain (node_line id r) rest c (record c { nodes = set_node c.nodes q })
+changes : (chain : ℕ) (members : List ℕ) (done rest : List MergedStep) (c : Chain) (id : ℕ) (r : Record Event) (p q last : Plain) (rs : List (Record Event)) → IsReached chain members done (node_line id r ∷ rest) c → id ≢ 0 → node_at c.nodes id ≡ Some p → node_step p r.event ≡ Ok (q, r.step) → lines_of id rest ≡ map (node_line id) rs → Replays node_step q rs last → IsChanged chain (node_line id r) rest c (record c { nodes = set_node c.nodes q })
 changes chain members done rest c id r p q last rs old z at h ls replay =
     let own : id_of p ≡ id = node_id c.nodes id p at in
     let kept : id_of q ≡ id = ap (λ n. n.node) (name_kept p q r.event r.step h) ∙ own in
@@ -131,13 +131,13 @@ changes chain members done rest c id r p q last rs old z at h ls replay =
 -- ---- the whole
 
 -- the line is a move that is taken, and leads to a chain like this
-pub record IsNext (chain : ℕ) (members : List ℕ) (lines done : List Line) (l : Line) (rest : List Line) (c : Chain) : Type 0 where
+pub record IsNext (chain : ℕ) (members : List ℕ) (lines done : List MergedStep) (l : MergedStep) (rest : List MergedStep) (c : Chain) : Type 0 where
   pub next : Chain
   pub step : chain_step c (move_among lines l.node l.event) ≡ Ok (next, l.step)
   pub reached : IsReached chain members (done ++ l ∷ []) rest next
   pub place : node_of (receivers_of c.messages) (move_among lines l.node l.event) ≡ l.node
 
-pub taken : (chain : ℕ) (members : List ℕ) (lines done rest : List Line) (l : Line) (c x : Chain) → lines ≡ done ++ l ∷ rest → AreSound members lines → IsReached chain members done (l ∷ rest) c → move_progress c (move_among lines l.node l.event) ≡ Ok (x, l.step) → node_of (receivers_of c.messages) (move_among lines l.node l.event) ≡ l.node → IsChanged chain l rest c x → IsNext chain members lines done l rest c
+pub taken : (chain : ℕ) (members : List ℕ) (lines done rest : List MergedStep) (l : MergedStep) (c x : Chain) → lines ≡ done ++ l ∷ rest → AreSound members lines → IsReached chain members done (l ∷ rest) c → move_progress c (move_among lines l.node l.event) ≡ Ok (x, l.step) → node_of (receivers_of c.messages) (move_among lines l.node l.event) ≡ l.node → IsChanged chain l rest c x → IsNext chain members lines done l rest c
 taken chain members lines done rest l c x e sound r m at d =
     let few : c.moves < greatest = rw r.count (moves_left members lines done rest l e sound) in
     let short : length c.messages + length (sent_in l.step.outs) ≤ greatest = rw r.sent (messages_left members lines done rest l e sound) in
@@ -149,7 +149,7 @@ taken chain members lines done rest l c x e sound r m at d =
     }
 
 -- the node of a line is there
-is_known : (chain : ℕ) (members : List ℕ) (lines done rest : List Line) (l : Line) (c : Chain) (event : Event) → lines ≡ done ++ l ∷ rest → AreSound members lines → IsReached chain members done (l ∷ rest) c → l.event ≡ AtNode event → IsThere c.nodes l.node
+is_known : (chain : ℕ) (members : List ℕ) (lines done rest : List MergedStep) (l : MergedStep) (c : Chain) (event : Event) → lines ≡ done ++ l ∷ rest → AreSound members lines → IsReached chain members done (l ∷ rest) c → l.event ≡ AtNode event → IsThere c.nodes l.node
 is_known chain members lines done rest l c event e sound r is =
     let joined : HasJoined members done l.node = (subst (MayFollow members done l.node) is (follows members lines done rest l e sound)).0 in
     elim joined [
@@ -161,9 +161,9 @@ now_is : (chain id : ℕ) (c : Chain) (p : Plain) → IsThere c.nodes id → IsN
 now_is chain id c p t (inl h) = h
 now_is chain id c p t (inr h) = let k = t.1 in let n = h.0 in cc
 
-at_record : (chain : ℕ) (members : List ℕ) (lines done rest : List Line) (c : Chain) (id : ℕ) (r : Record Event) (p q last : Plain) (rs : List (Record Event)) → lines ≡ done ++ node_line id r ∷ rest → AreSound members lines → IsReached chain members done (node_line id r ∷ rest) c → id ≢ 0 → IsNow chain id (node_at c.nodes id) p → node_step p r.event ≡ Ok (q, r.step) → lines_of id rest ≡ map (node_line id) rs → Replays node_step q rs last → IsNext chain members lines done (node_line id r) rest c
+at_record : (chain : ℕ) (members : List ℕ) (lines done rest : List MergedStep) (c : Chain) (id : ℕ) (r : Record Event) (p q last : Plain) (rs : List (Record Event)) → lines ≡ done ++ node_line id r ∷ rest → AreSound members lines → IsReached chain members done (node_line id r ∷ rest) c → id ≢ 0 → IsNow chain id (node_at c.nodes id) p → node_step p r.event ≡ Ok (q, r.step) → lines_of id rest ≡ map (node_line id) rs → Replays node_step q rs last → IsNext chain members lines done (node_line id r) rest c
 at_record chain members lines done rest c id r p q last rs e sound old z now h ls replay =
-    let l : Line = node_line id r in
+    let l : MergedStep = node_line id r in
     let at : node_at c.nodes id ≡ Some p = now_is chain id c p (is_known chain members lines done rest l c r.event e sound old refl) now in
     taken chain members lines done rest l c (record c { nodes = set_node c.nodes q }) e sound old
     (moves lines c id p q r.event r.step z at h (λ m is. stands_for chain members lines done rest l c p m e sound old (ap AtNode is)))
@@ -173,7 +173,7 @@ at_record chain members lines done rest c id r p q last rs e sound old z now h l
 pub first_same : {X : Type 0} (x y : X) (xs ys : List X) → x ∷ xs ≡ y ∷ ys → (x ≡ y) × (xs ≡ ys)
 first_same x y xs ys h = (cc, cc)
 
-by_records : (chain : ℕ) (members : List ℕ) (lines done rest : List Line) (l : Line) (c : Chain) (p last : Plain) (rs : List (Record Event)) → lines ≡ done ++ l ∷ rest → AreSound members lines → IsReached chain members done (l ∷ rest) c → l.node ≢ 0 → IsNow chain l.node (node_at c.nodes l.node) p → l ∷ lines_of l.node rest ≡ map (node_line l.node) rs → Replays node_step p rs last → IsNext chain members lines done l rest c
+by_records : (chain : ℕ) (members : List ℕ) (lines done rest : List MergedStep) (l : MergedStep) (c : Chain) (p last : Plain) (rs : List (Record Event)) → lines ≡ done ++ l ∷ rest → AreSound members lines → IsReached chain members done (l ∷ rest) c → l.node ≢ 0 → IsNow chain l.node (node_at c.nodes l.node) p → l ∷ lines_of l.node rest ≡ map (node_line l.node) rs → Replays node_step p rs last → IsNext chain members lines done l rest c
 by_records chain members lines done rest l c p last [] e sound old z now ls replay = cc
 by_records chain members lines done rest l c p last (r ∷ rs) e sound old z now ls (q, h, replay) =
     let s = first_same l (node_line l.node r) (lines_of l.node rest) (map (node_line l.node) rs) ls in
@@ -182,7 +182,7 @@ by_records chain members lines done rest l c p last (r ∷ rs) e sound old z now
     subst (λ x. IsNext chain members lines done x rest c) (sym s.0)
     (at_record chain members lines done rest c l.node r p q last rs f sound o z now h s.1 replay)
 
-pub at_node : (chain : ℕ) (members : List ℕ) (lines done rest : List Line) (l : Line) (c : Chain) → lines ≡ done ++ l ∷ rest → AreSound members lines → IsReached chain members done (l ∷ rest) c → l.node ≢ 0 → IsNext chain members lines done l rest c
+pub at_node : (chain : ℕ) (members : List ℕ) (lines done rest : List MergedStep) (l : MergedStep) (c : Chain) → lines ≡ done ++ l ∷ rest → AreSound members lines → IsReached chain members done (l ∷ rest) c → l.node ≢ 0 → IsNext chain members lines done l rest c
 at_node chain members lines done rest l c e sound r z =
     let g = r.nodes l.node z in
     by_records chain members lines done rest l c g.node g.last g.records e sound r z g.now (sym (at_here l.node l rest refl) ∙ g.lines) g.replay

@@ -17,7 +17,7 @@ use Rattle.craq_seat.specs.declared.journal.BookEvent.TheVariants as books
 use Rattle.craq_seat.specs.declared.journal.Record.{Record}
 use Rattle.craq_seat.specs.Books.{book_step}
 use Rattle.craq_seat.specs.Journal.{RisesTo}
-use Rattle.craq_seat.specs.Merge.{AtNode, AtMaster, Happening, Line, book_line, node_line}
+use Rattle.craq_seat.specs.Merge.{AtNode, AtMaster, Happening, MergedStep, book_line, node_line}
 use Rattle.craq_seat.proofs.Taking.{replays_more}
 use Rattle.craq_causality.specs.Authors.{IsMasterAfter, IsNodeAfter, first_of, lines_of}
 use Rattle.craq_causality.specs.Causal.{AreCausal, AreOrdered, HasJoined, IsOfSent, IsOfStopped, IsOfType, MayFollow}
@@ -26,17 +26,17 @@ use Rattle.craq_causality.proofs.Orders.{from_contains, in_left, to_contains}
 
 -- ---- the lines of one author
 
-lines_same : (id : ℕ) (lines : List Line) (l : Line) → l.node ≡ id → lines_of id (lines ++ l ∷ []) ≡ lines_of id lines ++ l ∷ []
-lines_same id lines l e = filter-append (λ (x : Line). x.node == id) lines (l ∷ []) ∙ rw (eq-eqb l.node id e) refl
+lines_same : (id : ℕ) (lines : List MergedStep) (l : MergedStep) → l.node ≡ id → lines_of id (lines ++ l ∷ []) ≡ lines_of id lines ++ l ∷ []
+lines_same id lines l e = filter-append (λ (x : MergedStep). x.node == id) lines (l ∷ []) ∙ rw (eq-eqb l.node id e) refl
 
-lines_other : (id : ℕ) (lines : List Line) (l : Line) → l.node ≢ id → lines_of id (lines ++ l ∷ []) ≡ lines_of id lines
-lines_other id lines l n = filter-append (λ (x : Line). x.node == id) lines (l ∷ []) ∙ rw (ne_eqb l.node id n) (append-nil (lines_of id lines))
+lines_other : (id : ℕ) (lines : List MergedStep) (l : MergedStep) → l.node ≢ id → lines_of id (lines ++ l ∷ []) ≡ lines_of id lines
+lines_other id lines l n = filter-append (λ (x : MergedStep). x.node == id) lines (l ∷ []) ∙ rw (ne_eqb l.node id n) (append-nil (lines_of id lines))
 
 rises_more : {E : Type 0} (low high : ℕ) (rs : List (Record E)) (r : Record E) → RisesTo low rs high → high < r.stamp → RisesTo low (rs ++ r ∷ []) r.stamp
 rises_more low high [] r is less = (rw is at less, refl)
 rises_more low high (x ∷ rs) r (first, rest) less = (first, rises_more x.stamp high rs r rest less)
 
-pub node_more : (chain : ℕ) (members : List ℕ) (id : ℕ) (lines : List Line) (p q : Plain) (stamp : ℕ) (r : Record Event) → IsNodeAfter chain members id lines p stamp → node_step p r.event ≡ Ok (q, r.step) → stamp < r.stamp → IsNodeAfter chain members id (lines ++ node_line id r ∷ []) q r.stamp
+pub node_more : (chain : ℕ) (members : List ℕ) (id : ℕ) (lines : List MergedStep) (p q : Plain) (stamp : ℕ) (r : Record Event) → IsNodeAfter chain members id lines p stamp → node_step p r.event ≡ Ok (q, r.step) → stamp < r.stamp → IsNodeAfter chain members id (lines ++ node_line id r ∷ []) q r.stamp
 node_more chain members id lines p q stamp r n step less =
     record {
       records = n.records ++ r ∷ [];
@@ -46,26 +46,26 @@ node_more chain members id lines p q stamp r n step less =
       stamps = rises_more n.low stamp n.records r n.stamps less;
     }
 
-node_other : (chain : ℕ) (members : List ℕ) (id : ℕ) (lines : List Line) (l : Line) (p : Plain) (stamp : ℕ) → l.node ≢ id → IsNodeAfter chain members id lines p stamp → IsNodeAfter chain members id (lines ++ l ∷ []) p stamp
+node_other : (chain : ℕ) (members : List ℕ) (id : ℕ) (lines : List MergedStep) (l : MergedStep) (p : Plain) (stamp : ℕ) → l.node ≢ id → IsNodeAfter chain members id lines p stamp → IsNodeAfter chain members id (lines ++ l ∷ []) p stamp
 node_other chain members id lines l p stamp other n =
     record { records = n.records; are = lines_other id lines l other ∙ n.are; replay = n.replay; low = n.low; stamps = n.stamps }
 
-pub master_more : (chain : ℕ) (members : List ℕ) (lines : List Line) (m n : Mastered) (stamp : ℕ) (r : Record BookEvent) → IsMasterAfter chain members lines m stamp → book_step m r.event ≡ Ok (n, r.step) → stamp < r.stamp → IsMasterAfter chain members (lines ++ book_line r ∷ []) n r.stamp
+pub master_more : (chain : ℕ) (members : List ℕ) (lines : List MergedStep) (m n : Mastered) (stamp : ℕ) (r : Record BookEvent) → IsMasterAfter chain members lines m stamp → book_step m r.event ≡ Ok (n, r.step) → stamp < r.stamp → IsMasterAfter chain members (lines ++ book_line r ∷ []) n r.stamp
 master_more chain members lines m n stamp r b step less =
     record {
       records = b.records ++ r ∷ [];
       are = lines_same 0 lines (book_line r) refl ∙ ap (λ ls. ls ++ book_line r ∷ []) b.are ∙ sym (map-append book_line b.records (r ∷ []));
-      replay = replays_more book_step (masters.opened chain members) m n b.records r b.replay step;
+      replay = replays_more book_step (masters.opened_master chain members) m n b.records r b.replay step;
       stamps = rises_more 0 stamp b.records r b.stamps less;
     }
 
-master_other : (chain : ℕ) (members : List ℕ) (lines : List Line) (l : Line) (m : Mastered) (stamp : ℕ) → l.node ≢ 0 → IsMasterAfter chain members lines m stamp → IsMasterAfter chain members (lines ++ l ∷ []) m stamp
+master_other : (chain : ℕ) (members : List ℕ) (lines : List MergedStep) (l : MergedStep) (m : Mastered) (stamp : ℕ) → l.node ≢ 0 → IsMasterAfter chain members lines m stamp → IsMasterAfter chain members (lines ++ l ∷ []) m stamp
 master_other chain members lines l m stamp other b =
     record { records = b.records; are = lines_other 0 lines l other ∙ b.are; replay = b.replay; stamps = b.stamps }
 
 -- ---- all lines
 
-ordered_more : (members : List ℕ) (before lines : List Line) (l : Line) → AreOrdered members before lines → MayFollow members (before ++ lines) l.node l.event → AreOrdered members before (lines ++ l ∷ [])
+ordered_more : (members : List ℕ) (before lines : List MergedStep) (l : MergedStep) → AreOrdered members before lines → MayFollow members (before ++ lines) l.node l.event → AreOrdered members before (lines ++ l ∷ [])
 ordered_more members before [] l o may = (rw append-nil at may, tt)
 ordered_more members before (x ∷ lines) l o may =
     (o.0, ordered_more members (before ++ x ∷ []) lines l o.1 (subst (λ ls. MayFollow members ls l.node l.event) (sym (append_assoc before (x ∷ []) lines)) may))
@@ -79,16 +79,16 @@ pub no_lines : (chain : ℕ) (members : List ℕ) → IsMembership members → A
 no_lines chain members m =
     record {
       membership = m;
-      master = (masters.opened chain members, 0, record { records = []; are = refl; replay = refl; stamps = refl });
+      master = (masters.opened_master chain members, 0, record { records = []; are = refl; replay = refl; stamps = refl });
       nodes = λ id z. (first_of chain members id, 0, record { records = []; are = refl; replay = refl; low = 0; stamps = refl });
       order = tt;
       typed = tt;
     }
 
 -- a step of a node follows
-pub node_follows : (chain : ℕ) (members : List ℕ) (lines : List Line) (id : ℕ) (p q : Plain) (stamp : ℕ) (r : Record Event) → AreCausal chain members lines → id ≢ 0 → IsNodeAfter chain members id lines p stamp → node_step p r.event ≡ Ok (q, r.step) → stamp < r.stamp → MayFollow members lines id (AtNode r.event) → IsOfType (AtNode r.event) → AreCausal chain members (lines ++ node_line id r ∷ [])
+pub node_follows : (chain : ℕ) (members : List ℕ) (lines : List MergedStep) (id : ℕ) (p q : Plain) (stamp : ℕ) (r : Record Event) → AreCausal chain members lines → id ≢ 0 → IsNodeAfter chain members id lines p stamp → node_step p r.event ≡ Ok (q, r.step) → stamp < r.stamp → MayFollow members lines id (AtNode r.event) → IsOfType (AtNode r.event) → AreCausal chain members (lines ++ node_line id r ∷ [])
 node_follows chain members lines id p q stamp r a z n step less may typed =
-    let l : Line = node_line id r in
+    let l : MergedStep = node_line id r in
     record {
       membership = a.membership;
       master = (a.master.0, a.master.1, master_other chain members lines l a.master.0 a.master.1 z a.master.2);
@@ -97,19 +97,19 @@ node_follows chain members lines id p q stamp r a z n step less may typed =
         | inr d ↦ (let t = a.nodes k w in (t.0, t.1, node_other chain members k lines l t.0 t.1 d t.2))
       ];
       order = ordered_more members [] lines l a.order may;
-      typed = all_more (λ (x : Line). IsOfType x.event) lines l a.typed typed;
+      typed = all_more (λ (x : MergedStep). IsOfType x.event) lines l a.typed typed;
     }
 
 -- a step of the master follows
-pub master_follows : (chain : ℕ) (members : List ℕ) (lines : List Line) (m n : Mastered) (stamp : ℕ) (r : Record BookEvent) → AreCausal chain members lines → IsMasterAfter chain members lines m stamp → book_step m r.event ≡ Ok (n, r.step) → stamp < r.stamp → MayFollow members lines 0 (AtMaster r.event) → AreCausal chain members (lines ++ book_line r ∷ [])
+pub master_follows : (chain : ℕ) (members : List ℕ) (lines : List MergedStep) (m n : Mastered) (stamp : ℕ) (r : Record BookEvent) → AreCausal chain members lines → IsMasterAfter chain members lines m stamp → book_step m r.event ≡ Ok (n, r.step) → stamp < r.stamp → MayFollow members lines 0 (AtMaster r.event) → AreCausal chain members (lines ++ book_line r ∷ [])
 master_follows chain members lines m n stamp r a b step less may =
-    let l : Line = book_line r in
+    let l : MergedStep = book_line r in
     record {
       membership = a.membership;
       master = (n, r.stamp, master_more chain members lines m n stamp r b step less);
       nodes = λ k w. let t = a.nodes k w in (t.0, t.1, node_other chain members k lines l t.0 t.1 (λ e. w (sym e)) t.2);
       order = ordered_more members [] lines l a.order may;
-      typed = all_more (λ (x : Line). IsOfType x.event) lines l a.typed tt;
+      typed = all_more (λ (x : MergedStep). IsOfType x.event) lines l a.typed tt;
     }
 
 -- ---- what may follow lines may follow more of them
@@ -117,21 +117,21 @@ master_follows chain members lines m n stamp r a b step less may =
 contains_more : {X : Type 0} (xs ys : List X) (x : X) → IsPrefix xs ys → Contains xs x → Contains ys x
 contains_more xs ys x p c = subst (λ zs. Contains zs x) p.1 (to_contains (xs ++ p.0) x (in_left xs p.0 x (from_contains xs x c)))
 
-pub joined_later : (members : List ℕ) (xs ys : List Line) (id : ℕ) → IsPrefix xs ys → HasJoined members xs id → HasJoined members ys id
+pub joined_later : (members : List ℕ) (xs ys : List MergedStep) (id : ℕ) → IsPrefix xs ys → HasJoined members xs id → HasJoined members ys id
 joined_later members xs ys id p (inl m) = inl m
 joined_later members xs ys id p (inr j) = inr (j.0, contains_more xs ys j.0 p j.1, j.2)
 
-pub sent_later : (xs ys : List Line) (e : Event) → IsPrefix xs ys → IsOfSent xs e → IsOfSent ys e
+pub sent_later : (xs ys : List MergedStep) (e : Event) → IsPrefix xs ys → IsOfSent xs e → IsOfSent ys e
 sent_later xs ys (events.Ask ask) p s = tt
 sent_later xs ys (events.Deliver m) p s = record { line = s.line; there = contains_more xs ys s.line p s.there; node = s.node; stamp = s.stamp; message = s.message }
 sent_later xs ys events.Tick p s = tt
 sent_later xs ys events.Stop p s = tt
 
-pub stopped_later : (xs ys : List Line) (e : BookEvent) → IsPrefix xs ys → IsOfStopped xs e → IsOfStopped ys e
+pub stopped_later : (xs ys : List MergedStep) (e : BookEvent) → IsPrefix xs ys → IsOfStopped xs e → IsOfStopped ys e
 stopped_later xs ys (books.Join other) p s = tt
 stopped_later xs ys (books.Remove stopped stop) p s = (s.0, contains_more xs ys s.0 p s.1, s.2, s.3, s.4)
 stopped_later xs ys books.Tick p s = tt
 
-pub follows_later : (members : List ℕ) (xs ys : List Line) (id : ℕ) (h : Happening) → IsPrefix xs ys → MayFollow members xs id h → MayFollow members ys id h
+pub follows_later : (members : List ℕ) (xs ys : List MergedStep) (id : ℕ) (h : Happening) → IsPrefix xs ys → MayFollow members xs id h → MayFollow members ys id h
 follows_later members xs ys id (AtNode e) p may = (joined_later members xs ys id p may.0, sent_later xs ys e p may.1)
 follows_later members xs ys id (AtMaster e) p may = stopped_later xs ys e p may

@@ -8,33 +8,33 @@ use Rattle.craq_names.specs.declared.refusal.Refusal.TheVariants.{NotMember, Not
 use Rattle.craq_model.specs.declared.step.Step.{Step}
 use Rattle.craq_model.specs.Members.{is_member, without}
 use Rattle.craq_model.specs.Plain.{id_of, opening_joined}
-use Rattle.craq_epochs.specs.Mastered.{Mastered, removed, joined}
+use Rattle.craq_epochs.specs.Mastered.{Mastered, removed, master_after_join}
 use Rattle.craq_runs.specs.Chain.{Chain, Progress, config_progress, node_at, is_running, removal_progress, join_progress, next_epoch, with_node}
 use Rattle.craq_laws.proofs.Nodes.{ids_push, used_are_nodes}
-use Rattle.craq_chain.specs.Parts.{master_of, told, told_step}
+use Rattle.craq_chain.specs.Parts.{master_of, membership_message, membership_step}
 use Rattle.craq_chain.proofs.Commands.{join_made, removal_made}
 use Rattle.craq_seat.specs.Books.{tells}
 use Rattle.craq_seat.specs.Numbered.{AreFrom}
 
-told_same : (x y : Mastered × Step) (r : Result (Mastered × Step) Refusal) → r ≡ Ok x → r ≡ Ok y → x ≡ y
-told_same x y r h k = cc
+reported_same : (x y : Mastered × Step) (r : Result (Mastered × Step) Refusal) → r ≡ Ok x → r ≡ Ok y → x ≡ y
+reported_same x y r h k = cc
 
 -- what is told is of the master after the step
-pub is_told : (r : Result Mastered Refusal) (n : Mastered) (step : Step) → tells r ≡ Ok (n, step) → (r ≡ Ok n) × (step ≡ told_step n.chain n.epoch n.members)
-is_told (Err e) n step h = cc
-is_told (Ok m) n step h =
-    let e = told_same (m, told_step m.chain m.epoch m.members) (n, step) (tells (Ok m)) refl h in
+pub is_reported : (r : Result Mastered Refusal) (n : Mastered) (step : Step) → tells r ≡ Ok (n, step) → (r ≡ Ok n) × (step ≡ membership_step n.chain n.epoch n.members)
+is_reported (Err e) n step h = cc
+is_reported (Ok m) n step h =
+    let e = reported_same (m, membership_step m.chain m.epoch m.members) (n, step) (tells (Ok m)) refl h in
     let f : m ≡ n = ap (λ x. x.0) e in
-    let g : told_step m.chain m.epoch m.members ≡ step = ap (λ x. x.1) e in
-    (ap Ok f, sym g ∙ ap (λ (x : Mastered). told_step x.chain x.epoch x.members) f)
+    let g : membership_step m.chain m.epoch m.members ≡ step = ap (λ x. x.1) e in
+    (ap Ok f, sym g ∙ ap (λ (x : Mastered). membership_step x.chain x.epoch x.members) f)
 
 -- the master's messages are from node 0
-outs_from : (chain epoch : ℕ) (all members : List ℕ) → AreFrom 0 (map (told chain epoch all) members)
+outs_from : (chain epoch : ℕ) (all members : List ℕ) → AreFrom 0 (map (membership_message chain epoch all) members)
 outs_from chain epoch all [] = tt
 outs_from chain epoch all (m ∷ members) = (refl, refl, outs_from chain epoch all members)
 
-pub told_from : (n : Mastered) (step : Step) → step ≡ told_step n.chain n.epoch n.members → AreFrom 0 step.outs
-told_from n step e = subst (λ (s : Step). AreFrom 0 s.outs) (sym e) (outs_from n.chain n.epoch n.members n.members)
+pub reported_from : (n : Mastered) (step : Step) → step ≡ membership_step n.chain n.epoch n.members → AreFrom 0 step.outs
+reported_from n step e = subst (λ (s : Step). AreFrom 0 s.outs) (sym e) (outs_from n.chain n.epoch n.members n.members)
 
 -- ---- joins
 
@@ -61,8 +61,8 @@ pub record Joins (c : Chain) (id : ℕ) (n : Mastered) (step : Step) : Type 0 wh
   pub master : n ≡ master_of (after_join c id)
   pub new : node_at c.nodes id ≡ None
 
-pub joins : (c : Chain) (id : ℕ) (n : Mastered) (step : Step) → joined (master_of c) id ≡ Ok n → step ≡ told_step n.chain n.epoch n.members → Joins c id n step
-unfolding joined join_progress
+pub joins : (c : Chain) (id : ℕ) (n : Mastered) (step : Step) → master_after_join (master_of c) id ≡ Ok n → step ≡ membership_step n.chain n.epoch n.members → Joins c id n step
+unfolding master_after_join join_progress
 joins c id n step h s =
     let used : Bool = (id == 0) || is_some (node_at c.nodes id) in
     let m : Mastered = record (master_of c) { epoch = c.epoch + 1; members = c.members ++ id ∷ []; used = map id_of c.nodes ++ id ∷ [] } in
@@ -94,7 +94,7 @@ pub record Removes (c : Chain) (id : ℕ) (n : Mastered) (step : Step) : Type 0 
   pub progress : removal_progress c id ≡ Ok (after_removal c id, step)
   pub master : n ≡ master_of (after_removal c id)
 
-pub removes : (c : Chain) (stopped : NodeName) (n : Mastered) (step : Step) → is_running (node_at c.nodes stopped.node) ≡ false → removed (master_of c) stopped ≡ Ok n → step ≡ told_step n.chain n.epoch n.members → Removes c stopped.node n step
+pub removes : (c : Chain) (stopped : NodeName) (n : Mastered) (step : Step) → is_running (node_at c.nodes stopped.node) ≡ false → removed (master_of c) stopped ≡ Ok n → step ≡ membership_step n.chain n.epoch n.members → Removes c stopped.node n step
 unfolding removed removal_progress
 removes c stopped n step r h s =
     let m : Mastered = record (master_of c) { epoch = c.epoch + 1; members = without c.members stopped.node } in

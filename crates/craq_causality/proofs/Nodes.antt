@@ -9,7 +9,7 @@ use Rattle.craq_model.specs.declared.ask.Event.TheVariants as events
 use Rattle.craq_model.specs.declared.message.LinkMessage.{LinkMessage}
 use Rattle.craq_model.specs.declared.step.Step.{Step}
 use Rattle.craq_model.specs.Plain.{Plain, id_of}
-use Rattle.craq_model.specs.Settle.{Turn}
+use Rattle.craq_model.specs.Settle.{Transition}
 use Rattle.craq_model.specs.Node.{node_step}
 use Rattle.craq_runs.specs.declared.run.Move.{Move}
 use Rattle.craq_runs.specs.Chain.{Chain, chain_step, move_progress, node_at, sent_in}
@@ -42,7 +42,7 @@ unfolding node_step
 is_receiver p q m s h = grind (arith, h, eqb-true m.receiver (id_of p))
 
 -- the node of a stop runs no more
-abbrev IsHalted : Result Turn Refusal → Type 0
+abbrev IsHalted : Result Transition Refusal → Type 0
 IsHalted (Ok t) = t.0.running ≡ false
 IsHalted (Err e) = ⊤
 

@@ -5,7 +5,7 @@ use Rattle.std.specs.List.{AllByRecursion}
 use Rattle.std.proofs.lemmas.Bool.{cond_both, eqb-true}
 use Rattle.craq_seat.specs.declared.journal.Record.{Record}
 use Rattle.craq_seat.specs.Journal.{RisesTo}
-use Rattle.craq_seat.specs.Merge.{Line}
+use Rattle.craq_seat.specs.Merge.{MergedStep}
 use Rattle.craq_causality.specs.Authors.{lines_of}
 
 -- ---- what is in a list
@@ -65,9 +65,9 @@ in_get (y ∷ xs) (suc k) x h = inr (in_get xs k x h)
 -- ---- stamps along the lines
 
 -- each stamp is below all that follow
-abbrev pub AreRising : List Line → Type 0
+abbrev pub AreRising : List MergedStep → Type 0
 AreRising [] = ⊤
-AreRising (a ∷ ls) = AllByRecursion (λ (b : Line). a.stamp < b.stamp) ls × AreRising ls
+AreRising (a ∷ ls) = AllByRecursion (λ (b : MergedStep). a.stamp < b.stamp) ls × AreRising ls
 
 above_first : {E : Type 0} (first last : ℕ) (rs : List (Record E)) (r : Record E) → RisesTo first rs last → IsIn rs r → first < r.stamp
 above_first first last [] r h i = absurd i
@@ -75,60 +75,60 @@ above_first first last (x ∷ rs) r h (inl e) = let a = h.0 in let s : x.stamp �
 above_first first last (x ∷ rs) r h (inr i) = let a = h.0 in let b = above_first x.stamp last rs r h.1 i in omega (arith, a, b)
 
 -- the stamps of a journal rise
-pub journal_rises : {E : Type 0} (line : Record E → Line) → ((r : Record E) → (line r).stamp ≡ r.stamp) → (first last : ℕ) (rs : List (Record E)) → RisesTo first rs last → AreRising (map line rs)
+pub journal_rises : {E : Type 0} (line : Record E → MergedStep) → ((r : Record E) → (line r).stamp ≡ r.stamp) → (first last : ℕ) (rs : List (Record E)) → RisesTo first rs last → AreRising (map line rs)
 journal_rises line at first last [] h = tt
 journal_rises line at first last (r ∷ rs) h =
-    (all_by (λ (b : Line). (line r).stamp < b.stamp) (map line rs) (λ z i. by_record z (of_map line rs z i)), journal_rises line at r.stamp last rs h.1)
+    (all_by (λ (b : MergedStep). (line r).stamp < b.stamp) (map line rs) (λ z i. by_record z (of_map line rs z i)), journal_rises line at r.stamp last rs h.1)
   where
-    by_record : (z : Line) → (x : _) × IsIn rs x × (line x ≡ z) → (line r).stamp < z.stamp
+    by_record : (z : MergedStep) → (x : _) × IsIn rs x × (line x ≡ z) → (line r).stamp < z.stamp
     by_record z (x, i, e) =
         let a = above_first r.stamp last rs x h.1 i in
         let b = at r in
-        let c : x.stamp ≡ z.stamp = sym (at x) ∙ ap (λ (y : Line). y.stamp) e in
+        let c : x.stamp ≡ z.stamp = sym (at x) ∙ ap (λ (y : MergedStep). y.stamp) e in
         omega (arith, a, b, c)
 
 -- ---- the lines of one node
 
-pub at_here : (id : ℕ) (l : Line) (ls : List Line) → l.node ≡ id → lines_of id (l ∷ ls) ≡ l ∷ lines_of id ls
+pub at_here : (id : ℕ) (l : MergedStep) (ls : List MergedStep) → l.node ≡ id → lines_of id (l ∷ ls) ≡ l ∷ lines_of id ls
 at_here id l ls e = grind (arith, e)
 
-pub at_other : (id : ℕ) (l : Line) (ls : List Line) → l.node ≢ id → lines_of id (l ∷ ls) ≡ lines_of id ls
+pub at_other : (id : ℕ) (l : MergedStep) (ls : List MergedStep) → l.node ≢ id → lines_of id (l ∷ ls) ≡ lines_of id ls
 at_other id l ls n = grind (arith, n)
 
-pub to_at : (id : ℕ) (ls : List Line) (z : Line) → IsIn ls z → z.node ≡ id → IsIn (lines_of id ls) z
+pub to_at : (id : ℕ) (ls : List MergedStep) (z : MergedStep) → IsIn ls z → z.node ≡ id → IsIn (lines_of id ls) z
 to_at id [] z i e = absurd i
 to_at id (l ∷ ls) z (inl s) e =
-    rw (at_here id l ls (ap (λ (x : Line). x.node) s ∙ e)) (inl s)
+    rw (at_here id l ls (ap (λ (x : MergedStep). x.node) s ∙ e)) (inl s)
 to_at id (l ∷ ls) z (inr i) e =
     cond_both (l.node == id) (l ∷ lines_of id ls) (lines_of id ls) (λ xs. IsIn xs z) (λ b. inr (to_at id ls z i e)) (λ b. to_at id ls z i e)
 
-abbrev IsOf : ℕ → List Line → Line → Type 0
+abbrev IsOf : ℕ → List MergedStep → MergedStep → Type 0
 IsOf id ls z = IsIn ls z × (z.node ≡ id)
 
-pub from_at : (id : ℕ) (ls : List Line) (z : Line) → IsIn (lines_of id ls) z → IsIn ls z × (z.node ≡ id)
+pub from_at : (id : ℕ) (ls : List MergedStep) (z : MergedStep) → IsIn (lines_of id ls) z → IsIn ls z × (z.node ≡ id)
 from_at id [] z i = absurd i
 from_at id (l ∷ ls) z i =
     cond_both (l.node == id) (l ∷ lines_of id ls) (lines_of id ls) (λ xs. IsIn xs z → IsOf id (l ∷ ls) z)
-    (λ b k. elim k [ inl s ↦ (inl s, ap (λ (x : Line). x.node) (sym s) ∙ eqb-true l.node id b) | inr m ↦ (let r = from_at id ls z m in (inr r.0, r.1)) ])
+    (λ b k. elim k [ inl s ↦ (inl s, ap (λ (x : MergedStep). x.node) (sym s) ∙ eqb-true l.node id b) | inr m ↦ (let r = from_at id ls z m in (inr r.0, r.1)) ])
     (λ b k. let r = from_at id ls z k in (inr r.0, r.1))
     i
 
 -- ---- lines that are told apart by author and stamp
 
-abbrev pub IsApart : Line → Line → Type 0
+abbrev pub IsApart : MergedStep → MergedStep → Type 0
 IsApart a b = a.node ≡ b.node → a.stamp < b.stamp
 
-abbrev pub AreApart : List Line → Type 0
+abbrev pub AreApart : List MergedStep → Type 0
 AreApart [] = ⊤
 AreApart (a ∷ ls) = AllByRecursion (IsApart a) ls × AreApart ls
 
-rest_rises : (id : ℕ) (l : Line) (ls : List Line) → AreRising (lines_of id (l ∷ ls)) → AreRising (lines_of id ls)
+rest_rises : (id : ℕ) (l : MergedStep) (ls : List MergedStep) → AreRising (lines_of id (l ∷ ls)) → AreRising (lines_of id ls)
 rest_rises id l ls r = cond_both (l.node == id) (l ∷ lines_of id ls) (lines_of id ls) (λ xs. AreRising xs → AreRising (lines_of id ls)) (λ b k. k.1) (λ b k. k) r
 
-pub apart : (ls : List Line) → ((id : ℕ) → AreRising (lines_of id ls)) → AreApart ls
+pub apart : (ls : List MergedStep) → ((id : ℕ) → AreRising (lines_of id ls)) → AreApart ls
 apart [] f = tt
 apart (l ∷ ls) f =
     let up = (subst AreRising (at_here l.node l ls refl) (f l.node)).0 in (
-      all_by (IsApart l) ls (λ s i e. all_in (λ (b : Line). l.stamp < b.stamp) (lines_of l.node ls) s up (to_at l.node ls s i (sym e))),
+      all_by (IsApart l) ls (λ s i e. all_in (λ (b : MergedStep). l.stamp < b.stamp) (lines_of l.node ls) s up (to_at l.node ls s i (sym e))),
       apart ls (λ id. rest_rises id l ls (f id)),
     )

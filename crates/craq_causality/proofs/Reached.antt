@@ -14,7 +14,7 @@ use Rattle.craq_seat.specs.declared.journal.BookEvent.TheVariants as books
 use Rattle.craq_seat.specs.declared.journal.Record.{Record}
 use Rattle.craq_seat.specs.Books.{book_step}
 use Rattle.craq_seat.specs.Journal.{Replays}
-use Rattle.craq_seat.specs.Merge.{AtNode, AtMaster, Line, book_line, node_line}
+use Rattle.craq_seat.specs.Merge.{AtNode, AtMaster, MergedStep, book_line, node_line}
 use Rattle.craq_causality.proofs.Orders.{AreApart, IsIn, in_either}
 use Rattle.craq_causality.specs.Authors.{lines_of}
 use Rattle.craq_causality.specs.Causal.{AreFew, AreOrdered, MayFollow}
@@ -24,22 +24,22 @@ use Rattle.craq_seat.specs.Numbered.{AreFrom}
 
 -- ---- what is known of the lines
 
-abbrev pub IsJoinOf : ℕ → Line → Type 0
+abbrev pub IsJoinOf : ℕ → MergedStep → Type 0
 IsJoinOf id l = l.event ≡ AtMaster (books.Join id)
 
 -- author and stamp tell the lines apart, each may follow those before it, and there are numbers for all
-pub record AreSound (members : List ℕ) (lines : List Line) : Type 0 where
+pub record AreSound (members : List ℕ) (lines : List MergedStep) : Type 0 where
   pub apart : AreApart lines
   pub order : AreOrdered members [] lines
   pub few : AreFew lines
 
-ordered_at : (members : List ℕ) (before done rest : List Line) (l : Line) → AreOrdered members before (done ++ l ∷ rest) → MayFollow members (before ++ done) l.node l.event
+ordered_at : (members : List ℕ) (before done rest : List MergedStep) (l : MergedStep) → AreOrdered members before (done ++ l ∷ rest) → MayFollow members (before ++ done) l.node l.event
 ordered_at members before [] rest l o = subst (λ ls. MayFollow members ls l.node l.event) (sym (append-nil before)) o.0
 ordered_at members before (d ∷ done) rest l o =
     subst (λ ls. MayFollow members ls l.node l.event) (append_assoc before (d ∷ []) done) (ordered_at members (before ++ d ∷ []) done rest l o.1)
 
 -- a line may follow those that were taken
-pub follows : (members : List ℕ) (lines done rest : List Line) (l : Line) → lines ≡ done ++ l ∷ rest → AreSound members lines → MayFollow members done l.node l.event
+pub follows : (members : List ℕ) (lines done rest : List MergedStep) (l : MergedStep) → lines ≡ done ++ l ∷ rest → AreSound members lines → MayFollow members done l.node l.event
 follows members lines done rest l e s = ordered_at members [] done rest l (subst (AreOrdered members []) e s.order)
 
 -- ---- what holds of the chain
@@ -51,7 +51,7 @@ abbrev pub IsStopped : List Plain → ℕ → Type 0
 IsStopped ps id = (p : Plain) × (node_at ps id ≡ Some p) × (p.running ≡ false)
 
 -- the rest of the master's journal goes on from this master
-pub record MasterGoes (m : Mastered) (ls : List Line) : Type 0 where
+pub record MasterGoes (m : Mastered) (ls : List MergedStep) : Type 0 where
   pub records : List (Record BookEvent)
   pub last : Mastered
   pub lines : ls ≡ map book_line records
@@ -62,7 +62,7 @@ abbrev pub IsNow : ℕ → ℕ → Option Plain → Plain → Type 0
 IsNow chain id o p = (o ≡ Some p) ⊎ ((o ≡ None) × (p ≡ opening_joined (record { chain = chain; node = id })))
 
 -- the rest of a node's journal goes on from it
-pub record NodeGoes (chain id : ℕ) (o : Option Plain) (ls : List Line) : Type 0 where
+pub record NodeGoes (chain id : ℕ) (o : Option Plain) (ls : List MergedStep) : Type 0 where
   pub node : Plain
   pub records : List (Record Event)
   pub last : Plain
@@ -71,19 +71,19 @@ pub record NodeGoes (chain id : ℕ) (o : Option Plain) (ls : List Line) : Type 
   pub replay : Replays node_step node records last
 
 -- the chain after these lines
-pub record IsReached (chain : ℕ) (members : List ℕ) (done rest : List Line) (c : Chain) : Type 0 where
+pub record IsReached (chain : ℕ) (members : List ℕ) (done rest : List MergedStep) (c : Chain) : Type 0 where
   pub chained : c.chain ≡ chain
   pub sent : c.messages ≡ all_sent done
   pub count : c.moves ≡ length done
   pub master : MasterGoes (master_of c) (lines_of 0 rest)
   pub nodes : (id : ℕ) → id ≢ 0 → NodeGoes chain id (node_at c.nodes id) (lines_of id rest)
   pub first : (id : ℕ) → is_member members id ≡ true → IsThere c.nodes id
-  pub joins : (l : Line) → IsIn done l → (id : ℕ) → IsJoinOf id l → IsThere c.nodes id
-  pub stops : (l : Line) → IsIn done l → l.event ≡ AtNode events.Stop → IsStopped c.nodes l.node
-  pub from : (l : Line) → IsIn done l → AreFrom l.node l.step.outs
+  pub joins : (l : MergedStep) → IsIn done l → (id : ℕ) → IsJoinOf id l → IsThere c.nodes id
+  pub stops : (l : MergedStep) → IsIn done l → l.event ≡ AtNode events.Stop → IsStopped c.nodes l.node
+  pub from : (l : MergedStep) → IsIn done l → AreFrom l.node l.step.outs
 
 -- what a line changes
-pub record IsChanged (chain : ℕ) (l : Line) (rest : List Line) (c x : Chain) : Type 0 where
+pub record IsChanged (chain : ℕ) (l : MergedStep) (rest : List MergedStep) (c x : Chain) : Type 0 where
   pub chained : x.chain ≡ c.chain
   pub master : MasterGoes (master_of x) (lines_of 0 rest)
   pub nodes : (id : ℕ) → id ≢ 0 → NodeGoes chain id (node_at x.nodes id) (lines_of id rest)
@@ -93,7 +93,7 @@ pub record IsChanged (chain : ℕ) (l : Line) (rest : List Line) (c x : Chain) :
   pub stop : l.event ≡ AtNode events.Stop → IsStopped x.nodes l.node
   pub from : AreFrom l.node l.step.outs
 
-last_in : (P : Line → Type 0) (done : List Line) (l : Line) → ((s : Line) → IsIn done s → P s) → P l → (s : Line) → IsIn (done ++ l ∷ []) s → P s
+last_in : (P : MergedStep → Type 0) (done : List MergedStep) (l : MergedStep) → ((s : MergedStep) → IsIn done s → P s) → P l → (s : MergedStep) → IsIn (done ++ l ∷ []) s → P s
 last_in P done l f here s i =
     elim (in_either done (l ∷ []) s i) [
       | inl k ↦ f s k
@@ -101,7 +101,7 @@ last_in P done l f here s i =
     ]
 
 -- one line more
-pub reached_more : (chain : ℕ) (members : List ℕ) (done rest : List Line) (l : Line) (c x : Chain) → IsReached chain members done (l ∷ rest) c → IsChanged chain l rest c x → IsReached chain members (done ++ l ∷ []) rest (counted c x l.step)
+pub reached_more : (chain : ℕ) (members : List ℕ) (done rest : List MergedStep) (l : MergedStep) (c x : Chain) → IsReached chain members done (l ∷ rest) c → IsChanged chain l rest c x → IsReached chain members (done ++ l ∷ []) rest (counted c x l.step)
 reached_more chain members done rest l c x r d =
     record {
       chained = d.chained ∙ r.chained;
@@ -116,13 +116,13 @@ reached_more chain members done rest l c x r d =
     }
 
 -- the numbers that are left
-pub moves_left : (members : List ℕ) (lines done rest : List Line) (l : Line) → lines ≡ done ++ l ∷ rest → AreSound members lines → length done < greatest
+pub moves_left : (members : List ℕ) (lines done rest : List MergedStep) (l : MergedStep) → lines ≡ done ++ l ∷ rest → AreSound members lines → length done < greatest
 moves_left members lines done rest l e s =
     let few : length lines ≤ greatest = s.few.moves in
     let long : length lines ≡ length done + suc (length rest) = ap length e ∙ length-append done (l ∷ rest) in
     grind (arith, few, long)
 
-pub messages_left : (members : List ℕ) (lines done rest : List Line) (l : Line) → lines ≡ done ++ l ∷ rest → AreSound members lines → length (all_sent done) + length (sent_in l.step.outs) ≤ greatest
+pub messages_left : (members : List ℕ) (lines done rest : List MergedStep) (l : MergedStep) → lines ≡ done ++ l ∷ rest → AreSound members lines → length (all_sent done) + length (sent_in l.step.outs) ≤ greatest
 messages_left members lines done rest l e s =
     let few : length (all_sent lines) ≤ greatest = s.few.messages in
     let all : length (all_sent lines) ≡ length (all_sent done) + length (all_sent (l ∷ rest)) = ap (λ ls. length (all_sent ls)) e ∙ ap length (all_sent-append done (l ∷ rest)) ∙ length-append (all_sent done) (all_sent (l ∷ rest)) in

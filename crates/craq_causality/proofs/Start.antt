@@ -4,7 +4,7 @@ use Rattle.craq_model.specs.Members.{is_member}
 use Rattle.craq_model.specs.Plain.{Plain, id_of, opening_joined, opening_member}
 use Rattle.craq_runs.specs.Chain.{node_at, opening_chain}
 use Rattle.craq_runs.specs.Typed.{IsTypedRunOf}
-use Rattle.craq_seat.specs.Merge.{Line, book_line, node_line, run_of}
+use Rattle.craq_seat.specs.Merge.{MergedStep, book_line, node_line, run_of}
 use Rattle.craq_causality.specs.Authors.{first_of, lines_of}
 use Rattle.craq_causality.specs.Causal.{AreCausal, AreFew}
 use Rattle.craq_causality.proofs.Nodes.{same_or_not}
@@ -42,7 +42,7 @@ is_now chain members id =
     by_member (is_member members id) (node_at (opening_nodes chain members members) id) chain id (opening_member (record { chain = chain; node = id }) members)
     (opening_there chain members members id) (opening_none chain members members id)
 
-start : (chain : ℕ) (members : List ℕ) (lines : List Line) → AreCausal chain members lines → IsReached chain members [] lines (opening_chain chain members)
+start : (chain : ℕ) (members : List ℕ) (lines : List MergedStep) → AreCausal chain members lines → IsReached chain members [] lines (opening_chain chain members)
 start chain members lines a =
     let m = a.master.2 in
     record {
@@ -66,14 +66,14 @@ start chain members lines a =
 
 -- ---- the lines are a run
 
-author_rises : (chain : ℕ) (members : List ℕ) (lines : List Line) → AreCausal chain members lines → (id : ℕ) → AreRising (lines_of id lines)
+author_rises : (chain : ℕ) (members : List ℕ) (lines : List MergedStep) → AreCausal chain members lines → (id : ℕ) → AreRising (lines_of id lines)
 author_rises chain members lines a id =
     elim (same_or_not id 0) [
       | inl e ↦ (let m = a.master.2 in subst (λ k. AreRising (lines_of k lines)) (sym e) (rw m.are (journal_rises book_line (λ r. refl) 0 a.master.1 m.records m.stamps)))
       | inr z ↦ (let n = (a.nodes id z).2 in rw n.are (journal_rises (node_line id) (λ r. refl) n.low (a.nodes id z).1 n.records n.stamps))
     ]
 
-pub is_run : (chain : ℕ) (members : List ℕ) (lines : List Line) → AreCausal chain members lines → AreFew lines → IsTypedRunOf chain (run_of members lines)
+pub is_run : (chain : ℕ) (members : List ℕ) (lines : List MergedStep) → AreCausal chain members lines → AreFew lines → IsTypedRunOf chain (run_of members lines)
 is_run chain members lines a few =
     record {
       run_of = record {

@@ -4,11 +4,11 @@ use Rattle.std.specs.List.{AllByRecursion}
 use Rattle.craq_model.specs.declared.ask.Event.TheVariants as events
 use Rattle.craq_runs.specs.Typed.{AreOfType, IsMoveOfType}
 use Rattle.craq_seat.specs.declared.journal.BookEvent.TheVariants as books
-use Rattle.craq_seat.specs.Merge.{AtNode, AtMaster, Happening, Line, move_among}
+use Rattle.craq_seat.specs.Merge.{AtNode, AtMaster, Happening, MergedStep, move_among}
 use Rattle.craq_causality.specs.Causal.{IsOfType}
 use Rattle.craq_causality.proofs.Walk.{taken_among}
 
-move_typed : (lines : List Line) (id : ℕ) (h : Happening) → IsOfType h → IsMoveOfType (move_among lines id h)
+move_typed : (lines : List MergedStep) (id : ℕ) (h : Happening) → IsOfType h → IsMoveOfType (move_among lines id h)
 move_typed lines id (AtNode (events.Ask ask)) t = t
 move_typed lines id (AtNode (events.Deliver m)) t = tt
 move_typed lines id (AtNode events.Tick) t = tt
@@ -17,6 +17,6 @@ move_typed lines id (AtMaster (books.Join other)) t = tt
 move_typed lines id (AtMaster (books.Remove stopped stop)) t = tt
 move_typed lines id (AtMaster books.Tick) t = tt
 
-pub all_typed : (lines rest : List Line) → AllByRecursion (λ (l : Line). IsOfType l.event) rest → AreOfType (map (taken_among lines) rest)
+pub all_typed : (lines rest : List MergedStep) → AllByRecursion (λ (l : MergedStep). IsOfType l.event) rest → AreOfType (map (taken_among lines) rest)
 all_typed lines [] t = tt
 all_typed lines (l ∷ rest) t = (move_typed lines l.node l.event t.0, all_typed lines rest t.1)

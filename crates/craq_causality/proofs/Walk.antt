@@ -3,21 +3,21 @@ use Rattle.std.proofs.Common.{◌≡◌, ℕ, List, [], ◌∷◌, ◌++◌, map
 use Rattle.craq_runs.specs.declared.run.Taken.{Taken}
 use Rattle.craq_runs.specs.Chain.{Chain}
 use Rattle.craq_runs.specs.Runs.{AreTaken}
-use Rattle.craq_seat.specs.Merge.{Line, move_among}
+use Rattle.craq_seat.specs.Merge.{MergedStep, move_among}
 use Rattle.craq_causality.proofs.AtMasters.{at_master}
 use Rattle.craq_causality.proofs.AtNodes.{IsNext, at_node}
 use Rattle.craq_causality.proofs.Nodes.{same_or_not}
 use Rattle.craq_causality.proofs.Reached.{AreSound, IsReached}
 
 -- a line as a move, among these
-abbrev pub taken_among : List Line → Line → Taken
+abbrev pub taken_among : List MergedStep → MergedStep → Taken
 taken_among lines l = record { chosen = move_among lines l.node l.event; step = l.step }
 
-pub next_line : (chain : ℕ) (members : List ℕ) (lines done rest : List Line) (l : Line) (c : Chain) → lines ≡ done ++ l ∷ rest → AreSound members lines → IsReached chain members done (l ∷ rest) c → IsNext chain members lines done l rest c
+pub next_line : (chain : ℕ) (members : List ℕ) (lines done rest : List MergedStep) (l : MergedStep) (c : Chain) → lines ≡ done ++ l ∷ rest → AreSound members lines → IsReached chain members done (l ∷ rest) c → IsNext chain members lines done l rest c
 next_line chain members lines done rest l c e sound r =
     elim (same_or_not l.node 0) [ inl z ↦ at_master chain members lines done rest l c e sound r z | inr z ↦ at_node chain members lines done rest l c e sound r z ]
 
-pub walk : (chain : ℕ) (members : List ℕ) (lines done rest : List Line) (c : Chain) → lines ≡ done ++ rest → AreSound members lines → IsReached chain members done rest c → AreTaken c (map (taken_among lines) rest)
+pub walk : (chain : ℕ) (members : List ℕ) (lines done rest : List MergedStep) (c : Chain) → lines ≡ done ++ rest → AreSound members lines → IsReached chain members done rest c → AreTaken c (map (taken_among lines) rest)
 walk chain members lines done [] c e sound r = tt
 walk chain members lines done (l ∷ rest) c e sound r =
     let t = next_line chain members lines done rest l c e sound r in

@@ -10,11 +10,11 @@ use Rattle.craq_seat.specs.declared.journal.BookEvent.{BookEvent}
 use Rattle.craq_seat.specs.declared.journal.Record.{Record}
 use Rattle.craq_seat.specs.Books.{book_step}
 use Rattle.craq_seat.specs.Journal.{Replays, RisesTo}
-use Rattle.craq_seat.specs.Merge.{Line, book_line, node_line}
+use Rattle.craq_seat.specs.Merge.{MergedStep, book_line, node_line}
 
 -- the lines of one author
-abbrev pub lines_of : ℕ → List Line → List Line
-lines_of id lines = filter (λ (l : Line). l.node == id) lines
+abbrev pub lines_of : ℕ → List MergedStep → List MergedStep
+lines_of id lines = filter (λ (l : MergedStep). l.node == id) lines
 
 -- a node before its first step: a first member, or one that joins
 abbrev pub first_of : ℕ → List ℕ → ℕ → Plain
@@ -24,7 +24,7 @@ first_of chain members id =
     else opening_joined (record { chain = chain; node = id })
 
 -- the lines of this node are a journal that replays to `node`; its stamps rise to `stamp`
-pub record IsNodeAfter (chain : ℕ) (members : List ℕ) (id : ℕ) (lines : List Line) (node : Plain) (stamp : ℕ) : Type 0 where
+pub record IsNodeAfter (chain : ℕ) (members : List ℕ) (id : ℕ) (lines : List MergedStep) (node : Plain) (stamp : ℕ) : Type 0 where
   pub records : List (Record Event)
   pub are : lines_of id lines ≡ map (node_line id) records
   pub replay : Replays node_step (first_of chain members id) records node
@@ -32,8 +32,8 @@ pub record IsNodeAfter (chain : ℕ) (members : List ℕ) (id : ℕ) (lines : Li
   pub stamps : RisesTo low records stamp
 
 -- the lines of the master are a journal that replays to `master`; its stamps rise to `stamp`
-pub record IsMasterAfter (chain : ℕ) (members : List ℕ) (lines : List Line) (master : Mastered) (stamp : ℕ) : Type 0 where
+pub record IsMasterAfter (chain : ℕ) (members : List ℕ) (lines : List MergedStep) (master : Mastered) (stamp : ℕ) : Type 0 where
   pub records : List (Record BookEvent)
   pub are : lines_of 0 lines ≡ map book_line records
-  pub replay : Replays book_step (masters.opened chain members) records master
+  pub replay : Replays book_step (masters.opened_master chain members) records master
   pub stamps : RisesTo 0 records stamp

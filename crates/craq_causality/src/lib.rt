@@ -14,7 +14,7 @@ ghost use Rattle.craq_runs.specs.Typed.{IsTypedRunOf};
 ghost use Rattle.craq_seat.specs.declared.journal.BookEvent.{BookEvent};
 ghost use Rattle.craq_seat.specs.declared.journal.Record.{Record};
 ghost use Rattle.craq_seat.specs.Books.{book_step};
-ghost use Rattle.craq_seat.specs.Merge.{AtNode, AtMaster, Happening, Line, book_line, node_line, run_of};
+ghost use Rattle.craq_seat.specs.Merge.{AtNode, AtMaster, Happening, MergedStep, book_line, node_line, run_of};
 ghost use Rattle.craq_causality.specs.Authors.{IsMasterAfter, IsNodeAfter};
 ghost use Rattle.craq_causality.specs.Causal.{AreCausal, AreFew, IsOfType, MayFollow};
 
@@ -22,7 +22,7 @@ ghost use Rattle.craq_causality.specs.Causal.{AreCausal, AreFew, IsOfType, MayFo
 /// names, each step of a node after its join, each author's lines a journal. A stamp only names a step. At most 2^64 - 1
 /// lines and messages: a run numbers its moves and messages by 64 bits.
 pub fn causal_lines_are_a_run()
-    ensures { (chain : ℕ) (members : List ℕ) (lines : List Line) → AreCausal chain members lines → AreFew lines
+    ensures { (chain : ℕ) (members : List ℕ) (lines : List MergedStep) → AreCausal chain members lines → AreFew lines
         → IsTypedRunOf chain (run_of members lines) }
 {}
 
@@ -30,11 +30,11 @@ pub fn causal_lines_are_a_run()
 /// and a step of the master. So each author keeps the order by what it knows, whatever the others add.
 pub fn causal_lines_grow()
     ensures none { (chain : ℕ) (members : List ℕ) → IsMembership members → AreCausal chain members [] }
-    ensures node { (chain : ℕ) (members : List ℕ) (lines : List Line) (id : ℕ) (p q : Plain) (stamp : ℕ) (r : Record Event)
+    ensures node { (chain : ℕ) (members : List ℕ) (lines : List MergedStep) (id : ℕ) (p q : Plain) (stamp : ℕ) (r : Record Event)
         → AreCausal chain members lines → id ≢ 0 → IsNodeAfter chain members id lines p stamp → node_step p r.event ≡ Ok (q, r.step) → stamp < r.stamp
         → MayFollow members lines id (AtNode r.event) → IsOfType (AtNode r.event) → AreCausal chain members (lines ++ node_line id r ∷ []) }
-    ensures master { (chain : ℕ) (members : List ℕ) (lines : List Line) (m n : Mastered) (stamp : ℕ) (r : Record BookEvent)
+    ensures master { (chain : ℕ) (members : List ℕ) (lines : List MergedStep) (m n : Mastered) (stamp : ℕ) (r : Record BookEvent)
         → AreCausal chain members lines → IsMasterAfter chain members lines m stamp → book_step m r.event ≡ Ok (n, r.step) → stamp < r.stamp
         → MayFollow members lines 0 (AtMaster r.event) → AreCausal chain members (lines ++ book_line r ∷ []) }
-    ensures later { (members : List ℕ) (xs ys : List Line) (id : ℕ) (h : Happening) → IsPrefix xs ys → MayFollow members xs id h → MayFollow members ys id h }
+    ensures later { (members : List ℕ) (xs ys : List MergedStep) (id : ℕ) (h : Happening) → IsPrefix xs ys → MayFollow members xs id h → MayFollow members ys id h }
 {}

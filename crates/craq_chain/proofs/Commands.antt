@@ -10,11 +10,11 @@ use Rattle.craq_names.specs.declared.refusal.Refusal.TheVariants.{NotMember, Not
 use Rattle.craq_model.specs.declared.step.Step.{Step}
 use Rattle.craq_model.specs.Members.{is_member, without}
 use Rattle.craq_model.specs.Plain.{Plain, id_of, opening_joined}
-use Rattle.craq_epochs.specs.Mastered.{Mastered, IsMastered, removed, joined}
+use Rattle.craq_epochs.specs.Mastered.{Mastered, IsMastered, removed, master_after_join}
 use Rattle.craq_epochs.specs.Switched.{Switched}
 use Rattle.craq_runs.specs.Chain.{Chain, Progress, config_progress, node_at, is_running, removal_progress, join_progress, next_epoch, with_node}
 use Rattle.craq_laws.proofs.Nodes.{ids_push, used_are_nodes}
-use Rattle.craq_chain.specs.Parts.{AreParts, HasStopped, Moves, master_of, place_from, told_step, join_step, removal_step}
+use Rattle.craq_chain.specs.Parts.{AreParts, HasStopped, Moves, master_of, place_from, membership_step, join_step, removal_step}
 use Rattle.craq_chain.proofs.Places.{stands_at, no_node, place_known, zip_push}
 use Rattle.craq_chain.proofs.Steps.{own_name, names_push}
 
@@ -72,13 +72,13 @@ two_tests false true x y t step w v f h = cc
 two_tests false false x y t step w v f h = let e : t ≡ step = cc in ap Ok (f e)
 
 -- the chain after the removal, with the master's messages
-abbrev removal_told : Chain → ℕ → Progress
-removal_told c id = config_progress (next_epoch c (without c.members id))
+abbrev removal_reported : Chain → ℕ → Progress
+removal_reported c id = config_progress (next_epoch c (without c.members id))
 
 removal_said : (c : Chain) (id : ℕ) (step : Step) → is_member c.members id ≡ true → is_running (node_at c.nodes id) ≡ false → removal_step (master_of c) id ≡ Ok step → removal_progress c id ≡ Ok (next_epoch c (without c.members id), step)
 unfolding removal_progress removal_step
 removal_said c id step member stopped h =
-    rw (member, stopped) (two_tests (length c.members == 1) (c.epoch == greatest) LastNode Exhausted (told_step c.chain (c.epoch + 1) (without c.members id)) step (removal_told c id) (next_epoch c (without c.members id), step) (λ e. rw e refl) h)
+    rw (member, stopped) (two_tests (length c.members == 1) (c.epoch == greatest) LastNode Exhausted (membership_step c.chain (c.epoch + 1) (without c.members id)) step (removal_reported c id) (next_epoch c (without c.members id), step) (λ e. rw e refl) h)
 
 pub removal_made : (m n : Mastered) (stopped : NodeName) → removed m stopped ≡ Ok n → n ≡ record m { epoch = m.epoch + 1; members = without m.members stopped.node }
 unfolding removed
@@ -96,7 +96,7 @@ pub keeps_member : {C : Type 0} (R : C → Plain → Type 0) (cs : List C) (m : 
 unfolding removal_progress removal_step
 keeps_member R cs m c id stopped e h k s =
     let t : removal_step (master_of c) id ≡ Err e = subst (λ (x : Mastered). removal_step x id ≡ Err e) h.master s in
-    rw (k.0, k.1) (two_refusals (length c.members == 1) (c.epoch == greatest) LastNode Exhausted (told_step c.chain (c.epoch + 1) (without c.members id)) (removal_told c id) e t)
+    rw (k.0, k.1) (two_refusals (length c.members == 1) (c.epoch == greatest) LastNode Exhausted (membership_step c.chain (c.epoch + 1) (without c.members id)) (removal_reported c id) e t)
 
 -- if the master can make its step, the chain can make its own
 two_can : (a b : Bool) (x y : Refusal) (t : Step) (w : Progress) → IsOk (if a then Err x else if b then Err y else Ok t) → IsOk (if a then Err x else if b then Err y else Ok w)
@@ -108,7 +108,7 @@ pub can_remove : {C : Type 0} (R : C → Plain → Type 0) (cs : List C) (m : Ma
 unfolding removal_progress removal_step
 can_remove R cs m c id stopped h k s =
     let t : IsOk (removal_step (master_of c) id) = subst (λ (x : Mastered). IsOk (removal_step x id)) h.master s in
-    rw (k.0, k.1) (two_can (length c.members == 1) (c.epoch == greatest) LastNode Exhausted (told_step c.chain (c.epoch + 1) (without c.members id)) (removal_told c id) t)
+    rw (k.0, k.1) (two_can (length c.members == 1) (c.epoch == greatest) LastNode Exhausted (membership_step c.chain (c.epoch + 1) (without c.members id)) (removal_reported c id) t)
 
 -- the master does not refuse a removal for which its step was made
 removal_allowed : (c : Chain) (id : ℕ) (step : Step) (e : Refusal) → is_member c.members id ≡ true → removal_step (master_of c) id ≡ Ok step → removed (master_of c) (record { chain = c.chain; node = id }) ≡ Err e → ⊥
@@ -158,18 +158,18 @@ new_id : (c : Chain) (id : ℕ) → (id == 0) ≡ false → is_some (place_from 
 new_id c id e h = let none = no_node 0 c.nodes id (is_none (place_from 0 c.nodes id) h) in rw (e, none) refl
 
 -- the chain after the join, with the master's messages
-abbrev join_told : Chain → ℕ → Progress
-join_told c id = config_progress (next_epoch (with_node c id) (c.members ++ id ∷ []))
+abbrev join_reported : Chain → ℕ → Progress
+join_reported c id = config_progress (next_epoch (with_node c id) (c.members ++ id ∷ []))
 
 join_said : (c : Chain) (id : ℕ) (step : Step) → ((id == 0) || is_some (node_at c.nodes id)) ≡ false → join_step (master_of c) id ≡ Ok step → join_progress c id ≡ Ok (next_epoch (with_node c id) (c.members ++ id ∷ []), step)
 unfolding join_progress join_step
 join_said c id step new h =
-    rw new (two_tests (nat_le member_limit (length c.members)) (c.epoch == greatest) ChainFull Exhausted (told_step c.chain (c.epoch + 1) (c.members ++ id ∷ [])) step (join_told c id) (next_epoch (with_node c id) (c.members ++ id ∷ []), step) (λ e. rw e refl) h)
+    rw new (two_tests (nat_le member_limit (length c.members)) (c.epoch == greatest) ChainFull Exhausted (membership_step c.chain (c.epoch + 1) (c.members ++ id ∷ [])) step (join_reported c id) (next_epoch (with_node c id) (c.members ++ id ∷ []), step) (λ e. rw e refl) h)
 
 join_refused : (c : Chain) (id : ℕ) (e : Refusal) → ((id == 0) || is_some (node_at c.nodes id)) ≡ false → join_step (master_of c) id ≡ Err e → join_progress c id ≡ Err e
 unfolding join_progress join_step
 join_refused c id e new h =
-    rw new (two_refusals (nat_le member_limit (length c.members)) (c.epoch == greatest) ChainFull Exhausted (told_step c.chain (c.epoch + 1) (c.members ++ id ∷ [])) (join_told c id) e h)
+    rw new (two_refusals (nat_le member_limit (length c.members)) (c.epoch == greatest) ChainFull Exhausted (membership_step c.chain (c.epoch + 1) (c.members ++ id ∷ [])) (join_reported c id) e h)
 
 pub stays_out : {C : Type 0} (R : C → Plain → Type 0) (cs : List C) (m : Mastered) (c : Chain) (id : ℕ) (e : Refusal) → AreParts R cs m c → (id == 0) ≡ false → is_some (place_from 0 c.nodes id) ≡ false → join_step m id ≡ Err e → join_progress c id ≡ Err e
 stays_out R cs m c id e h zero place s =
@@ -179,28 +179,28 @@ pub can_join : {C : Type 0} (R : C → Plain → Type 0) (cs : List C) (m : Mast
 unfolding join_progress join_step
 can_join R cs m c id h zero place s =
     let t : IsOk (join_step (master_of c) id) = subst (λ (x : Mastered). IsOk (join_step x id)) h.master s in
-    rw (new_id c id zero place) (two_can (nat_le member_limit (length c.members)) (c.epoch == greatest) ChainFull Exhausted (told_step c.chain (c.epoch + 1) (c.members ++ id ∷ [])) (join_told c id) t)
+    rw (new_id c id zero place) (two_can (nat_le member_limit (length c.members)) (c.epoch == greatest) ChainFull Exhausted (membership_step c.chain (c.epoch + 1) (c.members ++ id ∷ [])) (join_reported c id) t)
 
-join_allowed : (c : Chain) (id : ℕ) (step : Step) (e : Refusal) → (id == 0) ≡ false → is_member (map id_of c.nodes) id ≡ false → join_step (master_of c) id ≡ Ok step → joined (master_of c) id ≡ Err e → ⊥
-unfolding join_step joined
+join_allowed : (c : Chain) (id : ℕ) (step : Step) (e : Refusal) → (id == 0) ≡ false → is_member (map id_of c.nodes) id ≡ false → join_step (master_of c) id ≡ Ok step → master_after_join (master_of c) id ≡ Err e → ⊥
+unfolding join_step master_after_join
 join_allowed c id step e zero new s r = grind arith
 
 -- no node has the id, so it was not used
 not_used : (c : Chain) (id : ℕ) → is_some (place_from 0 c.nodes id) ≡ false → is_member (map id_of c.nodes) id ≡ false
 not_used c id h = let none = no_node 0 c.nodes id (is_none (place_from 0 c.nodes id) h) in used_are_nodes c.nodes id ∙ rw none refl
 
-pub not_out : {C : Type 0} (R : C → Plain → Type 0) (cs : List C) (m : Mastered) (c : Chain) (id : ℕ) (step : Step) (e : Refusal) → AreParts R cs m c → (id == 0) ≡ false → is_some (place_from 0 c.nodes id) ≡ false → join_step m id ≡ Ok step → Refuses e (joined m id) → Refuses e (join_progress c id)
+pub not_out : {C : Type 0} (R : C → Plain → Type 0) (cs : List C) (m : Mastered) (c : Chain) (id : ℕ) (step : Step) (e : Refusal) → AreParts R cs m c → (id == 0) ≡ false → is_some (place_from 0 c.nodes id) ≡ false → join_step m id ≡ Ok step → Refuses e (master_after_join m id) → Refuses e (join_progress c id)
 not_out R cs m c id step e h zero place s (inl memory) =
     inl (memory.0, can_join R cs m c id h zero place (rw s refl))
 not_out R cs m c id step e h zero place s (inr r) =
-    absurd (join_allowed c id step e zero (not_used c id place) (subst (λ (x : Mastered). join_step x id ≡ Ok step) h.master s) (subst (λ (x : Mastered). joined x id ≡ Err e) h.master r))
+    absurd (join_allowed c id step e zero (not_used c id place) (subst (λ (x : Mastered). join_step x id ≡ Ok step) h.master s) (subst (λ (x : Mastered). master_after_join x id ≡ Err e) h.master r))
 
-pub join_made : (m n : Mastered) (id : ℕ) → joined m id ≡ Ok n → n ≡ record m { epoch = m.epoch + 1; members = m.members ++ id ∷ []; used = m.used ++ id ∷ [] }
-unfolding joined
+pub join_made : (m n : Mastered) (id : ℕ) → master_after_join m id ≡ Ok n → n ≡ record m { epoch = m.epoch + 1; members = m.members ++ id ∷ []; used = m.used ++ id ∷ [] }
+unfolding master_after_join
 join_made m n id h = grind arith
 
 -- the master added a new member, and its core was added
-pub joins : {C : Type 0} (R : C → Plain → Type 0) (cs : List C) (m n : Mastered) (c : Chain) (id : ℕ) (core : C) (step : Step) → AreParts R cs m c → (id == 0) ≡ false → is_some (place_from 0 c.nodes id) ≡ false → R core (opening_joined (record { chain = m.chain; node = id })) → join_step m id ≡ Ok step → joined m id ≡ Ok n → Moves (AreParts R (cs ++ core ∷ []) n) c (IsOk (join_progress c id)) (Ok step) (join_progress c id)
+pub joins : {C : Type 0} (R : C → Plain → Type 0) (cs : List C) (m n : Mastered) (c : Chain) (id : ℕ) (core : C) (step : Step) → AreParts R cs m c → (id == 0) ≡ false → is_some (place_from 0 c.nodes id) ≡ false → R core (opening_joined (record { chain = m.chain; node = id })) → join_step m id ≡ Ok step → master_after_join m id ≡ Ok n → Moves (AreParts R (cs ++ core ∷ []) n) c (IsOk (join_progress c id)) (Ok step) (join_progress c id)
 joins R cs m n c id core step h zero place r s made =
     let t : join_step (master_of c) id ≡ Ok step = subst (λ (x : Mastered). join_step x id ≡ Ok step) h.master s in
     let p : R core (opening_joined (record { chain = c.chain; node = id })) = subst (λ (x : Mastered). R core (opening_joined (record { chain = x.chain; node = id }))) h.master r in

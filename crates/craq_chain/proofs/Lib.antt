@@ -3,7 +3,7 @@ pub mod Received
 pub mod Steps
 pub mod Refusing
 pub mod Finding
-pub mod Told
+pub mod Reported
 pub mod Commands
 pub mod Sendings
 pub mod Taking

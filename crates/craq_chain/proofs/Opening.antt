@@ -6,7 +6,7 @@ use Rattle.craq_model.specs.Members.{IsMembership, is_member}
 use Rattle.craq_model.specs.Plain.{Plain, id_of, opening_member}
 use Rattle.craq_epochs.specs.Mastered.{Mastered}
 use Rattle.craq_epochs.specs.Mastered as mastered
-use Rattle.craq_chain.specs.Chained.{openings, opened}
+use Rattle.craq_chain.specs.Chained.{openings, opened_chain}
 use Rattle.craq_chain.specs.Standing.{IsStanding}
 
 ids_of : (chain : ℕ) (all ids : List ℕ) → map id_of (openings chain all ids) ≡ ids
@@ -34,7 +34,7 @@ own_member (id ∷ ids) zero w = rw (eq-eqb id id refl) refl
 own_member (id ∷ ids) (suc i) w = let later = own_member ids i (omega (arith, w)) in grind arith
 
 -- the parts before any move
-pub opening_stands : {C : Type 0} (R : C → Plain → Type 0) (cs : List C) (m : Mastered) (chain : ℕ) (members : List ℕ) → m ≡ mastered.opened chain members → IsMembership members → AllZip R cs (openings chain members members) → IsStanding R cs m [] (opened chain members)
+pub opening_stands : {C : Type 0} (R : C → Plain → Type 0) (cs : List C) (m : Mastered) (chain : ℕ) (members : List ℕ) → m ≡ mastered.opened_master chain members → IsMembership members → AllZip R cs (openings chain members members) → IsStanding R cs m [] (opened_chain chain members)
 opening_stands R cs m chain members is h nodes =
     record {
       parts = record { nodes = nodes; master = subst (λ xs. m ≡ record { chain = chain; epoch = 1; members = members; used = xs }) (sym (ids_of chain members members)) is; names = named chain members members };

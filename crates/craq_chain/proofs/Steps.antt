@@ -8,7 +8,7 @@ use Rattle.craq_model.specs.declared.ask.Event.{Event}
 use Rattle.craq_model.specs.declared.step.Step.{Step}
 use Rattle.craq_model.specs.Plain.{Plain, id_of}
 use Rattle.craq_epochs.specs.Mastered.{Mastered}
-use Rattle.craq_node.specs.Represented.{Answers}
+use Rattle.craq_node.specs.Represented.{StepAnswers}
 use Rattle.craq_laws.proofs.Names.{name_kept}
 use Rattle.craq_laws.proofs.Nodes.{ids_stay}
 use Rattle.craq_runs.specs.Chain.{Chain, node_at, set_node, node_progress}
@@ -39,7 +39,7 @@ names_push chain [] q h e = (e, tt)
 names_push chain (p ∷ ps) q h e = (h.0, names_push chain ps q h.1 e)
 
 -- the core of a place took its step
-pub stepped : {C : Type 0} (R : C → Plain → Type 0) (cs : List C) (m : Mastered) (c : Chain) (id i : ℕ) (event : Event) (core d : C) (r : Result Step Refusal) → AreParts R cs m c → place_from 0 c.nodes id ≡ Some i → i < length cs → core ≡ slice_index_or cs i core → ((p : Plain) → R core p → Answers (R d) p event r) → Moves (AreParts R (set cs i d) m) c (IsSome (node_at c.nodes id)) r (node_progress c (node_at c.nodes id) event)
+pub stepped : {C : Type 0} (R : C → Plain → Type 0) (cs : List C) (m : Mastered) (c : Chain) (id i : ℕ) (event : Event) (core d : C) (r : Result Step Refusal) → AreParts R cs m c → place_from 0 c.nodes id ≡ Some i → i < length cs → core ≡ slice_index_or cs i core → ((p : Plain) → R core p → StepAnswers (R d) p event r) → Moves (AreParts R (set cs i d) m) c (IsSome (node_at c.nodes id)) r (node_progress c (node_at c.nodes id) event)
 stepped R cs m c id i event core d (Ok step) h e w is a =
     let s = stands_at R cs c.nodes id 0 i core h.nodes (subst (λ n. place_from 0 c.nodes id ≡ Some n) (let z : i ≡ 0 + i = omega arith in z) e) w is in
     let t = a s.node s.stands in

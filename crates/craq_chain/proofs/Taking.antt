@@ -10,7 +10,7 @@ use Rattle.craq_model.specs.declared.step.Out.{Out}
 use Rattle.craq_model.specs.declared.step.Out.TheVariants as outs
 use Rattle.craq_model.specs.declared.step.Step.{Step}
 use Rattle.craq_model.specs.Plain.{Plain}
-use Rattle.craq_model.specs.Spelled.{IsSpelled}
+use Rattle.craq_model.specs.Encodable.{IsEncodable}
 use Rattle.craq_epochs.specs.Mastered.{Mastered}
 use Rattle.craq_runs.specs.declared.run.Move.{Move}
 use Rattle.craq_runs.specs.declared.run.Taken.{Taken}
@@ -18,8 +18,8 @@ use Rattle.craq_runs.specs.Chain.{Chain, opening_chain, sent_in, move_progress, 
 use Rattle.craq_runs.specs.Runs.{Takes, progressed}
 use Rattle.craq_runs.specs.Typed.{IsMoveOfType}
 use Rattle.craq_laws.proofs.Nodes.{goes_on, after_push, typed_push}
-use Rattle.craq_node_invariant.specs.Sound.{AreSpelled}
-use Rattle.craq_chain.specs.Chained.{Chained, Finds, chain_of, with_move, after_taking}
+use Rattle.craq_node_invariant.specs.Sound.{AreEncodable}
+use Rattle.craq_chain.specs.Chained.{Chained, Finds, chain_of_run, with_move, after_taking}
 use Rattle.craq_chain.specs.Parts.{AreParts, Moves}
 use Rattle.craq_chain.specs.Sent.{counts_from, sent_by}
 use Rattle.craq_chain.specs.Standing.{IsStanding}
@@ -37,11 +37,11 @@ counts_push before (u ∷ ts) t =
     ∙ ap (λ n. counts_from (before + length (sent_in u.step.outs)) ts ++ n ∷ []) (omega (arith, length-append (sent_in u.step.outs) (sent_by ts))))
 
 -- each message sent has an encoding
-sends_spelled : (os : List Out) → AreSpelled os → AllByRecursion IsSpelled (sent_in os)
+sends_encodable : (os : List Out) → AreEncodable os → AllByRecursion IsEncodable (sent_in os)
 unfolding sent_in
-sends_spelled [] h = tt
-sends_spelled (outs.Send to m ∷ os) h = (h.0.0, sends_spelled os h.1)
-sends_spelled (outs.Answer ticket answer ∷ os) h = sends_spelled os h.1
+sends_encodable [] h = tt
+sends_encodable (outs.Send to m ∷ os) h = (h.0.0, sends_encodable os h.1)
+sends_encodable (outs.Answer ticket answer ∷ os) h = sends_encodable os h.1
 
 pub numbered : (c : Chain) (step : Step) → c.moves < greatest → length c.messages + length (sent_in step.outs) ≤ greatest → numbers_left c step ≡ true
 unfolding numbers_left
@@ -56,14 +56,14 @@ pub record Took {C : Type 0} (R : C → Plain → Type 0) (cs : List C) (m : Mas
   pub standing : IsStanding R cs m sent (with_move w t)
   pub wanted : after_taking w t.chosen ≡ Ok (with_move w t)
 
-pub took : {C : Type 0} (R : C → Plain → Type 0) (cs ds : List C) (m n : Mastered) (sent : List ℕ) (count : ℕ) (w : Chained) (t : Taken) → IsStanding R cs m sent w → Moves (AreParts R ds n) (chain_of w) (Finds (chain_of w) t.chosen) (Ok t.step) (move_progress (chain_of w) t.chosen) → AreSpelled t.step.outs → IsMoveOfType t.chosen → length w.run.moves < greatest → length (sent_by w.run.moves) + length (sent_in t.step.outs) ≤ greatest → count ≡ length (sent_by w.run.moves) + length (sent_in t.step.outs) → Took R ds n (sent ++ count ∷ []) w t
+pub took : {C : Type 0} (R : C → Plain → Type 0) (cs ds : List C) (m n : Mastered) (sent : List ℕ) (count : ℕ) (w : Chained) (t : Taken) → IsStanding R cs m sent w → Moves (AreParts R ds n) (chain_of_run w) (Finds (chain_of_run w) t.chosen) (Ok t.step) (move_progress (chain_of_run w) t.chosen) → AreEncodable t.step.outs → IsMoveOfType t.chosen → length w.run.moves < greatest → length (sent_by w.run.moves) + length (sent_in t.step.outs) ≤ greatest → count ≡ length (sent_by w.run.moves) + length (sent_in t.step.outs) → Took R ds n (sent ++ count ∷ []) w t
 took R cs ds m n sent count w t h a spelled typed few fits was =
-    let c = chain_of w in
+    let c = chain_of_run w in
     let d = a.0 in
     let left : numbers_left c t.step ≡ true = numbered c t.step (rw h.moves few) (rw h.messages fits) in
     let next : Chain = record d { messages = c.messages ++ sent_in t.step.outs; moves = c.moves + 1 } in
     let step : chain_step c t.chosen ≡ Ok (next, t.step) = counted c d t.chosen t.step a.1 left in
-    let is : chain_of (with_move w t) ≡ next = after_push (opening_chain w.chain w.run.members) w.run.moves t ∙ ap (progressed c) step in
+    let is : chain_of_run (with_move w t) ≡ next = after_push (opening_chain w.chain w.run.members) w.run.moves t ∙ ap (progressed c) step in
     record {
       standing = record {
         parts = subst (AreParts R ds n) (sym is) (record { nodes = a.2.nodes; master = a.2.master; names = a.2.names });
@@ -77,13 +77,13 @@ took R cs ds m n sent count w t h a spelled typed few fits was =
         counts = ap (λ xs. xs ++ count ∷ []) h.counts ∙ ap (λ k. counts_from 0 w.run.moves ++ k ∷ []) (omega (arith, was)) ∙ sym (counts_push 0 w.run.moves t);
         messages = ap (λ x. x.messages) is ∙ ap (λ ms. ms ++ sent_in t.step.outs) h.messages ∙ sym (sent_push w.run.moves t);
         moves = ap (λ x. x.moves) is ∙ ap (λ k. k + 1) h.moves ∙ sym (length-append w.run.moves (t ∷ []));
-        spelled = subst (AllByRecursion IsSpelled) (sym (sent_push w.run.moves t)) (all_append IsSpelled (sent_by w.run.moves) (sent_in t.step.outs) h.spelled (sends_spelled t.step.outs spelled));
+        spelled = subst (AllByRecursion IsEncodable) (sym (sent_push w.run.moves t)) (all_append IsEncodable (sent_by w.run.moves) (sent_in t.step.outs) h.spelled (sends_encodable t.step.outs spelled));
       };
       wanted = rw step refl;
     }
 
 -- the move is refused
-pub refused : (w : Chained) (m : Move) (e : Refusal) → RefusesWhere (Finds (chain_of w) m) e (move_progress (chain_of w) m) → RefusesWhere (Finds (chain_of w) m) e (after_taking w m)
+pub refused : (w : Chained) (m : Move) (e : Refusal) → RefusesWhere (Finds (chain_of_run w) m) e (move_progress (chain_of_run w) m) → RefusesWhere (Finds (chain_of_run w) m) e (after_taking w m)
 unfolding chain_step
 refused w m e (inl memory) = inl memory
 refused w m e (inr h) = inr (rw h refl)

@@ -18,12 +18,12 @@ pub record Chained : Type 0 where
   pub run : Run  -- the moves so far
 
 -- a chain of these members before any move
-abbrev pub opened : ℕ → List ℕ → Chained
-opened chain members = record { chain = chain; run = record { members = members; moves = [] } }
+abbrev pub opened_chain : ℕ → List ℕ → Chained
+opened_chain chain members = record { chain = chain; run = record { members = members; moves = [] } }
 
 -- the chain to which its run leads
-abbrev pub chain_of : Chained → Chain
-chain_of w = after_moves (opening_chain w.chain w.run.members) w.run.moves
+abbrev pub chain_of_run : Chained → Chain
+chain_of_run w = after_moves (opening_chain w.chain w.run.members) w.run.moves
 
 -- the node at which a move happens
 abbrev pub mover : Chain → Move → ℕ
@@ -40,7 +40,7 @@ moved w m (Err e) = Err e
 
 -- the chain with the move and its step, or the move's refusal
 abbrev pub after_taking : Chained → Move → Result Chained Refusal
-after_taking w m = moved w m (chain_step (chain_of w) m)
+after_taking w m = moved w m (chain_step (chain_of_run w) m)
 
 -- the receiver of a message that was sent is a node of the chain
 abbrev pub FindsReceiver : Chain → Option LinkMessage → Type 0
@@ -67,7 +67,7 @@ HasFound c m (Err e) = move_progress c m ≡ Err e
 -- the node or the master
 abbrev pub GivesMove : Chained → Chained → Move → Result ℕ Refusal → Type 0
 GivesMove old new m (Ok number) = (after_taking old m ≡ Ok new) × (number ≡ length new.run.moves)
-GivesMove old new m (Err e) = RefusesWhere (Finds (chain_of old) m) e (after_taking old m) × (new ≡ old)
+GivesMove old new m (Err e) = RefusesWhere (Finds (chain_of_run old) m) e (after_taking old m) × (new ≡ old)
 
 -- the members of a chain before any move; `all` are all of its members
 abbrev pub openings : ℕ → List ℕ → List ℕ → List Plain

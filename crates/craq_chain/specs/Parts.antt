@@ -37,13 +37,13 @@ place_from place [] id = None
 place_from place (p ∷ ps) id = if id_of p == id then Some place else place_from (place + 1) ps id
 
 -- the master's message to a member
-abbrev pub told : ℕ → ℕ → List ℕ → ℕ → Out
-told chain epoch members to =
+abbrev pub membership_message : ℕ → ℕ → List ℕ → ℕ → Out
+membership_message chain epoch members to =
     outs.Send to (record { chain = chain; sender = 0; receiver = to; stamp = 1; index = 0; epoch = epoch; body = Config members })
 
 -- the master sends the membership to each member
-abbrev pub told_step : ℕ → ℕ → List ℕ → Step
-told_step chain epoch members = record { ticket = None; outs = map (told chain epoch members) members; ignored = None }
+abbrev pub membership_step : ℕ → ℕ → List ℕ → Step
+membership_step chain epoch members = record { ticket = None; outs = map (membership_message chain epoch members) members; ignored = None }
 
 -- the chain has the node of an id, or a move of that node is refused
 abbrev pub HasNode : Chain → ℕ → Result Unit Refusal → Type 0
@@ -57,20 +57,20 @@ HasStopped c id (Ok stopped) =
 HasStopped c id (Err e) = removal_progress c id ≡ Err e
 
 -- the step is the wanted one, or it is refused as wanted; or memory ran out where a step is wanted
-abbrev pub Plans : Result Step Refusal → Result Step Refusal → Type 0
-Plans (Ok step) wanted = wanted ≡ Ok step
-Plans (Err e) wanted = Refuses e wanted
+abbrev pub MasterComputes : Result Step Refusal → Result Step Refusal → Type 0
+MasterComputes (Ok step) wanted = wanted ≡ Ok step
+MasterComputes (Err e) wanted = Refuses e wanted
 
 -- the master's step on the removal of a stopped member
 unfoldable pub removal_step : Mastered → ℕ → Result Step Refusal
 removal_step m id =
     if length m.members == 1 then Err refusals.LastNode
     else if m.epoch == greatest then Err refusals.Exhausted
-    else Ok (told_step m.chain (m.epoch + 1) (without m.members id))
+    else Ok (membership_step m.chain (m.epoch + 1) (without m.members id))
 
 -- the master's step on the join of an unused id
 unfoldable pub join_step : Mastered → ℕ → Result Step Refusal
 join_step m id =
     if nat_le member_limit (length m.members) then Err refusals.ChainFull
     else if m.epoch == greatest then Err refusals.Exhausted
-    else Ok (told_step m.chain (m.epoch + 1) (m.members ++ id ∷ []))
+    else Ok (membership_step m.chain (m.epoch + 1) (m.members ++ id ∷ []))

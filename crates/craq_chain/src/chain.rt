@@ -6,11 +6,11 @@ ghost use Rattle.std.specs.Option.{option_copied};
 ghost use Rattle.craq_names.specs.Limits.{greatest};
 ghost use Rattle.craq_model.specs.Members.{IsMembership};
 ghost use Rattle.craq_model.specs.Plain.{Plain};
-ghost use Rattle.craq_model.specs.Spelled.{IsSpelled};
+ghost use Rattle.craq_model.specs.Encodable.{IsEncodable};
 ghost use Rattle.craq_runs.specs.Chain.{Chain, message_at, move_progress, node_at, sent_in};
 ghost use Rattle.craq_runs.specs.Typed.{IsMoveOfType, IsTypedRunOf};
-ghost use Rattle.craq_node_invariant.specs.Sound.{AreSpelled};
-ghost use Rattle.craq_chain.specs.Chained.{Finds, GivesMove, HasFound, chain_of, mover, opened, openings};
+ghost use Rattle.craq_node_invariant.specs.Sound.{AreEncodable};
+ghost use Rattle.craq_chain.specs.Chained.{Finds, GivesMove, HasFound, chain_of_run, mover, opened_chain, openings};
 ghost use Rattle.craq_chain.specs.Parts.{AreParts, Moves};
 ghost use Rattle.craq_chain.specs.Sent.{counts_from, sent_by};
 
@@ -64,9 +64,9 @@ fn step_of<C: Core>(
     chosen: &Move,
 ) -> Result<Step, Refusal>
     requires counts { sent.old.items ≡ counts_from 0 moves.old.items }
-    requires spelled { AllByRecursion IsSpelled (sent_by moves.old.items) }
+    requires spelled { AllByRecursion IsEncodable (sent_by moves.old.items) }
     ensures step { (c : Chain) → AreParts C.represents cores.old.items master.old c → c.messages ≡ sent_by moves.old.items → Moves (AreParts C.represents cores.new.items master.new) c (Finds c chosen.now) result (move_progress c chosen.now) }
-    ensures spelled { IfOk result (λ step. AreSpelled step.outs) }
+    ensures spelled { IfOk result (λ step. AreEncodable step.outs) }
     ensures same_moves { moves.new.items ≡ moves.old.items }
     ensures same_counts { sent.new.items ≡ sent.old.items }
     ensures room { OnOk result (vec_len moves.new < vec_capacity moves.new) }
@@ -116,7 +116,7 @@ impl<C: Core> ChainCore<C> {
     /// `BadConfig` exactly if they are no membership (1 to 8 ids from 1, none twice). `Memory` if
     /// they are one and an allocation failed.
     pub fn open(alloc: Global, chain: ChainId, members: &[NodeId]) -> Result<Self, Refusal>
-        ensures ok { IfOk result (λ w. w ≡ opened chain members.now) }
+        ensures ok { IfOk result (λ w. w ≡ opened_chain chain members.now) }
         ensures membership { OnOk result (IsMembership members.now) }
         ensures bad { IfErr result (λ e. (e ≡ Refusal.BadConfig) ↔ ¬ (IsMembership members.now)) }
         ensures err { IfErr result (λ e. (e ≡ Refusal.BadConfig) ⊎ (e ≡ Refusal.Memory)) }
@@ -141,7 +141,7 @@ impl<C: Core> ChainCore<C> {
     /// `UnknownMessage` for a delivery of a number that was not sent; `WrongNode` for a request,
     /// tick or stop of a node that the chain never had (a tick of node 0 is the master's).
     pub fn find(&self, chosen: &Move) -> Result<(), Refusal>
-        ensures { HasFound (chain_of self.now) chosen.now result }
+        ensures { HasFound (chain_of_run self.now) chosen.now result }
     {
         find(
             self.cores.as_slice(),
@@ -207,7 +207,7 @@ impl<C: Core> ChainCore<C> {
 
     /// Returns the number of messages sent so far. Never allocates.
     pub fn sent(&self) -> u64
-        ensures { result ≡ length (chain_of self.now).messages }
+        ensures { result ≡ length (chain_of_run self.now).messages }
     {
         counted_before(self.sent.as_slice(), self.sent.len()) as u64
     }
@@ -215,14 +215,14 @@ impl<C: Core> ChainCore<C> {
     /// Returns the core of each node that ever was a member, in the order of joining. Never
     /// allocates.
     pub fn cores(&self) -> &[C]
-        ensures { AllZip C.represents result.now (chain_of self.now).nodes }
+        ensures { AllZip C.represents result.now (chain_of_run self.now).nodes }
     {
         self.cores.as_slice()
     }
 
     /// Returns the core of the node of this id, if the chain ever had one. Never allocates.
     pub fn core(&self, id: NodeId) -> Option<&C>
-        ensures { MatchOption result (node_at (chain_of self.now).nodes id ≡ None) (λ core. (p : Plain) × (node_at (chain_of self.now).nodes id ≡ Some p) × C.represents core.now p) }
+        ensures { MatchOption result (node_at (chain_of_run self.now).nodes id ≡ None) (λ core. (p : Plain) × (node_at (chain_of_run self.now).nodes id ≡ Some p) × C.represents core.now p) }
     {
         match place_of(self.cores.as_slice(), id) {
             None => None,
@@ -233,7 +233,7 @@ impl<C: Core> ChainCore<C> {
     /// Returns the message of this number, counted from 1; `None` if it was not sent. Never
     /// allocates.
     pub fn message(&self, number: u64) -> Option<&LinkMessage>
-        ensures { option_copied result ≡ message_at (chain_of self.now).messages number }
+        ensures { option_copied result ≡ message_at (chain_of_run self.now).messages number }
     {
         message_of(self.run.moves.as_slice(), self.sent.as_slice(), number)
     }
@@ -242,7 +242,7 @@ impl<C: Core> ChainCore<C> {
     /// for a move of the master, and for the delivery of a message that was not sent. Never
     /// allocates.
     pub fn mover(&self, chosen: &Move) -> NodeId
-        ensures { result ≡ mover (chain_of self.now) chosen.now }
+        ensures { result ≡ mover (chain_of_run self.now) chosen.now }
     {
         match chosen {
             Move::Ask { node, .. } => *node,

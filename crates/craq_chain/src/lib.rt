@@ -11,5 +11,5 @@ mod nodes;
 
 pub use chain::ChainCore;
 pub use limits::keep_limits;
-pub use masters::{announce, plan_join, plan_removal};
+pub use masters::{announce, compute_join, compute_removal};
 pub use messages::{message_after, sends_in};

@@ -5,8 +5,8 @@ ghost use Rattle.craq_model.specs.Members.{without, IsMembership};
 ghost use Rattle.craq_model.specs.Plain.{Plain, opening_joined};
 ghost use Rattle.craq_epochs.specs.Mastered.{Mastered, IsMastered};
 ghost use Rattle.craq_runs.specs.Chain.{Chain, config_progress, tick_progress, removal_progress, join_progress, next_epoch, with_node};
-ghost use Rattle.craq_node_invariant.specs.Sound.{AreSpelled};
-ghost use Rattle.craq_chain.specs.Parts.{AreParts, HasStopped, Moves, Plans, join_step, removal_step, told, told_step};
+ghost use Rattle.craq_node_invariant.specs.Sound.{AreEncodable};
+ghost use Rattle.craq_chain.specs.Parts.{AreParts, HasStopped, Moves, MasterComputes, join_step, removal_step, membership_message, membership_step};
 
 use crate::nodes::place_of;
 use craq_epochs::{MEMBER_LIMIT, Master, StopReceipt, all_but, is_among};
@@ -16,14 +16,14 @@ use craq_node::Core;
 use std::alloc::{AllocError, Global};
 
 /// Makes the master's message to a member.
-fn told_to(
+fn reported_to(
     alloc: Global,
     chain: ChainId,
     epoch: Epoch,
     members: &[NodeId],
     to: NodeId,
 ) -> Result<Out, AllocError>
-    ensures { IfOk result (λ out. out ≡ told chain epoch members.now to) }
+    ensures { IfOk result (λ out. out ≡ membership_message chain epoch members.now to) }
 {
     let message = LinkMessage {
         chain,
@@ -46,11 +46,11 @@ pub(crate) fn telling(
     epoch: Epoch,
     members: &[NodeId],
 ) -> Result<Step, AllocError>
-    ensures { IfOk result (λ step. step ≡ told_step chain epoch members.now) }
+    ensures { IfOk result (λ step. step ≡ membership_step chain epoch members.now) }
 {
     let mut outs = Vec::new(alloc);
     for to in members {
-        outs.push(told_to(alloc, chain, epoch, members, *to)?)?;
+        outs.push(reported_to(alloc, chain, epoch, members, *to)?)?;
     }
     Ok(Step {
         ticket: None,
@@ -61,11 +61,11 @@ pub(crate) fn telling(
 
 /// Makes the step in which the master sends the present membership to its members. Fails only when
 /// out of memory (`Memory`).
-#[tactic(auto, using(crate::proofs::Told::telling_spelled))]
+#[tactic(auto, using(crate::proofs::Reported::telling_encodable))]
 pub fn announce(alloc: Global, master: &Master) -> Result<Step, Refusal>
-    ensures ok { IfOk result (λ step. step ≡ told_step master.now.chain master.now.epoch master.now.members) }
+    ensures ok { IfOk result (λ step. step ≡ membership_step master.now.chain master.now.epoch master.now.members) }
     ensures err { IfErr result (λ e. e ≡ Refusal.Memory) }
-    ensures spelled { IfOk result (λ step. AreSpelled step.outs) }
+    ensures spelled { IfOk result (λ step. AreEncodable step.outs) }
 {
     let config = master.config();
     let step = telling(
@@ -105,8 +105,8 @@ fn stopped_member<C: Core>(cores: &[C], master: &Master, id: NodeId) -> Result<S
 /// first of these that applies: `LastNode` if there is one member, `Exhausted` if the epoch is 2^64
 /// - 1, `Memory` if an allocation failed.
 #[tactic(auto, unfolding(crate::specs::Parts::removal_step))]
-pub fn plan_removal(alloc: Global, master: &Master, id: NodeId) -> Result<Step, Refusal>
-    ensures step { Plans result (removal_step master.now id) }
+pub fn compute_removal(alloc: Global, master: &Master, id: NodeId) -> Result<Step, Refusal>
+    ensures step { MasterComputes result (removal_step master.now id) }
     ensures mastered { IsMastered master.now }
 {
     let config = master.config();
@@ -132,8 +132,8 @@ pub fn plan_removal(alloc: Global, master: &Master, id: NodeId) -> Result<Step, 
 /// for the first of these that applies: `ChainFull` if there are 8 members, `Exhausted` if the
 /// epoch is 2^64 - 1, `Memory` if an allocation failed.
 #[tactic(auto, unfolding(crate::specs::Parts::join_step))]
-pub fn plan_join(alloc: Global, master: &Master, id: NodeId) -> Result<Step, Refusal>
-    ensures { Plans result (join_step master.now id) }
+pub fn compute_join(alloc: Global, master: &Master, id: NodeId) -> Result<Step, Refusal>
+    ensures { MasterComputes result (join_step master.now id) }
 {
     let config = master.config();
     let members = config.members.as_slice();
@@ -161,10 +161,10 @@ pub(crate) fn remove<C: Core>(
     id: NodeId,
 ) -> Result<Step, Refusal>
     ensures step { (c : Chain) → AreParts C.represents cores.now master.old c → Moves (AreParts C.represents cores.now master.new) c (IsOk (removal_progress c id)) result (removal_progress c id) }
-    ensures spelled { IfOk result (λ step. AreSpelled step.outs) }
+    ensures spelled { IfOk result (λ step. AreEncodable step.outs) }
 {
     let receipt = stopped_member(cores, master, id)?;
-    let step = plan_removal(alloc, master, id)?;
+    let step = compute_removal(alloc, master, id)?;
     master.remove(receipt)?;
     Ok(step)
 }
@@ -180,7 +180,7 @@ pub(crate) fn join<C: Core>(
     id: NodeId,
 ) -> Result<Step, Refusal>
     ensures step { (c : Chain) → AreParts C.represents cores.old.items master.old c → Moves (AreParts C.represents cores.new.items master.new) c (IsOk (join_progress c id)) result (join_progress c id) }
-    ensures spelled { IfOk result (λ step. AreSpelled step.outs) }
+    ensures spelled { IfOk result (λ step. AreEncodable step.outs) }
 {
     if id.get() == 0 {
         return Err(Refusal::UsedId);
@@ -188,7 +188,7 @@ pub(crate) fn join<C: Core>(
     if place_of(cores.as_slice(), id).is_some() {
         return Err(Refusal::UsedId);
     }
-    let step = plan_join(alloc, master, id)?;
+    let step = compute_join(alloc, master, id)?;
     let chain = master.chain();
     let core = C::open(alloc, NodeName { chain, node: id }, None)?;
     cores.reserve(1)?;

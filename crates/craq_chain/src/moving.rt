@@ -2,10 +2,10 @@
 //! master; used by `chain`.
 ghost use Rattle.std.specs.Prelude.{◌≡◌, ◌⊎◌, IfOk, IsSome};
 ghost use Rattle.std.specs.List.{AllByRecursion};
-ghost use Rattle.craq_model.specs.Spelled.{IsSpelled};
+ghost use Rattle.craq_model.specs.Encodable.{IsEncodable};
 ghost use Rattle.craq_epochs.specs.Mastered.{Mastered};
 ghost use Rattle.craq_runs.specs.Chain.{Chain, arrival_progress, message_at, move_progress, node_at, tick_progress};
-ghost use Rattle.craq_node_invariant.specs.Sound.{AreSpelled};
+ghost use Rattle.craq_node_invariant.specs.Sound.{AreEncodable};
 ghost use Rattle.craq_chain.specs.Chained.{Finds, FindsReceiver, HasFound};
 ghost use Rattle.craq_chain.specs.Parts.{AreParts, HasNode, Moves};
 ghost use Rattle.craq_chain.specs.Sent.{counts_from, sent_by};
@@ -29,9 +29,9 @@ fn arrival<C: Core>(
     number: u64,
 ) -> Result<Step, Refusal>
     requires counts { sent.now ≡ counts_from 0 moves.now }
-    requires spelled { AllByRecursion IsSpelled (sent_by moves.now) }
+    requires spelled { AllByRecursion IsEncodable (sent_by moves.now) }
     ensures step { (m : Mastered) (c : Chain) → AreParts C.represents cores.old.items m c → c.messages ≡ sent_by moves.now → Moves (AreParts C.represents cores.new.items m) c (FindsReceiver c (message_at c.messages number)) result (arrival_progress c (message_at c.messages number)) }
-    ensures spelled { IfOk result (λ step. AreSpelled step.outs) }
+    ensures spelled { IfOk result (λ step. AreEncodable step.outs) }
 {
     match message_of(moves, sent, number) {
         None => Err(Refusal::UnknownMessage),
@@ -47,7 +47,7 @@ fn repeat<C: Core>(
     id: NodeId,
 ) -> Result<Step, Refusal>
     ensures step { (c : Chain) → AreParts C.represents cores.old.items master.now c → Moves (AreParts C.represents cores.new.items master.now) c ((id ≡ 0) ⊎ IsSome (node_at c.nodes id)) result (tick_progress c id) }
-    ensures spelled { IfOk result (λ step. AreSpelled step.outs) }
+    ensures spelled { IfOk result (λ step. AreEncodable step.outs) }
 {
     if id.get() == 0 {
         announce(alloc, master)
@@ -100,9 +100,9 @@ pub(crate) fn act<C: Core>(
     chosen: &Move,
 ) -> Result<Step, Refusal>
     requires counts { sent.now ≡ counts_from 0 moves.now }
-    requires spelled { AllByRecursion IsSpelled (sent_by moves.now) }
+    requires spelled { AllByRecursion IsEncodable (sent_by moves.now) }
     ensures step { (c : Chain) → AreParts C.represents cores.old.items master.old c → c.messages ≡ sent_by moves.now → Moves (AreParts C.represents cores.new.items master.new) c (Finds c chosen.now) result (move_progress c chosen.now) }
-    ensures spelled { IfOk result (λ step. AreSpelled step.outs) }
+    ensures spelled { IfOk result (λ step. AreEncodable step.outs) }
 {
     match chosen {
         Move::Ask { node, ask: asked } => ask(alloc, cores, *node, asked),

@@ -2,11 +2,11 @@
 ghost use Rattle.std.specs.Prelude.{◌≡◌, ◌<◌, ℕ, List, Some, IfOk, IfSome, IsSome, length, vec_len};
 ghost use Rattle.std.specs.List.{AllZip};
 ghost use Rattle.craq_model.specs.Plain.{Plain};
-ghost use Rattle.craq_model.specs.Spelled.{IsSpelled};
+ghost use Rattle.craq_model.specs.Encodable.{IsEncodable};
 ghost use Rattle.craq_runs.specs.Chain.{Chain, node_at, node_progress};
 ghost use Rattle.craq_epochs.specs.Mastered.{Mastered};
 ghost use Rattle.craq_node.specs.Represented.{CanArrive};
-ghost use Rattle.craq_node_invariant.specs.Sound.{AreSpelled};
+ghost use Rattle.craq_node_invariant.specs.Sound.{AreEncodable};
 ghost use Rattle.craq_chain.specs.Parts.{AreParts, Moves, place_from};
 
 use craq_model::{Ask, Event, LinkMessage, Step};
@@ -37,7 +37,7 @@ fn step_at<C: Core>(
     requires arrives { CanArrive event }
     requires within { place < vec_len cores.old }
     ensures step { (m : Mastered) (c : Chain) (id : ℕ) → AreParts C.represents cores.old.items m c → place_from 0 c.nodes id ≡ Some place → Moves (AreParts C.represents cores.new.items m) c (IsSome (node_at c.nodes id)) result (node_progress c (node_at c.nodes id) event) }
-    ensures spelled { IfOk result (λ step. AreSpelled step.outs) }
+    ensures spelled { IfOk result (λ step. AreEncodable step.outs) }
 {
     cores[place].step(alloc, event)
 }
@@ -52,7 +52,7 @@ pub(crate) fn ask<C: Core>(
     asked: &Ask,
 ) -> Result<Step, Refusal>
     ensures step { (m : Mastered) (c : Chain) → AreParts C.represents cores.old.items m c → Moves (AreParts C.represents cores.new.items m) c (IsSome (node_at c.nodes id)) result (node_progress c (node_at c.nodes id) (Event.Ask asked.now)) }
-    ensures spelled { IfOk result (λ step. AreSpelled step.outs) }
+    ensures spelled { IfOk result (λ step. AreEncodable step.outs) }
 {
     match place_of(cores.as_slice(), id) {
         None => Err(Refusal::WrongNode),
@@ -68,9 +68,9 @@ pub(crate) fn deliver<C: Core>(
     cores: &mut Vec<C>,
     message: &LinkMessage,
 ) -> Result<Step, Refusal>
-    requires { IsSpelled message.now }
+    requires { IsEncodable message.now }
     ensures step { (m : Mastered) (c : Chain) → AreParts C.represents cores.old.items m c → Moves (AreParts C.represents cores.new.items m) c (IsSome (node_at c.nodes message.now.receiver)) result (node_progress c (node_at c.nodes message.now.receiver) (Event.Deliver message.now)) }
-    ensures spelled { IfOk result (λ step. AreSpelled step.outs) }
+    ensures spelled { IfOk result (λ step. AreEncodable step.outs) }
 {
     match place_of(cores.as_slice(), message.receiver) {
         None => Err(Refusal::WrongNode),
@@ -83,7 +83,7 @@ pub(crate) fn deliver<C: Core>(
 #[tactic(auto, using(crate::proofs::Steps::unknown))]
 pub(crate) fn tick<C: Core>(alloc: Global, cores: &mut Vec<C>, id: NodeId) -> Result<Step, Refusal>
     ensures step { (m : Mastered) (c : Chain) → AreParts C.represents cores.old.items m c → Moves (AreParts C.represents cores.new.items m) c (IsSome (node_at c.nodes id)) result (node_progress c (node_at c.nodes id) Event.Tick) }
-    ensures spelled { IfOk result (λ step. AreSpelled step.outs) }
+    ensures spelled { IfOk result (λ step. AreEncodable step.outs) }
 {
     match place_of(cores.as_slice(), id) {
         None => Err(Refusal::WrongNode),
@@ -95,7 +95,7 @@ pub(crate) fn tick<C: Core>(alloc: Global, cores: &mut Vec<C>, id: NodeId) -> Re
 #[tactic(auto, using(crate::proofs::Steps::unknown))]
 pub(crate) fn stop<C: Core>(alloc: Global, cores: &mut Vec<C>, id: NodeId) -> Result<Step, Refusal>
     ensures step { (m : Mastered) (c : Chain) → AreParts C.represents cores.old.items m c → Moves (AreParts C.represents cores.new.items m) c (IsSome (node_at c.nodes id)) result (node_progress c (node_at c.nodes id) Event.Stop) }
-    ensures spelled { IfOk result (λ step. AreSpelled step.outs) }
+    ensures spelled { IfOk result (λ step. AreEncodable step.outs) }
 {
     match place_of(cores.as_slice(), id) {
         None => Err(Refusal::WrongNode),

@@ -13,7 +13,7 @@ use Rattle.craq_model.specs.declared.message.LinkMessage.{LinkMessage}
 use Rattle.craq_model.specs.declared.step.Out.{Out}
 use Rattle.craq_model.specs.declared.step.Out.TheVariants as outs
 use Rattle.craq_model.specs.Plain.{Plain, id_of, length_of}
-use Rattle.craq_protocol.specs.Machine.{World, after_moves as world_after, opening}
+use Rattle.craq_protocol.specs.Machine.{MachineState, after_moves as world_after, initial_state}
 use Rattle.craq_protocol.specs.Promises.{IsReached, Later}
 use Rattle.craq_protocol.proofs.Prefix.{prefix_length}
 use Rattle.craq_protocol.proofs.Reached.{reached_run, reached_opening, reached_later}
@@ -36,7 +36,7 @@ use Rattle.craq_chain_invariants.specs.Kept.{chain_after}
 use Rattle.craq_chain_invariants.proofs.Sent.{IsWithin, AreWithin, SaysHeld, event_held}
 
 -- a sender that reports its length was once a member, and holds that number of entries
-abbrev pub IsOf : World Entry → ℕ → Body → Type 0
+abbrev pub IsOf : MachineState Entry → ℕ → Body → Type 0
 IsOf w sender (bodies.Config members) = ⊤
 IsOf w sender (bodies.Entry e) = ⊤
 IsOf w sender (bodies.Ack position) = ⊤
@@ -48,13 +48,13 @@ IsOf w sender (bodies.Copy position state) = ⊤
 IsOf w sender (bodies.Part part) = ⊤
 IsOf w sender (bodies.Floor count) = ⊤
 
-abbrev pub IsHeld : World Entry → LinkMessage → Type 0
+abbrev pub IsHeld : MachineState Entry → LinkMessage → Type 0
 IsHeld w m = IsOf w m.sender m.body
 
-abbrev pub AllHeld : World Entry → Chain → Type 0
+abbrev pub AllHeld : MachineState Entry → Chain → Type 0
 AllHeld w c = AllByRecursion (IsHeld w) c.messages
 
-later_of : (w v : World Entry) (sender : ℕ) (b : Body) → Later w v → IsOf w sender b → IsOf v sender b
+later_of : (w v : MachineState Entry) (sender : ℕ) (b : Body) → Later w v → IsOf w sender b → IsOf v sender b
 later_of w v sender (bodies.Config members) l h = tt
 later_of w v sender (bodies.Entry e) l h = tt
 later_of w v sender (bodies.Ack position) l h = tt
@@ -66,11 +66,11 @@ later_of w v sender (bodies.Copy position state) l h = tt
 later_of w v sender (bodies.Part part) l h = tt
 later_of w v sender (bodies.Floor count) l h = tt
 
-stays : (w v : World Entry) (ms : List LinkMessage) → Later w v → AllByRecursion (IsHeld w) ms → AllByRecursion (IsHeld v) ms
+stays : (w v : MachineState Entry) (ms : List LinkMessage) → Later w v → AllByRecursion (IsHeld w) ms → AllByRecursion (IsHeld v) ms
 stays w v ms l a = all_like (IsHeld w) (IsHeld v) ms (λ m h. later_of w v m.sender m.body l h) a
 
 -- a node's messages
-body_of : (v : World Entry) (id : ℕ) (b : Body) → is_member v.joined id ≡ true → IsWithin (length (v.history id)) b → IsOf v id b
+body_of : (v : MachineState Entry) (id : ℕ) (b : Body) → is_member v.joined id ≡ true → IsWithin (length (v.history id)) b → IsOf v id b
 body_of v id (bodies.Config members) j h = tt
 body_of v id (bodies.Entry e) j h = tt
 body_of v id (bodies.Ack position) j h = tt
@@ -82,7 +82,7 @@ body_of v id (bodies.Copy position state) j h = tt
 body_of v id (bodies.Part part) j h = tt
 body_of v id (bodies.Floor count) j h = tt
 
-sent_held : (v : World Entry) (id held : ℕ) (os : List Out) → held ≡ length (v.history id) → is_member v.joined id ≡ true → AreWithin id held os → AllByRecursion (IsHeld v) (sent_in os)
+sent_held : (v : MachineState Entry) (id held : ℕ) (os : List Out) → held ≡ length (v.history id) → is_member v.joined id ≡ true → AreWithin id held os → AllByRecursion (IsHeld v) (sent_in os)
 unfolding sent_in
 sent_held v id held [] e j a = tt
 sent_held v id held (outs.Send to m ∷ os) e j a =
@@ -92,7 +92,7 @@ sent_held v id held (outs.Send to m ∷ os) e j a =
 sent_held v id held (outs.Answer ticket answer ∷ os) e j a = sent_held v id held os e j a
 
 -- the master's messages
-configs_held : (v : World Entry) (c : Chain) (tos : List ℕ) → AllByRecursion (IsHeld v) (sent_in (map (config_to c) tos))
+configs_held : (v : MachineState Entry) (c : Chain) (tos : List ℕ) → AllByRecursion (IsHeld v) (sent_in (map (config_to c) tos))
 unfolding sent_in
 configs_held v c [] = tt
 configs_held v c (to ∷ tos) = (tt, configs_held v c tos)
@@ -107,18 +107,18 @@ listed (n ∷ nodes) id p h =
     (λ e i. ap (λ b. b || is_member (map id_of nodes) id) e ∙ listed nodes id p i)
     h
 
-new_held : (c : Chain) (v : World Entry) (chosen : Move) (x : Progress) → Follows x.0 v → AtNode c chosen x → AllByRecursion (IsHeld v) (sent_in x.1.outs)
+new_held : (c : Chain) (v : MachineState Entry) (chosen : Move) (x : Progress) → Follows x.0 v → AtNode c chosen x → AllByRecursion (IsHeld v) (sent_in x.1.outs)
 new_held c v chosen x g h =
-    let q : Plain = h.turn.0 in
+    let q : Plain = h.transition.0 in
     let n : NodeFollows v (seen_of q) = g.nodes (place_of c chosen) q (now_at h) in
-    let a : SaysHeld h.turn = event_held h.was h.event h.turn h.does in
+    let a : SaysHeld h.transition = event_held h.was h.event h.transition h.does in
     let P : Progress → Type 0 = λ y. AllByRecursion (IsHeld v) (sent_in y.1.outs) in
     let J : List ℕ → Type 0 = λ l. is_member l (id_of q) ≡ true in
     let N : ℕ → Type 0 = λ j. node_at x.0.nodes j ≡ Some q in
     let there : is_member v.joined (id_of q) ≡ true = subst J (sym g.joined) (listed x.0.nodes (id_of q) q (subst N (sym (now_id h)) (now_at h))) in
-    subst P (sym h.is) (sent_held v (id_of q) (length_of q) h.turn.1.outs (sym (history_length n.history)) there a)
+    subst P (sym h.is) (sent_held v (id_of q) (length_of q) h.transition.1.outs (sym (history_length n.history)) there a)
 
-step_held : (c : Chain) (w v : World Entry) (chosen : Move) (x : Progress) → Later w v → Follows x.0 v → AllHeld w c → chain_step c chosen ≡ Ok x → AllHeld v x.0
+step_held : (c : Chain) (w v : MachineState Entry) (chosen : Move) (x : Progress) → Later w v → Follows x.0 v → AllHeld w c → chain_step c chosen ≡ Ok x → AllHeld v x.0
 step_held c w v chosen x l g all does =
     let old : AllByRecursion (IsHeld v) c.messages = stays w v c.messages l all in
     let P : List LinkMessage → Type 0 = λ ms. AllByRecursion (IsHeld v) ms in
@@ -131,7 +131,7 @@ step_held c w v chosen x l g all does =
 
 -- after moves, in some world that stands for the chain
 pub record HeldIn (c : Chain) : Type 0 where
-  pub world : World Entry
+  pub world : MachineState Entry
   pub reached : IsReached world
   pub follows : Follows c world
   pub held : AllHeld world c
@@ -140,9 +140,9 @@ by_result : (t : Taken) (ts : List Taken) (c : Chain) → HeldIn c → ((d : Cha
     → (res : Result Progress Refusal) → chain_step c t.chosen ≡ res → Takes res t.step × AreTaken (progressed c res) ts → HeldIn (after_moves (progressed c res) ts)
 by_result t ts c h go (Err e) is taken = absurd taken.0
 by_result t ts c h go (Ok x) is taken =
-    let w : World Entry = h.world in
+    let w : MachineState Entry = h.world in
     let n : CanFollow w x.0 = every_step c w t.chosen x h.follows h.reached is in
-    let v : World Entry = world_after w n.0 in
+    let v : MachineState Entry = world_after w n.0 in
     go x.0 (record { world = v; reached = reached_run h.reached n.0; follows = n.1; held = step_held c w v t.chosen x (reached_later h.reached n.0) n.1 h.held is }) taken.1
 
 moves_held : (ts : List Taken) (c : Chain) → HeldIn c → AreTaken c ts → HeldIn (after_moves c ts)
@@ -151,10 +151,10 @@ moves_held (t ∷ ts) c h taken = by_result t ts c h (λ d h taken. moves_held t
 
 pub run_held : (chain : ℕ) (run : Run) → IsTypedRunOf chain run → HeldIn (chain_after chain run)
 run_held chain run i =
-    let r : IsReached (opening {A = Entry} run.members) = reached_opening run.members (distinct_members run.members i.run_of.members.distinct) in
-    moves_held run.moves (opening_chain chain run.members) (record { world = opening run.members; reached = r; follows = opening_follows chain run.members; held = tt }) i.run_of.moves
+    let r : IsReached (initial_state {A = Entry} run.members) = reached_opening run.members (distinct_members run.members i.run_of.members.distinct) in
+    moves_held run.moves (opening_chain chain run.members) (record { world = initial_state run.members; reached = r; follows = opening_follows chain run.members; held = tt }) i.run_of.moves
 
 -- the message of a number
-pub message_held : (w : World Entry) (ms : List LinkMessage) (number : ℕ) (m : LinkMessage) → AllByRecursion (IsHeld w) ms → message_at ms number ≡ Some m → IsOf w m.sender m.body
+pub message_held : (w : MachineState Entry) (ms : List LinkMessage) (number : ℕ) (m : LinkMessage) → AllByRecursion (IsHeld w) ms → message_at ms number ≡ Some m → IsOf w m.sender m.body
 message_held w ms zero m a h = absurd (cc)
 message_held w ms (suc i) m a h = all_at (IsHeld w) ms i m h a

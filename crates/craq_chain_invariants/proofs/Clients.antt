@@ -20,8 +20,8 @@ use Rattle.craq_updates.proofs.Known.{Known}
 use Rattle.craq_updates.proofs.Replay.{account_asks, as_many as all_updates, state_replayed}
 use Rattle.craq_strong_answers.proofs.Clients.{Clients}
 use Rattle.craq_strong_answers.proofs.Hearing.{sent_with}
-use Rattle.craq_strong_answers.proofs.Served.{Served}
-use Rattle.craq_strong_answers.proofs.Stands.{DueUpdate, ToldVersion, IsTold}
+use Rattle.craq_strong_answers.proofs.Served.{RequestsServed}
+use Rattle.craq_strong_answers.proofs.Stands.{PendingUpdate, ReportedVersion, IsReported}
 use Rattle.craq_strong_answers.proofs.Strong.{ClientsRun, clients_run}
 use Rattle.craq_chain_invariants.specs.Kept.{IsNode, WasSent, TellsVersion, HasReply, account_in, chain_after, committed_in, committed_at, history_of}
 use Rattle.craq_chain_invariants.proofs.Replayed.{held_many, replayed}
@@ -30,19 +30,19 @@ use Rattle.craq_chain_invariants.proofs.Worlds.{Stands, stands_by, Node, node}
 chain_is : (chain : ℕ) (run : Run) → (account_in chain run).chain ≡ chain_after chain run
 chain_is chain run = chain_of_account run.moves (opening_account chain run.members)
 
-pub told : (chain : ℕ) (run : Run) (number : ℕ) (m : LinkMessage) (ticket version : ℕ) → IsTypedRunOf chain run → WasSent (chain_after chain run) number m → m.body ≡ bodies.VersionIs ticket version
+pub reported : (chain : ℕ) (run : Run) (number : ℕ) (m : LinkMessage) (ticket version : ℕ) → IsTypedRunOf chain run → WasSent (chain_after chain run) number m → m.body ≡ bodies.VersionIs ticket version
     → TellsVersion chain run m.receiver ticket version (committed_at chain run number)
-told chain run number m ticket version i at is =
+reported chain run number m ticket version i at is =
     let a : Account = account_in chain run in
     let r : ClientsRun a (answers_from 1 [] run.moves) = clients_run chain run i in
     let c : Clients a r.world r.receivers (answers_from 1 [] run.moves) = r.clients in
     let k : Known a r.world = c.known in
-    let s : Served a r.world = c.served in
+    let s : RequestsServed a r.world = c.served in
     let sent : ℕ = committed_at chain run number in
     let there : message_at a.chain.messages number ≡ Some m = ap (λ (c : Chain). message_at c.messages number) (chain_is chain run) ∙ at in
-    let known : IsTold a r.world m sent = sent_with a r.world a.chain.messages a.sent_at number m s.messages there in
-    let B : Body → Type 0 = λ b. IsTold a r.world (record m { body = b }) sent in
-    let t : ToldVersion a r.world m.receiver ticket version sent = subst B is known in
+    let known : IsReported a r.world m sent = sent_with a r.world a.chain.messages a.sent_at number m s.messages there in
+    let B : Body → Type 0 = λ b. IsReported a r.world (record m { body = b }) sent in
+    let t : ReportedVersion a r.world m.receiver ticket version sent = subst B is known in
     record {
       ask = t.ask;
       object = t.object;
@@ -61,12 +61,12 @@ replies chain run p i at =
     let r : ClientsRun a (answers_from 1 [] run.moves) = clients_run chain run i in
     let c : Clients a r.world r.receivers (answers_from 1 [] run.moves) = r.clients in
     let k : Known a r.world = c.known in
-    let served : Served a r.world = c.served in
+    let served : RequestsServed a r.world = c.served in
     let s : Stands chain run = stands_by chain run r.world k in
     let n : Node chain run p s = node chain run p s at in
     let there : node_at a.chain.nodes (id_of p) ≡ Some p = ap (λ (c : Chain). node_at c.nodes (id_of p)) (chain_is chain run) ∙ at in
     let history : r.world.history (id_of p) ≡ history_of (committed_in chain run) p = n.history in
-    all_like (DueUpdate a r.world (id_of p)) (HasReply chain run p) p.waiting_updates
+    all_like (PendingUpdate a r.world (id_of p)) (HasReply chain run p) p.waiting_updates
     (λ u d. record {
       ask = d.ask;
       update = d.update;

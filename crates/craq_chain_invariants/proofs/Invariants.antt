@@ -2,8 +2,8 @@
 use Rattle.std.proofs.Common.{ℕ, sym, ◌∙◌, arith}
 use Rattle.craq_runs.specs.Typed.{IsTypedRunOf}
 use Rattle.craq_runs.specs.declared.run.Run.{Run}
-use Rattle.craq_chain_invariants.specs.Invariants.{HistoriesAreWhole, MembersAreNodes, PredecessorsHoldMore, PredecessorsAreReady, OneTailHoldsTheList, ReadyMembersHoldTheList, AcknowledgedIsCommitted, CopiesAreCommitted, PartsAreShares, MessagesAgreeWithSenders, ToldVersionsWereCommitted, WaitingUpdatesAreOwed, HasInvariants}
-use Rattle.craq_chain_invariants.proofs.Clients.{replies, told}
+use Rattle.craq_chain_invariants.specs.Invariants.{HistoriesAreWhole, MembersAreNodes, PredecessorsHoldMore, PredecessorsAreReady, OneTailHoldsTheList, ReadyMembersHoldTheList, AcknowledgedIsCommitted, CopiesAreCommitted, PartsAreShares, MessagesAgreeWithSenders, ReportedVersionsWereCommitted, WaitingUpdatesAreOwed, HasInvariants}
+use Rattle.craq_chain_invariants.proofs.Clients.{replies, reported}
 use Rattle.craq_chain_invariants.proofs.Messages.{copy_committed, copy_state, part_committed, part_numbered, part_share, entry_agrees, batch_agrees, ack_agrees, copy_agrees, part_agrees, floor_agrees, blank_agrees}
 use Rattle.craq_chain_invariants.proofs.Nodes.{are_nodes, are_ready, held, committed, same, hold_list, hold_more, hold_more_known, one, list, known, whole, placed}
 use Rattle.craq_updates.proofs.Replay.{as_many as all_updates}
@@ -85,9 +85,9 @@ messages_agree_with_senders chain run i =
       blank = λ number m count at is. blank_agrees chain run number m count i at is;
     }
 
-pub told_versions_were_committed : (chain : ℕ) (run : Run) → IsTypedRunOf chain run → ToldVersionsWereCommitted chain run
-told_versions_were_committed chain run i =
-    λ number m ticket version at is. told chain run number m ticket version i at is
+pub reported_versions_were_committed : (chain : ℕ) (run : Run) → IsTypedRunOf chain run → ReportedVersionsWereCommitted chain run
+reported_versions_were_committed chain run i =
+    λ number m ticket version at is. reported chain run number m ticket version i at is
 
 pub waiting_updates_are_owed : (chain : ℕ) (run : Run) → IsTypedRunOf chain run → WaitingUpdatesAreOwed chain run
 waiting_updates_are_owed chain run i =
@@ -108,6 +108,6 @@ runs_keep_invariants chain run i = record {
   copies = copies_are_committed chain run i;
   parts = parts_are_shares chain run i;
   messages = messages_agree_with_senders chain run i;
-  versions = told_versions_were_committed chain run i;
+  versions = reported_versions_were_committed chain run i;
   waiting = waiting_updates_are_owed chain run i;
 }

@@ -14,7 +14,7 @@ use Rattle.craq_model.specs.Plain.{Plain, id_of, length_of}
 use Rattle.craq_protocol.specs.Machine as machine
 use Rattle.craq_protocol.specs.Promises.{IsPrefix, IsSafe, Sent}
 use Rattle.craq_protocol.proofs.Prefix.{prefix_is_take, prefix_length}
-use Rattle.craq_protocol.specs.Machine.{World, entry_at}
+use Rattle.craq_protocol.specs.Machine.{MachineState, entry_at}
 use Rattle.craq_protocol.specs.Members.{is_member}
 use Rattle.craq_protocol.proofs.Invariant.{Invariant}
 use Rattle.craq_protocol.proofs.Reached.{reached_safe, reached_inv}
@@ -111,10 +111,10 @@ sender_at chain run s m Holds listed holds =
     record { sender = there.0; at = there.1; holds = holds there.0 id (node chain run there.0 s (subst N (sym id) there.1)) }
 
 -- a message that the protocol knows has a node as its sender, of which this holds in the world
-sender_of : (chain : ℕ) (run : Run) (s : Stands chain run) (m : LinkMessage) (b : machine.Body Entry) (Holds : Plain → Type 0) → Sent s.world.messages (said m.epoch m.sender m.receiver b)
+sender_of : (chain : ℕ) (run : Run) (s : Stands chain run) (m : LinkMessage) (b : machine.MachineBody Entry) (Holds : Plain → Type 0) → Sent s.world.messages (said m.epoch m.sender m.receiver b)
     → ((p : Plain) → Node chain run p s → SenderHas s.world (id_of p) b → Holds p) → HasSender (chain_after chain run) m Holds
 sender_of chain run s m b Holds sent holds =
-    let w : World Entry = s.world in
+    let w : MachineState Entry = s.world in
     let i : Invariant w = reached_inv s.reached in
     let listed : is_member w.joined m.sender ≡ true = i.clauses.shape.is_listed m.epoch m.sender (i.clauses.sender_is_member (said m.epoch m.sender m.receiver b) sent) in
     let H : ℕ → Type 0 = λ j. SenderHas w j b in
@@ -174,7 +174,7 @@ pub blank_agrees : (chain : ℕ) (run : Run) (number : ℕ) (m : LinkMessage) (c
     → HasSender (chain_after chain run) m (λ p. count ≤ length_of p)
 blank_agrees chain run number m count i at is =
     let h : HeldIn (chain_after chain run) = run_held chain run i in
-    let w : World Entry = h.world in
+    let w : MachineState Entry = h.world in
     let B : Body → Type 0 = λ b. IsOf w m.sender b in
     let mine : IsOf w m.sender (bodies.Blank count) = subst B is (message_held w (chain_after chain run).messages number m h.held at) in
     let f : Follows (chain_after chain run) w = h.follows in

@@ -5,7 +5,7 @@ use Rattle.craq_model.specs.Members.{is_member}
 use Rattle.craq_model.specs.Plain.{Plain, id_of, is_tail, length_of}
 use Rattle.craq_protocol.specs.Members as protocol
 use Rattle.craq_protocol.specs.Machine as machine
-use Rattle.craq_protocol.specs.Machine.{World, current_membership, known_membership}
+use Rattle.craq_protocol.specs.Machine.{MachineState, current_membership, known_membership}
 use Rattle.craq_protocol.specs.Promises.{Before, IsPrefix, IsSafe}
 use Rattle.craq_protocol.proofs.Invariant.{Invariant}
 use Rattle.craq_protocol.proofs.Reached.{reached_safe, reached_inv}
@@ -89,7 +89,7 @@ same_member (m ∷ ms) id = ap (λ b. (m == id) || b) (same_member ms id)
 pub are_nodes : (chain : ℕ) (run : Run) (id : ℕ) → IsTypedRunOf chain run → is_member (chain_after chain run).members id ≡ true → IsSome (node_at (chain_after chain run).nodes id)
 are_nodes chain run id i member =
     let s : Stands chain run = stands chain run i in
-    let w : World Entry = s.world in
+    let w : MachineState Entry = s.world in
     let v : Invariant w = reached_inv s.reached in
     let f : _ = s.follows in
     let M : List ℕ → Type 0 = λ l. protocol.is_member l id ≡ true in

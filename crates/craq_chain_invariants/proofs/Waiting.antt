@@ -4,7 +4,7 @@ use Rattle.std.proofs.lemmas.Bool.{cond_both, cases_eq}
 use Rattle.craq_names.specs.declared.refusal.Refusal.{Refusal}
 use Rattle.craq_commands.specs.declared.entry.Entry.{Entry}
 use Rattle.craq_model.specs.Plain.{Plain, id_of, opening_member, opening_joined}
-use Rattle.craq_protocol.specs.Machine.{World, after_moves as world_after, opening}
+use Rattle.craq_protocol.specs.Machine.{MachineState, after_moves as world_after, initial_state}
 use Rattle.craq_protocol.specs.Promises.{IsReached}
 use Rattle.craq_protocol.proofs.Reached.{reached_run, reached_opening}
 use Rattle.craq_runs.specs.Chain.{Chain, Progress, node_at, opening_chain, chain_step}
@@ -31,7 +31,7 @@ abbrev pub AllWaitAbove : Chain → Type 0
 AllWaitAbove c = (id : ℕ) (p : Plain) → node_at c.nodes id ≡ Some p → WaitAbove p
 
 -- a node's entries are at their positions
-entries_placed : {c : Chain} {w : World Entry} → Follows c w → (id : ℕ) (p : Plain) → node_at c.nodes id ≡ Some p → IsPlaced p.past.base p.past.entries
+entries_placed : {c : Chain} {w : MachineState Entry} → Follows c w → (id : ℕ) (p : Plain) → node_at c.nodes id ≡ Some p → IsPlaced p.past.base p.past.entries
 entries_placed {c} {w} f id p at =
     let n : NodeFollows w (seen_of p) = f.nodes id p at in
     let P : List Entry → Type 0 = λ l. IsPlaced 0 l in
@@ -39,14 +39,14 @@ entries_placed {c} {w} f id p at =
     let count : 0 + length n.history.front ≡ p.past.base = omega (arith, n.history.count) in
     subst Q count (placed_back 0 n.history.front p.past.entries (subst P (sym n.history.whole) n.placed))
 
-at_node : (c : Chain) (w : World Entry) (chosen : Move) (x : Progress) → Follows c w → AllWaitAbove c → AtNode c chosen x → AllWaitAbove x.0
+at_node : (c : Chain) (w : MachineState Entry) (chosen : Move) (x : Progress) → Follows c w → AllWaitAbove c → AtNode c chosen x → AllWaitAbove x.0
 at_node c w chosen x f all h id p at =
     ⊎_elim
     (λ e.
     let P : ℕ → Type 0 = λ j. node_at x.0.nodes j ≡ Some p in
-    let same : h.turn.0 ≡ p = some_same (node_at x.0.nodes (place_of c chosen)) (now_at h) (subst P e at) in
+    let same : h.transition.0 ≡ p = some_same (node_at x.0.nodes (place_of c chosen)) (now_at h) (subst P e at) in
     let W : Plain → Type 0 = λ p. WaitAbove p in
-    subst W same (event_above h.was (all (place_of c chosen) h.was h.at) (entries_placed f (place_of c chosen) h.was h.at) h.event h.turn h.does))
+    subst W same (event_above h.was (all (place_of c chosen) h.was h.at) (entries_placed f (place_of c chosen) h.was h.at) h.event h.transition h.does))
     (λ ne. all id p (sym (others_stay h id ne) ∙ at))
     (cases_eq id (place_of c chosen))
 
@@ -62,18 +62,18 @@ at_master c chosen x all m id p at =
     (node_pushed c.nodes new id p (sym (ap (λ l. node_at l id) o.is) ∙ at)))
     m.nodes
 
-step_above : (c : Chain) (w : World Entry) (chosen : Move) (x : Progress) → Follows c w → AllWaitAbove c → chain_step c chosen ≡ Ok x → AllWaitAbove x.0
+step_above : (c : Chain) (w : MachineState Entry) (chosen : Move) (x : Progress) → Follows c w → AllWaitAbove c → chain_step c chosen ≡ Ok x → AllWaitAbove x.0
 step_above c w chosen x f all does = ⊎_elim (λ (h : AtNode c chosen x). at_node c w chosen x f all h) (λ (m : AtMaster c chosen x). at_master c chosen x all m) (happens_at c chosen x does)
 
-by_result : (t : Taken) (ts : List Taken) (c : Chain) (w : World Entry) → Follows c w → IsReached w → AllWaitAbove c
-    → ((d : Chain) (v : World Entry) → Follows d v → IsReached v → AllWaitAbove d → AreTaken d ts → AllWaitAbove (after_moves d ts))
+by_result : (t : Taken) (ts : List Taken) (c : Chain) (w : MachineState Entry) → Follows c w → IsReached w → AllWaitAbove c
+    → ((d : Chain) (v : MachineState Entry) → Follows d v → IsReached v → AllWaitAbove d → AreTaken d ts → AllWaitAbove (after_moves d ts))
     → (res : Result Progress Refusal) → chain_step c t.chosen ≡ res → Takes res t.step × AreTaken (progressed c res) ts → AllWaitAbove (after_moves (progressed c res) ts)
 by_result t ts c w f r all go (Err e) is taken = absurd taken.0
 by_result t ts c w f r all go (Ok x) is taken =
     let n : CanFollow w x.0 = every_step c w t.chosen x f r is in
     go x.0 (world_after w n.0) n.1 (reached_run r n.0) (step_above c w t.chosen x f all is) taken.1
 
-moves_above : (ts : List Taken) (c : Chain) (w : World Entry) → Follows c w → IsReached w → AllWaitAbove c → AreTaken c ts → AllWaitAbove (after_moves c ts)
+moves_above : (ts : List Taken) (c : Chain) (w : MachineState Entry) → Follows c w → IsReached w → AllWaitAbove c → AreTaken c ts → AllWaitAbove (after_moves c ts)
 moves_above [] c w f r all taken = all
 moves_above (t ∷ ts) c w f r all taken = by_result t ts c w f r all (λ d v f r all taken. moves_above ts d v f r all taken) (chain_step c t.chosen) refl taken
 
@@ -90,7 +90,7 @@ opening_above chain members (m ∷ ids) id p h =
 
 pub above : (chain : ℕ) (run : Run) (p : Plain) → IsTypedRunOf chain run → IsNode (chain_after chain run) p → AllAbove p.past.acknowledged p.waiting_updates
 above chain run p i at =
-    let o : World Entry = opening run.members in
+    let o : MachineState Entry = initial_state run.members in
     let r : IsReached o = reached_opening run.members (distinct_members run.members i.run_of.members.distinct) in
     let w : WaitAbove p = moves_above run.moves (opening_chain chain run.members) o (opening_follows chain run.members) r (λ id q there. opening_above chain run.members run.members id q there) i.run_of.moves (id_of p) p at in
     w.above

@@ -2,7 +2,7 @@
 use Rattle.std.proofs.Common.{◌≡◌, ℕ, ◌≤◌, List, ◌++◌, take, ap, sym, subst, ◌∙◌, arith, take-take}
 use Rattle.craq_commands.specs.declared.entry.Entry.{Entry}
 use Rattle.craq_model.specs.Plain.{Plain, id_of}
-use Rattle.craq_protocol.specs.Machine.{World, opening}
+use Rattle.craq_protocol.specs.Machine.{MachineState, initial_state}
 use Rattle.craq_protocol.specs.Promises.{IsPrefix, IsReached, IsSafe}
 use Rattle.craq_protocol.proofs.Prefix.{prefix_is_take}
 use Rattle.craq_protocol.proofs.Reached.{reached_safe}
@@ -17,12 +17,12 @@ use Rattle.craq_updates.proofs.Explained.{chain_of_account}
 use Rattle.craq_chain_invariants.specs.Kept.{IsNode, chain_after, committed_in, history_of}
 
 pub record Stands (chain : ℕ) (run : Run) : Type 0 where
-  pub world : World Entry
+  pub world : MachineState Entry
   pub reached : IsReached world
   pub follows : Follows (chain_after chain run) world
   pub log : world.log ≡ committed_in chain run
 
-abbrev pub stands_by : (chain : ℕ) (run : Run) (w : World Entry) → Known (run_account chain run) w → Stands chain run
+abbrev pub stands_by : (chain : ℕ) (run : Run) (w : MachineState Entry) → Known (run_account chain run) w → Stands chain run
 stands_by chain run w k =
     let F : Chain → Type 0 = λ c. Follows c w in
     record {
@@ -34,11 +34,11 @@ stands_by chain run w k =
 
 pub stands : (chain : ℕ) (run : Run) → IsTypedRunOf chain run → Stands chain run
 stands chain run i =
-    let r : KnownRun (opening_account chain run.members) (opening run.members) run.moves (run_account chain run) = known_run chain run i in
+    let r : KnownRun (opening_account chain run.members) (initial_state run.members) run.moves (run_account chain run) = known_run chain run i in
     stands_by chain run r.world r.known
 
 -- the log and the node's history agree up to the node's base
-pub history_in : (w : World Entry) (p : Plain) → IsReached w → NodeFollows w (seen_of p) → history_of w.log p ≡ w.history (id_of p)
+pub history_in : (w : MachineState Entry) (p : Plain) → IsReached w → NodeFollows w (seen_of p) → history_of w.log p ≡ w.history (id_of p)
 history_in w p r n =
     let s : IsSafe w = reached_safe r in
     let h : List Entry = w.history (id_of p) in

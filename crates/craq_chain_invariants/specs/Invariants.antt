@@ -136,8 +136,8 @@ pub record MessagesAgreeWithSenders (chain : ℕ) (run : Run) : Type 0 where
 
 -- each version that was ever reported names a strong read of its receiver, and is that of the
 -- read's object on the single copy after the updates that were committed when it was sent
-abbrev pub ToldVersionsWereCommitted : ℕ → Run → Type 0
-ToldVersionsWereCommitted chain run =
+abbrev pub ReportedVersionsWereCommitted : ℕ → Run → Type 0
+ReportedVersionsWereCommitted chain run =
     (number : ℕ) (m : LinkMessage) (ticket version : ℕ)
     → WasSent (chain_after chain run) number m → m.body ≡ bodies.VersionIs ticket version
     → TellsVersion chain run m.receiver ticket version (committed_at chain run number)
@@ -167,5 +167,5 @@ pub record HasInvariants (chain : ℕ) (run : Run) : Type 0 where
   pub copies : CopiesAreCommitted chain run
   pub parts : PartsAreShares chain run
   pub messages : MessagesAgreeWithSenders chain run
-  pub versions : ToldVersionsWereCommitted chain run
+  pub versions : ReportedVersionsWereCommitted chain run
   pub waiting : WaitingUpdatesAreOwed chain run

@@ -5,7 +5,7 @@
 ghost use Rattle.std.specs.Prelude.{ℕ};
 ghost use Rattle.craq_runs.specs.Typed.{IsTypedRunOf};
 ghost use Rattle.craq_runs.specs.declared.run.Run.{Run};
-ghost use Rattle.craq_chain_invariants.specs.Invariants.{AcknowledgedIsCommitted, CopiesAreCommitted, HasInvariants, HistoriesAreWhole, MembersAreNodes, MessagesAgreeWithSenders, OneTailHoldsTheList, PartsAreShares, PredecessorsAreReady, PredecessorsHoldMore, ReadyMembersHoldTheList, ToldVersionsWereCommitted, WaitingUpdatesAreOwed};
+ghost use Rattle.craq_chain_invariants.specs.Invariants.{AcknowledgedIsCommitted, CopiesAreCommitted, HasInvariants, HistoriesAreWhole, MembersAreNodes, MessagesAgreeWithSenders, OneTailHoldsTheList, PartsAreShares, PredecessorsAreReady, PredecessorsHoldMore, ReadyMembersHoldTheList, ReportedVersionsWereCommitted, WaitingUpdatesAreOwed};
 
 /// States that a node's base state is the state after the first committed entries, as many as its
 /// base. The entries of its whole history are at their positions, from 1 on: `history_of` is what
@@ -76,8 +76,8 @@ pub fn messages_agree_with_senders()
 /// States that each version that was ever reported names a strong read of its receiver. It is the
 /// version of the read's object on the single copy after the updates that were committed when it
 /// was sent.
-pub fn told_versions_were_committed()
-    ensures { (chain : ℕ) (run : Run) → IsTypedRunOf chain run → ToldVersionsWereCommitted chain run }
+pub fn reported_versions_were_committed()
+    ensures { (chain : ℕ) (run : Run) → IsTypedRunOf chain run → ReportedVersionsWereCommitted chain run }
 {}
 
 /// States that each update that waits at a node waits for more entries than the node knows to be
@@ -88,7 +88,7 @@ pub fn waiting_updates_are_owed()
 {}
 
 /// States that all of these hold after every run. A world's runs are such runs: the contracts of
-/// `World::take`, `World::run` and `World::run_of` of `craq_world` say so.
+/// `MachineState::take`, `MachineState::run` and `MachineState::run_of` of `craq_world` say so.
 pub fn runs_keep_invariants()
     ensures { (chain : ℕ) (run : Run) → IsTypedRunOf chain run → HasInvariants chain run }
 {}

@@ -16,7 +16,7 @@ use Rattle.craq_model.specs.declared.ask.Ask.TheVariants as asks
 use Rattle.craq_model.specs.declared.ask.Answer.{Answer}
 use Rattle.craq_model.specs.declared.ask.Answer.TheVariants as answers
 use Rattle.craq_runs.specs.Valid.{IsSaid}
-use Rattle.craq_check.specs.Tests.{AskOf, Placed, all_pairs, kind_of, number_of, found_of, same_found, same_reply, is_reply, is_said, is_said_here, are_said}
+use Rattle.craq_check.specs.Tests.{AskOf, Placed, all_pairs, reply_kind, reply_number, found_of, same_found, same_reply, is_reply, is_said, is_said_here, are_said}
 use Rattle.craq_check.proofs.Bools.{and_both, both_and}
 use Rattle.craq_check.proofs.Lists.{same_number, number_same}
 
@@ -58,7 +58,7 @@ made_of k n found =
     else if k == 7 then CompareFailed n
     else Stale n
 
-made_again : (r : Reply) → made_of (kind_of r) (number_of r) (found_of r) ≡ r
+made_again : (r : Reply) → made_of (reply_kind r) (reply_number r) (found_of r) ≡ r
 unfolding made_of
 made_again (Written version) = refl
 made_again (Mismatch version) = refl
@@ -73,18 +73,18 @@ made_again (Stale last) = refl
 one_reply : (x y : Reply) → same_reply x y ≡ true → x ≡ y
 unfolding same_reply
 one_reply x y h =
-    let b : (((kind_of x == kind_of y) && (number_of x == number_of y)) ≡ true) × (all_pairs same_found (found_of x) (found_of y) ≡ true) = and_both ((kind_of x == kind_of y) && (number_of x == number_of y)) (all_pairs same_found (found_of x) (found_of y)) h in
-    let d : ((kind_of x == kind_of y) ≡ true) × ((number_of x == number_of y) ≡ true) = and_both (kind_of x == kind_of y) (number_of x == number_of y) b.0 in
-    let kind : kind_of x ≡ kind_of y = same_number (kind_of x) (kind_of y) d.0 in
-    let number : number_of x ≡ number_of y = same_number (number_of x) (number_of y) d.1 in
+    let b : (((reply_kind x == reply_kind y) && (reply_number x == reply_number y)) ≡ true) × (all_pairs same_found (found_of x) (found_of y) ≡ true) = and_both ((reply_kind x == reply_kind y) && (reply_number x == reply_number y)) (all_pairs same_found (found_of x) (found_of y)) h in
+    let d : ((reply_kind x == reply_kind y) ≡ true) × ((reply_number x == reply_number y) ≡ true) = and_both (reply_kind x == reply_kind y) (reply_number x == reply_number y) b.0 in
+    let kind : reply_kind x ≡ reply_kind y = same_number (reply_kind x) (reply_kind y) d.0 in
+    let number : reply_number x ≡ reply_number y = same_number (reply_number x) (reply_number y) d.1 in
     let found : found_of x ≡ found_of y = all_found (found_of x) (found_of y) b.1 in
-    let parts : made_of (kind_of x) (number_of x) (found_of x) ≡ made_of (kind_of y) (number_of y) (found_of y) = λ i. made_of (kind i) (number i) (found i) in
+    let parts : made_of (reply_kind x) (reply_number x) (found_of x) ≡ made_of (reply_kind y) (reply_number y) (found_of y) = λ i. made_of (kind i) (number i) (found i) in
     sym (made_again x) ∙ parts ∙ made_again y
 
 reply_again : (x : Reply) → same_reply x x ≡ true
 unfolding same_reply
 reply_again x =
-    both_and ((kind_of x == kind_of x) && (number_of x == number_of x)) (all_pairs same_found (found_of x) (found_of x)) (both_and (kind_of x == kind_of x) (number_of x == number_of x) (number_same (kind_of x) (kind_of x) refl) (number_same (number_of x) (number_of x) refl)) (found_again (found_of x))
+    both_and ((reply_kind x == reply_kind x) && (reply_number x == reply_number x)) (all_pairs same_found (found_of x) (found_of x)) (both_and (reply_kind x == reply_kind x) (reply_number x == reply_number x) (number_same (reply_kind x) (reply_kind x) refl) (number_same (reply_number x) (reply_number x) refl)) (found_again (found_of x))
 
 some_reply : (o : Option Reply) (r : Reply) → is_reply o r ≡ true → o ≡ Some r
 unfolding is_reply

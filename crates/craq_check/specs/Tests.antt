@@ -73,28 +73,28 @@ is_in_time lens a p (Some ask) =
     && nat_le p.position (slice_index (0 ∷ lens) a.move)
 
 -- the kind of the reply
-abbrev pub kind_of : Reply → ℕ
-kind_of (Written version) = 0
-kind_of (Mismatch version) = 1
-kind_of TooLong = 2
-kind_of NotANumber = 3
-kind_of Overflow = 4
-kind_of Underflow = 5
-kind_of (Done found) = 6
-kind_of (CompareFailed place) = 7
-kind_of (Stale last) = 8
+abbrev pub reply_kind : Reply → ℕ
+reply_kind (Written version) = 0
+reply_kind (Mismatch version) = 1
+reply_kind TooLong = 2
+reply_kind NotANumber = 3
+reply_kind Overflow = 4
+reply_kind Underflow = 5
+reply_kind (Done found) = 6
+reply_kind (CompareFailed place) = 7
+reply_kind (Stale last) = 8
 
 -- the number in a reply
-abbrev pub number_of : Reply → ℕ
-number_of (Written version) = version
-number_of (Mismatch version) = version
-number_of TooLong = 0
-number_of NotANumber = 0
-number_of Overflow = 0
-number_of Underflow = 0
-number_of (Done found) = 0
-number_of (CompareFailed place) = place
-number_of (Stale last) = last
+abbrev pub reply_number : Reply → ℕ
+reply_number (Written version) = version
+reply_number (Mismatch version) = version
+reply_number TooLong = 0
+reply_number NotANumber = 0
+reply_number Overflow = 0
+reply_number Underflow = 0
+reply_number (Done found) = 0
+reply_number (CompareFailed place) = place
+reply_number (Stale last) = last
 
 -- the objects in a reply
 abbrev pub found_of : Reply → List (ℕ × List ℕ)
@@ -114,7 +114,7 @@ same_found x y = (x.0 == y.0) && same_bytes x.1 y.1
 
 -- the same reply
 unfoldable pub same_reply : Reply → Reply → Bool
-same_reply x y = (kind_of x == kind_of y) && (number_of x == number_of y) && all_pairs same_found (found_of x) (found_of y)
+same_reply x y = (reply_kind x == reply_kind y) && (reply_number x == reply_number y) && all_pairs same_found (found_of x) (found_of y)
 
 -- the reply, if there is one, is this
 unfoldable pub is_reply : Option Reply → Reply → Bool

@@ -1,13 +1,13 @@
 //! Compares replies; used by `single`.
 ghost use Rattle.std.specs.Prelude.{◌≡◌};
-ghost use Rattle.craq_check.specs.Tests.{kind_of, number_of, found_of, same_found, same_reply, all_pairs};
+ghost use Rattle.craq_check.specs.Tests.{reply_kind, reply_number, found_of, same_found, same_reply, all_pairs};
 
 use craq_commands::Reply;
 use craq_names::{Value, Version};
 
 /// Returns the kind of the reply.
-fn kind_of(reply: &Reply) -> u8
-    ensures { result ≡ kind_of reply.now }
+fn reply_kind(reply: &Reply) -> u8
+    ensures { result ≡ reply_kind reply.now }
 {
     match reply {
         Reply::Written(_) => 0,
@@ -23,8 +23,8 @@ fn kind_of(reply: &Reply) -> u8
 }
 
 /// Returns the number in a reply, 0 if it has none.
-fn number_of(reply: &Reply) -> u64
-    ensures { result ≡ number_of reply.now }
+fn reply_number(reply: &Reply) -> u64
+    ensures { result ≡ reply_number reply.now }
 {
     match reply {
         Reply::Written(version) | Reply::Mismatch(version) => version.get(),
@@ -68,7 +68,7 @@ fn are_same_found(found: &[(Version, Value)], others: &[(Version, Value)]) -> bo
 pub fn are_same_replies(reply: &Reply, other: &Reply) -> bool
     ensures { result ≡ same_reply reply.now other.now }
 {
-    kind_of(reply) == kind_of(other)
-        && number_of(reply) == number_of(other)
+    reply_kind(reply) == reply_kind(other)
+        && reply_number(reply) == reply_number(other)
         && are_same_found(found_of(reply), found_of(other))
 }

@@ -5,13 +5,13 @@ ghost use Rattle.craq_names.specs.Maps.{at_number, put_key, put_number};
 ghost use Rattle.craq_commands.specs.Objects.{object_of, version_of, written, all_written};
 ghost use Rattle.craq_commands.specs.Evaluation.{eval};
 ghost use Rattle.craq_commands.specs.Kept.{keep, said_of};
-ghost use Rattle.craq_commands.specs.Told.{told};
+ghost use Rattle.craq_commands.specs.Reported.{given_reply};
 ghost use Rattle.craq_commands.specs.declared.state.State.{State};
 ghost use Rattle.craq_commands.specs.SingleCopy.{opening_state, apply, said, is_new_to};
 ghost use Rattle.craq_check.specs.Tests.{HasVersionsUpTo, HasFewWrites, is_reply, is_said};
 
 use crate::replies::are_same_replies;
-use craq_commands::{Command, Look, Reply, Said, Update, Window, Writes, evaluate};
+use craq_commands::{Command, Look, Reply, RequestStatus, Update, Window, Writes, evaluate};
 use craq_model::{Answer, Ask};
 use craq_names::{ClientId, Copied, Key, RequestNo, Value, Version};
 use std::alloc::{AllocError, Global};
@@ -37,12 +37,12 @@ fn object_in<'a>(objects: &'a ObjectMap, key: &Key) -> (Version, &'a [u8])
 }
 
 /// Returns what is known of a client's request number.
-fn said_in(kept: &KeptMap, client: ClientId, number: RequestNo) -> Said<'_>
-    ensures { told result ≡ said_of (unwrap_or (at_number kept.now.entries client) []) number }
+fn said_in(kept: &KeptMap, client: ClientId, number: RequestNo) -> RequestStatus<'_>
+    ensures { given_reply result ≡ said_of (unwrap_or (at_number kept.now.entries client) []) number }
 {
     match kept.get(&client.get()) {
         Some(window) => window.look(number),
-        None => Said::New,
+        None => RequestStatus::New,
     }
 }
 
@@ -189,13 +189,13 @@ impl Single {
     }
 
     /// Returns true if the client's number is new.
-    #[tactic(auto, using(crate::proofs::Said::new_is_unsaid), unfolding(craq_commands::specs::SingleCopy::window_of))]
+    #[tactic(auto, using(crate::proofs::RequestStatus::new_is_unsaid), unfolding(craq_commands::specs::SingleCopy::window_of))]
     fn is_new(&self, client: ClientId, number: RequestNo) -> bool
         ensures { result ≡ is_new_to self.now client number }
     {
         match said_in(&self.kept, client, number) {
-            Said::New => true,
-            Said::Kept(_) | Said::Stale(_) => false,
+            RequestStatus::New => true,
+            RequestStatus::Kept(_) | RequestStatus::Stale(_) => false,
         }
     }
 
@@ -242,9 +242,9 @@ impl Single {
         ensures { result ≡ is_reply (said self.now client number) reply.now }
     {
         match said_in(&self.kept, client, number) {
-            Said::New => false,
-            Said::Kept(kept) => are_same_replies(kept, reply),
-            Said::Stale(last) => are_same_replies(&Reply::Stale(last), reply),
+            RequestStatus::New => false,
+            RequestStatus::Kept(kept) => are_same_replies(kept, reply),
+            RequestStatus::Stale(last) => are_same_replies(&Reply::Stale(last), reply),
         }
     }
 

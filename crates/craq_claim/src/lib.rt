@@ -2,8 +2,8 @@
 //! Runs in the program.
 #![tactic(auto)]
 
-mod misread;
+mod json_error;
 mod reading;
 
-pub use misread::{Member, Misread};
+pub use json_error::{JsonError, Member};
 pub use reading::explanation_of;

@@ -5,9 +5,9 @@ ghost use Rattle.serde_json.specs.Data.{Data, array};
 ghost use Rattle.serde_json.specs.Find.{get};
 ghost use Rattle.serde_json.specs.Read.{read};
 ghost use Rattle.craq_play.specs.Explained.{count_data, place_data};
-ghost use Rattle.craq_claim.specs.Told.{IsTold};
+ghost use Rattle.craq_claim.specs.Reported.{IsReported};
 
-use crate::{Member, Misread};
+use crate::{JsonError, Member};
 use craq_names::{Items, NodeId, Seq, Ticket};
 use craq_runs::{Explanation, Place};
 use serde_json::{Error, Value};
@@ -15,26 +15,26 @@ use std::alloc::Global;
 use std::str;
 
 /// Returns the array in a member. `NoArray` if the member is missing or is not an array.
-fn array_of<'a>(value: &'a Value, name: &str, member: Member) -> Result<&'a [Value], Misread>
+fn array_of<'a>(value: &'a Value, name: &str, member: Member) -> Result<&'a [Value], JsonError>
     ensures { IfOk result (λ items. get name.now (view value.now) ≡ Some (array (items_view items.now))) }
 {
     match value.get(name) {
         Some(Value::Array(items)) => Ok(items.as_slice()),
-        _ => Err(Misread::NoArray(member)),
+        _ => Err(JsonError::NoArray(member)),
     }
 }
 
 /// Returns the items of a member as counts. `BadItem` with the first that is not a whole number of
 /// 64 bits.
 #[tactic(auto, using(crate::proofs::Numbers::is_count))]
-fn counts_of(alloc: Global, items: &[Value], member: Member) -> Result<Items<u64>, Misread>
+fn counts_of(alloc: Global, items: &[Value], member: Member) -> Result<Items<u64>, JsonError>
     ensures { IfOk result (λ counts. map view items.now ≡ map count_data counts) }
 {
     let mut counts = Items::new(alloc);
     for (index, item) in items.iter().enumerate() {
         match item.as_u64() {
             Some(count) => counts.push(count)?,
-            None => return Err(Misread::BadItem(member, index)),
+            None => return Err(JsonError::BadItem(member, index)),
         }
     }
     Ok(counts)
@@ -75,22 +75,22 @@ fn place_in(item: &Value) -> Option<Place>
 }
 
 /// Returns the items of `places` as linearization points. `BadItem` with the first that is not one.
-fn places_of(alloc: Global, items: &[Value]) -> Result<Items<Place>, Misread>
+fn places_of(alloc: Global, items: &[Value]) -> Result<Items<Place>, JsonError>
     ensures { IfOk result (λ places. map view items.now ≡ map place_data places) }
 {
     let mut places = Items::new(alloc);
     for (index, item) in items.iter().enumerate() {
         match place_in(item) {
             Some(place) => places.push(place)?,
-            None => return Err(Misread::BadItem(Member::Places, index)),
+            None => return Err(JsonError::BadItem(Member::Places, index)),
         }
     }
     Ok(places)
 }
 
 /// Returns the linearization witness that a JSON value encodes.
-fn explanation_in(alloc: Global, value: &Value) -> Result<Explanation, Misread>
-    ensures { IfOk result (λ e. IsTold (view value.now) e) }
+fn explanation_in(alloc: Global, value: &Value) -> Result<Explanation, JsonError>
+    ensures { IfOk result (λ e. IsReported (view value.now) e) }
 {
     let asks = array_of(value, "asks", Member::Asks)?;
     let lens = array_of(value, "lens", Member::Lens)?;
@@ -103,11 +103,11 @@ fn explanation_in(alloc: Global, value: &Value) -> Result<Explanation, Misread>
 }
 
 /// Returns the reason that a text was not read as JSON, and its line and column.
-fn misread_by(error: &Error) -> Misread {
+fn misread_by(error: &Error) -> JsonError {
     if error.is_memory() {
-        return Misread::Memory;
+        return JsonError::Memory;
     }
-    Misread::NotJson {
+    JsonError::NotJson {
         line: error.line(),
         column: error.column(),
     }
@@ -129,12 +129,12 @@ fn misread_by(error: &Error) -> Misread {
 ///   which, a node's id, is below 2^32.
 ///
 /// `Memory` when out of memory. (This project's profile.)
-pub fn explanation_of(alloc: Global, bytes: &[u8]) -> Result<Explanation, Misread>
-    ensures { IfOk result (λ e. (d : Data) × (read bytes.now ≡ Some d) × IsTold d e) }
+pub fn explanation_of(alloc: Global, bytes: &[u8]) -> Result<Explanation, JsonError>
+    ensures { IfOk result (λ e. (d : Data) × (read bytes.now ≡ Some d) × IsReported d e) }
 {
     let text = match str::from_utf8(bytes) {
         Ok(text) => text,
-        Err(error) => return Err(Misread::NotText(error.valid_up_to())),
+        Err(error) => return Err(JsonError::NotText(error.valid_up_to())),
     };
     match Value::from_str(alloc, text) {
         Ok(value) => explanation_in(alloc, &value),

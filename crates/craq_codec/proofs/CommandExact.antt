@@ -12,9 +12,9 @@ use Rattle.craq_commands.specs.declared.command.Command.{Command}
 use Rattle.craq_commands.specs.declared.command.Command.TheVariants.{Put, TestAndSet, Append, Prepend, Increment, Decrement, Mini}
 use Rattle.craq_commands.specs.Transaction.{Transaction, IsWithinLimits, mini_of, most_items, has_doubles, stands_twice, same_object, compared, written}
 use Rattle.craq_commands.proofs.Doubles.{distinct_unless_twice}
-use Rattle.craq_codec.specs.NumberSpelling.{number}
-use Rattle.craq_codec.specs.PartSpelling.{value, object, pair, counted, IsValue, IsObject, IsPair, AreCounted}
-use Rattle.craq_codec.specs.CommandSpelling.{command_tag, command_body, command, transaction, TransactionFits, CommandFits}
+use Rattle.craq_codec.specs.NumberEncoding.{number}
+use Rattle.craq_codec.specs.PartEncoding.{value, object, pair, counted, IsValue, IsObject, IsPair, AreCounted}
+use Rattle.craq_codec.specs.CommandEncoding.{command_tag, command_body, command, transaction, TransactionFits, CommandFits}
 use Rattle.craq_codec.specs.NumberReading.{◌>>=◌, number_at}
 use Rattle.craq_codec.specs.PartReading.{value_at, object_at, pair_at, counted_at, mapped}
 use Rattle.craq_codec.specs.CommandReading.{transaction_of, transaction_at, command_body_at, command_at}
@@ -129,8 +129,8 @@ transaction_exact = record { takes = transaction_takes; again = transaction_agai
 version_value_put : IsExact (pair object (pair (number w64) value)) (IsPair IsObject version_value_fits) (pair_at object_at (pair_at (number_at w64) value_at))
 version_value_put = pair_exact _ _ _ object_exact _ _ _ version_value_exact
 
-command_case : {A : Type 0} (spelling : A → List ℕ) (P : A → Type 0) (part : List ℕ → Option (A × List ℕ)) → IsExact spelling P part
-    → (f : A → Command) → ((a : A) → command_body (f a) ≡ spelling a) → ((a : A) → P a → CommandFits (f a)) → (tag : ℕ) → ((a : A) → command_tag (f a) ≡ tag)
+command_case : {A : Type 0} (encoding : A → List ℕ) (P : A → Type 0) (part : List ℕ → Option (A × List ℕ)) → IsExact encoding P part
+    → (f : A → Command) → ((a : A) → command_body (f a) ≡ encoding a) → ((a : A) → P a → CommandFits (f a)) → (tag : ℕ) → ((a : A) → command_tag (f a) ≡ tag)
     → (bytes : List ℕ) (x : Command × List ℕ) → IsBytes bytes → mapped f (part bytes) ≡ Some x → (Takes bytes (command_body x.0) x.1 × CommandFits x.0) × (command_tag x.0 ≡ tag)
 command_case = one_case command_tag command_body CommandFits
 

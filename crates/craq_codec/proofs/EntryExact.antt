@@ -8,9 +8,9 @@ use Rattle.craq_commands.specs.declared.reply.Reply.{Reply}
 use Rattle.craq_commands.specs.declared.reply.Reply.TheVariants.{Written, Mismatch, TooLong, NotANumber, Overflow, Underflow, Done, CompareFailed, Stale}
 use Rattle.craq_commands.specs.declared.entry.Entry.{Entry}
 use Rattle.craq_commands.specs.declared.entry.Write.{Write}
-use Rattle.craq_codec.specs.NumberSpelling.{number}
-use Rattle.craq_codec.specs.PartSpelling.{value, pair, counted, IsValue, IsPair, AreCounted}
-use Rattle.craq_codec.specs.EntrySpelling.{window, WindowFits, reply_tag, reply_body, reply, ReplyFits, write, WriteFits, entry, EntryFits}
+use Rattle.craq_codec.specs.NumberEncoding.{number}
+use Rattle.craq_codec.specs.PartEncoding.{value, pair, counted, IsValue, IsPair, AreCounted}
+use Rattle.craq_codec.specs.EntryEncoding.{window, WindowFits, reply_tag, reply_body, reply, ReplyFits, write, WriteFits, entry, EntryFits}
 use Rattle.craq_codec.specs.NumberReading.{number_at}
 use Rattle.craq_codec.specs.PartReading.{value_at, request_at, pair_at, counted_at, mapped}
 use Rattle.craq_codec.specs.EntryReading.{window_at, reply_body_at, reply_at, write_of, write_at, entry_of, entry_at}
@@ -29,8 +29,8 @@ version_value_exact = pair_exact _ _ _ u64_exact _ _ _ value_exact
 done_exact : IsExact (counted w8 (pair (number w64) value)) (AreCounted w8 version_value_fits) (counted_at w8 (pair_at (number_at w64) value_at))
 done_exact = counted_exact _ _ _ version_value_exact w8 wide8
 
-reply_case : {A : Type 0} (spelling : A → List ℕ) (P : A → Type 0) (part : List ℕ → Option (A × List ℕ)) → IsExact spelling P part
-    → (f : A → Reply) → ((a : A) → reply_body (f a) ≡ spelling a) → ((a : A) → P a → ReplyFits (f a)) → (tag : ℕ) → ((a : A) → reply_tag (f a) ≡ tag)
+reply_case : {A : Type 0} (encoding : A → List ℕ) (P : A → Type 0) (part : List ℕ → Option (A × List ℕ)) → IsExact encoding P part
+    → (f : A → Reply) → ((a : A) → reply_body (f a) ≡ encoding a) → ((a : A) → P a → ReplyFits (f a)) → (tag : ℕ) → ((a : A) → reply_tag (f a) ≡ tag)
     → (bytes : List ℕ) (x : Reply × List ℕ) → IsBytes bytes → mapped f (part bytes) ≡ Some x → (Takes bytes (reply_body x.0) x.1 × ReplyFits x.0) × (reply_tag x.0 ≡ tag)
 reply_case = one_case reply_tag reply_body ReplyFits
 

@@ -1,8 +1,8 @@
 -- Reads values one after the other, as a loop does.
 use Rattle.std.proofs.Common.{◌≡◌, ℕ, suc, ◌-◌, ◌+◌, ◌≤◌, ◌<◌, List, [], ◌∷◌, ◌++◌, Option, Some, None, refl, sym, ap, ◌∙◌, append_assoc, arith}
 use Rattle.std.proofs.lemmas.List.{append-nil}
-use Rattle.craq_codec.specs.declared.unread.Unread.{Unread}
-use Rattle.craq_codec.specs.declared.unread.Unread.TheVariants as unread
+use Rattle.craq_codec.specs.declared.decode_error.DecodeError.{DecodeError}
+use Rattle.craq_codec.specs.declared.decode_error.DecodeError.TheVariants as unread
 use Rattle.craq_codec.specs.NumberReading.{◌>>=◌, Fails}
 use Rattle.craq_codec.specs.PartReading.{many_at}
 
@@ -23,7 +23,7 @@ module _ {A : Type 0} (part : List ℕ → Option (A × List ℕ)) where
       let one : with_front front (many_at part (count - i) bytes) ≡ with_front (front ++ n ∷ []) (many_at part (count - (i + 1)) after) = rw (k, h) (regroup front n (many_at part (count - (i + 1)) after)) in
       sym one ∙ so_far
 
-  pub ends : (e : Unread) (front : List A) (count i : ℕ) (bytes : List ℕ) (total : Option (List A × List ℕ)) → i < count → Fails e (part bytes)
+  pub ends : (e : DecodeError) (front : List A) (count i : ℕ) (bytes : List ℕ) (total : Option (List A × List ℕ)) → i < count → Fails e (part bytes)
       → with_front front (many_at part (count - i) bytes) ≡ total → Fails e total
   unfolding many_at
   ends unread.Memory front count i bytes total lt h so_far = tt

@@ -5,7 +5,7 @@ use Rattle.std.specs.Int.{Width, w8, w16, w32, w64, byte_len, from_be_bytes, to_
 use Rattle.std.proofs.lemmas.Bool.{cases_lt, eqb-true, ltb-false, le-ltb}
 use Rattle.std.proofs.lemmas.List.{take_at, drop_at, take-append-drop, length-append, length-take, get_or-drop, get_or-take, get_or_past}
 use Rattle.std.proofs.lemmas.Nat.{be_bytes_2, be_bytes_4, be_bytes_8, from_be_bytes-to_be_bytes_2, from_be_bytes-to_be_bytes_4, from_be_bytes-to_be_bytes_8}
-use Rattle.craq_codec.specs.NumberSpelling.{number}
+use Rattle.craq_codec.specs.NumberEncoding.{number}
 use Rattle.craq_codec.specs.NumberReading.{◌>>=◌, number_at, bytes_at}
 
 abbrev pub IsBytes : List ℕ → Type 0
@@ -30,9 +30,9 @@ pub Takes-then : {a x b y c : List ℕ} → Takes a x b → Takes b y c → Take
 Takes-then {a} {x} {b} {y} {c} p q = record { parts = p.parts ∙ ap (λ (t : List ℕ). x ++ t) q.parts ∙ sym (append_assoc x y c); rest_fits = q.rest_fits }
 
 -- a reader takes exactly the encoding of its value, and reads every encoding back
-pub record IsExact {A : Type 0} (spelling : A → List ℕ) (fits : A → Type 0) (part : List ℕ → Option (A × List ℕ)) : Type 0 where
-  pub takes : (bytes : List ℕ) (x : A × List ℕ) → IsBytes bytes → part bytes ≡ Some x → Takes bytes (spelling x.0) x.1 × fits x.0
-  pub again : (a : A) (rest : List ℕ) → fits a → part (spelling a ++ rest) ≡ Some (a, rest)
+pub record IsExact {A : Type 0} (encoding : A → List ℕ) (fits : A → Type 0) (part : List ℕ → Option (A × List ℕ)) : Type 0 where
+  pub takes : (bytes : List ℕ) (x : A × List ℕ) → IsBytes bytes → part bytes ≡ Some x → Takes bytes (encoding x.0) x.1 × fits x.0
+  pub again : (a : A) (rest : List ℕ) → fits a → part (encoding a ++ rest) ≡ Some (a, rest)
 
 -- a step that succeeded has a value
 pub bind_some : {A B : Type 0} (r : Option A) (f : A → Option B) (y : B) → (r >>= f) ≡ Some y → (x : A) × (r ≡ Some x) × (f x ≡ Some y)
@@ -48,10 +48,10 @@ pub some_is : {A : Type 0} (x y : A) → Some x ≡ Some y → x ≡ y
 some_is x y e = cc
 
 -- the first step of a reading, and the reading that goes on from there
-pub step : {A B : Type 0} (spelling : A → List ℕ) (fits : A → Type 0) (part : List ℕ → Option (A × List ℕ)) → IsExact spelling fits part
+pub step : {A B : Type 0} (encoding : A → List ℕ) (fits : A → Type 0) (part : List ℕ → Option (A × List ℕ)) → IsExact encoding fits part
     → (bytes : List ℕ) (f : A × List ℕ → Option B) (y : B) → IsBytes bytes → (part bytes >>= f) ≡ Some y
-    → (x : A × List ℕ) × Takes bytes (spelling x.0) x.1 × fits x.0 × (f x ≡ Some y)
-step spelling fits part exact bytes f y h e =
+    → (x : A × List ℕ) × Takes bytes (encoding x.0) x.1 × fits x.0 × (f x ≡ Some y)
+step encoding fits part exact bytes f y h e =
     let b = bind_some (part bytes) f y e in
     let t = exact.takes bytes b.0 h b.1 in
     (b.0, t.0, t.1, b.2)

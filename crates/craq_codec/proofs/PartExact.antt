@@ -6,10 +6,10 @@ use Rattle.std.proofs.lemmas.Bool.{ltb-false, le-ltb}
 use Rattle.std.proofs.lemmas.List.Concat.{flat_map-cons}
 use Rattle.craq_names.specs.declared.name.ObjectId.{ObjectId}
 use Rattle.craq_names.specs.Limits.{value_limit}
-use Rattle.craq_codec.specs.NumberSpelling.{number}
+use Rattle.craq_codec.specs.NumberEncoding.{number}
 use Rattle.craq_codec.specs.NumberReading.{◌>>=◌, number_at, bytes_at}
 use Rattle.craq_codec.proofs.NumberExact.{IsBytes, Takes, Takes-then, IsExact, bind_some, guard_some, some_is, step, IsWide, number_exact, number_again, u8_exact, u16_exact, u64_exact, bytes_takes, bytes_again}
-use Rattle.craq_codec.specs.PartSpelling.{key, value, object, pair, IsKey, IsValue, IsObject, IsPair, counted, AreCounted}
+use Rattle.craq_codec.specs.PartEncoding.{key, value, object, pair, IsKey, IsValue, IsObject, IsPair, counted, AreCounted}
 use Rattle.craq_codec.specs.PartReading.{key_at, value_at, object_at, request_at, pair_at, many_at, counted_at, mapped}
 
 key_takes : (bytes : List ℕ) (x : List ℕ × List ℕ) → IsBytes bytes → key_at bytes ≡ Some x → Takes bytes (key x.0) x.1 × IsKey x.0
@@ -110,50 +110,50 @@ object_again o rest fits =
 pub object_exact : IsExact object IsObject object_at
 object_exact = record { takes = object_takes; again = object_again }
 
-module _ {A : Type 0} (spelling : A → List ℕ) (fits : A → Type 0) (part : List ℕ → Option (A × List ℕ)) (exact : IsExact spelling fits part) where
+module _ {A : Type 0} (encoding : A → List ℕ) (fits : A → Type 0) (part : List ℕ → Option (A × List ℕ)) (exact : IsExact encoding fits part) where
   pub many_takes : (n : ℕ) (bytes : List ℕ) (x : List A × List ℕ) → IsBytes bytes → many_at part n bytes ≡ Some x
-      → Takes bytes (flat_map spelling x.0) x.1 × (length x.0 ≡ n) × AllByRecursion fits x.0
+      → Takes bytes (flat_map encoding x.0) x.1 × (length x.0 ≡ n) × AllByRecursion fits x.0
   unfolding many_at
   many_takes zero bytes x h e =
-      subst (λ (y : List A × List ℕ). Takes bytes (flat_map spelling y.0) y.1 × (length y.0 ≡ 0) × AllByRecursion fits y.0) (some_is ([], bytes) x e) (record { parts = refl; rest_fits = h }, refl, tt)
+      subst (λ (y : List A × List ℕ). Takes bytes (flat_map encoding y.0) y.1 × (length y.0 ≡ 0) × AllByRecursion fits y.0) (some_is ([], bytes) x e) (record { parts = refl; rest_fits = h }, refl, tt)
   many_takes (suc n) bytes x h e =
-      let a = step spelling fits part exact bytes (λ first. many_at part n first.1 >>= λ others. Some (first.0 ∷ others.0, others.1)) x h e in
+      let a = step encoding fits part exact bytes (λ first. many_at part n first.1 >>= λ others. Some (first.0 ∷ others.0, others.1)) x h e in
       let b = bind_some (many_at part n a.0.1) (λ others. Some (a.0.0 ∷ others.0, others.1)) x a.3 in
       let t = many_takes n a.0.1 b.0 a.1.rest_fits b.1 in
-      let both : Takes bytes (spelling a.0.0 ++ flat_map spelling b.0.0) b.0.1 = Takes-then a.1 t.0 in
+      let both : Takes bytes (encoding a.0.0 ++ flat_map encoding b.0.0) b.0.1 = Takes-then a.1 t.0 in
       let made : List A × List ℕ = (a.0.0 ∷ b.0.0, b.0.1) in
-      subst (λ (y : List A × List ℕ). Takes bytes (flat_map spelling y.0) y.1 × (length y.0 ≡ suc n) × AllByRecursion fits y.0) (some_is made x b.2) (rw flat_map-cons both, ap suc t.1, (a.2, t.2))
+      subst (λ (y : List A × List ℕ). Takes bytes (flat_map encoding y.0) y.1 × (length y.0 ≡ suc n) × AllByRecursion fits y.0) (some_is made x b.2) (rw flat_map-cons both, ap suc t.1, (a.2, t.2))
 
-  pub many_again : (xs : List A) (rest : List ℕ) → AllByRecursion fits xs → many_at part (length xs) (flat_map spelling xs ++ rest) ≡ Some (xs, rest)
+  pub many_again : (xs : List A) (rest : List ℕ) → AllByRecursion fits xs → many_at part (length xs) (flat_map encoding xs ++ rest) ≡ Some (xs, rest)
   unfolding many_at
   many_again [] rest h = refl
   many_again (a ∷ xs) rest h =
-      let regrouped : flat_map spelling (a ∷ xs) ++ rest ≡ spelling a ++ (flat_map spelling xs ++ rest) = ap (λ (x : List ℕ). x ++ rest) (flat_map-cons spelling a xs) ∙ append_assoc (spelling a) (flat_map spelling xs) rest in
-      ap (many_at part (suc (length xs))) regrouped ∙ rw (exact.again a (flat_map spelling xs ++ rest) h.0, many_again xs rest h.1) refl
+      let regrouped : flat_map encoding (a ∷ xs) ++ rest ≡ encoding a ++ (flat_map encoding xs ++ rest) = ap (λ (x : List ℕ). x ++ rest) (flat_map-cons encoding a xs) ∙ append_assoc (encoding a) (flat_map encoding xs) rest in
+      ap (many_at part (suc (length xs))) regrouped ∙ rw (exact.again a (flat_map encoding xs ++ rest) h.0, many_again xs rest h.1) refl
 
-  pub counted_exact : (w : Width) → IsWide w (256 ^ byte_len w) → IsExact (counted w spelling) (AreCounted w fits) (counted_at w part)
+  pub counted_exact : (w : Width) → IsWide w (256 ^ byte_len w) → IsExact (counted w encoding) (AreCounted w fits) (counted_at w part)
   unfolding counted_at
   counted_exact w wide = record {
     takes = λ bytes x h e.
         let s = step (number w) (λ n. n < 256 ^ byte_len w) (number_at w) (number_exact w (256 ^ byte_len w) wide) bytes (λ n. many_at part n.0 n.1) x h e in
         let t = many_takes s.0.0 s.0.1 x s.1.rest_fits s.3 in
-        let both : Takes bytes (number w s.0.0 ++ flat_map spelling x.0) x.1 = Takes-then s.1 t.0 in
-        (subst (λ (k : ℕ). Takes bytes (number w k ++ flat_map spelling x.0) x.1) (sym t.1) both, record { few = subst (λ (k : ℕ). k < 256 ^ byte_len w) (sym t.1) s.2; each = t.2 });
+        let both : Takes bytes (number w s.0.0 ++ flat_map encoding x.0) x.1 = Takes-then s.1 t.0 in
+        (subst (λ (k : ℕ). Takes bytes (number w k ++ flat_map encoding x.0) x.1) (sym t.1) both, record { few = subst (λ (k : ℕ). k < 256 ^ byte_len w) (sym t.1) s.2; each = t.2 });
     again = λ xs rest h.
-        ap (counted_at w part) (append_assoc (number w (length xs)) (flat_map spelling xs) rest) ∙ rw (number_again w (256 ^ byte_len w) wide (length xs) (flat_map spelling xs ++ rest) h.few) (many_again xs rest h.each);
+        ap (counted_at w part) (append_assoc (number w (length xs)) (flat_map encoding xs) rest) ∙ rw (number_again w (256 ^ byte_len w) wide (length xs) (flat_map encoding xs ++ rest) h.few) (many_again xs rest h.each);
   }
 
   -- a part seen as another value
   module _ {B : Type 0} (f : A → B) (g : B → A) (others : B → List ℕ) (kind : B → Type 0) (into : (a : A) → fits a → kind (f a)) (back : (b : B) → kind b → fits (g b))
-      (whole : (b : B) → f (g b) ≡ b) (alike : (a : A) → others (f a) ≡ spelling a) where
+      (whole : (b : B) → f (g b) ≡ b) (alike : (a : A) → others (f a) ≡ encoding a) where
     pub mapped_takes : (bytes : List ℕ) (x : B × List ℕ) → IsBytes bytes → mapped f (part bytes) ≡ Some x → Takes bytes (others x.0) x.1 × kind x.0
     mapped_takes bytes x h e =
-        let s = step spelling fits part exact bytes (λ y. Some (f y.0, y.1)) x h e in
+        let s = step encoding fits part exact bytes (λ y. Some (f y.0, y.1)) x h e in
         subst (λ (y : B × List ℕ). Takes bytes (others y.0) y.1 × kind y.0) (some_is (f s.0.0, s.0.1) x s.3) (subst (λ (t : List ℕ). Takes bytes t s.0.1) (sym (alike s.0.0)) s.1, into s.0.0 s.2)
 
     pub mapped_again : (b : B) (rest : List ℕ) → kind b → mapped f (part (others b ++ rest)) ≡ Some (b, rest)
     mapped_again b rest h =
-        let same : others b ≡ spelling (g b) = ap others (sym (whole b)) ∙ alike (g b) in
+        let same : others b ≡ encoding (g b) = ap others (sym (whole b)) ∙ alike (g b) in
         rw (same, exact.again (g b) rest (back b h)) (ap (λ (y : B). Some (y, rest)) (whole b))
 
     pub mapped_exact : IsExact others kind (λ bytes. mapped f (part bytes))

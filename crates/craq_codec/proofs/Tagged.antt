@@ -1,7 +1,7 @@
 -- Reading a tag and what follows it is the inverse of writing them.
 use Rattle.std.proofs.Common.{◌≡◌, ℕ, ◌^◌, ◌<◌, List, [], ◌++◌, Option, Some, refl, sym, ap, subst, ◌∙◌, append_assoc}
 use Rattle.std.specs.Int.{w8}
-use Rattle.craq_codec.specs.NumberSpelling.{number}
+use Rattle.craq_codec.specs.NumberEncoding.{number}
 use Rattle.craq_codec.specs.NumberReading.{◌>>=◌, number_at}
 use Rattle.craq_codec.proofs.NumberExact.{IsBytes, Takes, Takes-then, IsExact, some_is, step, u8_exact}
 use Rattle.craq_codec.specs.PartReading.{mapped}
@@ -14,11 +14,11 @@ pub record IsTagged {X : Type 0} (tag_of : X → ℕ) (body : X → List ℕ) (f
 
 module _ {X : Type 0} (tag_of : X → ℕ) (body : X → List ℕ) (fits : X → Type 0) where
   -- the case of one tag, made of a part that is read
-  pub one_case : {A : Type 0} (spelling : A → List ℕ) (P : A → Type 0) (part : List ℕ → Option (A × List ℕ)) → IsExact spelling P part
-      → (f : A → X) → ((a : A) → body (f a) ≡ spelling a) → ((a : A) → P a → fits (f a)) → (tag : ℕ) → ((a : A) → tag_of (f a) ≡ tag)
+  pub one_case : {A : Type 0} (encoding : A → List ℕ) (P : A → Type 0) (part : List ℕ → Option (A × List ℕ)) → IsExact encoding P part
+      → (f : A → X) → ((a : A) → body (f a) ≡ encoding a) → ((a : A) → P a → fits (f a)) → (tag : ℕ) → ((a : A) → tag_of (f a) ≡ tag)
       → (bytes : List ℕ) (x : X × List ℕ) → IsBytes bytes → mapped f (part bytes) ≡ Some x → (Takes bytes (body x.0) x.1 × fits x.0) × (tag_of x.0 ≡ tag)
-  one_case spelling P part exact f same into tag named bytes x h e =
-      let s = step spelling P part exact bytes (λ y. Some (f y.0, y.1)) x h e in
+  one_case encoding P part exact f same into tag named bytes x h e =
+      let s = step encoding P part exact bytes (λ y. Some (f y.0, y.1)) x h e in
       subst (λ (y : X × List ℕ). (Takes bytes (body y.0) y.1 × fits y.0) × (tag_of y.0 ≡ tag)) (some_is (f s.0.0, s.0.1) x s.3)
       ((subst (λ (t : List ℕ). Takes bytes t s.0.1) (sym (same s.0.0)) s.1, into s.0.0 s.2), named s.0.0)
 

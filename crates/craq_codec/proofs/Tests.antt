@@ -8,7 +8,7 @@ use Rattle.std.proofs.lemmas.List.{nil_from_length}
 use Rattle.craq_names.specs.Limits.{item_limit}
 use Rattle.craq_commands.specs.declared.reply.Reply.{Reply}
 use Rattle.craq_commands.specs.declared.reply.Reply.TheVariants.{Written, Mismatch, TooLong, NotANumber, Overflow, Underflow, Done, CompareFailed, Stale}
-use Rattle.craq_model.specs.Spelled.{IsObjectRead, IsReply, IsNotStale}
+use Rattle.craq_model.specs.Encodable.{IsObjectRead, IsReply, IsNotStale}
 use Rattle.craq_codec.specs.Tests.{is_object_read, is_reply, is_not_stale}
 
 pub decides_le : (a b : ℕ) → Decides (leb a b) (a ≤ b)

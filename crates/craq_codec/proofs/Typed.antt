@@ -2,12 +2,12 @@
 use Rattle.std.proofs.Common.{◌≤◌, ◌<◌, ◌^◌, ℕ, [], ◌∷◌, length, arith}
 use Rattle.std.specs.List.{AllByRecursion}
 use Rattle.craq_commands.specs.Kept.{Kept, Window}
-use Rattle.craq_codec.specs.PartSpelling.{IsPair}
+use Rattle.craq_codec.specs.PartEncoding.{IsPair}
 use Rattle.craq_commands.specs.declared.reply.Reply.{Reply}
 use Rattle.craq_commands.specs.declared.reply.Reply.TheVariants.{Written, Mismatch, TooLong, NotANumber, Overflow, Underflow, Done, CompareFailed, Stale}
 use Rattle.craq_commands.specs.declared.entry.Entry.{Entry}
-use Rattle.craq_model.specs.Spelled.{IsReply, IsNotStale, IsSpelledEntry, IsSpelledWindow}
-use Rattle.craq_codec.specs.EntrySpelling.{ReplyFits, EntryFits, WindowFits}
+use Rattle.craq_model.specs.Encodable.{IsReply, IsNotStale, IsEncodableEntry, IsEncodableWindow}
+use Rattle.craq_codec.specs.EntryEncoding.{ReplyFits, EntryFits, WindowFits}
 use Rattle.craq_codec.specs.Typed.{IsTypedReply, IsTypedEntry, IsTypedWindow}
 
 pub within_byte : (n : ℕ) → n ≤ 16 → n < 256
@@ -24,7 +24,7 @@ reply_fits (Done objects) t i = record { few = within_byte (length objects) i.0;
 reply_fits (CompareFailed place) t i = t
 reply_fits (Stale last) t i = t
 
-pub entry_fits : (e : Entry) → IsTypedEntry e → IsSpelledEntry e → EntryFits e
+pub entry_fits : (e : Entry) → IsTypedEntry e → IsEncodableEntry e → EntryFits e
 entry_fits e t i = record {
   position = t.position;
   origin_node = t.origin_node;
@@ -39,5 +39,5 @@ replies_fit : (w : Window) → IsTypedWindow w → AllByRecursion (λ (k : Kept)
 replies_fit [] t i = tt
 replies_fit (k ∷ ks) t i = ((t.0.0, reply_fits k.1 t.0.1 i.0.0), replies_fit ks t.1 i.1)
 
-pub window_fits : (w : Window) → IsTypedWindow w → IsSpelledWindow w → WindowFits w
+pub window_fits : (w : Window) → IsTypedWindow w → IsEncodableWindow w → WindowFits w
 window_fits w t i = record { few = omega (arith, i.few); each = replies_fit w t i.replies }

@@ -1,10 +1,10 @@
 pub mod NumberReading
-pub mod NumberSpelling
+pub mod NumberEncoding
 pub mod PartReading
-pub mod PartSpelling
+pub mod PartEncoding
 pub mod EntryReading
-pub mod EntrySpelling
+pub mod EntryEncoding
 pub mod CommandReading
-pub mod CommandSpelling
+pub mod CommandEncoding
 pub mod Tests
 pub mod Typed

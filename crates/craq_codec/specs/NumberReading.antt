@@ -3,11 +3,11 @@ use Rattle.std.specs.Prelude.{◌≡◌, ⊤, ℕ, List, length, take, drop, Opt
 use Rattle.std.specs.Int.{Width, byte_len, from_be_bytes}
 use Rattle.craq_names.specs.declared.refusal.Refusal.{Refusal}
 use Rattle.craq_names.specs.declared.refusal.Refusal.TheVariants as refusals
-use Rattle.craq_codec.specs.declared.unread.Unread.{Unread}
-use Rattle.craq_codec.specs.declared.unread.Unread.TheVariants as unread
+use Rattle.craq_codec.specs.declared.decode_error.DecodeError.{DecodeError}
+use Rattle.craq_codec.specs.declared.decode_error.DecodeError.TheVariants as unread
 
 -- the refusal that reports why nothing was read
-abbrev pub refusal_of : Unread → Refusal
+abbrev pub refusal_of : DecodeError → Refusal
 refusal_of unread.Memory = refusals.Memory
 refusal_of unread.BadFrame = refusals.BadFrame
 
@@ -18,14 +18,14 @@ abbrev pub ◌>>=◌ : {A B : Type 0} → Option A → (A → Option B) → Opti
 None >>= f = None
 
 -- the reading found nothing, or memory ran out
-abbrev pub Fails : {Y : Type 0} → Unread → Option Y → Type 0
+abbrev pub Fails : {Y : Type 0} → DecodeError → Option Y → Type 0
 Fails unread.Memory read = ⊤
 Fails unread.BadFrame read = read ≡ None
 
 -- a function's result, seen by view, is the result of the reading, unless memory ran out
-abbrev pub Gives : {X Y : Type 0} → (X → Y) → Result X Unread → Option Y → Type 0
-Gives view (Ok x) read = read ≡ Some (view x)
-Gives view (Err e) read = Fails e read
+abbrev pub Decodes : {X Y : Type 0} → (X → Y) → Result X DecodeError → Option Y → Type 0
+Decodes view (Ok x) read = read ≡ Some (view x)
+Decodes view (Err e) read = Fails e read
 
 -- a number of this width, and the bytes after it
 unfoldable pub number_at : Width → List ℕ → Option (ℕ × List ℕ)

@@ -6,8 +6,8 @@ use Rattle.std.specs.List.{AllByRecursion}
 use Rattle.craq_commands.specs.declared.reply.Reply.{Reply}
 use Rattle.craq_commands.specs.declared.reply.Reply.TheVariants.{Written, Mismatch, TooLong, NotANumber, Overflow, Underflow, Done, CompareFailed, Stale}
 use Rattle.craq_commands.specs.declared.entry.Entry.{Entry}
-use Rattle.craq_codec.specs.PartSpelling.{IsValue, IsPair}
-use Rattle.craq_codec.specs.EntrySpelling.{WriteFits}
+use Rattle.craq_codec.specs.PartEncoding.{IsValue, IsPair}
+use Rattle.craq_codec.specs.EntryEncoding.{WriteFits}
 
 -- the reply is a value of its type
 abbrev pub IsTypedReply : Reply → Type 0

@@ -1,14 +1,15 @@
-//! Reads and writes commands by the grammar of `specs/CommandSpelling`; used by `craq_frames`.
+//! Reads and writes commands by the grammar of `specs/CommandEncoding`; used by `craq_frames`.
 ghost use Rattle.std.specs.Prelude.{◌≡◌, ◌++◌, OnOk, OnErr};
 ghost use Rattle.std.specs.Io.{StartsWith};
-ghost use Rattle.craq_codec.specs.NumberReading.{Gives};
+ghost use Rattle.craq_codec.specs.NumberReading.{Decodes};
 ghost use Rattle.craq_codec.specs.CommandReading.{command_at, command_body_at, transaction_at};
-ghost use Rattle.craq_codec.specs.PartSpelling.{object as object_bytes, value as value_bytes, IsObject, IsValue};
-ghost use Rattle.craq_codec.specs.CommandSpelling.{command as spelled_command, transaction, CommandFits, TransactionFits};
+ghost use Rattle.craq_codec.specs.PartEncoding.{object as object_bytes, value as value_bytes, IsObject, IsValue};
+ghost use Rattle.craq_codec.specs.CommandEncoding.{command as encodable_command, transaction, CommandFits, TransactionFits};
 
 use crate::undo::undo_if_err;
 use crate::{
-    Part, Unread, read_short_list, read_u8, read_u64, write_short_list, write_u8, write_u64,
+    DecodeError, MessagePart, read_short_list, read_u8, read_u64, write_short_list, write_u8,
+    write_u64,
 };
 use bytes::BytesMut;
 use craq_commands::{Command, Mini};
@@ -17,22 +18,22 @@ use std::alloc::{AllocError, Global};
 
 /// Reads the transaction at the front; returns it with the bytes after it.
 #[tactic(auto, unfolding(crate::specs::CommandReading::transaction_at, crate::specs::PartReading::pair_at))]
-fn read_transaction(alloc: Global, bytes: &[u8]) -> Result<(Mini, &[u8]), Unread>
-    ensures { Gives (λ x. (x.0, x.1.now)) result (transaction_at bytes.now) }
+fn read_transaction(alloc: Global, bytes: &[u8]) -> Result<(Mini, &[u8]), DecodeError>
+    ensures { Decodes (λ x. (x.0, x.1.now)) result (transaction_at bytes.now) }
 {
     let (compares, rest) = read_short_list(alloc, bytes)?;
     let (reads, rest) = read_short_list(alloc, rest)?;
     let (writes, rest) = read_short_list(alloc, rest)?;
     match Mini::new(compares, reads, writes) {
         Ok(mini) => Ok((mini, rest)),
-        Err(_) => Err(Unread::BadFrame),
+        Err(_) => Err(DecodeError::BadFrame),
     }
 }
 
 /// Reads what follows the tag of a command; returns the command with the bytes after it.
 #[tactic(auto, unfolding(crate::specs::CommandReading::command_body_at, crate::specs::PartReading::pair_at))]
-fn read_command_body(alloc: Global, tag: u8, bytes: &[u8]) -> Result<(Command, &[u8]), Unread>
-    ensures { Gives (λ x. (x.0, x.1.now)) result (command_body_at tag bytes.now) }
+fn read_command_body(alloc: Global, tag: u8, bytes: &[u8]) -> Result<(Command, &[u8]), DecodeError>
+    ensures { Decodes (λ x. (x.0, x.1.now)) result (command_body_at tag bytes.now) }
 {
     match tag {
         1 => {
@@ -75,15 +76,15 @@ fn read_command_body(alloc: Global, tag: u8, bytes: &[u8]) -> Result<(Command, &
             let (mini, rest) = read_transaction(alloc, bytes)?;
             Ok((Command::Mini(mini), rest))
         }
-        _ => Err(Unread::BadFrame),
+        _ => Err(DecodeError::BadFrame),
     }
 }
 
 /// Reads the command at the front; returns it with the bytes after it. `BadFrame` exactly if no
 /// command is at the front; `Memory` if an allocation failed.
 #[tactic(auto, unfolding(crate::specs::CommandReading::command_at))]
-pub fn read_command(alloc: Global, bytes: &[u8]) -> Result<(Command, &[u8]), Unread>
-    ensures { Gives (λ x. (x.0, x.1.now)) result (command_at bytes.now) }
+pub fn read_command(alloc: Global, bytes: &[u8]) -> Result<(Command, &[u8]), DecodeError>
+    ensures { Decodes (λ x. (x.0, x.1.now)) result (command_at bytes.now) }
 {
     let (tag, rest) = read_u8(bytes)?;
     read_command_body(alloc, tag, rest)
@@ -114,10 +115,10 @@ fn append_transaction(out: &mut BytesMut, mini: &Mini) -> Result<(), AllocError>
 }
 
 /// Appends a command. On an error the old bytes are still in front.
-#[tactic(auto, unfolding(crate::specs::CommandSpelling::command))]
+#[tactic(auto, unfolding(crate::specs::CommandEncoding::command))]
 fn append_command(out: &mut BytesMut, command: &Command) -> Result<(), AllocError>
     ensures fits { OnOk result (CommandFits command.now) }
-    ensures spelled { OnOk result (out.new.items ≡ out.old.items ++ spelled_command command.now) }
+    ensures spelled { OnOk result (out.new.items ≡ out.old.items ++ encodable_command command.now) }
     ensures appends { OnErr result (StartsWith out.new.items out.old.items) }
 {
     match command {
@@ -163,7 +164,7 @@ fn append_command(out: &mut BytesMut, command: &Command) -> Result<(), AllocErro
 /// Writes a command at the end. Fails only when out of memory; the bytes are then unchanged.
 pub fn write_command(out: &mut BytesMut, command: &Command) -> Result<(), AllocError>
     ensures fits { OnOk result (CommandFits command.now) }
-    ensures spelled { OnOk result (out.new.items ≡ out.old.items ++ spelled_command command.now) }
+    ensures spelled { OnOk result (out.new.items ≡ out.old.items ++ encodable_command command.now) }
     ensures same { OnErr result (out.new.items ≡ out.old.items) }
 {
     let len = out.len();

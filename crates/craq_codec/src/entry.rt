@@ -1,17 +1,19 @@
 //! Entries and their writes as parts of messages; used by `craq_wire`, whose messages hold entries.
 ghost use Rattle.std.specs.Prelude.{⊤};
-ghost use Rattle.craq_model.specs.Spelled.{IsSpelledEntry};
+ghost use Rattle.craq_model.specs.Encodable.{IsEncodableEntry};
 ghost use Rattle.craq_codec.specs.EntryReading.{entry_at, write_at};
-ghost use Rattle.craq_codec.specs.EntrySpelling.{entry, write, EntryFits, WriteFits};
+ghost use Rattle.craq_codec.specs.EntryEncoding.{entry, write, EntryFits, WriteFits};
 
-use crate::{Part, Unread, read_short_list, read_u32, read_u64, write_short_list, write_u64};
+use crate::{
+    DecodeError, MessagePart, read_short_list, read_u32, read_u64, write_short_list, write_u64,
+};
 use bytes::BytesMut;
 use craq_commands::{Entry, Reply, Write};
 use craq_names::{ClientId, Key, NodeId, RequestNo, Seq, Ticket, Value, Version};
 use std::alloc::{AllocError, Global};
 
-impl Part for Write {
-    ghost spelling = { write };
+impl MessagePart for Write {
+    ghost encoding = { write };
 
     ghost fits = { WriteFits };
 
@@ -20,7 +22,7 @@ impl Part for Write {
     ghost part_at = { write_at };
 
     #[tactic(auto, unfolding(crate::specs::EntryReading::write_at, crate::specs::PartReading::pair_at))]
-    fn read(alloc: Global, bytes: &[u8]) -> Result<(Self, &[u8]), Unread> {
+    fn read(alloc: Global, bytes: &[u8]) -> Result<(Self, &[u8]), DecodeError> {
         let (key, rest) = Key::read(alloc, bytes)?;
         let (version, rest) = read_u64(rest)?;
         let (value, rest) = Value::read(alloc, rest)?;
@@ -32,7 +34,7 @@ impl Part for Write {
         Ok((write, rest))
     }
 
-    #[tactic(auto, unfolding(crate::specs::EntrySpelling::write))]
+    #[tactic(auto, unfolding(crate::specs::EntryEncoding::write))]
     fn append(&self, out: &mut BytesMut) -> Result<(), AllocError> {
         self.key.write(out)?;
         self.version.write(out)?;
@@ -40,24 +42,24 @@ impl Part for Write {
     }
 }
 
-impl Part for Entry {
-    ghost spelling = { entry };
+impl MessagePart for Entry {
+    ghost encoding = { entry };
 
     ghost fits = { EntryFits };
 
-    ghost is_writable = { IsSpelledEntry };
+    ghost is_writable = { IsEncodableEntry };
 
     ghost part_at = { entry_at };
 
     #[tactic(auto, unfolding(crate::specs::EntryReading::entry_at, crate::specs::PartReading::pair_at, crate::specs::PartReading::request_at))]
-    fn read(alloc: Global, bytes: &[u8]) -> Result<(Self, &[u8]), Unread> {
+    fn read(alloc: Global, bytes: &[u8]) -> Result<(Self, &[u8]), DecodeError> {
         let (position, rest) = read_u64(bytes)?;
         let (origin_node, rest) = read_u32(rest)?;
         let (origin_ticket, rest) = read_u64(rest)?;
         let (client, rest) = read_u64(rest)?;
         let (number, rest) = read_u64(rest)?;
         let Ok(number) = RequestNo::new(number) else {
-            return Err(Unread::BadFrame);
+            return Err(DecodeError::BadFrame);
         };
         let (reply, rest) = Reply::read(alloc, rest)?;
         let (writes, rest) = read_short_list(alloc, rest)?;
@@ -73,7 +75,7 @@ impl Part for Entry {
         Ok((entry, rest))
     }
 
-    #[tactic(auto, unfolding(crate::specs::EntrySpelling::entry))]
+    #[tactic(auto, unfolding(crate::specs::EntryEncoding::entry))]
     fn append(&self, out: &mut BytesMut) -> Result<(), AllocError> {
         write_u64(out, self.position.get())?;
         self.origin_node.write(out)?;

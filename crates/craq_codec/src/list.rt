@@ -3,12 +3,12 @@
 ghost use Rattle.std.specs.Prelude.{◌≡◌, ◌<◌, ◌^◌, ◌++◌, length, OnOk, OnErr};
 ghost use Rattle.std.specs.List.{flat_map, AllByRecursion};
 ghost use Rattle.std.specs.Int.{w8, w32};
-ghost use Rattle.craq_codec.specs.NumberReading.{Gives};
+ghost use Rattle.craq_codec.specs.NumberReading.{Decodes};
 ghost use Rattle.craq_codec.specs.PartReading.{many_at, counted_at};
-ghost use Rattle.craq_codec.specs.PartSpelling.{counted, AreCounted};
+ghost use Rattle.craq_codec.specs.PartEncoding.{counted, AreCounted};
 
 use crate::undo::undo_if_err;
-use crate::{Part, Unread, read_u8, read_u32, write_u8, write_u32};
+use crate::{DecodeError, MessagePart, read_u8, read_u32, write_u8, write_u32};
 use bytes::BytesMut;
 use craq_names::Items;
 use std::alloc::{AllocError, Global};
@@ -16,12 +16,12 @@ use std::alloc::{AllocError, Global};
 /// Reads `count` values from the front; returns them with the bytes after them. `BadFrame` exactly
 /// if fewer values are at the front; `Memory` if an allocation failed. Allocates only for values
 /// that were read.
-pub fn read_parts<T: Part>(
+pub fn read_parts<T: MessagePart>(
     alloc: Global,
     count: usize,
     bytes: &[u8],
-) -> Result<(Items<T>, &[u8]), Unread>
-    ensures { Gives (λ x. (x.0, x.1.now)) result (many_at T.part_at count bytes.now) }
+) -> Result<(Items<T>, &[u8]), DecodeError>
+    ensures { Decodes (λ x. (x.0, x.1.now)) result (many_at T.part_at count bytes.now) }
 {
     let mut parts = Items::new(alloc);
     let mut rest = bytes;
@@ -35,10 +35,10 @@ pub fn read_parts<T: Part>(
 
 /// Writes the values at the end, one after the other. Fails only when out of memory; the bytes are
 /// then unchanged.
-pub fn write_parts<T: Part>(out: &mut BytesMut, parts: &[T]) -> Result<(), AllocError>
+pub fn write_parts<T: MessagePart>(out: &mut BytesMut, parts: &[T]) -> Result<(), AllocError>
     requires { AllByRecursion T.is_writable parts.now }
     ensures fits { OnOk result (AllByRecursion T.fits parts.now) }
-    ensures spelled { OnOk result (out.new.items ≡ out.old.items ++ flat_map T.spelling parts.now) }
+    ensures spelled { OnOk result (out.new.items ≡ out.old.items ++ flat_map T.encoding parts.now) }
     ensures same { OnErr result (out.new.items ≡ out.old.items) }
 {
     let len = out.len();
@@ -52,8 +52,11 @@ pub fn write_parts<T: Part>(out: &mut BytesMut, parts: &[T]) -> Result<(), Alloc
 /// Reads a count of one byte and that number of values; returns them with the bytes after them.
 /// `BadFrame` exactly if no such list is at the front; `Memory` if an allocation failed.
 #[tactic(auto, unfolding(crate::specs::PartReading::counted_at))]
-pub fn read_short_list<T: Part>(alloc: Global, bytes: &[u8]) -> Result<(Items<T>, &[u8]), Unread>
-    ensures { Gives (λ x. (x.0, x.1.now)) result (counted_at w8 T.part_at bytes.now) }
+pub fn read_short_list<T: MessagePart>(
+    alloc: Global,
+    bytes: &[u8],
+) -> Result<(Items<T>, &[u8]), DecodeError>
+    ensures { Decodes (λ x. (x.0, x.1.now)) result (counted_at w8 T.part_at bytes.now) }
 {
     let (count, rest) = read_u8(bytes)?;
     read_parts(alloc, count as usize, rest)
@@ -62,8 +65,11 @@ pub fn read_short_list<T: Part>(alloc: Global, bytes: &[u8]) -> Result<(Items<T>
 /// Reads a count of 4 bytes and that number of values; returns them with the bytes after them.
 /// `BadFrame` exactly if no such list is at the front; `Memory` if an allocation failed.
 #[tactic(auto, unfolding(crate::specs::PartReading::counted_at))]
-pub fn read_long_list<T: Part>(alloc: Global, bytes: &[u8]) -> Result<(Items<T>, &[u8]), Unread>
-    ensures { Gives (λ x. (x.0, x.1.now)) result (counted_at w32 T.part_at bytes.now) }
+pub fn read_long_list<T: MessagePart>(
+    alloc: Global,
+    bytes: &[u8],
+) -> Result<(Items<T>, &[u8]), DecodeError>
+    ensures { Decodes (λ x. (x.0, x.1.now)) result (counted_at w32 T.part_at bytes.now) }
 {
     let (count, rest) = read_u32(bytes)?;
     read_parts(alloc, count as usize, rest)
@@ -71,11 +77,11 @@ pub fn read_long_list<T: Part>(alloc: Global, bytes: &[u8]) -> Result<(Items<T>,
 
 /// Writes at most 255 values at the end, after a count of one byte. Fails only when out of memory;
 /// the bytes are then unchanged.
-pub fn write_short_list<T: Part>(out: &mut BytesMut, parts: &[T]) -> Result<(), AllocError>
+pub fn write_short_list<T: MessagePart>(out: &mut BytesMut, parts: &[T]) -> Result<(), AllocError>
     requires few { length parts.now < 2 ^ 8 }
     requires writable { AllByRecursion T.is_writable parts.now }
     ensures fits { OnOk result (AreCounted w8 T.fits parts.now) }
-    ensures spelled { OnOk result (out.new.items ≡ out.old.items ++ counted w8 T.spelling parts.now) }
+    ensures spelled { OnOk result (out.new.items ≡ out.old.items ++ counted w8 T.encoding parts.now) }
     ensures same { OnErr result (out.new.items ≡ out.old.items) }
 {
     let len = out.len();
@@ -86,11 +92,11 @@ pub fn write_short_list<T: Part>(out: &mut BytesMut, parts: &[T]) -> Result<(), 
 
 /// Writes fewer than 2^32 values at the end, after a count of 4 bytes. Fails only when out of
 /// memory; the bytes are then unchanged.
-pub fn write_long_list<T: Part>(out: &mut BytesMut, parts: &[T]) -> Result<(), AllocError>
+pub fn write_long_list<T: MessagePart>(out: &mut BytesMut, parts: &[T]) -> Result<(), AllocError>
     requires few { length parts.now < 2 ^ 32 }
     requires writable { AllByRecursion T.is_writable parts.now }
     ensures fits { OnOk result (AreCounted w32 T.fits parts.now) }
-    ensures spelled { OnOk result (out.new.items ≡ out.old.items ++ counted w32 T.spelling parts.now) }
+    ensures spelled { OnOk result (out.new.items ≡ out.old.items ++ counted w32 T.encoding parts.now) }
     ensures same { OnErr result (out.new.items ≡ out.old.items) }
 {
     let len = out.len();

@@ -1,16 +1,16 @@
-//! `Part`, the trait of a value inside a message, and its implementations for keys, values, objects
+//! `MessagePart`, the trait of a value inside a message, and its implementations for keys, values, objects
 //! and pairs; used by the other modules, `craq_wire` and `craq_frames`.
 ghost use Rattle.std.specs.Prelude.{◌≡◌, ◌<◌, ◌≤◌, ◌^◌, ⊤, ℕ, List, Option, ◌++◌, OnOk, OnErr};
 ghost use Rattle.std.specs.Int.{w16, w32, w64};
 ghost use Rattle.std.specs.Io.{StartsWith};
-ghost use Rattle.craq_codec.specs.NumberReading.{Gives, number_at};
+ghost use Rattle.craq_codec.specs.NumberReading.{Decodes, number_at};
 ghost use Rattle.craq_codec.specs.PartReading.{key_at, value_at, object_at, request_at, pair_at};
-ghost use Rattle.craq_codec.specs.NumberSpelling.{number};
-ghost use Rattle.craq_codec.specs.PartSpelling.{key, value, object, pair, IsKey, IsValue, IsObject, IsPair};
+ghost use Rattle.craq_codec.specs.NumberEncoding.{number};
+ghost use Rattle.craq_codec.specs.PartEncoding.{key, value, object, pair, IsKey, IsValue, IsObject, IsPair};
 
 use crate::undo::undo_if_err;
 use crate::{
-    Unread, read_bytes, read_u8, read_u16, read_u32, read_u64, write_u8, write_u16, write_u32,
+    DecodeError, read_bytes, read_u8, read_u16, read_u32, read_u64, write_u8, write_u16, write_u32,
     write_u64,
 };
 use bytes::{BufMut, BytesMut};
@@ -18,9 +18,9 @@ use craq_names::{ChainId, ClientId, Key, NodeId, ObjectId, RequestNo, Value, Ver
 use std::alloc::{AllocError, Global};
 
 /// A part of a message that occurs in lists or in other parts.
-pub trait Part: Drop {
+pub trait MessagePart: Drop {
     /// Gives the encoding of a value.
-    ghost spelling: { Self → List ℕ };
+    ghost encoding: { Self → List ℕ };
 
     /// Holds if each number and length of the value fits its width.
     ghost fits: { Self → Type 0 };
@@ -34,22 +34,22 @@ pub trait Part: Drop {
     /// Reads the value at the front; returns it with the bytes after it. `BadFrame` exactly if no
     /// value is at the front; `Memory` if an allocation failed. Allocates only after it has seen
     /// the bytes to be stored.
-    fn read(alloc: Global, bytes: &[u8]) -> Result<(Self, &[u8]), Unread>
-        ensures { Gives (λ x. (x.0, x.1.now)) result (part_at bytes.now) };
+    fn read(alloc: Global, bytes: &[u8]) -> Result<(Self, &[u8]), DecodeError>
+        ensures { Decodes (λ x. (x.0, x.1.now)) result (part_at bytes.now) };
 
     /// Appends the value's bytes. Fails only when out of memory: the old bytes are then still in
     /// front, and unspecified bytes may follow them. `write` leaves none.
     fn append(&self, out: &mut BytesMut) -> Result<(), AllocError>
         requires { is_writable self.now }
         ensures fits { OnOk result (fits self.now) }
-        ensures spelled { OnOk result (out.new.items ≡ out.old.items ++ spelling self.now) }
+        ensures spelled { OnOk result (out.new.items ≡ out.old.items ++ encoding self.now) }
         ensures appends { OnErr result (StartsWith out.new.items out.old.items) };
 
     /// Writes the value at the end. Fails only when out of memory; the bytes are then unchanged.
     final fn write(&self, out: &mut BytesMut) -> Result<(), AllocError>
         requires { is_writable self.now }
         ensures fits { OnOk result (fits self.now) }
-        ensures spelled { OnOk result (out.new.items ≡ out.old.items ++ spelling self.now) }
+        ensures spelled { OnOk result (out.new.items ≡ out.old.items ++ encoding self.now) }
         ensures same { OnErr result (out.new.items ≡ out.old.items) }
     {
         let len = out.len();
@@ -58,8 +58,8 @@ pub trait Part: Drop {
     }
 }
 
-impl Part for NodeId {
-    ghost spelling = { number w32 };
+impl MessagePart for NodeId {
+    ghost encoding = { number w32 };
 
     ghost fits = { λ id. id < 2 ^ 32 };
 
@@ -67,7 +67,7 @@ impl Part for NodeId {
 
     ghost part_at = { number_at w32 };
 
-    fn read(_alloc: Global, bytes: &[u8]) -> Result<(Self, &[u8]), Unread> {
+    fn read(_alloc: Global, bytes: &[u8]) -> Result<(Self, &[u8]), DecodeError> {
         let (id, rest) = read_u32(bytes)?;
         Ok((NodeId::new(id), rest))
     }
@@ -77,8 +77,8 @@ impl Part for NodeId {
     }
 }
 
-impl Part for Version {
-    ghost spelling = { number w64 };
+impl MessagePart for Version {
+    ghost encoding = { number w64 };
 
     ghost fits = { λ version. version < 2 ^ 64 };
 
@@ -86,7 +86,7 @@ impl Part for Version {
 
     ghost part_at = { number_at w64 };
 
-    fn read(_alloc: Global, bytes: &[u8]) -> Result<(Self, &[u8]), Unread> {
+    fn read(_alloc: Global, bytes: &[u8]) -> Result<(Self, &[u8]), DecodeError> {
         let (version, rest) = read_u64(bytes)?;
         Ok((Version::new(version), rest))
     }
@@ -96,8 +96,8 @@ impl Part for Version {
     }
 }
 
-impl Part for ClientId {
-    ghost spelling = { number w64 };
+impl MessagePart for ClientId {
+    ghost encoding = { number w64 };
 
     ghost fits = { λ id. id < 2 ^ 64 };
 
@@ -105,7 +105,7 @@ impl Part for ClientId {
 
     ghost part_at = { number_at w64 };
 
-    fn read(_alloc: Global, bytes: &[u8]) -> Result<(Self, &[u8]), Unread> {
+    fn read(_alloc: Global, bytes: &[u8]) -> Result<(Self, &[u8]), DecodeError> {
         let (id, rest) = read_u64(bytes)?;
         Ok((ClientId::new(id), rest))
     }
@@ -115,8 +115,8 @@ impl Part for ClientId {
     }
 }
 
-impl Part for RequestNo {
-    ghost spelling = { number w64 };
+impl MessagePart for RequestNo {
+    ghost encoding = { number w64 };
 
     ghost fits = { λ n. (1 ≤ n) × (n < 2 ^ 64) };
 
@@ -125,11 +125,11 @@ impl Part for RequestNo {
     ghost part_at = { request_at };
 
     #[tactic(auto, unfolding(crate::specs::PartReading::request_at))]
-    fn read(_alloc: Global, bytes: &[u8]) -> Result<(Self, &[u8]), Unread> {
+    fn read(_alloc: Global, bytes: &[u8]) -> Result<(Self, &[u8]), DecodeError> {
         let (n, rest) = read_u64(bytes)?;
         match RequestNo::new(n) {
             Ok(number) => Ok((number, rest)),
-            Err(_) => Err(Unread::BadFrame),
+            Err(_) => Err(DecodeError::BadFrame),
         }
     }
 
@@ -138,8 +138,8 @@ impl Part for RequestNo {
     }
 }
 
-impl Part for Key {
-    ghost spelling = { key };
+impl MessagePart for Key {
+    ghost encoding = { key };
 
     ghost fits = { IsKey };
 
@@ -148,19 +148,19 @@ impl Part for Key {
     ghost part_at = { key_at };
 
     #[tactic(auto, unfolding(crate::specs::PartReading::key_at))]
-    fn read(alloc: Global, bytes: &[u8]) -> Result<(Self, &[u8]), Unread> {
+    fn read(alloc: Global, bytes: &[u8]) -> Result<(Self, &[u8]), DecodeError> {
         let (len, rest) = read_u8(bytes)?;
         let len = len as usize;
         if len == 0 {
-            return Err(Unread::BadFrame);
+            return Err(DecodeError::BadFrame);
         }
         if Key::MAX < len {
-            return Err(Unread::BadFrame);
+            return Err(DecodeError::BadFrame);
         }
         let (text, rest) = read_bytes(len, rest)?;
         match Key::new(alloc, text) {
             Ok(key) => Ok((key, rest)),
-            Err(_) => Err(Unread::Memory),
+            Err(_) => Err(DecodeError::Memory),
         }
     }
 
@@ -171,8 +171,8 @@ impl Part for Key {
     }
 }
 
-impl Part for Value {
-    ghost spelling = { value };
+impl MessagePart for Value {
+    ghost encoding = { value };
 
     ghost fits = { IsValue };
 
@@ -181,16 +181,16 @@ impl Part for Value {
     ghost part_at = { value_at };
 
     #[tactic(auto, unfolding(crate::specs::PartReading::value_at))]
-    fn read(alloc: Global, bytes: &[u8]) -> Result<(Self, &[u8]), Unread> {
+    fn read(alloc: Global, bytes: &[u8]) -> Result<(Self, &[u8]), DecodeError> {
         let (len, rest) = read_u16(bytes)?;
         let len = len as usize;
         if Value::MAX < len {
-            return Err(Unread::BadFrame);
+            return Err(DecodeError::BadFrame);
         }
         let (text, rest) = read_bytes(len, rest)?;
         match Value::new(alloc, text) {
             Ok(value) => Ok((value, rest)),
-            Err(_) => Err(Unread::Memory),
+            Err(_) => Err(DecodeError::Memory),
         }
     }
 
@@ -201,8 +201,8 @@ impl Part for Value {
     }
 }
 
-impl Part for ObjectId {
-    ghost spelling = { object };
+impl MessagePart for ObjectId {
+    ghost encoding = { object };
 
     ghost fits = { IsObject };
 
@@ -211,7 +211,7 @@ impl Part for ObjectId {
     ghost part_at = { object_at };
 
     #[tactic(auto, unfolding(crate::specs::PartReading::object_at))]
-    fn read(alloc: Global, bytes: &[u8]) -> Result<(Self, &[u8]), Unread> {
+    fn read(alloc: Global, bytes: &[u8]) -> Result<(Self, &[u8]), DecodeError> {
         let (chain, rest) = read_u16(bytes)?;
         let (key, rest) = Key::read(alloc, rest)?;
         let chain = ChainId::new(chain);
@@ -224,8 +224,8 @@ impl Part for ObjectId {
     }
 }
 
-impl<A: Part, B: Part> Part for (A, B) {
-    ghost spelling = { pair A.spelling B.spelling };
+impl<A: MessagePart, B: MessagePart> MessagePart for (A, B) {
+    ghost encoding = { pair A.encoding B.encoding };
 
     ghost fits = { IsPair A.fits B.fits };
 
@@ -234,7 +234,7 @@ impl<A: Part, B: Part> Part for (A, B) {
     ghost part_at = { pair_at A.part_at B.part_at };
 
     #[tactic(auto, unfolding(crate::specs::PartReading::pair_at))]
-    fn read(alloc: Global, bytes: &[u8]) -> Result<(Self, &[u8]), Unread> {
+    fn read(alloc: Global, bytes: &[u8]) -> Result<(Self, &[u8]), DecodeError> {
         let (first, rest) = A::read(alloc, bytes)?;
         let (second, rest) = B::read(alloc, rest)?;
         Ok(((first, second), rest))

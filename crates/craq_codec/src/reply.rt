@@ -1,12 +1,14 @@
 //! Replies to updates as parts of messages; used by `entry` and, for replies to clients, by
 //! `craq_frames`.
 ghost use Rattle.std.specs.Prelude.{◌≡◌};
-ghost use Rattle.craq_codec.specs.NumberReading.{Gives};
-ghost use Rattle.craq_model.specs.Spelled.{IsReply};
+ghost use Rattle.craq_codec.specs.NumberReading.{Decodes};
+ghost use Rattle.craq_model.specs.Encodable.{IsReply};
 ghost use Rattle.craq_codec.specs.EntryReading.{reply_at, reply_body_at};
-ghost use Rattle.craq_codec.specs.EntrySpelling.{reply, ReplyFits};
+ghost use Rattle.craq_codec.specs.EntryEncoding.{reply, ReplyFits};
 
-use crate::{Part, Unread, read_short_list, read_u8, read_u64, write_short_list, write_u8};
+use crate::{
+    DecodeError, MessagePart, read_short_list, read_u8, read_u64, write_short_list, write_u8,
+};
 use bytes::BytesMut;
 use craq_commands::Reply;
 use craq_names::{RequestNo, Version};
@@ -14,8 +16,8 @@ use std::alloc::{AllocError, Global};
 
 /// Reads what follows the tag of a reply; returns the reply with the bytes after it.
 #[tactic(auto, unfolding(crate::specs::EntryReading::reply_body_at, crate::specs::PartReading::request_at))]
-fn read_reply_body(alloc: Global, tag: u8, bytes: &[u8]) -> Result<(Reply, &[u8]), Unread>
-    ensures { Gives (λ x. (x.0, x.1.now)) result (reply_body_at tag bytes.now) }
+fn read_reply_body(alloc: Global, tag: u8, bytes: &[u8]) -> Result<(Reply, &[u8]), DecodeError>
+    ensures { Decodes (λ x. (x.0, x.1.now)) result (reply_body_at tag bytes.now) }
 {
     match tag {
         1 => {
@@ -42,15 +44,15 @@ fn read_reply_body(alloc: Global, tag: u8, bytes: &[u8]) -> Result<(Reply, &[u8]
             let (last, rest) = read_u64(bytes)?;
             match RequestNo::new(last) {
                 Ok(last) => Ok((Reply::Stale(last), rest)),
-                Err(_) => Err(Unread::BadFrame),
+                Err(_) => Err(DecodeError::BadFrame),
             }
         }
-        _ => Err(Unread::BadFrame),
+        _ => Err(DecodeError::BadFrame),
     }
 }
 
-impl Part for Reply {
-    ghost spelling = { reply };
+impl MessagePart for Reply {
+    ghost encoding = { reply };
 
     ghost fits = { ReplyFits };
 
@@ -59,12 +61,12 @@ impl Part for Reply {
     ghost part_at = { reply_at };
 
     #[tactic(auto, unfolding(crate::specs::EntryReading::reply_at))]
-    fn read(alloc: Global, bytes: &[u8]) -> Result<(Self, &[u8]), Unread> {
+    fn read(alloc: Global, bytes: &[u8]) -> Result<(Self, &[u8]), DecodeError> {
         let (tag, rest) = read_u8(bytes)?;
         read_reply_body(alloc, tag, rest)
     }
 
-    #[tactic(auto, unfolding(crate::specs::EntrySpelling::reply))]
+    #[tactic(auto, unfolding(crate::specs::EntryEncoding::reply))]
     fn append(&self, out: &mut BytesMut) -> Result<(), AllocError> {
         match self {
             Reply::Written(version) => {

@@ -3,7 +3,7 @@
 ghost use Rattle.std.specs.Prelude.{◌≡◌, ◌↔◌, IsTrue};
 ghost use Rattle.craq_codec.specs.Tests.{is_object_read, is_reply, is_not_stale};
 ghost use Rattle.std.specs.List.{list_all};
-ghost use Rattle.craq_model.specs.Spelled.{IsReply, IsNotStale};
+ghost use Rattle.craq_model.specs.Encodable.{IsReply, IsNotStale};
 
 use craq_commands::{Mini, Reply};
 use craq_names::{Value, Version};
@@ -39,7 +39,7 @@ fn test_reply(reply: &Reply) -> bool
 /// Returns true if the reply keeps the rules of replies: a written version is at least 1, at most
 /// 16 objects are returned, an absent object has no bytes, and the failed compare is one of 16.
 #[tactic(auto, using(crate::proofs::Tests::decides_reply))]
-pub fn is_spelled_reply(reply: &Reply) -> bool
+pub fn is_encodable_reply(reply: &Reply) -> bool
     ensures value { result ≡ is_reply reply.now }
     ensures rules { IsTrue result ↔ IsReply reply.now }
 {

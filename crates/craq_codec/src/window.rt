@@ -1,28 +1,28 @@
 //! The kept replies of a client as parts of messages; used by `craq_wire`, whose messages hold the
 //! state of a node.
-ghost use Rattle.craq_model.specs.Spelled.{IsSpelledWindow};
+ghost use Rattle.craq_model.specs.Encodable.{IsEncodableWindow};
 ghost use Rattle.craq_codec.specs.EntryReading.{window_at};
-ghost use Rattle.craq_codec.specs.EntrySpelling.{window, WindowFits};
+ghost use Rattle.craq_codec.specs.EntryEncoding.{window, WindowFits};
 
-use crate::{Part, Unread, read_short_list, write_short_list};
+use crate::{DecodeError, MessagePart, read_short_list, write_short_list};
 use bytes::BytesMut;
 use craq_commands::{Kept, WINDOW_LIMIT, Window};
 use std::alloc::{AllocError, Global};
 
-impl Part for Window {
-    ghost spelling = { window };
+impl MessagePart for Window {
+    ghost encoding = { window };
 
     ghost fits = { WindowFits };
 
-    ghost is_writable = { IsSpelledWindow };
+    ghost is_writable = { IsEncodableWindow };
 
     ghost part_at = { window_at };
 
     #[tactic(auto, unfolding(crate::specs::EntryReading::window_at))]
-    fn read(alloc: Global, bytes: &[u8]) -> Result<(Self, &[u8]), Unread> {
+    fn read(alloc: Global, bytes: &[u8]) -> Result<(Self, &[u8]), DecodeError> {
         let (replies, rest) = read_short_list::<Kept>(alloc, bytes)?;
         if replies.len() > WINDOW_LIMIT {
-            return Err(Unread::BadFrame);
+            return Err(DecodeError::BadFrame);
         }
         Ok((Window::of(replies.into_vec()), rest))
     }

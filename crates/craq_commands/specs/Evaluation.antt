@@ -32,8 +32,8 @@ unfoldable pub joined : List ℕ → List ℕ → ℕ → Outcome
 joined key value version = if nat_lt value_limit (length value) then writes_none TooLong else writes_one key version value
 
 -- an object's number: 0 if it is absent, the big-endian number if its value has 8 bytes
-unfoldable pub number_of : ℕ → List ℕ → Option ℕ
-number_of version value =
+unfoldable pub number_in_bytes : ℕ → List ℕ → Option ℕ
+number_in_bytes version value =
     if version == 0 then Some 0 else if length value == 8 then Some (from_be_bytes w64 value) else None
 
 -- writes a number as 8 bytes, big-endian
@@ -50,7 +50,7 @@ decreased key by version (Some n) = if nat_lt n by then writes_none Underflow el
 
 -- the number at a key
 abbrev pub number_at : Objects → List ℕ → Option ℕ
-number_at m key = number_of (version_of m key) (value_of m key)
+number_at m key = number_in_bytes (version_of m key) (value_of m key)
 
 -- the index of the first compare whose object has another version
 unfoldable pub first_difference : Objects → ℕ → List (ObjectId × ℕ) → Option ℕ

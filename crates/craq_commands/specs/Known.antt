@@ -3,8 +3,8 @@
 use Rattle.std.specs.Prelude.{ℕ, if◌then◌else◌, Option, Some, None}
 use Rattle.craq_names.specs.Maps.{at_number}
 use Rattle.craq_commands.specs.declared.reply.Reply.{Reply}
-use Rattle.craq_commands.specs.declared.window.Said.{Said}
-use Rattle.craq_commands.specs.declared.window.Said.TheVariants as said
+use Rattle.craq_commands.specs.declared.window.RequestStatus.{RequestStatus}
+use Rattle.craq_commands.specs.declared.window.RequestStatus.TheVariants as said
 use Rattle.craq_commands.specs.Kept.{Window, is_stale, largest}
 
 -- the number is new; kept with this reply; or below all of a full window, whose largest is given
@@ -22,7 +22,7 @@ abbrev pub known_of : Window → ℕ → Known
 known_of w number = if is_stale w number then Stale (largest w) else kept_or_new (at_number w number)
 
 -- the result, with the borrowed reply copied
-abbrev pub known_by : Said → Known
+abbrev pub known_by : RequestStatus → Known
 known_by said.New = New
 known_by (said.Kept reply) = Kept reply.now
 known_by (said.Stale last) = Stale last

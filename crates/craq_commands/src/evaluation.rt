@@ -3,7 +3,7 @@
 ghost use Rattle.std.specs.Prelude.{◌≡◌, ◌<◌, ◌≤◌, ◌++◌, false, length, map, IfOk};
 ghost use Rattle.craq_names.specs.Limits.{greatest, value_limit, item_limit};
 ghost use Rattle.craq_commands.specs.Objects.{Objects, object_of};
-ghost use Rattle.craq_commands.specs.Evaluation.{eval, writes_one, writes_number, tested, joined, number_of, increased, decreased, transacted, first_difference, objects_named, some_used_up};
+ghost use Rattle.craq_commands.specs.Evaluation.{eval, writes_one, writes_number, tested, joined, number_in_bytes, increased, decreased, transacted, first_difference, objects_named, some_used_up};
 
 use crate::{Command, Mini, Reply};
 use craq_names::{Copied, Items, Key, ObjectId, Value, Version};
@@ -130,9 +130,9 @@ fn joined_write(
 
 /// Returns the number in a value, `None` if the value does not have 8 bytes. An absent object
 /// counts as 0.
-#[tactic(auto, unfolding(crate::specs::Evaluation::number_of))]
+#[tactic(auto, unfolding(crate::specs::Evaluation::number_in_bytes))]
 fn number_in(version: Version, bytes: &[u8]) -> Option<u64>
-    ensures { result ≡ number_of version bytes.now }
+    ensures { result ≡ number_in_bytes version bytes.now }
 {
     if version.get() == 0 {
         return Some(0);

@@ -19,4 +19,4 @@ pub use read_mode::ReadMode;
 pub use reply::Reply;
 pub use state::State;
 pub use transaction::Mini;
-pub use window::{Kept, Said, WINDOW_LIMIT, Window, keep_in, look_in};
+pub use window::{Kept, RequestStatus, WINDOW_LIMIT, Window, keep_in, look_in};

@@ -5,7 +5,7 @@ ghost use Rattle.std.specs.Option.{option_copied};
 ghost use Rattle.craq_names.specs.Maps.{at_number};
 ghost use Rattle.craq_commands.specs.Kept.{is_stale, keep, said_of};
 ghost use Rattle.craq_commands.specs.Known.{known_by, known_of};
-ghost use Rattle.craq_commands.specs.Told.{told};
+ghost use Rattle.craq_commands.specs.Reported.{given_reply};
 
 use crate::Reply;
 use craq_names::{Copied, RequestNo, Same, are_same, copies_of, put_at};
@@ -20,7 +20,7 @@ pub type Kept = (RequestNo, Reply);
 
 /// The status of a client's request number.
 #[derive(Debug, Drop)]
-pub enum Said<'a> {
+pub enum RequestStatus<'a> {
     /// The number is new: it has no reply yet.
     New,
     /// The number's reply is kept; this is it.
@@ -74,8 +74,8 @@ impl Window {
     }
 
     /// Looks up a request number. Allocates nothing.
-    pub fn look(&self, number: RequestNo) -> Said<'_>
-        ensures reply { told result ≡ said_of self.now number }
+    pub fn look(&self, number: RequestNo) -> RequestStatus<'_>
+        ensures reply { given_reply result ≡ said_of self.now number }
         ensures known { known_by result ≡ known_of self.now number }
     {
         look_in(self.replies.as_slice(), number)
@@ -129,18 +129,18 @@ fn reply_in(replies: &[Kept], number: RequestNo) -> Option<&Reply>
 
 /// Looks up a request number among the replies of a window. Allocates nothing.
 #[tactic(auto, using(crate::proofs::Windows::largest_last), unfolding(crate::specs::Kept::said_of, crate::specs::Kept::is_stale))]
-pub fn look_in(replies: &[Kept], number: RequestNo) -> Said<'_>
-    ensures reply { told result ≡ said_of replies.now number }
+pub fn look_in(replies: &[Kept], number: RequestNo) -> RequestStatus<'_>
+    ensures reply { given_reply result ≡ said_of replies.now number }
     ensures known { known_by result ≡ known_of replies.now number }
 {
     if let Some((largest, _)) = replies.last() {
         if is_stale_in(replies, number) {
-            return Said::Stale(*largest);
+            return RequestStatus::Stale(*largest);
         }
     }
     match reply_in(replies, number) {
-        Some(reply) => Said::Kept(reply),
-        None => Said::New,
+        Some(reply) => RequestStatus::Kept(reply),
+        None => RequestStatus::New,
     }
 }
 

@@ -23,41 +23,41 @@ use Rattle.craq_model.specs.Members.{first_of, last_of}
 use Rattle.craq_model.specs.Past.{Past, length_in, acknowledged_in, with_entries_in, object_within_in}
 use Rattle.craq_model.specs.Plain.{Plain, id_of, successor, is_first, is_last, newest, clean}
 use Rattle.craq_model.specs.Sends.{send, send_all, to_neighbour, entry_bodies}
-use Rattle.craq_model.specs.Settle.{Turn, read_answer}
-use Rattle.craq_model.specs.Asks.{accepted_turn, answered_turn, is_full, versioned_write, committed_if_last, reply_turn, new_update_turn, update_turn, waiting_read_turn, read_turn, asked_objects, accepted_ask_turn, ask_turn}
+use Rattle.craq_model.specs.Settle.{Transition, read_answer}
+use Rattle.craq_model.specs.Asks.{accepted_transition, answered_transition, is_full, versioned_write, committed_if_last, reply_transition, new_update_transition, update_transition, waiting_read_transition, read_transition, asked_objects, accepted_ask_transition, ask_transition}
 use Rattle.craq_compaction.proofs.Pasts.{AreAlike, same_acknowledged, same_length, alike_append, alike_committed}
 use Rattle.craq_compaction.proofs.Positions.{AreLast, last_in}
-use Rattle.craq_compaction.proofs.Turns.{with_past, SameTurn, branch, same_node, newest_alike, clean_alike}
+use Rattle.craq_compaction.proofs.Transitions.{with_past, SameTransition, branch, same_node, newest_alike, clean_alike}
 use Rattle.craq_compaction.proofs.Messages.{same_within}
 
 -- equal transitions, or equal refusals
-abbrev pub SameResult : Result Turn Refusal → Result Turn Refusal → Type 0
-SameResult (Ok t) (Ok u) = SameTurn t u
+abbrev pub SameResult : Result Transition Refusal → Result Transition Refusal → Type 0
+SameResult (Ok t) (Ok u) = SameTransition t u
 SameResult (Ok t) (Err f) = ⊥
 SameResult (Err e) (Ok u) = ⊥
 SameResult (Err e) (Err f) = e ≡ f
 
-same_accepted : (p : Plain) (h k : Past) (os qs : List Out) → AreAlike h k → os ≡ qs → SameTurn (accepted_turn (with_past p h) os) (accepted_turn (with_past p k) qs)
-same_accepted p h k os qs a e = (same_node (record p { last_ticket = p.last_ticket + 1 }) h k a, ap (λ (o : List Out). (accepted_turn p o).1) e)
+same_accepted : (p : Plain) (h k : Past) (os qs : List Out) → AreAlike h k → os ≡ qs → SameTransition (accepted_transition (with_past p h) os) (accepted_transition (with_past p k) qs)
+same_accepted p h k os qs a e = (same_node (record p { last_ticket = p.last_ticket + 1 }) h k a, ap (λ (o : List Out). (accepted_transition p o).1) e)
 
 -- ---- replies to updates
 
-same_reply : (p : Plain) (h k : Past) (position : ℕ) (reply : Reply) (sends : List Out) → AreAlike h k → SameResult (reply_turn (with_past p h) position reply sends) (reply_turn (with_past p k) position reply sends)
-unfolding reply_turn is_full
+same_reply : (p : Plain) (h k : Past) (position : ℕ) (reply : Reply) (sends : List Out) → AreAlike h k → SameResult (reply_transition (with_past p h) position reply sends) (reply_transition (with_past p k) position reply sends)
+unfolding reply_transition is_full
 same_reply p h k position reply sends a =
     let q : Plain = record p { waiting_updates = p.waiting_updates ++ (record { ticket = p.last_ticket + 1; position = position; reply = reply }) ∷ [] } in
     let os : List Out = outs.Answer (p.last_ticket + 1) (answers.Update reply) ∷ sends in
-    let later : Past → Result Turn Refusal = λ x. cond (is_full p) (Err refusals.PendingFull) (Ok (accepted_turn (with_past q x) sends)) in
-    branch SameResult (nat_le position h.acknowledged) (nat_le position k.acknowledged) (Ok (accepted_turn (with_past p h) os)) (later h) (Ok (accepted_turn (with_past p k) os)) (later k)
+    let later : Past → Result Transition Refusal = λ x. cond (is_full p) (Err refusals.PendingFull) (Ok (accepted_transition (with_past q x) sends)) in
+    branch SameResult (nat_le position h.acknowledged) (nat_le position k.acknowledged) (Ok (accepted_transition (with_past p h) os)) (later h) (Ok (accepted_transition (with_past p k) os)) (later k)
     (ap (λ (n : ℕ). nat_le position n) (same_acknowledged h k a))
     (λ t. same_accepted p h k os os a refl)
-    (λ t. branch SameResult (is_full p) (is_full p) (Err refusals.PendingFull) (Ok (accepted_turn (with_past q h) sends)) (Err refusals.PendingFull) (Ok (accepted_turn (with_past q k) sends)) refl
+    (λ t. branch SameResult (is_full p) (is_full p) (Err refusals.PendingFull) (Ok (accepted_transition (with_past q h) sends)) (Err refusals.PendingFull) (Ok (accepted_transition (with_past q k) sends)) refl
     (λ s. refl)
     (λ s. same_accepted q h k sends sends a refl))
 
 -- at settled positions, both reply at once
-same_reply_settled : (p : Plain) (h k : Past) (m n : ℕ) (reply : Reply) (sends : List Out) → AreAlike h k → m ≤ k.acknowledged → n ≤ k.acknowledged → SameResult (reply_turn (with_past p h) m reply sends) (reply_turn (with_past p k) n reply sends)
-unfolding reply_turn
+same_reply_settled : (p : Plain) (h k : Past) (m n : ℕ) (reply : Reply) (sends : List Out) → AreAlike h k → m ≤ k.acknowledged → n ≤ k.acknowledged → SameResult (reply_transition (with_past p h) m reply sends) (reply_transition (with_past p k) n reply sends)
+unfolding reply_transition
 same_reply_settled p h k m n reply sends a b c =
     let e : h.acknowledged ≡ k.acknowledged = same_acknowledged h k a in
     let one : nat_le m h.acknowledged ≡ true = le-leb m h.acknowledged (omega (arith, b, e)) in
@@ -65,9 +65,9 @@ same_reply_settled p h k m n reply sends a b c =
     let os : List Out = outs.Answer (p.last_ticket + 1) (answers.Update reply) ∷ sends in
     rw (one, two) (same_accepted p h k os os a refl)
 
-same_reply_at : (p : Plain) (h k : Past) (m n : ℕ) (reply : Reply) (sends : List Out) → AreAlike h k → AreLast k m n → SameResult (reply_turn (with_past p h) m reply sends) (reply_turn (with_past p k) n reply sends)
+same_reply_at : (p : Plain) (h k : Past) (m n : ℕ) (reply : Reply) (sends : List Out) → AreAlike h k → AreLast k m n → SameResult (reply_transition (with_past p h) m reply sends) (reply_transition (with_past p k) n reply sends)
 same_reply_at p h k m n reply sends a (inl e) =
-    let P : ℕ → Type 0 = λ x. SameResult (reply_turn (with_past p h) x reply sends) (reply_turn (with_past p k) n reply sends) in
+    let P : ℕ → Type 0 = λ x. SameResult (reply_transition (with_past p h) x reply sends) (reply_transition (with_past p k) n reply sends) in
     subst P (sym e) (same_reply p h k n reply sends a)
 same_reply_at p h k m n reply sends a (inr b) = same_reply_settled p h k m n reply sends a b.0 b.1
 
@@ -76,24 +76,24 @@ last_committed k m n w (inl e) = inl e
 last_committed k m n w (inr b) = inr (omega (arith, b.0, w), omega (arith, b.1, w))
 
 same_committed_reply : (p : Plain) (h k : Past) (m n : ℕ) (reply : Reply) (sends : List Out) → AreAlike h k → AreLast k m n
-    → SameResult (reply_turn (committed_if_last (with_past p h)) m reply sends) (reply_turn (committed_if_last (with_past p k)) n reply sends)
+    → SameResult (reply_transition (committed_if_last (with_past p h)) m reply sends) (reply_transition (committed_if_last (with_past p k)) n reply sends)
 same_committed_reply p h k m n reply sends a b =
     let hc : Past = acknowledged_in h (length_in h) in
     let kc : Past = acknowledged_in k (length_in k) in
-    let R : Plain → Plain → Type 0 = λ x y. SameResult (reply_turn x m reply sends) (reply_turn y n reply sends) in
+    let R : Plain → Plain → Type 0 = λ x y. SameResult (reply_transition x m reply sends) (reply_transition y n reply sends) in
     branch R (is_last p) (is_last p) (with_past p hc) (with_past p h) (with_past p kc) (with_past p k) refl
     (λ t. same_reply_at p hc kc m n reply sends (alike_committed h k a) (last_committed k m n a.second.within b))
     (λ t. same_reply_at p h k m n reply sends a b)
 
 -- ---- updates
 
-same_new_update : (p : Plain) (h k : Past) (e : Entry) → AreAlike h k → SameResult (new_update_turn (with_past p h) e) (new_update_turn (with_past p k) e)
+same_new_update : (p : Plain) (h k : Past) (e : Entry) → AreAlike h k → SameResult (new_update_transition (with_past p h) e) (new_update_transition (with_past p k) e)
 same_new_update p h k e a =
     same_committed_reply p (with_entries_in h (e ∷ [])) (with_entries_in k (e ∷ [])) e.position e.position e.reply (to_neighbour (successor p) (λ to. send_all p to (entry_bodies (e ∷ []))))
     (alike_append h k (e ∷ []) a) (inl refl)
 
-pub same_update : (p : Plain) (h k : Past) (u : Update) (o : Option Reply) → AreAlike h k → AreLast k (last_in h u.client) (last_in k u.client) → SameResult (update_turn (with_past p h) u o) (update_turn (with_past p k) u o)
-unfolding update_turn
+pub same_update : (p : Plain) (h k : Past) (u : Update) (o : Option Reply) → AreAlike h k → AreLast k (last_in h u.client) (last_in k u.client) → SameResult (update_transition (with_past p h) u o) (update_transition (with_past p k) u o)
+unfolding update_transition
 same_update p h k u (Some reply) a b = same_committed_reply p h k (last_in h u.client) (last_in k u.client) reply [] a b
 same_update p h k u None a b =
     let sh : State = newest (with_past p h) in
@@ -111,30 +111,30 @@ same_update p h k u None a b =
     } in
     let e : made (length_in h) sh ≡ made (length_in k) sk = ap (λ (n : ℕ). made n sh) el ∙ ap (λ (s : State). made (length_in k) s) es in
     let used : ℕ → State → Bool = λ n s. (n == greatest) || some_used_up s.objects (objects_named u.command) in
-    let P : Entry → Type 0 = λ x. SameResult (new_update_turn (with_past p h) x) (new_update_turn (with_past p k) (made (length_in k) sk)) in
-    branch SameResult (used (length_in h) sh) (used (length_in k) sk) (Err refusals.Exhausted) (new_update_turn (with_past p h) (made (length_in h) sh)) (Err refusals.Exhausted) (new_update_turn (with_past p k) (made (length_in k) sk))
+    let P : Entry → Type 0 = λ x. SameResult (new_update_transition (with_past p h) x) (new_update_transition (with_past p k) (made (length_in k) sk)) in
+    branch SameResult (used (length_in h) sh) (used (length_in k) sk) (Err refusals.Exhausted) (new_update_transition (with_past p h) (made (length_in h) sh)) (Err refusals.Exhausted) (new_update_transition (with_past p k) (made (length_in k) sk))
     (ap (λ (n : ℕ). used n sh) el ∙ ap (λ (s : State). used (length_in k) s) es)
     (λ t. refl)
     (λ t. subst P (sym e) (same_new_update p h k (made (length_in k) sk) a))
 
 -- ---- reads
 
-same_answered : (p : Plain) (h k : Past) (o q : ℕ × List ℕ) → AreAlike h k → o ≡ q → SameTurn (answered_turn (with_past p h) (read_answer o) []) (answered_turn (with_past p k) (read_answer q) [])
+same_answered : (p : Plain) (h k : Past) (o q : ℕ × List ℕ) → AreAlike h k → o ≡ q → SameTransition (answered_transition (with_past p h) (read_answer o) []) (answered_transition (with_past p k) (read_answer q) [])
 same_answered p h k o q a e =
     let os : ℕ × List ℕ → List Out = λ x. outs.Answer (p.last_ticket + 1) (read_answer x) ∷ [] in
     same_accepted p h k (os o) (os q) a (ap os e)
 
-same_waiting_read : (p : Plain) (h k : Past) (key : List ℕ) → AreAlike h k → SameResult (waiting_read_turn (with_past p h) key) (waiting_read_turn (with_past p k) key)
-unfolding waiting_read_turn is_full
+same_waiting_read : (p : Plain) (h k : Past) (key : List ℕ) → AreAlike h k → SameResult (waiting_read_transition (with_past p h) key) (waiting_read_transition (with_past p k) key)
+unfolding waiting_read_transition is_full
 same_waiting_read p h k key a =
     let q : Plain = record p { waiting_reads = p.waiting_reads ++ (record { ticket = p.last_ticket + 1; key = key }) ∷ [] } in
     let os : List Out = send p (last_of p.members) (bodies.Query (p.last_ticket + 1) key) ∷ [] in
-    branch SameResult (is_full p) (is_full p) (Err refusals.PendingFull) (Ok (accepted_turn (with_past q h) os)) (Err refusals.PendingFull) (Ok (accepted_turn (with_past q k) os)) refl
+    branch SameResult (is_full p) (is_full p) (Err refusals.PendingFull) (Ok (accepted_transition (with_past q h) os)) (Err refusals.PendingFull) (Ok (accepted_transition (with_past q k) os)) refl
     (λ t. refl)
     (λ t. same_accepted q h k os os a refl)
 
-pub same_read : (p : Plain) (h k : Past) (mode : ReadMode) (key : List ℕ) → AreAlike h k → SameResult (read_turn (with_past p h) mode key) (read_turn (with_past p k) mode key)
-unfolding read_turn
+pub same_read : (p : Plain) (h k : Past) (mode : ReadMode) (key : List ℕ) → AreAlike h k → SameResult (read_transition (with_past p h) mode key) (read_transition (with_past p k) mode key)
+unfolding read_transition
 same_read p h k Eventual key a =
     same_answered p h k (object_of (newest (with_past p h)).objects key) (object_of (newest (with_past p k)).objects key) a (ap (λ (s : State). object_of s.objects key) (newest_alike p h k a))
 same_read p h k (Bounded n) key a =
@@ -145,36 +145,36 @@ same_read p h k Strong key a =
     let es : newest (with_past p h) ≡ newest (with_past p k) = newest_alike p h k a in
     let tells : State → State → Bool = λ s t. (object_of s.objects key).0 == (object_of t.objects key).0 in
     let read : Past → ℕ × List ℕ = λ x. object_of (newest (with_past p x)).objects key in
-    branch SameResult (tells (newest (with_past p h)) (clean (with_past p h))) (tells (newest (with_past p k)) (clean (with_past p k))) (Ok (answered_turn (with_past p h) (read_answer (read h)) [])) (waiting_read_turn (with_past p h) key)
-    (Ok (answered_turn (with_past p k) (read_answer (read k)) [])) (waiting_read_turn (with_past p k) key)
+    branch SameResult (tells (newest (with_past p h)) (clean (with_past p h))) (tells (newest (with_past p k)) (clean (with_past p k))) (Ok (answered_transition (with_past p h) (read_answer (read h)) [])) (waiting_read_transition (with_past p h) key)
+    (Ok (answered_transition (with_past p k) (read_answer (read k)) [])) (waiting_read_transition (with_past p k) key)
     (ap (λ (s : State). tells s (clean (with_past p h))) es ∙ ap (λ (s : State). tells (newest (with_past p k)) s) (clean_alike p h k a))
     (λ t. same_answered p h k (read h) (read k) a (ap (λ (s : State). object_of s.objects key) es))
     (λ t. same_waiting_read p h k key a)
 
 -- ---- requests
 
-same_accepted_ask : (p : Plain) (h k : Past) (ask : Ask) → AreAlike h k → ((client : ℕ) → AreLast k (last_in h client) (last_in k client)) → SameResult (accepted_ask_turn (with_past p h) ask) (accepted_ask_turn (with_past p k) ask)
+same_accepted_ask : (p : Plain) (h k : Past) (ask : Ask) → AreAlike h k → ((client : ℕ) → AreLast k (last_in h client) (last_in k client)) → SameResult (accepted_ask_transition (with_past p h) ask) (accepted_ask_transition (with_past p k) ask)
 same_accepted_ask p h k (asks.Update u) a b =
-    let told : Past → Option Reply = λ x. said (newest (with_past p x)) u.client u.number in
-    let last : Past → Result Turn Refusal = λ x. update_turn (with_past p x) u (told x) in
-    let second : Past → Result Turn Refusal = λ x. cond (p.last_ticket == greatest) (Err refusals.Exhausted) (last x) in
-    let P : Option Reply → Type 0 = λ o. SameResult (update_turn (with_past p h) u o) (last k) in
+    let reported : Past → Option Reply = λ x. said (newest (with_past p x)) u.client u.number in
+    let last : Past → Result Transition Refusal = λ x. update_transition (with_past p x) u (reported x) in
+    let second : Past → Result Transition Refusal = λ x. cond (p.last_ticket == greatest) (Err refusals.Exhausted) (last x) in
+    let P : Option Reply → Type 0 = λ o. SameResult (update_transition (with_past p h) u o) (last k) in
     branch SameResult (not (is_first p)) (not (is_first p)) (Err (refusals.NotHead (first_of p.members))) (second h) (Err (refusals.NotHead (first_of p.members))) (second k) refl
     (λ t. refl)
     (λ t. branch SameResult (p.last_ticket == greatest) (p.last_ticket == greatest) (Err refusals.Exhausted) (last h) (Err refusals.Exhausted) (last k) refl
     (λ s. refl)
-    (λ s. subst P (sym (ap (λ (x : State). said x u.client u.number) (newest_alike p h k a))) (same_update p h k u (told k) a (b u.client))))
+    (λ s. subst P (sym (ap (λ (x : State). said x u.client u.number) (newest_alike p h k a))) (same_update p h k u (reported k) a (b u.client))))
 same_accepted_ask p h k (asks.Read mode object) a b =
-    branch SameResult (p.last_ticket == greatest) (p.last_ticket == greatest) (Err refusals.Exhausted) (read_turn (with_past p h) mode object.key) (Err refusals.Exhausted) (read_turn (with_past p k) mode object.key) refl
+    branch SameResult (p.last_ticket == greatest) (p.last_ticket == greatest) (Err refusals.Exhausted) (read_transition (with_past p h) mode object.key) (Err refusals.Exhausted) (read_transition (with_past p k) mode object.key) refl
     (λ t. refl)
     (λ t. same_read p h k mode object.key a)
 
-pub same_ask : (p : Plain) (h k : Past) (ask : Ask) → AreAlike h k → ((client : ℕ) → AreLast k (last_in h client) (last_in k client)) → SameResult (ask_turn (with_past p h) ask) (ask_turn (with_past p k) ask)
-unfolding ask_turn
+pub same_ask : (p : Plain) (h k : Past) (ask : Ask) → AreAlike h k → ((client : ℕ) → AreLast k (last_in h client) (last_in k client)) → SameResult (ask_transition (with_past p h) ask) (ask_transition (with_past p k) ask)
+unfolding ask_transition
 same_ask p h k ask a b =
     let foreign : Bool = not (all_of_chain p.name.chain (asked_objects ask)) in
-    let last : Past → Result Turn Refusal = λ x. accepted_ask_turn (with_past p x) ask in
-    let second : Past → Result Turn Refusal = λ x. cond foreign (Err refusals.TwoChains) (last x) in
+    let last : Past → Result Transition Refusal = λ x. accepted_ask_transition (with_past p x) ask in
+    let second : Past → Result Transition Refusal = λ x. cond foreign (Err refusals.TwoChains) (last x) in
     branch SameResult (not p.ready) (not p.ready) (Err refusals.NotReady) (second h) (Err refusals.NotReady) (second k) refl
     (λ t. refl)
     (λ t. branch SameResult foreign foreign (Err refusals.TwoChains) (last h) (Err refusals.TwoChains) (last k) refl

@@ -1,5 +1,5 @@
 pub mod Pasts
-pub mod Turns
+pub mod Transitions
 pub mod Messages
 pub mod Copies
 pub mod Positions

@@ -2,7 +2,7 @@
 use Rattle.std.proofs.Common.{◌≡◌, ◌≤◌, ℕ, ◌+◌, ◌-◌, Bool, true, false, drop, subst, arith}
 use Rattle.craq_names.proofs.Lists.{all_drop}
 use Rattle.craq_model.specs.Plain.{Plain, clean}
-use Rattle.craq_model.specs.Spelled.{IsSpelledEntry}
+use Rattle.craq_model.specs.Encodable.{IsEncodableEntry}
 use Rattle.craq_node_invariant.specs.Sound.{AreInRow, IsSound}
 use Rattle.craq_node_invariant.proofs.Applicable.{applicable_drop}
 use Rattle.craq_node_invariant.proofs.Rows.{row_drop}
@@ -28,7 +28,7 @@ compacted_is p s =
       based = omega arith;
       within = omega arith;
       state = clean_is p s;
-      entries = all_drop IsSpelledEntry m p.past.entries s.entries;
+      entries = all_drop IsEncodableEntry m p.past.entries s.entries;
       placed = subst P (next_after p.past.base p.past.acknowledged s.based) (row_drop (p.past.base + 1) m p.past.entries s.placed);
       applicable = applicable_drop p.past.base_state m p.past.entries s.applicable;
       gathering = s.gathering;

@@ -3,7 +3,7 @@ use Rattle.std.specs.Prelude.{◌≤◌, Bool, if◌then◌else◌, Result, Ok, 
 use Rattle.craq_names.specs.declared.refusal.Refusal.{Refusal}
 use Rattle.craq_model.specs.Past.{Past, length_in, clean_in, entries_in}
 use Rattle.craq_model.specs.Plain.{Plain}
-use Rattle.craq_model.specs.Settle.{Turn}
+use Rattle.craq_model.specs.Settle.{Transition}
 
 -- the past with the state after its settled entries, instead of these and its base state
 abbrev pub compacted_in : Past → Past
@@ -23,6 +23,6 @@ abbrev pub remembered : Bool → Plain → Plain
 remembered forgets p = record p { past = remembered_in forgets p.past }
 
 -- the transition to the remembered part of its node; a refusal is unchanged
-abbrev pub remembered_turn : Bool → Result Turn Refusal → Result Turn Refusal
-remembered_turn forgets (Ok t) = Ok (remembered forgets t.0, t.1)
-remembered_turn forgets (Err e) = Err e
+abbrev pub remembered_transition : Bool → Result Transition Refusal → Result Transition Refusal
+remembered_transition forgets (Ok t) = Ok (remembered forgets t.0, t.1)
+remembered_transition forgets (Err e) = Err e

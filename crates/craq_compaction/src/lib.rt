@@ -4,11 +4,11 @@
 
 ghost use Rattle.std.specs.Prelude.{◌≡◌, Bool};
 ghost use Rattle.craq_model.specs.declared.ask.Event.{Event};
-ghost use Rattle.craq_model.specs.Node.{event_turn, node_step};
+ghost use Rattle.craq_model.specs.Node.{event_transition, node_step};
 ghost use Rattle.craq_model.specs.Past.{Past};
 ghost use Rattle.craq_model.specs.Plain.{Plain};
 ghost use Rattle.craq_node_invariant.specs.Sound.{IsSound};
-ghost use Rattle.craq_compaction.specs.Compacted.{compacted_in, remembered, remembered_turn};
+ghost use Rattle.craq_compaction.specs.Compacted.{compacted_in, remembered, remembered_transition};
 
 /// Compacting a past twice is compacting it once.
 pub fn compaction_is_done_once()
@@ -23,12 +23,12 @@ pub fn remembered_nodes_are_sound()
 /// The remembered part of a sound node takes the node's step at each event, or is refused as the
 /// node is. The two nodes after it have the same remembered part.
 pub fn memory_decides_steps()
-    ensures turn { (forgets : Bool) (p : Plain) (e : Event) → IsSound p → remembered_turn forgets (event_turn (remembered forgets p) e) ≡ remembered_turn forgets (event_turn p e) }
-    ensures step { (forgets : Bool) (p : Plain) (e : Event) → IsSound p → remembered_turn forgets (node_step (remembered forgets p) e) ≡ remembered_turn forgets (node_step p e) }
+    ensures transition { (forgets : Bool) (p : Plain) (e : Event) → IsSound p → remembered_transition forgets (event_transition (remembered forgets p) e) ≡ remembered_transition forgets (event_transition p e) }
+    ensures step { (forgets : Bool) (p : Plain) (e : Event) → IsSound p → remembered_transition forgets (node_step (remembered forgets p) e) ≡ remembered_transition forgets (node_step p e) }
 {}
 
 /// Sound nodes with the same remembered part take the same step, or get the same refusal. The nodes
 /// after it have the same remembered part.
 pub fn alike_nodes_step_alike()
-    ensures { (forgets : Bool) (p q : Plain) (e : Event) → IsSound p → IsSound q → remembered forgets p ≡ remembered forgets q → remembered_turn forgets (node_step p e) ≡ remembered_turn forgets (node_step q e) }
+    ensures { (forgets : Bool) (p q : Plain) (e : Event) → IsSound p → IsSound q → remembered forgets p ≡ remembered forgets q → remembered_transition forgets (node_step p e) ≡ remembered_transition forgets (node_step q e) }
 {}

@@ -4,14 +4,14 @@
 
 use craq_audit::Audit;
 use craq_commands::{Command, ReadMode, Update};
-use craq_list::ListCore;
+use craq_compact_history::ListCore;
 use craq_model::{Answer, Ask};
 use craq_names::{
     ChainId, ClientId, Key, NodeId, NodeName, ObjectId, Pass, Refusal, RequestNo, Value,
 };
 use craq_place::Plan;
 use craq_seat::CallReceipt;
-use craq_words::print_answer;
+use craq_text::print_answer;
 use craq_workers::{Client, OpenGate, Store};
 use std::alloc::{AllocError, Global};
 use std::process::ExitCode;
@@ -219,7 +219,7 @@ where
     let plan = Plan::read(rt.alloc(), PLAN_TEXT)?;
     let gate = OpenGate {
         in_place: true,
-        carried: false,
+        chain_threads: false,
     };
     let store = Store::start(rt, rt.alloc(), &plan, gate, true)?;
     let worked = work_ticked(rt, &store);

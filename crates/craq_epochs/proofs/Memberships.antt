@@ -4,7 +4,7 @@ use Rattle.std.specs.Prelude.{◌==◌, ◌||◌, nat_eq, if◌then◌else◌}
 use Rattle.std.specs.List.{IsDistinct, AllByRecursion}
 use Rattle.craq_names.specs.Limits.{greatest_count, member_limit}
 use Rattle.craq_model.specs.Members.{IsMembership, is_member, without}
-use Rattle.craq_epochs.specs.Mastered.{IsMastered, opened}
+use Rattle.craq_epochs.specs.Mastered.{IsMastered, opened_master}
 
 abbrev AreUsed : List ℕ → List ℕ → Type 0
 AreUsed used ms = AllByRecursion (λ id. is_member used id ≡ true) ms
@@ -176,5 +176,5 @@ pub mastered_after_removal : (chain epoch id : ℕ) (ms used : List ℕ) → IsM
 mastered_after_removal chain epoch id ms used h two =
     record { membership = membership_without ms id h.membership two; from_one = omega arith; all_used = used_without used ms id h.all_used }
 
-pub mastered_at_first : (chain : ℕ) (ms : List ℕ) → IsMembership ms → IsMastered (opened chain ms)
+pub mastered_at_first : (chain : ℕ) (ms : List ℕ) → IsMembership ms → IsMastered (opened_master chain ms)
 mastered_at_first chain ms h = record { membership = h; from_one = omega arith; all_used = used_at_first ms }

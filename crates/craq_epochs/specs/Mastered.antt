@@ -14,8 +14,8 @@ pub record Mastered : Type 0 where
   pub used : List ℕ  -- every id that was ever a member, in the order of joining
 
 -- a master of these opening members
-abbrev pub opened : ℕ → List ℕ → Mastered
-opened chain members = record { chain = chain; epoch = 1; members = members; used = members }
+abbrev pub opened_master : ℕ → List ℕ → Mastered
+opened_master chain members = record { chain = chain; epoch = 1; members = members; used = members }
 
 -- the membership without a stopped node, or the refusal
 unfoldable pub removed : Mastered → NodeName → Result Mastered Refusal
@@ -26,8 +26,8 @@ removed m stopped =
     else Ok (record m { epoch = m.epoch + 1; members = without m.members stopped.node })
 
 -- the membership with a new node at the end, or the refusal
-unfoldable pub joined : Mastered → ℕ → Result Mastered Refusal
-joined m id =
+unfoldable pub master_after_join : Mastered → ℕ → Result Mastered Refusal
+master_after_join m id =
     if (id == 0) || is_member m.used id then Err refusals.UsedId
     else if nat_le member_limit (length m.members) then Err refusals.ChainFull
     else if m.epoch == greatest then Err refusals.Exhausted

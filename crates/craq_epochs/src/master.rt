@@ -3,7 +3,7 @@
 ghost use Rattle.std.specs.Prelude.{◌≡◌, ◌⊎◌, ◌↔◌, Ok, Err, IfOk, IfErr, OnOk, OnErr};
 ghost use Rattle.craq_names.specs.Order.{Refuses};
 ghost use Rattle.craq_model.specs.Members.{IsMembership};
-ghost use Rattle.craq_epochs.specs.Mastered.{IsMastered, opened, removed, joined};
+ghost use Rattle.craq_epochs.specs.Mastered.{IsMastered, opened_master, removed, master_after_join};
 
 use crate::membership::{MEMBER_LIMIT, all_but, is_among, is_membership};
 use crate::{Config, StopReceipt};
@@ -44,7 +44,7 @@ impl Master {
     /// Returns `BadConfig` exactly if they are no membership: 1 to 8 ids from 1, none twice.
     /// Otherwise fails only when out of memory (`Memory`).
     pub fn open(alloc: Global, chain: ChainId, members: &[NodeId]) -> Result<Self, Refusal>
-        ensures ok { IfOk result (λ m. m ≡ opened chain members.now) }
+        ensures ok { IfOk result (λ m. m ≡ opened_master chain members.now) }
         ensures membership { OnOk result (IsMembership members.now) }
         ensures bad { (result ≡ Err Refusal.BadConfig) ↔ ¬ (IsMembership members.now) }
         ensures err { IfErr result (λ e. (e ≡ Refusal.BadConfig) ⊎ (e ≡ Refusal.Memory)) }
@@ -90,10 +90,10 @@ impl Master {
     /// Appends a node after the last member. The master is unchanged on error. The first error that
     /// applies is returned: `UsedId` if the id is 0 or was ever a member, `ChainFull` if there are
     /// 8 members, `Exhausted` if the epoch is 2^64 - 1, `Memory` if out of memory.
-    #[tactic(auto, unfolding(crate::specs::Mastered::joined))]
+    #[tactic(auto, unfolding(crate::specs::Mastered::master_after_join))]
     pub fn join(&mut self, id: NodeId) -> Result<(), Refusal>
-        ensures ok { OnOk result (joined self.old id ≡ Ok self.new) }
-        ensures err { IfErr result (λ e. Refuses e (joined self.old id)) }
+        ensures ok { OnOk result (master_after_join self.old id ≡ Ok self.new) }
+        ensures err { IfErr result (λ e. Refuses e (master_after_join self.old id)) }
         ensures same { OnErr result (self.new ≡ self.old) }
     {
         if id.get() == 0 || is_among(self.used.as_slice(), id) {

@@ -7,7 +7,7 @@ use Rattle.craq_runs.specs.declared.run.Run.{Run}
 use Rattle.craq_runs.specs.declared.explanation.Explanation.{Explanation}
 use Rattle.craq_runs.specs.Explain.{explain}
 use Rattle.craq_runs.specs.Seen.{Answered}
-use Rattle.craq_runs.specs.Valid.{Look}
+use Rattle.craq_runs.specs.Valid.{ReadAnswer}
 use Rattle.craq_examples.specs.Printed.{run_of}
 use Rattle.craq_examples.specs.Rows.{bounded_reads_moves, object}
 
@@ -27,5 +27,5 @@ earlier =
 abbrev pub answered : ℕ → List ℕ → Answered
 answered version value = record { move = 10; node = 1; ticket = 6; answer = answers.Read version value }
 
-abbrev pub look : ℕ → List ℕ → Look
+abbrev pub look : ℕ → List ℕ → ReadAnswer
 look version value = record { mode = modes.Bounded 1; object = object 0 (107 ∷ []); version = version; value = value }

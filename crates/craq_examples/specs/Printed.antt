@@ -30,12 +30,12 @@ pub data Text : Type 0 where
   Floor : (count : ℕ) → Text
 
 -- a line printed for a move
-pub data Line : Type 0 where
-  Sent : (number : ℕ) (from : ℕ) (to : ℕ) (text : Text) → Line
-  Answered : (node : ℕ) (ticket : ℕ) (answer : Answer) → Line
-  Ignored : (why : Why) → Line
-  Nothing : Line
-  Refused : (refusal : Refusal) → Line
+pub data PrintedLine : Type 0 where
+  Sent : (number : ℕ) (from : ℕ) (to : ℕ) (text : Text) → PrintedLine
+  Answered : (node : ℕ) (ticket : ℕ) (answer : Answer) → PrintedLine
+  Ignored : (why : Why) → PrintedLine
+  Nothing : PrintedLine
+  Refused : (refusal : Refusal) → PrintedLine
 
 abbrev pub text_of : ℕ → Body → Text
 text_of epoch (bodies.Config members) = Config epoch
@@ -50,22 +50,22 @@ text_of epoch (bodies.Batch es) = Batch (first_position es) (final_position es)
 text_of epoch (bodies.Floor count) = Floor count
 
 -- the lines for a node's outs, after `sent` messages
-abbrev pub out_lines : ℕ → ℕ → List Out → List Line
+abbrev pub out_lines : ℕ → ℕ → List Out → List PrintedLine
 out_lines sent node [] = []
 out_lines sent node (outs.Send to m ∷ os) = Sent (sent + 1) m.sender to (text_of m.epoch m.body) ∷ out_lines (sent + 1) node os
 out_lines sent node (outs.Answer ticket answer ∷ os) = Answered node ticket answer ∷ out_lines sent node os
 
-abbrev pub why_lines : Option Why → List Line → List Line
+abbrev pub why_lines : Option Why → List PrintedLine → List PrintedLine
 why_lines (Some why) lines = Ignored why ∷ []
 why_lines None [] = Nothing ∷ []
 why_lines None (l ∷ ls) = l ∷ ls
 
-abbrev pub lines_of : Chain → Move → Result Progress Refusal → List Line
+abbrev pub lines_of : Chain → Move → Result Progress Refusal → List PrintedLine
 lines_of c m (Err e) = Refused e ∷ []
 lines_of c m (Ok x) =
     why_lines x.1.ignored (out_lines (length c.messages) (node_of (map (λ (n : LinkMessage). n.receiver) c.messages) m) x.1.outs)
 
-abbrev pub printed : Chain → List Move → List Line
+abbrev pub printed : Chain → List Move → List PrintedLine
 printed c [] = []
 printed c (m ∷ ms) =
     let r = chain_step c m in
@@ -86,5 +86,5 @@ taken c (m ∷ ms) =
 abbrev pub run_of : List ℕ → List Move → Run
 run_of members ms = record { members = members; moves = taken (opening_chain 0 members) ms }
 
-abbrev pub play : List ℕ → List Move → List Line
+abbrev pub play : List ℕ → List Move → List PrintedLine
 play members ms = printed (opening_chain 0 members) ms

@@ -17,7 +17,7 @@ use Rattle.craq_model.specs.declared.step.Why.TheVariants.{OtherEpoch, OutOfOrde
 use Rattle.craq_runs.specs.declared.run.Move.{Move}
 use Rattle.craq_runs.specs.declared.run.Move.TheVariants.{Ask, Deliver, Tick, Stop, Remove, Join}
 use Rattle.craq_runs.specs.declared.explanation.Explanation.{Explanation}
-use Rattle.craq_examples.specs.Printed.{Line, Config, Entry, Ack, Query, VersionIs, Blank, Copy, Part, Batch, Floor, Sent, Answered, Ignored, Nothing, Refused}
+use Rattle.craq_examples.specs.Printed.{PrintedLine, Config, Entry, Ack, Query, VersionIs, Blank, Copy, Part, Batch, Floor, Sent, Answered, Ignored, Nothing, Refused}
 
 abbrev pub object : ℕ → List ℕ → ObjectId
 object chain key = record { chain = chain; key = key }
@@ -29,7 +29,7 @@ abbrev pub first_read_moves : List Move
 first_read_moves =
     (Ask 2 (asks.Read Strong (object 0 (107 ∷ [])))) ∷ []
 
-abbrev pub first_read_lines : List Line
+abbrev pub first_read_lines : List PrintedLine
 first_read_lines =
     Answered 2 1 (answers.Read 0 []) ∷ []
 
@@ -44,7 +44,7 @@ clean_and_dirty_reads_moves =
     ∷ (Deliver 2)
     ∷ (Deliver 3) ∷ []
 
-abbrev pub clean_and_dirty_reads_lines : List Line
+abbrev pub clean_and_dirty_reads_lines : List PrintedLine
 clean_and_dirty_reads_lines =
     Sent 1 1 2 (Entry 1)
     ∷ Sent 2 1 3 (Query 2)
@@ -66,7 +66,7 @@ one_put_moves =
     ∷ (Ask 2 (asks.Read Strong (object 0 (107 ∷ []))))
     ∷ (Ask 3 (asks.Read Strong (object 0 (107 ∷ [])))) ∷ []
 
-abbrev pub one_put_lines : List Line
+abbrev pub one_put_lines : List PrintedLine
 one_put_lines =
     Sent 1 1 2 (Entry 1)
     ∷ Sent 2 2 3 (Entry 1)
@@ -93,7 +93,7 @@ query_overtaken_moves =
     ∷ (Deliver 8)
     ∷ (Deliver 5) ∷ []
 
-abbrev pub query_overtaken_lines : List Line
+abbrev pub query_overtaken_lines : List PrintedLine
 query_overtaken_lines =
     Sent 1 1 2 (Entry 1)
     ∷ Sent 2 2 3 (Entry 1)
@@ -118,7 +118,7 @@ out_of_order_moves =
     ∷ (Deliver 1)
     ∷ (Deliver 2) ∷ []
 
-abbrev pub out_of_order_lines : List Line
+abbrev pub out_of_order_lines : List PrintedLine
 out_of_order_lines =
     Sent 1 1 2 (Entry 1)
     ∷ Sent 2 1 2 (Entry 2)
@@ -138,7 +138,7 @@ head_lost_early_moves =
     ∷ (Deliver 6)
     ∷ (Deliver 7) ∷ []
 
-abbrev pub head_lost_early_lines : List Line
+abbrev pub head_lost_early_lines : List PrintedLine
 head_lost_early_lines =
     Sent 1 1 2 (Entry 1)
     ∷ Nothing
@@ -166,7 +166,7 @@ head_lost_with_retry_moves =
     ∷ (Deliver 5)
     ∷ (Deliver 8) ∷ []
 
-abbrev pub head_lost_with_retry_lines : List Line
+abbrev pub head_lost_with_retry_lines : List PrintedLine
 head_lost_with_retry_lines =
     Sent 1 1 2 (Entry 1)
     ∷ Sent 2 2 3 (Entry 1)
@@ -194,7 +194,7 @@ tail_lost_moves =
     ∷ (Deliver 3)
     ∷ (Deliver 5) ∷ []
 
-abbrev pub tail_lost_lines : List Line
+abbrev pub tail_lost_lines : List PrintedLine
 tail_lost_lines =
     Sent 1 1 2 (Entry 1)
     ∷ Sent 2 2 3 (Entry 1)
@@ -242,7 +242,7 @@ join_moves =
     ∷ (Deliver 26)
     ∷ (Ask 4 (asks.Read Strong (object 0 (107 ∷ [])))) ∷ []
 
-abbrev pub join_lines : List Line
+abbrev pub join_lines : List PrintedLine
 join_lines =
     Sent 1 1 2 (Entry 1)
     ∷ Sent 2 2 3 (Entry 1)
@@ -296,7 +296,7 @@ old_epoch_moves =
     ∷ (Deliver 1)
     ∷ (Ask 2 (asks.Read Strong (object 0 (107 ∷ [])))) ∷ []
 
-abbrev pub old_epoch_lines : List Line
+abbrev pub old_epoch_lines : List PrintedLine
 old_epoch_lines =
     Sent 1 1 2 (Entry 1)
     ∷ Nothing
@@ -317,7 +317,7 @@ one_node_moves =
     ∷ (update 1 1 2 (TestAndSet (object 0 (107 ∷ [])) 0 (98 ∷ [])))
     ∷ (Ask 1 (asks.Read Strong (object 0 (107 ∷ [])))) ∷ []
 
-abbrev pub one_node_lines : List Line
+abbrev pub one_node_lines : List PrintedLine
 one_node_lines =
     Answered 1 1 (answers.Update (Written 1))
     ∷ Answered 1 2 (answers.Update (Mismatch 1))
@@ -338,7 +338,7 @@ numbers_moves =
     ∷ (update 1 1 6 (Increment (object 0 (122 ∷ [])) 7))
     ∷ (Ask 1 (asks.Read Strong (object 0 (122 ∷ [])))) ∷ []
 
-abbrev pub numbers_lines : List Line
+abbrev pub numbers_lines : List PrintedLine
 numbers_lines =
     Answered 1 1 (answers.Update (Written 1))
     ∷ Answered 1 2 (answers.Update Overflow)
@@ -357,7 +357,7 @@ transactions_moves =
     ∷ (Ask 1 (asks.Read Strong (object 0 (97 ∷ []))))
     ∷ (update 1 1 3 (Mini (record { compares = (((object 0 (98 ∷ [])), 1) ∷ ((object 0 (97 ∷ [])), 1) ∷ []); reads = []; writes = (((object 0 (98 ∷ [])), (57 ∷ [])) ∷ []) }))) ∷ []
 
-abbrev pub transactions_lines : List Line
+abbrev pub transactions_lines : List PrintedLine
 transactions_lines =
     Answered 1 1 (answers.Update (Done []))
     ∷ Refused refusals.TwoChains
@@ -388,7 +388,7 @@ bounded_reads_moves =
     ∷ (Deliver 13)
     ∷ (Deliver 14) ∷ []
 
-abbrev pub bounded_reads_lines : List Line
+abbrev pub bounded_reads_lines : List PrintedLine
 bounded_reads_lines =
     Sent 1 1 2 (Entry 1)
     ∷ Sent 2 2 3 (Entry 1)
@@ -423,7 +423,7 @@ refusals_moves =
     ∷ (Remove 9)
     ∷ (Join 1) ∷ []
 
-abbrev pub refusals_lines : List Line
+abbrev pub refusals_lines : List PrintedLine
 refusals_lines =
     Refused (refusals.NotHead 1)
     ∷ Refused refusals.WrongNode
@@ -438,7 +438,7 @@ last_node_moves =
     ∷ (Remove 1)
     ∷ (Ask 1 (asks.Read Strong (object 0 (107 ∷ [])))) ∷ []
 
-abbrev pub last_node_lines : List Line
+abbrev pub last_node_lines : List PrintedLine
 last_node_lines =
     Nothing
     ∷ Refused refusals.LastNode
@@ -448,7 +448,7 @@ abbrev pub full_chain_moves : List Move
 full_chain_moves =
     (Join 9) ∷ []
 
-abbrev pub full_chain_lines : List Line
+abbrev pub full_chain_lines : List PrintedLine
 full_chain_lines =
     Refused refusals.ChainFull ∷ []
 
@@ -458,7 +458,7 @@ long_append_moves =
     ∷ (update 1 1 2 (Append (object 0 (107 ∷ [])) (98 ∷ [])))
     ∷ (update 1 1 3 (Append (object 0 (107 ∷ [])) (98 ∷ []))) ∷ []
 
-abbrev pub long_append_lines : List Line
+abbrev pub long_append_lines : List PrintedLine
 long_append_lines =
     Answered 1 1 (answers.Update (Written 1))
     ∷ Answered 1 2 (answers.Update (Written 2))
@@ -470,7 +470,7 @@ prepend_moves =
     ∷ (update 1 1 2 (Prepend (object 0 (107 ∷ [])) (97 ∷ [])))
     ∷ (Ask 1 (asks.Read Strong (object 0 (107 ∷ [])))) ∷ []
 
-abbrev pub prepend_lines : List Line
+abbrev pub prepend_lines : List PrintedLine
 prepend_lines =
     Answered 1 1 (answers.Update (Written 1))
     ∷ Answered 1 2 (answers.Update (Written 2))
@@ -485,7 +485,7 @@ retry_moves =
     ∷ (Deliver 3)
     ∷ (Deliver 4) ∷ []
 
-abbrev pub retry_lines : List Line
+abbrev pub retry_lines : List PrintedLine
 retry_lines =
     Sent 1 1 2 (Entry 1)
     ∷ Nothing
@@ -510,7 +510,7 @@ ticks_moves =
     ∷ (Tick 0)
     ∷ (Deliver 6) ∷ []
 
-abbrev pub ticks_lines : List Line
+abbrev pub ticks_lines : List PrintedLine
 ticks_lines =
     Sent 1 1 2 (Entry 1)
     ∷ Sent 2 1 2 (Entry 1)
@@ -544,7 +544,7 @@ whole_join_moves =
     ∷ (Deliver 8)
     ∷ (Deliver 9) ∷ []
 
-abbrev pub whole_join_lines : List Line
+abbrev pub whole_join_lines : List PrintedLine
 whole_join_lines =
     Answered 1 1 (answers.Update (Written 1))
     ∷ Sent 1 0 1 (Config 2)
@@ -572,7 +572,7 @@ puts client numbers = map (λ number. update 1 client number (Put (object 0 (107
 abbrev pub eight_kept_moves : List Move
 eight_kept_moves = puts 1 (1 ∷ 2 ∷ 3 ∷ 4 ∷ 5 ∷ 6 ∷ 7 ∷ 8 ∷ 9 ∷ 2 ∷ 1 ∷ []) ++ puts 2 (5 ∷ 3 ∷ 5 ∷ [])
 
-abbrev pub eight_kept_lines : List Line
+abbrev pub eight_kept_lines : List PrintedLine
 eight_kept_lines =
     Answered 1 1 (answers.Update (Written 1))
     ∷ Answered 1 2 (answers.Update (Written 2))
@@ -613,7 +613,7 @@ batch_moves =
     ∷ (Deliver 7)
     ∷ (Deliver 6) ∷ []
 
-abbrev pub batch_lines : List Line
+abbrev pub batch_lines : List PrintedLine
 batch_lines =
     Sent 1 1 2 (Entry 1)
     ∷ Sent 2 1 2 (Entry 2)
@@ -670,7 +670,7 @@ parts_moves =
     ∷ (Deliver 5)
     ∷ (Ask 2 (asks.Read Strong (object 0 (numbered_key 65)))) ∷ []
 
-abbrev pub parts_lines : List Line
+abbrev pub parts_lines : List PrintedLine
 parts_lines =
     Sent 1 0 1 (Config 2)
     ∷ Sent 2 0 2 (Config 2)

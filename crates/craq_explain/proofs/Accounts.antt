@@ -19,7 +19,7 @@ use Rattle.craq_runs.specs.Runs.{AreTaken, Takes, after_move, after_moves, progr
 use Rattle.craq_runs.specs.Explain.{Account, account_after, account_of, account_with}
 use Rattle.craq_runs.specs.Seen.{Asked, ask_in, asks_from, node_of}
 use Rattle.craq_laws.proofs.Nodes.{after_push}
-use Rattle.craq_chain.specs.Chained.{Chained, chain_of, moved, with_move, after_taking}
+use Rattle.craq_chain.specs.Chained.{Chained, chain_of_run, moved, with_move, after_taking}
 
 pub one_more : (w : Account) (ts : List Taken) (t : Taken) → account_of w (ts ++ t ∷ []) ≡ account_after (account_of w ts) t
 one_more w [] t = refl
@@ -34,9 +34,9 @@ unfolding account_with
 asks_then w t = refl
 
 -- the account's chain is that to which the moves lead
-pub chain_after : (w : Account) (ts : List Taken) → (account_of w ts).chain ≡ after_moves w.chain ts
-chain_after w [] = refl
-chain_after w (t ∷ ts) = chain_after (account_after w t) ts ∙ ap (λ (c : Chain). after_moves c ts) (chain_then w t)
+pub account_chain_after : (w : Account) (ts : List Taken) → (account_of w ts).chain ≡ after_moves w.chain ts
+account_chain_after w [] = refl
+account_chain_after w (t ∷ ts) = account_chain_after (account_after w t) ts ∙ ap (λ (c : Chain). after_moves c ts) (chain_then w t)
 
 by_left : (c d : Chain) (step step2 : Step) (b : Bool) → Takes (if b then (let r : Result Progress Refusal = Ok (record d { messages = c.messages ++ sent_in step2.outs; moves = c.moves + 1 }, step2) in r) else Err Exhausted) step → (progressed c (if b then (let r : Result Progress Refusal = Ok (record d { messages = c.messages ++ sent_in step2.outs; moves = c.moves + 1 }, step2) in r) else Err Exhausted)).moves ≡ c.moves + 1
 by_left c d step step2 true h = refl
@@ -89,11 +89,11 @@ same_progress w new t (Ok x) h e = let put : with_move w (record { chosen = t.ch
 same_progress w new t (Err r) h e = absurd h
 
 -- the chain that replays a move of a run keeps the run's step
-pub took_again : (w new : Chained) (t : Taken) → Takes (chain_step (chain_of w) t.chosen) t.step → after_taking w t.chosen ≡ Ok new → new ≡ with_move w t
-took_again w new t h e = same_progress w new t (chain_step (chain_of w) t.chosen) h e
+pub took_again : (w new : Chained) (t : Taken) → Takes (chain_step (chain_of_run w) t.chosen) t.step → after_taking w t.chosen ≡ Ok new → new ≡ with_move w t
+took_again w new t h e = same_progress w new t (chain_step (chain_of_run w) t.chosen) h e
 
 -- the chain with one more move
-pub chain_with : (w : Chained) (t : Taken) → chain_of (with_move w t) ≡ after_move (chain_of w) t.chosen
+pub chain_with : (w : Chained) (t : Taken) → chain_of_run (with_move w t) ≡ after_move (chain_of_run w) t.chosen
 chain_with w t = after_push (opening_chain w.chain w.run.members) w.run.moves t
 
 -- the notes of the account after a move, from the chain before it and after it

@@ -15,7 +15,7 @@ use Rattle.craq_runs.specs.declared.explanation.Explanation.{Explanation}
 use Rattle.craq_runs.specs.Explain.{Account, ask_number, explanation_in, wrote}
 use Rattle.craq_runs.specs.Seen.{Asked, ask_in, ask_with, is_ticket}
 use Rattle.craq_explain.specs.Firsts.{Tells, name_cmp, number_if, write_cmp}
-use Rattle.craq_explain.specs.Tables.{asked_at, due_of, first_written, origin}
+use Rattle.craq_explain.specs.Tables.{asked_at, pending_of, first_written, origin}
 use Rattle.craq_explain.proofs.FirstPuts.{either, first_push, name_ties, none_put, write_ties}
 
 pub asked_push : (asks : List Asked) (number node ticket : ℕ) (ask : Ask) (name : ℕ × ℕ) → asked_at (asks ++ ask_in number (Some ticket) (moves.Ask node ask)) name ≡ option_or (asked_at asks name) (number_if (is_at (name_cmp (node, ticket)) name) number)
@@ -35,11 +35,11 @@ asked_stay asks number node ask name =
     first_push (λ (a : Asked). (a.node == name.0) && is_ticket a.ticket name.1) (λ (a : Asked). a.move) asks (record { move = number; node = node; ticket = None; ask = ask })
     ∙ never (node == name.0) (asked_at asks name) number
 
-pub due_push : (places : List Place) (p : Place) (name : ℕ × ℕ) → due_of (places ++ p ∷ []) name ≡ option_or (due_of places name) (number_if (is_at (name_cmp (p.node, p.ticket)) name) p.position)
-unfolding due_of
-due_push places p name =
+pub pending_push : (places : List Place) (p : Place) (name : ℕ × ℕ) → pending_of (places ++ p ∷ []) name ≡ option_or (pending_of places name) (number_if (is_at (name_cmp (p.node, p.ticket)) name) p.position)
+unfolding pending_of
+pending_push places p name =
     first_push (λ (x : Place). (x.node == name.0) && (x.ticket == name.1)) (λ (x : Place). x.position) places p
-    ∙ ap (λ b. option_or (due_of places name) (number_if b p.position)) (name_ties (p.node, p.ticket) name)
+    ∙ ap (λ b. option_or (pending_of places name) (number_if b p.position)) (name_ties (p.node, p.ticket) name)
 
 pub written_push : (entries : List Entry) (e : Entry) (write : List ℕ × ℕ) → first_written (entries ++ e ∷ []) write ≡ option_or (first_written entries write) (number_if (wrote write.0 write.1 e) e.position)
 unfolding first_written
@@ -80,8 +80,8 @@ origins_push [] e = refl
 origins_push (x ∷ xs) e = ap (λ (ns : List (ℕ × ℕ)). origin x ∷ ns) (origins_push xs e)
 
 -- the explanation from an account
-pub told : (w : Account) (asks lens : List ℕ) (places : List Place) → asks ≡ map (ask_number w.asks) w.committed → lens ≡ w.lens → places ≡ w.places → (let e : Explanation = record { asks = asks; lens = lens; places = places } in e) ≡ explanation_in w
-told w asks lens places a l p =
+pub reported : (w : Account) (asks lens : List ℕ) (places : List Place) → asks ≡ map (ask_number w.asks) w.committed → lens ≡ w.lens → places ≡ w.places → (let e : Explanation = record { asks = asks; lens = lens; places = places } in e) ≡ explanation_in w
+reported w asks lens places a l p =
     ap (λ (x : List ℕ). let e : Explanation = record { asks = x; lens = lens; places = places } in e) a
     ∙ ap (λ (x : List ℕ). let e : Explanation = record { asks = map (ask_number w.asks) w.committed; lens = x; places = places } in e) l
     ∙ ap (λ (x : List Place). let e : Explanation = record { asks = map (ask_number w.asks) w.committed; lens = w.lens; places = x } in e) p

@@ -7,8 +7,8 @@ use Rattle.craq_runs.specs.Chain.{Chain, chain_step, opening_chain}
 use Rattle.craq_runs.specs.Runs.{IsRunOf, Takes}
 use Rattle.craq_runs.specs.Explain.{Account, account_after, account_of, opening_account}
 use Rattle.craq_runs.specs.Seen.{ask_in, asks_from}
-use Rattle.craq_chain.specs.Chained.{Chained, chain_of, with_move}
-use Rattle.craq_explain.proofs.Accounts.{asks_after, asks_then, chain_after, count_after, one_more, taken_before, taken_next}
+use Rattle.craq_chain.specs.Chained.{Chained, chain_of_run, with_move}
+use Rattle.craq_explain.proofs.Accounts.{asks_after, asks_then, account_chain_after, count_after, one_more, taken_before, taken_next}
 
 -- the chain, and the account, after i moves of the run
 abbrev pub chain_at : ℕ → Run → ℕ → Chained
@@ -20,10 +20,10 @@ account_at chain run i = account_of (opening_account chain run.members) (take i 
 more : (ts : List Taken) (i : ℕ) (t : Taken) → i < length ts → t ≡ get_or ts i t → take (i + 1) ts ≡ take i ts ++ t ∷ []
 more ts i t h is = take_more ts i t h ∙ ap (λ (x : Taken). take i ts ++ x ∷ []) (sym is)
 
-pub chain_there : (chain : ℕ) (run : Run) (i : ℕ) → (account_at chain run i).chain ≡ chain_of (chain_at chain run i)
-chain_there chain run i = chain_after (opening_account chain run.members) (take i run.moves)
+pub chain_there : (chain : ℕ) (run : Run) (i : ℕ) → (account_at chain run i).chain ≡ chain_of_run (chain_at chain run i)
+chain_there chain run i = account_chain_after (opening_account chain run.members) (take i run.moves)
 
-pub takes_there : (chain : ℕ) (run : Run) (i : ℕ) (t : Taken) → i < length run.moves → t ≡ get_or run.moves i t → IsRunOf chain run → Takes (chain_step (chain_of (chain_at chain run i)) t.chosen) t.step
+pub takes_there : (chain : ℕ) (run : Run) (i : ℕ) (t : Taken) → i < length run.moves → t ≡ get_or run.moves i t → IsRunOf chain run → Takes (chain_step (chain_of_run (chain_at chain run i)) t.chosen) t.step
 takes_there chain run i t h is r = taken_next (opening_chain chain run.members) run.moves i t h is r.moves
 
 pub next_chain : (chain : ℕ) (run : Run) (i : ℕ) (t : Taken) → i < length run.moves → t ≡ get_or run.moves i t → with_move (chain_at chain run i) t ≡ chain_at chain run (i + 1)

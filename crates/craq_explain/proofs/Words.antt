@@ -15,61 +15,61 @@ use Rattle.craq_model.specs.declared.step.Why.TheVariants.{NotNeighbour, OtherEp
 use Rattle.craq_model.specs.declared.waiting.WaitingRead.{WaitingRead}
 use Rattle.craq_model.specs.Members.{last_of}
 use Rattle.craq_model.specs.Plain.{Plain, clean, id_of, newest_object, object_within}
-use Rattle.craq_model.specs.Settle.{Turn, read_answer, turn_ignoring, turn_with}
-use Rattle.craq_model.specs.Deliveries.{answering_version, body_turn, read_with, reads_without, told_version_turn, version_turn}
-use Rattle.craq_model.specs.Node.{event_turn, is_for, node_step, outs_fit, within_counts}
+use Rattle.craq_model.specs.Settle.{Transition, read_answer, transition_ignoring, transition_with}
+use Rattle.craq_model.specs.Deliveries.{answering_version, body_transition, read_with, reads_without, reported_version_transition, version_transition}
+use Rattle.craq_model.specs.Node.{event_transition, is_for, node_step, outs_fit, within_counts}
 use Rattle.craq_laws.proofs.Names.{name_kept}
 use Rattle.craq_laws.proofs.Nodes.{node_here, node_id}
 use Rattle.craq_runs.specs.declared.run.Move.{Move}
 use Rattle.craq_runs.specs.declared.run.Move.TheVariants as moves
-use Rattle.craq_runs.specs.Chain.{Chain, Progress, chain_step, counted_progress, message_at, node_at, node_progress, numbers_left, sent_in, set_node, turn_progress}
+use Rattle.craq_runs.specs.Chain.{Chain, Progress, chain_step, counted_progress, message_at, node_at, node_progress, numbers_left, sent_in, set_node, transition_progress}
 use Rattle.craq_runs.specs.Explain.{Account, clean_at, read_place, tail_word, word_in, word_of}
 use Rattle.craq_runs.specs.Runs.{after_move, progressed}
 use Rattle.craq_runs.specs.Seen.{node_of, receiver_of}
 use Rattle.craq_chain.proofs.Received.{sent_to}
 
-by_test : (b : Bool) (t u : Turn) (p : Plain) → clean t.0 ≡ clean p → clean u.0 ≡ clean p → clean (if b then t else u).0 ≡ clean p
+by_test : (b : Bool) (t u : Transition) (p : Plain) → clean t.0 ≡ clean p → clean u.0 ≡ clean p → clean (if b then t else u).0 ≡ clean p
 by_test true t u p h k = h
 by_test false t u p h k = k
 
-told_clean : (p : Plain) (version : ℕ) (r : Option WaitingRead) → clean (told_version_turn p version r).0 ≡ clean p
-unfolding told_version_turn clean
-told_clean p version None = refl
-told_clean p version (Some r) =
-    by_test (nat_lt (newest_object p r.key).0 version) (turn_ignoring p TooFar)
-    (turn_with (record p { waiting_reads = reads_without r.ticket p.waiting_reads }) (outs.Answer r.ticket (read_answer (object_within p r.key (answering_version p r.key version))) ∷ []))
+reported_clean : (p : Plain) (version : ℕ) (r : Option WaitingRead) → clean (reported_version_transition p version r).0 ≡ clean p
+unfolding reported_version_transition clean
+reported_clean p version None = refl
+reported_clean p version (Some r) =
+    by_test (nat_lt (newest_object p r.key).0 version) (transition_ignoring p TooFar)
+    (transition_with (record p { waiting_reads = reads_without r.ticket p.waiting_reads }) (outs.Answer r.ticket (read_answer (object_within p r.key (answering_version p r.key version))) ∷ []))
     p refl refl
 
-version_clean : (p : Plain) (sender ticket version : ℕ) → clean (version_turn p sender ticket version).0 ≡ clean p
-unfolding version_turn
-version_clean p sender ticket version = by_test (not (sender == last_of p.members)) (turn_ignoring p NotNeighbour) (told_version_turn p version (read_with ticket p.waiting_reads)) p refl (told_clean p version (read_with ticket p.waiting_reads))
+version_clean : (p : Plain) (sender ticket version : ℕ) → clean (version_transition p sender ticket version).0 ≡ clean p
+unfolding version_transition
+version_clean p sender ticket version = by_test (not (sender == last_of p.members)) (transition_ignoring p NotNeighbour) (reported_version_transition p version (read_with ticket p.waiting_reads)) p refl (reported_clean p version (read_with ticket p.waiting_reads))
 
-body_clean : (p : Plain) (m : LinkMessage) (ticket version : ℕ) → clean (body_turn p m (bodies.VersionIs ticket version)).0 ≡ clean p
-body_clean p m ticket version = by_test (m.epoch == p.epoch) (version_turn p m.sender ticket version) (turn_ignoring p OtherEpoch) p (version_clean p m.sender ticket version) refl
+body_clean : (p : Plain) (m : LinkMessage) (ticket version : ℕ) → clean (body_transition p m (bodies.VersionIs ticket version)).0 ≡ clean p
+body_clean p m ticket version = by_test (m.epoch == p.epoch) (version_transition p m.sender ticket version) (transition_ignoring p OtherEpoch) p (version_clean p m.sender ticket version) refl
 
 -- a step keeps the clean state, or is refused
-abbrev Cleans : Plain → Result Turn Refusal → Type 0
+abbrev Cleans : Plain → Result Transition Refusal → Type 0
 Cleans p (Ok t) = clean t.0 ≡ clean p
 Cleans p (Err e) = Unit {0}
 
-one_of : (p : Plain) (b : Bool) (r s : Result Turn Refusal) → Cleans p r → Cleans p s → Cleans p (if b then r else s)
+one_of : (p : Plain) (b : Bool) (r s : Result Transition Refusal) → Cleans p r → Cleans p s → Cleans p (if b then r else s)
 one_of p true r s h k = h
 one_of p false r s h k = k
 
-within : (p : Plain) (r : Result Turn Refusal) → Cleans p r → Cleans p (within_counts r)
+within : (p : Plain) (r : Result Transition Refusal) → Cleans p r → Cleans p (within_counts r)
 within p (Ok t) h = one_of p (outs_fit t.1.outs) (Ok t) (Err Exhausted) h tt
 within p (Err e) h = tt
 
 step_clean : (p : Plain) (m : LinkMessage) (ticket version : ℕ) → m.body ≡ bodies.VersionIs ticket version → Cleans p (node_step p (events.Deliver m))
 unfolding node_step
 step_clean p m ticket version e =
-    one_of p p.running (within_counts (event_turn p (events.Deliver m))) (Err Stopped)
-    (within p (event_turn p (events.Deliver m))
-    (one_of p (is_for p m) (Ok (body_turn p m m.body)) (Err WrongNode) (subst (λ b. clean (body_turn p m b).0 ≡ clean p) (sym e) (body_clean p m ticket version)) tt))
+    one_of p p.running (within_counts (event_transition p (events.Deliver m))) (Err Stopped)
+    (within p (event_transition p (events.Deliver m))
+    (one_of p (is_for p m) (Ok (body_transition p m m.body)) (Err WrongNode) (subst (λ b. clean (body_transition p m b).0 ≡ clean p) (sym e) (body_clean p m ticket version)) tt))
     tt
 
-after_turn : (nodes : List Plain) (id : ℕ) (p : Plain) (t : Turn) → node_at nodes id ≡ Some p → t.0.name ≡ p.name → node_at (set_node nodes t.0) id ≡ Some t.0
-after_turn nodes id p t h name =
+after_transition : (nodes : List Plain) (id : ℕ) (p : Plain) (t : Transition) → node_at nodes id ≡ Some p → t.0.name ≡ p.name → node_at (set_node nodes t.0) id ≡ Some t.0
+after_transition nodes id p t h name =
     let same : id_of t.0 ≡ id = ap (λ x. x.node) name ∙ node_id nodes id p h in
     subst (λ i. node_at (set_node nodes t.0) i ≡ Some t.0) same (node_here nodes t.0 p (ap (node_at nodes) same ∙ h))
 
@@ -77,13 +77,13 @@ module _ (c : Chain) (m : LinkMessage) (key : List ℕ) where
   unchanged : (found : Option Plain) → node_at c.nodes m.receiver ≡ found → clean_at found key ≡ clean_at (node_at c.nodes m.receiver) key
   unchanged found e = ap (λ (x : Option Plain). clean_at x key) (sym e)
 
-  counted_clean : (p : Plain) (t : Turn) (b : Bool) → node_at c.nodes m.receiver ≡ Some p → t.0.name ≡ p.name → clean t.0 ≡ clean p → clean_at (Some p) key ≡ clean_at (node_at (progressed c (if b then (let r : Result Progress Refusal = Ok (record c { nodes = set_node c.nodes t.0; messages = c.messages ++ sent_in t.1.outs; moves = c.moves + 1 }, t.1) in r) else Err Exhausted)).nodes m.receiver) key
+  counted_clean : (p : Plain) (t : Transition) (b : Bool) → node_at c.nodes m.receiver ≡ Some p → t.0.name ≡ p.name → clean t.0 ≡ clean p → clean_at (Some p) key ≡ clean_at (node_at (progressed c (if b then (let r : Result Progress Refusal = Ok (record c { nodes = set_node c.nodes t.0; messages = c.messages ++ sent_in t.1.outs; moves = c.moves + 1 }, t.1) in r) else Err Exhausted)).nodes m.receiver) key
   counted_clean p t true e name same =
       ap (λ (s : State). (object_of s.objects key).0) (sym same)
-      ∙ ap (λ (x : Option Plain). clean_at x key) (sym (after_turn c.nodes m.receiver p t e name))
+      ∙ ap (λ (x : Option Plain). clean_at x key) (sym (after_transition c.nodes m.receiver p t e name))
   counted_clean p t false e name same = unchanged (Some p) e
 
-  turned_clean : (p : Plain) (r : Result Turn Refusal) → node_at c.nodes m.receiver ≡ Some p → node_step p (events.Deliver m) ≡ r → Cleans p r → clean_at (Some p) key ≡ clean_at (node_at (progressed c (counted_progress c (turn_progress c r))).nodes m.receiver) key
+  turned_clean : (p : Plain) (r : Result Transition Refusal) → node_at c.nodes m.receiver ≡ Some p → node_step p (events.Deliver m) ≡ r → Cleans p r → clean_at (Some p) key ≡ clean_at (node_at (progressed c (counted_progress c (transition_progress c r))).nodes m.receiver) key
   turned_clean p (Ok t) e step same = counted_clean p t (numbers_left c t.1) e (name_kept p t.0 (events.Deliver m) t.1 step) same
   turned_clean p (Err x) e step same = unchanged (Some p) e
 

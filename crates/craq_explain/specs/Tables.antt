@@ -17,8 +17,8 @@ unfoldable pub asked_at : List Asked → ℕ × ℕ → Option ℕ
 asked_at asks name = option_map (λ (a : Asked). a.move) (ask_with asks name.0 name.1)
 
 -- the first pending position at a node for a ticket
-unfoldable pub due_of : List Place → ℕ × ℕ → Option ℕ
-due_of due name = option_map (λ (p : Place). p.position) (find (λ (p : Place). (p.node == name.0) && (p.ticket == name.1)) due)
+unfoldable pub pending_of : List Place → ℕ × ℕ → Option ℕ
+pending_of pending name = option_map (λ (p : Place). p.position) (find (λ (p : Place). (p.node == name.0) && (p.ticket == name.1)) pending)
 
 -- the position of the first entry that wrote a version of a key
 unfoldable pub first_written : List Entry → List ℕ × ℕ → Option ℕ
@@ -32,5 +32,5 @@ pub record IsCommitted (entries : List Entry) (c : Committed) : Type 0 where
 -- the tables answer the lookups in these requests, places and entries
 pub record AreTables (asks : List Asked) (places : List Place) (entries : List Entry) (t : Tables) : Type 0 where
   pub asked : Tells name_cmp t.asked (asked_at asks)
-  pub due : Tells name_cmp t.due (due_of places)
+  pub pending : Tells name_cmp t.pending (pending_of places)
   pub committed : IsCommitted entries t.committed

@@ -9,12 +9,12 @@ ghost use Rattle.craq_explain.specs.Shown.{plain_in};
 ghost use Rattle.craq_explain.specs.Tables.{AreTables};
 
 use crate::answers::add_places;
-use crate::firsts::number_of;
+use crate::firsts::number_of_ask;
 use crate::notes::add_sends;
 use crate::tables::{Replayed, Tables};
+use craq_full_history::FullHistory;
 use craq_history::{History, Node};
 use craq_names::Items;
-use craq_plain::PlainHistory;
 use craq_runs::{Explanation, Place, Taken};
 use std::alloc::{AllocError, Global};
 
@@ -55,9 +55,9 @@ impl Notes {
         alloc: Global,
         moves: &[Taken],
         replayed: &Replayed<'_>,
-        stands: Option<&Node<PlainHistory>>,
+        stands: Option<&Node<FullHistory>>,
     ) -> Result<(), AllocError>
-        ensures { (w : Account) (next : Chain) → IsNoted w self.old → length moves.now ≡ w.chain.moves + 1 → asks_from 1 moves.now ≡ w.asks ++ ask_in (w.chain.moves + 1) replayed.now.taken.now.step.ticket replayed.now.taken.now.chosen → replayed.now.word ≡ tail_word w replayed.now.taken.now.chosen → OnOk result (IsNoted (account_with w replayed.now.taken.now replayed.now.node next (plain_in ⟦<PlainHistory as History>⟧.past stands.entry) (plain_in ⟦<PlainHistory as History>⟧.past stands.entry)) self.new) }
+        ensures { (w : Account) (next : Chain) → IsNoted w self.old → length moves.now ≡ w.chain.moves + 1 → asks_from 1 moves.now ≡ w.asks ++ ask_in (w.chain.moves + 1) replayed.now.taken.now.step.ticket replayed.now.taken.now.chosen → replayed.now.word ≡ tail_word w replayed.now.taken.now.chosen → OnOk result (IsNoted (account_with w replayed.now.taken.now replayed.now.node next (plain_in ⟦<FullHistory as History>⟧.past stands.entry) (plain_in ⟦<FullHistory as History>⟧.past stands.entry)) self.new) }
     {
         self.tables
             .add(alloc, moves.len() as u64, replayed.taken, stands)?;
@@ -95,11 +95,11 @@ impl Notes {
 /// Returns the numbers of the requests that made the committed entries, 0 for an entry without a
 /// request.
 fn ask_numbers(alloc: Global, tables: &Tables) -> Result<Vec<u64>, AllocError>
-    ensures { (asks : List Asked) (due : List Place) (entries : List Entry) → AreTables asks due entries tables.now → IfOk result (λ numbers. numbers.items ≡ map (ask_number asks) entries) }
+    ensures { (asks : List Asked) (pending : List Place) (entries : List Entry) → AreTables asks pending entries tables.now → IfOk result (λ numbers. numbers.items ≡ map (ask_number asks) entries) }
 {
     let mut numbers = Vec::new(alloc);
     for (node, ticket) in tables.committed.origins() {
-        let number = number_of(&tables.asked, *node, *ticket);
+        let number = number_of_ask(&tables.asked, *node, *ticket);
         numbers.push(number.unwrap_or(0))?;
     }
     Ok(numbers)

@@ -11,13 +11,13 @@ ghost use Rattle.craq_explain.specs.Shown.{places_in, plain_in};
 ghost use Rattle.craq_explain.specs.Tables.{AreTables, IsCommitted};
 
 use crate::asks::ask_of;
-use crate::firsts::number_of;
+use crate::firsts::number_of_ask;
 use crate::tables::{Replayed, Tables};
 use craq_commands::ReadMode;
+use craq_full_history::FullHistory;
 use craq_history::{History, Node};
 use craq_model::{Ask, Body, LinkMessage, Out};
 use craq_names::{Key, Seq, Ticket, Version};
-use craq_plain::PlainHistory;
 use craq_runs::{Place, Taken};
 use std::alloc::{AllocError, Global};
 
@@ -51,8 +51,8 @@ pub(crate) fn word_in(
 
 /// Returns the clean version of a key, 0 if there is no node.
 #[tactic(auto, unfolding(craq_model::specs::Plain::clean))]
-fn clean_at(node: Option<&Node<PlainHistory>>, key: &Key) -> Version
-    ensures { result ≡ clean_at (plain_in ⟦<PlainHistory as History>⟧.past node.entry) key.now }
+fn clean_at(node: Option<&Node<FullHistory>>, key: &Key) -> Version
+    ensures { result ≡ clean_at (plain_in ⟦<FullHistory as History>⟧.past node.entry) key.now }
 {
     match node {
         None => Version::new(0),
@@ -66,36 +66,36 @@ fn read_place(
     alloc: Global,
     tables: &Tables,
     replayed: &Replayed<'_>,
-    stands: Option<&Node<PlainHistory>>,
+    stands: Option<&Node<FullHistory>>,
     key: &Key,
 ) -> Result<u64, AllocError>
-    ensures { (entries : List Entry) → IsCommitted entries tables.now.committed → IfOk result (λ position. position ≡ read_place entries (plain_in ⟦<PlainHistory as History>⟧.past stands.entry) replayed.now.word key.now) }
+    ensures { (entries : List Entry) → IsCommitted entries tables.now.committed → IfOk result (λ position. position ≡ read_place entries (plain_in ⟦<FullHistory as History>⟧.past stands.entry) replayed.now.word key.now) }
 {
-    let Some((told, sent)) = replayed.word else {
+    let Some((reported, sent)) = replayed.word else {
         return Ok(tables.committed.count());
     };
     let clean = clean_at(stands, key);
-    if clean <= told {
+    if clean <= reported {
         return Ok(sent);
     }
     tables.committed.written_at(alloc, key, clean)
 }
 
 /// Returns the linearization point of the reply to a request, if the reply is strong.
-#[tactic(auto, unfolding(craq_runs::specs::Explain::due_place, crate::specs::Tables::due_of))]
+#[tactic(auto, unfolding(craq_runs::specs::Explain::pending_place, crate::specs::Tables::pending_of))]
 fn place_by(
     alloc: Global,
     tables: &Tables,
     replayed: &Replayed<'_>,
-    stands: Option<&Node<PlainHistory>>,
+    stands: Option<&Node<FullHistory>>,
     ticket: Ticket,
     ask: &Ask,
 ) -> Result<Option<Place>, AllocError>
-    ensures { (number : ℕ) (answer : Answer) (asks : List Asked) (due : List Place) (entries : List Entry) → AreTables asks due entries tables.now → IfOk result (λ place. places_in place ≡ place_by due entries (plain_in ⟦<PlainHistory as History>⟧.past stands.entry) replayed.now.word (record { move = number; node = replayed.now.node; ticket = ticket; answer = answer }) ask.now) }
+    ensures { (number : ℕ) (answer : Answer) (asks : List Asked) (pending : List Place) (entries : List Entry) → AreTables asks pending entries tables.now → IfOk result (λ place. places_in place ≡ place_by pending entries (plain_in ⟦<FullHistory as History>⟧.past stands.entry) replayed.now.word (record { move = number; node = replayed.now.node; ticket = ticket; answer = answer }) ask.now) }
 {
     let node = replayed.node;
     let position = match ask {
-        Ask::Update(_) => number_of(&tables.due, node, ticket).unwrap_or(0),
+        Ask::Update(_) => number_of_ask(&tables.pending, node, ticket).unwrap_or(0),
         Ask::Read { mode, object } => match mode {
             ReadMode::Strong => read_place(alloc, tables, replayed, stands, &object.key)?,
             ReadMode::Eventual => return Ok(None),
@@ -116,10 +116,10 @@ fn place_in(
     tables: &Tables,
     moves: &[Taken],
     replayed: &Replayed<'_>,
-    stands: Option<&Node<PlainHistory>>,
+    stands: Option<&Node<FullHistory>>,
     out: &Out,
 ) -> Result<Option<Place>, AllocError>
-    ensures { (number : ℕ) (later : List Out) (due : List Place) (entries : List Entry) → AreTables (asks_from 1 moves.now) due entries tables.now → IfOk result (λ place. places_of (asks_from 1 moves.now) due entries (plain_in ⟦<PlainHistory as History>⟧.past stands.entry) replayed.now.word (answers_in number replayed.now.node (out.now ∷ later)) ≡ places_in place ++ places_of (asks_from 1 moves.now) due entries (plain_in ⟦<PlainHistory as History>⟧.past stands.entry) replayed.now.word (answers_in number replayed.now.node later)) }
+    ensures { (number : ℕ) (later : List Out) (pending : List Place) (entries : List Entry) → AreTables (asks_from 1 moves.now) pending entries tables.now → IfOk result (λ place. places_of (asks_from 1 moves.now) pending entries (plain_in ⟦<FullHistory as History>⟧.past stands.entry) replayed.now.word (answers_in number replayed.now.node (out.now ∷ later)) ≡ places_in place ++ places_of (asks_from 1 moves.now) pending entries (plain_in ⟦<FullHistory as History>⟧.past stands.entry) replayed.now.word (answers_in number replayed.now.node later)) }
 {
     let Out::Answer { ticket, .. } = out else {
         return Ok(None);
@@ -149,10 +149,10 @@ pub(crate) fn add_places(
     tables: &Tables,
     moves: &[Taken],
     replayed: &Replayed<'_>,
-    stands: Option<&Node<PlainHistory>>,
+    stands: Option<&Node<FullHistory>>,
     places: &mut Vec<Place>,
 ) -> Result<(), AllocError>
-    ensures { (number : ℕ) (due : List Place) (entries : List Entry) → AreTables (asks_from 1 moves.now) due entries tables.now → OnOk result (places.new.items ≡ places.old.items ++ places_of (asks_from 1 moves.now) due entries (plain_in ⟦<PlainHistory as History>⟧.past stands.entry) replayed.now.word (answers_in number replayed.now.node replayed.now.taken.now.step.outs)) }
+    ensures { (number : ℕ) (pending : List Place) (entries : List Entry) → AreTables (asks_from 1 moves.now) pending entries tables.now → OnOk result (places.new.items ≡ places.old.items ++ places_of (asks_from 1 moves.now) pending entries (plain_in ⟦<FullHistory as History>⟧.past stands.entry) replayed.now.word (answers_in number replayed.now.node replayed.now.taken.now.step.outs)) }
 {
     for out in replayed.taken.step.outs.as_slice() {
         let place = place_in(alloc, tables, moves, replayed, stands, out)?;

@@ -6,9 +6,9 @@ ghost use Rattle.craq_runs.specs.declared.explanation.Place.{Place};
 ghost use Rattle.craq_runs.specs.Seen.{Asked, ask_in, ask_with, asks_from};
 ghost use Rattle.craq_explain.specs.Firsts.{Tells, name_cmp};
 ghost use Rattle.craq_explain.specs.Shown.{asked_as, places_in};
-ghost use Rattle.craq_explain.specs.Tables.{asked_at, due_of};
+ghost use Rattle.craq_explain.specs.Tables.{asked_at, pending_of};
 
-use crate::firsts::{TicketNumbers, number_of, put_first};
+use crate::firsts::{TicketNumbers, number_of_ask, put_first};
 use craq_model::Ask;
 use craq_names::{NodeId, Ticket};
 use craq_runs::{Move, Place, Taken};
@@ -35,13 +35,16 @@ pub(crate) fn note_ask(
 }
 
 /// Notes the place of a pending reply, if there is one.
-pub(crate) fn note_due(due: &mut TicketNumbers, place: Option<Place>) -> Result<(), AllocError>
-    ensures { (places : List Place) → Tells name_cmp due.old (due_of places) → OnOk result (Tells name_cmp due.new (due_of (places ++ places_in place))) }
+pub(crate) fn note_pending(
+    pending: &mut TicketNumbers,
+    place: Option<Place>,
+) -> Result<(), AllocError>
+    ensures { (places : List Place) → Tells name_cmp pending.old (pending_of places) → OnOk result (Tells name_cmp pending.new (pending_of (places ++ places_in place))) }
 {
     match place {
         None => Ok(()),
         Some(place) => {
-            put_first(due, (place.node, place.ticket), place.position.get())?;
+            put_first(pending, (place.node, place.ticket), place.position.get())?;
             Ok(())
         }
     }
@@ -81,7 +84,7 @@ pub(crate) fn ask_of<'a>(
 ) -> Option<&'a Ask>
     ensures { Tells name_cmp asked.now (asked_at (asks_from 1 moves.now)) → option_copied result ≡ option_map (λ (a : Asked). a.ask) (ask_with (asks_from 1 moves.now) node ticket) }
 {
-    let number = number_of(asked, node, ticket)?;
+    let number = number_of_ask(asked, node, ticket)?;
     match move_at(moves, number) {
         None => None,
         Some(taken) => asked_in(taken, node, ticket),

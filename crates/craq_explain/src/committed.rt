@@ -11,10 +11,10 @@ ghost use Rattle.craq_explain.specs.Shown.{plain_in};
 
 use crate::firsts::put_first;
 use craq_commands::Entry;
+use craq_full_history::FullHistory;
 use craq_history::members::last_member;
 use craq_history::{History, Node};
 use craq_names::{Copied, Key, NodeId, Ticket, Version};
-use craq_plain::PlainHistory;
 use std::alloc::{AllocError, Global};
 use std::collections::BTreeMap;
 
@@ -30,8 +30,8 @@ pub(crate) struct Committed {
 }
 
 /// Returns true if a node is a tail: ready, and the last of the members that it knows.
-fn is_tail(node: &Node<PlainHistory>) -> bool
-    ensures { result ≡ is_tail (plain_of ⟦<PlainHistory as History>⟧.past node.now) }
+fn is_tail(node: &Node<FullHistory>) -> bool
+    ensures { result ≡ is_tail (plain_of ⟦<FullHistory as History>⟧.past node.now) }
 {
     node.ready && last_member(node.members.as_slice()) == node.name.node
 }
@@ -115,9 +115,9 @@ impl Committed {
     pub(crate) fn commit(
         &mut self,
         alloc: Global,
-        node: Option<&Node<PlainHistory>>,
+        node: Option<&Node<FullHistory>>,
     ) -> Result<(), AllocError>
-        ensures { (entries : List Entry) → IsCommitted entries self.old → OnOk result (IsCommitted (committed_by entries (plain_in ⟦<PlainHistory as History>⟧.past node.entry)) self.new) }
+        ensures { (entries : List Entry) → IsCommitted entries self.old → OnOk result (IsCommitted (committed_by entries (plain_in ⟦<FullHistory as History>⟧.past node.entry)) self.new) }
     {
         let Some(node) = node else {
             return Ok(());

@@ -28,7 +28,7 @@ pub(crate) fn put_first<K: Ord + Drop>(
 }
 
 /// Returns the number of a ticket of a node.
-pub(crate) fn number_of(numbers: &TicketNumbers, node: NodeId, ticket: Ticket) -> Option<u64>
+pub(crate) fn number_of_ask(numbers: &TicketNumbers, node: NodeId, ticket: Ticket) -> Option<u64>
     ensures { result ≡ get name_cmp numbers.now (node, ticket) }
 {
     numbers.get(&(node, ticket)).copied()

@@ -3,25 +3,25 @@
 ghost use Rattle.std.specs.Prelude.{◌≡◌, ◌++◌, OnOk, map};
 ghost use Rattle.craq_model.specs.declared.message.LinkMessage.{LinkMessage};
 ghost use Rattle.craq_runs.specs.Chain.{sent_in};
-ghost use Rattle.craq_runs.specs.Explain.{due_in};
+ghost use Rattle.craq_runs.specs.Explain.{pending_in};
 ghost use Rattle.craq_explain.specs.Shown.{places_in, plain_in};
 
+use craq_full_history::FullHistory;
 use craq_history::{History, Node};
 use craq_model::{Ask, Out};
 use craq_names::{Seq, Ticket};
-use craq_plain::PlainHistory;
 use craq_runs::{Move, Place};
 use std::alloc::AllocError;
 
 /// Returns the linearization point of the reply to a move's request, if that is an update and got a
 /// ticket: the larger of its client's newest position and the number committed before.
-pub(crate) fn due_in(
+pub(crate) fn pending_in(
     before: u64,
     ticket: Option<Ticket>,
-    node: Option<&Node<PlainHistory>>,
+    node: Option<&Node<FullHistory>>,
     chosen: &Move,
 ) -> Option<Place>
-    ensures { places_in result ≡ due_in before ticket (plain_in ⟦<PlainHistory as History>⟧.past node.entry) chosen.now }
+    ensures { places_in result ≡ pending_in before ticket (plain_in ⟦<FullHistory as History>⟧.past node.entry) chosen.now }
 {
     let Move::Ask { node: asked, ask } = chosen else {
         return None;

@@ -4,7 +4,7 @@ ghost use Rattle.craq_runs.specs.Chain.{chain_step, node_at};
 ghost use Rattle.craq_runs.specs.Runs.{IsRunOf, Takes};
 ghost use Rattle.craq_runs.specs.Explain.{Account, account_after, account_of, explain, opening_account, tail_word};
 ghost use Rattle.craq_runs.specs.Seen.{ask_in, asks_from};
-ghost use Rattle.craq_chain.specs.Chained.{after_taking, chain_of, opened, with_move};
+ghost use Rattle.craq_chain.specs.Chained.{after_taking, chain_of_run, opened_chain, with_move};
 ghost use Rattle.craq_explain.specs.Noted.{IsNoted};
 ghost use Rattle.craq_explain.specs.Shown.{as_running, plain_in};
 
@@ -12,17 +12,17 @@ use crate::account::Notes;
 use crate::answers::word_in;
 use crate::tables::Replayed;
 use craq_chain::ChainCore;
+use craq_full_history::FullHistory;
 use craq_history::{History, Node};
 use craq_names::{ChainId, Copied, NodeId, Version};
 use craq_node::NodeCore;
-use craq_plain::PlainHistory;
 use craq_runs::{Explanation, Move, Run, Taken};
 use std::alloc::{AllocError, Global};
 
 /// Replays a move of a run in a chain. Fails only when out of memory.
 fn take_again(
     alloc: Global,
-    core: &mut ChainCore<NodeCore<PlainHistory>>,
+    core: &mut ChainCore<NodeCore<FullHistory>>,
     chosen: &Move,
 ) -> Result<(), AllocError>
     ensures { OnOk result (after_taking core.old chosen.now ≡ Ok core.new) }
@@ -37,11 +37,11 @@ fn take_again(
 /// Returns the tail's report that a move delivers, with the number committed after the step that
 /// sent it.
 fn tail_word(
-    core: &ChainCore<NodeCore<PlainHistory>>,
+    core: &ChainCore<NodeCore<FullHistory>>,
     sent_at: &[u64],
     chosen: &Move,
 ) -> Option<(Version, u64)>
-    ensures { (w : Account) → w.chain ≡ chain_of core.now → w.sent_at ≡ sent_at.now → result ≡ tail_word w chosen.now }
+    ensures { (w : Account) → w.chain ≡ chain_of_run core.now → w.sent_at ≡ sent_at.now → result ≡ tail_word w chosen.now }
 {
     match chosen {
         Move::Deliver(number) => word_in(sent_at, core.message(*number), *number),
@@ -50,8 +50,8 @@ fn tail_word(
 }
 
 /// Returns the node of this id, if the chain ever had one.
-fn node_in(core: &ChainCore<NodeCore<PlainHistory>>, id: NodeId) -> Option<&Node<PlainHistory>>
-    ensures { plain_in ⟦<PlainHistory as History>⟧.past result ≡ as_running (node_at (chain_of core.now).nodes id) }
+fn node_in(core: &ChainCore<NodeCore<FullHistory>>, id: NodeId) -> Option<&Node<FullHistory>>
+    ensures { plain_in ⟦<FullHistory as History>⟧.past result ≡ as_running (node_at (chain_of_run core.now).nodes id) }
 {
     match core.core(id) {
         None => None,
@@ -65,8 +65,8 @@ fn opened_core(
     alloc: Global,
     chain: ChainId,
     members: &[NodeId],
-) -> Result<ChainCore<NodeCore<PlainHistory>>, AllocError>
-    ensures { IfOk result (λ w. w ≡ opened chain members.now) }
+) -> Result<ChainCore<NodeCore<FullHistory>>, AllocError>
+    ensures { IfOk result (λ w. w ≡ opened_chain chain members.now) }
 {
     match ChainCore::open(alloc, chain, members) {
         Ok(core) => Ok(core),
@@ -77,12 +77,12 @@ fn opened_core(
 /// Replays the last of these moves in the chain to which the run leads, and notes it.
 fn replay_move(
     alloc: Global,
-    core: &mut ChainCore<NodeCore<PlainHistory>>,
+    core: &mut ChainCore<NodeCore<FullHistory>>,
     notes: &mut Notes,
     moves: &[Taken],
     taken: &Taken,
 ) -> Result<(), AllocError>
-    ensures { (w : Account) → IsNoted w notes.old → w.chain ≡ chain_of core.old → length moves.now ≡ w.chain.moves + 1 → asks_from 1 moves.now ≡ w.asks ++ ask_in (w.chain.moves + 1) taken.now.step.ticket taken.now.chosen → Takes (chain_step (chain_of core.old) taken.now.chosen) taken.now.step → OnOk result (IsNoted (account_after w taken.now) notes.new × (core.new ≡ with_move core.old taken.now)) }
+    ensures { (w : Account) → IsNoted w notes.old → w.chain ≡ chain_of_run core.old → length moves.now ≡ w.chain.moves + 1 → asks_from 1 moves.now ≡ w.asks ++ ask_in (w.chain.moves + 1) taken.now.step.ticket taken.now.chosen → Takes (chain_step (chain_of_run core.old) taken.now.chosen) taken.now.step → OnOk result (IsNoted (account_after w taken.now) notes.new × (core.new ≡ with_move core.old taken.now)) }
 {
     let node = core.mover(&taken.chosen);
     let word = tail_word(core, notes.sent_at(), &taken.chosen);

@@ -2,17 +2,17 @@
 ghost use Rattle.std.specs.Prelude.{◌≡◌, ◌++◌, [], List, OnOk, length};
 ghost use Rattle.craq_commands.specs.declared.entry.Entry.{Entry};
 ghost use Rattle.craq_runs.specs.declared.explanation.Place.{Place};
-ghost use Rattle.craq_runs.specs.Explain.{committed_by, due_in};
+ghost use Rattle.craq_runs.specs.Explain.{committed_by, pending_in};
 ghost use Rattle.craq_runs.specs.Seen.{Asked, ask_in};
 ghost use Rattle.craq_explain.specs.Shown.{plain_in};
 
-use crate::asks::{note_ask, note_due};
+use crate::asks::{note_ask, note_pending};
 use crate::committed::Committed;
 use crate::firsts::TicketNumbers;
-use crate::notes::due_in;
+use crate::notes::pending_in;
+use craq_full_history::FullHistory;
 use craq_history::{History, Node};
 use craq_names::{NodeId, Version};
-use craq_plain::PlainHistory;
 use craq_runs::Taken;
 use std::alloc::{AllocError, Global};
 use std::collections::BTreeMap;
@@ -32,7 +32,7 @@ pub(crate) struct Replayed<'a> {
 #[derive(Drop)]
 pub(crate) struct Tables {
     pub asked: TicketNumbers,
-    pub due: TicketNumbers,
+    pub pending: TicketNumbers,
     pub committed: Committed,
 }
 
@@ -45,7 +45,7 @@ impl Tables {
     {
         Tables {
             asked: BTreeMap::new(alloc),
-            due: BTreeMap::new(alloc),
+            pending: BTreeMap::new(alloc),
             committed: Committed::new(alloc),
         }
     }
@@ -56,14 +56,14 @@ impl Tables {
         alloc: Global,
         number: u64,
         taken: &Taken,
-        stands: Option<&Node<PlainHistory>>,
+        stands: Option<&Node<FullHistory>>,
     ) -> Result<(), AllocError>
-        ensures { (asks : List Asked) (due : List Place) (entries : List Entry) → AreTables asks due entries self.old → OnOk result (AreTables (asks ++ ask_in number taken.now.step.ticket taken.now.chosen) (due ++ due_in (length entries) taken.now.step.ticket (plain_in ⟦<PlainHistory as History>⟧.past stands.entry) taken.now.chosen) (committed_by entries (plain_in ⟦<PlainHistory as History>⟧.past stands.entry)) self.new) }
+        ensures { (asks : List Asked) (pending : List Place) (entries : List Entry) → AreTables asks pending entries self.old → OnOk result (AreTables (asks ++ ask_in number taken.now.step.ticket taken.now.chosen) (pending ++ pending_in (length entries) taken.now.step.ticket (plain_in ⟦<FullHistory as History>⟧.past stands.entry) taken.now.chosen) (committed_by entries (plain_in ⟦<FullHistory as History>⟧.past stands.entry)) self.new) }
     {
         let count = self.committed.count();
-        let due = due_in(count, taken.step.ticket, stands, &taken.chosen);
+        let pending = pending_in(count, taken.step.ticket, stands, &taken.chosen);
         note_ask(&mut self.asked, number, taken)?;
-        note_due(&mut self.due, due)?;
+        note_pending(&mut self.pending, pending)?;
         self.committed.commit(alloc, stands)
     }
 }

@@ -4,21 +4,21 @@ use Rattle.std.specs.Int.{w32, from_be_bytes}
 use Rattle.std.specs.Io.{StartsWith}
 use Rattle.std.proofs.lemmas.Bool.{cases_lt}
 use Rattle.std.proofs.lemmas.List.{take_at, drop_at, take-take}
-use Rattle.craq_codec.specs.NumberSpelling.{number}
+use Rattle.craq_codec.specs.NumberEncoding.{number}
 use Rattle.craq_codec.specs.NumberReading.{number_at, Fails}
-use Rattle.craq_codec.specs.declared.unread.Unread.{Unread}
-use Rattle.craq_codec.specs.declared.unread.Unread.TheVariants as unread
+use Rattle.craq_codec.specs.declared.decode_error.DecodeError.{DecodeError}
+use Rattle.craq_codec.specs.declared.decode_error.DecodeError.TheVariants as unread
 use Rattle.craq_codec.proofs.NumberExact.{IsBytes, wide32, u32_exact}
 use Rattle.craq_frames.specs.Frame.{frame, payload_limit, BeginsTooLong, IsPartial}
 
 -- ---- reading
 
-none_read : {Y : Type 0} (e : Unread) (read : Option Y) → Fails e read → (e ≡ unread.Memory → ⊥) → read ≡ None
+none_read : {Y : Type 0} (e : DecodeError) (read : Option Y) → Fails e read → (e ≡ unread.Memory → ⊥) → read ≡ None
 none_read unread.Memory read h free = absurd (free refl)
 none_read unread.BadFrame read h free = h
 
 -- no length is at the front
-pub no_length : (bytes : List ℕ) (e : Unread) → Fails e (number_at w32 bytes) → (e ≡ unread.Memory → ⊥) → IsPartial bytes
+pub no_length : (bytes : List ℕ) (e : DecodeError) → Fails e (number_at w32 bytes) → (e ≡ unread.Memory → ⊥) → IsPartial bytes
 unfolding number_at
 no_length bytes e h free = elim (cases_lt (length bytes) 4) [
   | inl short ↦ inl short

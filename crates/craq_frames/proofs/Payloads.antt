@@ -6,15 +6,15 @@ use Rattle.std.proofs.lemmas.Bool.{eqb-true, leb-true}
 use Rattle.std.proofs.lemmas.List.{append-nil, nil_from_length}
 use Rattle.std.proofs.lemmas.Str.{IsUtf8-from_is_utf8, is_utf8-from_IsUtf8}
 use Rattle.craq_names.specs.Limits.{greatest_count}
-use Rattle.craq_names.specs.Refused.{number_of, detail_of}
+use Rattle.craq_names.specs.Refused.{refusal_number, detail_of}
 use Rattle.craq_names.specs.declared.refusal.Refusal.{Refusal}
 use Rattle.craq_names.specs.declared.refusal.Refusal.TheVariants as refusals
 use Rattle.craq_commands.specs.declared.command.Update.{Update}
 use Rattle.craq_commands.specs.declared.read_mode.ReadMode.{ReadMode}
 use Rattle.craq_commands.specs.declared.read_mode.ReadMode.TheVariants.{Strong, Eventual, Bounded}
-use Rattle.craq_codec.specs.NumberSpelling.{number}
-use Rattle.craq_codec.specs.PartSpelling.{value, object, pair, IsValue, IsObject, IsPair}
-use Rattle.craq_codec.specs.EntrySpelling.{reply, ReplyFits}
+use Rattle.craq_codec.specs.NumberEncoding.{number}
+use Rattle.craq_codec.specs.PartEncoding.{value, object, pair, IsValue, IsObject, IsPair}
+use Rattle.craq_codec.specs.EntryEncoding.{reply, ReplyFits}
 use Rattle.craq_codec.specs.NumberReading.{◌>>=◌, number_at, bytes_at}
 use Rattle.craq_codec.specs.PartReading.{value_at, object_at, pair_at}
 use Rattle.craq_codec.specs.EntryReading.{reply_at}
@@ -27,8 +27,8 @@ use Rattle.craq_frames.specs.declared.ask.ClientMessage.{ClientMessage}
 use Rattle.craq_frames.specs.declared.ask.ClientMessage.TheVariants as asks
 use Rattle.craq_frames.specs.declared.answer.ClientReply.{ClientReply}
 use Rattle.craq_frames.specs.declared.answer.ClientReply.TheVariants as answers
-use Rattle.craq_frames.specs.Payload.{payload_version, mode_tag, mode_body, mode, ModeFits, update, UpdateFits, ask_kind, ask_body, AskFits, ask, ask_spelling, SpellsAsk, refusal, RefusalFits, text, IsText, answer_kind, answer_body, AnswerFits, IsAnswer, answer, answer_spelling, SpellsAnswer}
-use Rattle.craq_frames.specs.Reading.{mode_body_at, mode_at, update_of, update_at, asked_update, asked_read, ask_body_at, bare_refusal, refusal_named, refusal_at, text_at, answered_update, answered_read, answer_body_at, whole, payload_at}
+use Rattle.craq_frames.specs.Payload.{payload_version, mode_tag, mode_body, mode, ModeFits, update, UpdateFits, ask_kind, ask_body, AskFits, ask, ask_encoding, EncodesAsk, refusal, RefusalFits, text, IsText, answer_kind, answer_body, AnswerFits, IsAnswer, answer, answer_encoding, EncodesAnswer}
+use Rattle.craq_frames.specs.Reading.{mode_body_at, mode_at, update_in_bytes, update_at, asked_update, asked_read, ask_body_at, bare_refusal, refusal_named, refusal_at, text_at, answered_update, answered_read, answer_body_at, whole, payload_at}
 use Rattle.craq_frames.specs.Tests.{is_answer}
 use Rattle.craq_frames.proofs.Tests.{decides_answer}
 
@@ -62,7 +62,7 @@ mode_exact = tagged_exact mode_tag mode_body ModeFits mode_body_at (record { sma
 update_exact : IsExact update UpdateFits update_at
 unfolding update update_at
 update_exact =
-    mapped_exact _ _ _ (pair_exact _ _ _ u64_exact _ _ _ (pair_exact _ _ _ request_exact _ _ _ command_exact)) update_of (λ (u : Update). (u.client, (u.number, u.command))) update UpdateFits
+    mapped_exact _ _ _ (pair_exact _ _ _ u64_exact _ _ _ (pair_exact _ _ _ request_exact _ _ _ command_exact)) update_in_bytes (λ (u : Update). (u.client, (u.number, u.command))) update UpdateFits
     (λ a q. record { client = q.0; number = q.1.0; command = q.1.1 }) (λ u q. (q.client, (q.number, q.command))) (λ u. refl) (λ a. refl)
 
 abbrev Asked : Type 0
@@ -106,10 +106,10 @@ passed false r y e = absurd cc
 
 -- the number and the detail of a refusal, which fits its widths
 abbrev IsNamed : Refusal → ℕ → ℕ → Type 0
-IsNamed r n d = (number_of r ≡ n) × (detail_of r ≡ d) × RefusalFits r
+IsNamed r n d = (refusal_number r ≡ n) × (detail_of r ≡ d) × RefusalFits r
 
-one_named : (s r : Refusal) → IsNamed s (number_of s) 0 → Some s ≡ Some r → IsNamed r (number_of s) 0
-one_named s r h e = subst (λ (t : Refusal). IsNamed t (number_of s) 0) (some_is s r e) h
+one_named : (s r : Refusal) → IsNamed s (refusal_number s) 0 → Some s ≡ Some r → IsNamed r (refusal_number s) 0
+one_named s r h e = subst (λ (t : Refusal). IsNamed t (refusal_number s) 0) (some_is s r e) h
 
 bare_named : (n : ℕ) (r : Refusal) → bare_refusal n ≡ Some r → IsNamed r n 0
 unfolding bare_refusal
@@ -156,12 +156,12 @@ named n d r lt e =
     let p = passed (eqb d 0) (bare_refusal n) r e in
     subst (λ (k : ℕ). IsNamed r n k) (sym (eqb-true d 0 p.0)) (bare_named n r p.1)))
 
-named_again : (r : Refusal) → RefusalFits r → refusal_named (number_of r) (detail_of r) ≡ Some r
+named_again : (r : Refusal) → RefusalFits r → refusal_named (refusal_number r) (detail_of r) ≡ Some r
 unfolding refusal_named bare_refusal
 named_again (refusals.NotHead head) h = rw (le-leb head greatest_count (omega (arith, h))) refl
 named_again _ h = refl
 
-number_small : (r : Refusal) → number_of r < 2 ^ 8
+number_small : (r : Refusal) → refusal_number r < 2 ^ 8
 number_small (refusals.NotHead head) = omega arith
 number_small _ = omega arith
 
@@ -179,14 +179,14 @@ refusal_takes bytes x h e =
     let s = step _ _ _ numbers_exact bytes (λ y. refusal_named y.0.0 y.0.1 >>= λ r. Some (r, y.1)) x h e in
     let m = bind_some (refusal_named s.0.0.0 s.0.0.1) (λ r. Some (r, s.0.1)) x s.3 in
     let n = named s.0.0.0 s.0.0.1 m.0 s.2.1 m.1 in
-    let told : Takes bytes (number w8 s.0.0.0 ++ number w64 s.0.0.1) s.0.1 = s.1 in
-    let numbered : Takes bytes (number w8 (number_of m.0) ++ number w64 s.0.0.1) s.0.1 = subst (λ (k : ℕ). Takes bytes (number w8 k ++ number w64 s.0.0.1) s.0.1) (sym n.0) told in
-    let both : Takes bytes (refusal m.0) s.0.1 = subst (λ (d : ℕ). Takes bytes (number w8 (number_of m.0) ++ number w64 d) s.0.1) (sym n.1) numbered in
+    let reported : Takes bytes (number w8 s.0.0.0 ++ number w64 s.0.0.1) s.0.1 = s.1 in
+    let numbered : Takes bytes (number w8 (refusal_number m.0) ++ number w64 s.0.0.1) s.0.1 = subst (λ (k : ℕ). Takes bytes (number w8 k ++ number w64 s.0.0.1) s.0.1) (sym n.0) reported in
+    let both : Takes bytes (refusal m.0) s.0.1 = subst (λ (d : ℕ). Takes bytes (number w8 (refusal_number m.0) ++ number w64 d) s.0.1) (sym n.1) numbered in
     subst (λ (y : Refusal × List ℕ). Takes bytes (refusal y.0) y.1 × RefusalFits y.0) (some_is (m.0, s.0.1) x m.2) (both, n.2)
 
 refusal_again : (r : Refusal) (rest : List ℕ) → RefusalFits r → refusal_at (refusal r ++ rest) ≡ Some (r, rest)
 unfolding refusal_at
-refusal_again r rest h = rw (numbers_exact.again (number_of r, detail_of r) rest (number_small r, detail_small r h), named_again r h) refl
+refusal_again r rest h = rw (numbers_exact.again (refusal_number r, detail_of r) rest (number_small r, detail_small r h), named_again r h) refl
 
 refusal_exact : IsExact refusal RefusalFits refusal_at
 refusal_exact = record { takes = refusal_takes; again = refusal_again }
@@ -279,37 +279,37 @@ module _ {X : Type 0} (kind_of : X → ℕ) (body : X → List ℕ) (fits : X �
 
 -- ---- the contract of `decode`
 
-ask_is_read : (bytes : List ℕ) (m : ClientMessage) → SpellsAsk m bytes → payload_at ask_body_at bytes ≡ Some m
-unfolding ask_spelling ask
-ask_is_read bytes m s = ap (payload_at ask_body_at) s.spelling ∙ payload_again ask_kind ask_body AskFits ask_body_at ask_tagged m s.fits
+ask_is_read : (bytes : List ℕ) (m : ClientMessage) → EncodesAsk m bytes → payload_at ask_body_at bytes ≡ Some m
+unfolding ask_encoding ask
+ask_is_read bytes m s = ap (payload_at ask_body_at) s.encoding ∙ payload_again ask_kind ask_body AskFits ask_body_at ask_tagged m s.fits
 
-pub ask_found : (bytes : List ℕ) (m : ClientMessage) → IsBytes bytes → payload_at ask_body_at bytes ≡ Some m → SpellsAsk m bytes
-unfolding ask_spelling ask
-ask_found bytes m h e = let t = payload_takes ask_kind ask_body AskFits ask_body_at ask_tagged bytes m h e in record { fits = t.0; spelling = t.1 }
+pub ask_found : (bytes : List ℕ) (m : ClientMessage) → IsBytes bytes → payload_at ask_body_at bytes ≡ Some m → EncodesAsk m bytes
+unfolding ask_encoding ask
+ask_found bytes m h e = let t = payload_takes ask_kind ask_body AskFits ask_body_at ask_tagged bytes m h e in record { fits = t.0; encoding = t.1 }
 
-pub ask_only : (bytes : List ℕ) (m other : ClientMessage) → payload_at ask_body_at bytes ≡ Some m → SpellsAsk other bytes → other ≡ m
+pub ask_only : (bytes : List ℕ) (m other : ClientMessage) → payload_at ask_body_at bytes ≡ Some m → EncodesAsk other bytes → other ≡ m
 ask_only bytes m other e s = some_is other m (sym (ask_is_read bytes other s) ∙ e)
 
-pub no_ask : (bytes : List ℕ) (m : ClientMessage) → payload_at ask_body_at bytes ≡ None → SpellsAsk m bytes → ⊥
+pub no_ask : (bytes : List ℕ) (m : ClientMessage) → payload_at ask_body_at bytes ≡ None → EncodesAsk m bytes → ⊥
 no_ask bytes m e s = let one = sym (ask_is_read bytes m s) ∙ e in cc
 
-answer_is_read : (bytes : List ℕ) (m : ClientReply) → SpellsAnswer m bytes → payload_at answer_body_at bytes ≡ Some m
-unfolding answer_spelling answer
-answer_is_read bytes m s = ap (payload_at answer_body_at) s.spelling ∙ payload_again answer_kind answer_body AnswerFits answer_body_at answer_tagged m s.fits
+answer_is_read : (bytes : List ℕ) (m : ClientReply) → EncodesAnswer m bytes → payload_at answer_body_at bytes ≡ Some m
+unfolding answer_encoding answer
+answer_is_read bytes m s = ap (payload_at answer_body_at) s.encoding ∙ payload_again answer_kind answer_body AnswerFits answer_body_at answer_tagged m s.fits
 
-pub answer_found : (bytes : List ℕ) (m : ClientReply) → IsBytes bytes → payload_at answer_body_at bytes ≡ Some m → is_answer m ≡ true → SpellsAnswer m bytes
-unfolding answer_spelling answer
+pub answer_found : (bytes : List ℕ) (m : ClientReply) → IsBytes bytes → payload_at answer_body_at bytes ≡ Some m → is_answer m ≡ true → EncodesAnswer m bytes
+unfolding answer_encoding answer
 answer_found bytes m h e r =
     let t = payload_takes answer_kind answer_body AnswerFits answer_body_at answer_tagged bytes m h e in
-    record { fits = t.0; rules = (decides_answer m).0 r; spelling = t.1 }
+    record { fits = t.0; rules = (decides_answer m).0 r; encoding = t.1 }
 
-pub answer_only : (bytes : List ℕ) (m other : ClientReply) → payload_at answer_body_at bytes ≡ Some m → SpellsAnswer other bytes → other ≡ m
+pub answer_only : (bytes : List ℕ) (m other : ClientReply) → payload_at answer_body_at bytes ≡ Some m → EncodesAnswer other bytes → other ≡ m
 answer_only bytes m other e s = some_is other m (sym (answer_is_read bytes other s) ∙ e)
 
-pub no_answer : (bytes : List ℕ) (m : ClientReply) → payload_at answer_body_at bytes ≡ None → SpellsAnswer m bytes → ⊥
+pub no_answer : (bytes : List ℕ) (m : ClientReply) → payload_at answer_body_at bytes ≡ None → EncodesAnswer m bytes → ⊥
 no_answer bytes m e s = let one = sym (answer_is_read bytes m s) ∙ e in cc
 
-pub rules_broken : (bytes : List ℕ) (n m : ClientReply) → payload_at answer_body_at bytes ≡ Some n → is_answer n ≡ false → SpellsAnswer m bytes → ⊥
+pub rules_broken : (bytes : List ℕ) (n m : ClientReply) → payload_at answer_body_at bytes ≡ Some n → is_answer n ≡ false → EncodesAnswer m bytes → ⊥
 rules_broken bytes n m e t s =
     let same = answer_only bytes n m e s in
     let kept : is_answer n ≡ true = (decides_answer n).1 (subst IsAnswer same s.rules) in

@@ -2,17 +2,17 @@
 use Rattle.std.specs.Prelude.{◌≡◌, ◌<◌, ◌≤◌, ◌^◌, ⊤, ℕ, List, [], ◌++◌, length}
 use Rattle.std.specs.Int.{w8, w32, w64}
 use Rattle.std.specs.Str.{IsUtf8}
-use Rattle.craq_names.specs.Refused.{number_of, detail_of}
+use Rattle.craq_names.specs.Refused.{refusal_number, detail_of}
 use Rattle.craq_names.specs.declared.refusal.Refusal.{Refusal}
 use Rattle.craq_names.specs.declared.refusal.Refusal.TheVariants.{NotHead, BadScript}
 use Rattle.craq_commands.specs.declared.command.Update.{Update}
 use Rattle.craq_commands.specs.declared.read_mode.ReadMode.{ReadMode}
 use Rattle.craq_commands.specs.declared.read_mode.ReadMode.TheVariants.{Strong, Eventual, Bounded}
-use Rattle.craq_model.specs.Spelled.{IsReply}
-use Rattle.craq_codec.specs.NumberSpelling.{number}
-use Rattle.craq_codec.specs.PartSpelling.{value, object, IsValue, IsObject}
-use Rattle.craq_codec.specs.EntrySpelling.{reply, ReplyFits}
-use Rattle.craq_codec.specs.CommandSpelling.{command, CommandFits}
+use Rattle.craq_model.specs.Encodable.{IsReply}
+use Rattle.craq_codec.specs.NumberEncoding.{number}
+use Rattle.craq_codec.specs.PartEncoding.{value, object, IsValue, IsObject}
+use Rattle.craq_codec.specs.EntryEncoding.{reply, ReplyFits}
+use Rattle.craq_codec.specs.CommandEncoding.{command, CommandFits}
 use Rattle.craq_frames.specs.declared.ask.ClientMessage.{ClientMessage}
 use Rattle.craq_frames.specs.declared.ask.ClientMessage.TheVariants as asks
 use Rattle.craq_frames.specs.declared.answer.ClientReply.{ClientReply}
@@ -79,19 +79,19 @@ unfoldable pub ask : ClientMessage → List ℕ
 ask m = number w8 (ask_kind m) ++ ask_body m
 
 -- a payload of version 1: the version, and a request
-unfoldable pub ask_spelling : ClientMessage → List ℕ
-ask_spelling m = number w8 payload_version ++ ask m
+unfoldable pub ask_encoding : ClientMessage → List ℕ
+ask_encoding m = number w8 payload_version ++ ask m
 
 -- the bytes are the payload of the request, of version 1
-pub record SpellsAsk (m : ClientMessage) (bytes : List ℕ) : Type 0 where
+pub record EncodesAsk (m : ClientMessage) (bytes : List ℕ) : Type 0 where
   pub fits : AskFits m
-  pub spelling : bytes ≡ ask_spelling m
+  pub encoding : bytes ≡ ask_encoding m
 
 -- ---- payloads of servers: a kind, and what follows it
 
 -- the refusal's number, and its detail
 abbrev pub refusal : Refusal → List ℕ
-refusal r = number w8 (number_of r) ++ number w64 (detail_of r)
+refusal r = number w8 (refusal_number r) ++ number w64 (detail_of r)
 
 -- a refusal's detail fits its width: 32 bits for a head, 64 for a line
 abbrev pub RefusalFits : Refusal → Type 0
@@ -147,11 +147,11 @@ unfoldable pub answer : ClientReply → List ℕ
 answer m = number w8 (answer_kind m) ++ answer_body m
 
 -- a payload of version 1: the version, and a reply
-unfoldable pub answer_spelling : ClientReply → List ℕ
-answer_spelling m = number w8 payload_version ++ answer m
+unfoldable pub answer_encoding : ClientReply → List ℕ
+answer_encoding m = number w8 payload_version ++ answer m
 
 -- the bytes are the payload of the reply, of version 1
-pub record SpellsAnswer (m : ClientReply) (bytes : List ℕ) : Type 0 where
+pub record EncodesAnswer (m : ClientReply) (bytes : List ℕ) : Type 0 where
   pub fits : AnswerFits m
   pub rules : IsAnswer m
-  pub spelling : bytes ≡ answer_spelling m
+  pub encoding : bytes ≡ answer_encoding m

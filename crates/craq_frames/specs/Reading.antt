@@ -43,12 +43,12 @@ mode_at bytes = do
   mode_body_at tag.0 tag.1
 
 -- the update with these fields
-abbrev pub update_of : ℕ × (ℕ × Command) → Update
-update_of x = record { client = x.0; number = x.1.0; command = x.1.1 }
+abbrev pub update_in_bytes : ℕ × (ℕ × Command) → Update
+update_in_bytes x = record { client = x.0; number = x.1.0; command = x.1.1 }
 
 -- a client, a number and a command
 unfoldable pub update_at : List ℕ → Option (Update × List ℕ)
-update_at bytes = mapped update_of (pair_at (number_at w64) (pair_at request_at command_at) bytes)
+update_at bytes = mapped update_in_bytes (pair_at (number_at w64) (pair_at request_at command_at) bytes)
 
 -- the request of an update, with these fields
 abbrev pub asked_update : ℕ × (ℕ × Update) → ClientMessage

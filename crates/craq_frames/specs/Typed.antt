@@ -2,7 +2,7 @@
 -- that its type allows, texts are UTF-8, and lists and texts have any length.
 use Rattle.std.specs.Prelude.{◌<◌, ◌^◌}
 use Rattle.std.specs.Str.{IsUtf8}
-use Rattle.craq_codec.specs.PartSpelling.{IsValue}
+use Rattle.craq_codec.specs.PartEncoding.{IsValue}
 use Rattle.craq_codec.specs.Typed.{IsTypedReply}
 use Rattle.craq_frames.specs.Payload.{RefusalFits}
 use Rattle.craq_frames.specs.declared.answer.ClientReply.{ClientReply}

@@ -3,8 +3,8 @@
 use Rattle.std.specs.Prelude.{◌≡◌, ◌≤◌, ⊤, ℕ, List, ◌++◌, length}
 use Rattle.std.specs.List.{AllByRecursion}
 use Rattle.std.specs.Int.{w8}
-use Rattle.craq_codec.specs.NumberSpelling.{number}
-use Rattle.craq_codec.specs.PartSpelling.{counted}
+use Rattle.craq_codec.specs.NumberEncoding.{number}
+use Rattle.craq_codec.specs.PartEncoding.{counted}
 use Rattle.craq_frames.specs.Payload.{ask, AskFits, answer, AnswerFits, IsAnswer}
 use Rattle.craq_frames.specs.declared.versions.PayloadVersion.{PayloadVersion}
 use Rattle.craq_frames.specs.declared.versions.PayloadVersion.TheVariants.{First, Second}
@@ -39,9 +39,9 @@ pub record AreFew {A : Type 0} (P : A → Type 0) (xs : List A) : Type 0 where
 -- ---- payloads of clients
 
 -- a version and one request, or version 2 and several requests after their count
-unfoldable pub payload_spelling : Payload → List ℕ
-payload_spelling (payloads.One version m) = number w8 (version_number version) ++ ask m
-payload_spelling (payloads.Many ms) = number w8 2 ++ (number w8 many_asks ++ counted w8 ask ms)
+unfoldable pub payload_encoding : Payload → List ℕ
+payload_encoding (payloads.One version m) = number w8 (version_number version) ++ ask m
+payload_encoding (payloads.Many ms) = number w8 2 ++ (number w8 many_asks ++ counted w8 ask ms)
 
 -- each request of the payload fits its widths, and several are from 1 to 8
 abbrev pub PayloadFits : Payload → Type 0
@@ -49,9 +49,9 @@ PayloadFits (payloads.One version m) = AskFits m
 PayloadFits (payloads.Many ms) = AreFew AskFits ms
 
 -- the bytes are those of the payload
-pub record SpellsPayload (p : Payload) (bytes : List ℕ) : Type 0 where
+pub record EncodesPayload (p : Payload) (bytes : List ℕ) : Type 0 where
   pub fits : PayloadFits p
-  pub spelling : bytes ≡ payload_spelling p
+  pub encoding : bytes ≡ payload_encoding p
 
 -- several requests are from 1 to 8
 abbrev pub IsPayload : Payload → Type 0
@@ -61,9 +61,9 @@ IsPayload (payloads.Many ms) = (1 ≤ length ms) × (length ms ≤ many_limit)
 -- ---- payloads of servers
 
 -- a version and one reply, or version 2 and several replies after their count
-unfoldable pub answered_spelling : Answered → List ℕ
-answered_spelling (replies.One version m) = number w8 (version_number version) ++ answer m
-answered_spelling (replies.Many ms) = number w8 2 ++ (number w8 many_answers ++ counted w8 answer ms)
+unfoldable pub answered_encoding : Answered → List ℕ
+answered_encoding (replies.One version m) = number w8 (version_number version) ++ answer m
+answered_encoding (replies.Many ms) = number w8 2 ++ (number w8 many_answers ++ counted w8 answer ms)
 
 -- each reply of the payload fits its widths, and several are from 1 to 8
 abbrev pub AnsweredFits : Answered → Type 0
@@ -76,7 +76,7 @@ IsAnswered (replies.One version m) = IsAnswer m
 IsAnswered (replies.Many ms) = AreFew IsAnswer ms
 
 -- the bytes are those of the replies
-pub record SpellsAnswered (p : Answered) (bytes : List ℕ) : Type 0 where
+pub record EncodesAnswered (p : Answered) (bytes : List ℕ) : Type 0 where
   pub fits : AnsweredFits p
   pub rules : IsAnswered p
-  pub spelling : bytes ≡ answered_spelling p
+  pub encoding : bytes ≡ answered_encoding p

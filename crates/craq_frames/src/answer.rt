@@ -3,17 +3,18 @@
 ghost use Rattle.std.specs.Prelude.{◌≡◌, ◌<◌, ◌^◌, ◌++◌, length, OnOk, OnErr};
 ghost use Rattle.std.specs.Io.{StartsWith};
 ghost use Rattle.craq_names.specs.Refused.{detail_of};
-ghost use Rattle.craq_codec.specs.NumberReading.{Gives};
+ghost use Rattle.craq_codec.specs.NumberReading.{Decodes};
 ghost use Rattle.craq_codec.specs.PartReading.{mapped};
 ghost use Rattle.craq_frames.specs.declared.answer.ClientReply.TheVariants as answers;
-ghost use Rattle.craq_frames.specs.Payload.{refusal as spelled_refusal, text as spelled_text, answer as spelled_answer, AnswerFits, RefusalFits, IsAnswer, IsText};
+ghost use Rattle.craq_frames.specs.Payload.{refusal as encodable_refusal, text as encodable_text, answer as encodable_answer, AnswerFits, RefusalFits, IsAnswer, IsText};
 ghost use Rattle.craq_frames.specs.Reading.{bare_refusal, refusal_named, refusal_at, text_at, answer_at, answer_body_at};
 ghost use Rattle.craq_frames.specs.Tests.{names_node, is_answer};
 
 use crate::Text;
 use bytes::{BufMut, BytesMut};
 use craq_codec::{
-    Part, Unread, is_spelled_reply, read_u8, read_u32, read_u64, write_u8, write_u32, write_u64,
+    DecodeError, MessagePart, is_encodable_reply, read_u8, read_u32, read_u64, write_u8, write_u32,
+    write_u64,
 };
 use craq_commands::Reply;
 use craq_names::{NodeId, Pass, Refusal, Stamp, Value, Version};
@@ -98,31 +99,31 @@ fn named_refusal(number: u8, detail: u64) -> Option<Refusal>
 
 /// Reads the refusal at the front; returns it with the bytes after it.
 #[tactic(auto, unfolding(crate::specs::Reading::refusal_at, craq_codec::specs::PartReading::pair_at))]
-fn read_refused(bytes: &[u8]) -> Result<(ClientReply, &[u8]), Unread>
-    ensures { Gives (λ x. (x.0, x.1.now)) result (mapped answers.Refused (refusal_at bytes.now)) }
+fn read_refused(bytes: &[u8]) -> Result<(ClientReply, &[u8]), DecodeError>
+    ensures { Decodes (λ x. (x.0, x.1.now)) result (mapped answers.Refused (refusal_at bytes.now)) }
 {
     let (number, rest) = read_u8(bytes)?;
     let (detail, rest) = read_u64(rest)?;
     match named_refusal(number, detail) {
         Some(refusal) => Ok((ClientReply::Refused(refusal), rest)),
-        None => Err(Unread::BadFrame),
+        None => Err(DecodeError::BadFrame),
     }
 }
 
 /// Reads the text at the front; returns it with the bytes after it.
 #[tactic(auto, using(crate::proofs::Utf8::test_of_text, crate::proofs::Utf8::test_of_no_text), unfolding(crate::specs::Reading::text_at, craq_codec::specs::NumberReading::bytes_at))]
-fn read_text(alloc: Global, bytes: &[u8]) -> Result<(Text, &[u8]), Unread>
-    ensures { Gives (λ x. (x.0, x.1.now)) result (text_at bytes.now) }
+fn read_text(alloc: Global, bytes: &[u8]) -> Result<(Text, &[u8]), DecodeError>
+    ensures { Decodes (λ x. (x.0, x.1.now)) result (text_at bytes.now) }
 {
     let (len, rest) = read_u32(bytes)?;
     let len = len as usize;
     if rest.len() < len {
-        return Err(Unread::BadFrame);
+        return Err(DecodeError::BadFrame);
     }
     let (front, rest) = rest.split_at(len);
     match from_utf8(front) {
         Ok(text) => Ok((Text::new(alloc, text)?, rest)),
-        Err(_) => Err(Unread::BadFrame),
+        Err(_) => Err(DecodeError::BadFrame),
     }
 }
 
@@ -132,8 +133,8 @@ pub(crate) fn read_answer_body(
     alloc: Global,
     kind: u8,
     bytes: &[u8],
-) -> Result<(ClientReply, &[u8]), Unread>
-    ensures { Gives (λ x. (x.0, x.1.now)) result (answer_body_at kind bytes.now) }
+) -> Result<(ClientReply, &[u8]), DecodeError>
+    ensures { Decodes (λ x. (x.0, x.1.now)) result (answer_body_at kind bytes.now) }
 {
     match kind {
         1 => {
@@ -158,12 +159,12 @@ pub(crate) fn read_answer_body(
             let (text, rest) = read_text(alloc, bytes)?;
             Ok((ClientReply::Status(text), rest))
         }
-        _ => Err(Unread::BadFrame),
+        _ => Err(DecodeError::BadFrame),
     }
 }
 
 /// Returns the detail of a refusal, 0 if it has none.
-fn told(refusal: &Refusal) -> u64
+fn reported(refusal: &Refusal) -> u64
     ensures value { result ≡ detail_of refusal.now }
     ensures fits { RefusalFits refusal.now }
 {
@@ -177,18 +178,18 @@ fn told(refusal: &Refusal) -> u64
 /// Appends a refusal. On an error the old bytes are still in front.
 fn append_refusal(out: &mut BytesMut, refusal: &Refusal) -> Result<(), AllocError>
     ensures fits { OnOk result (RefusalFits refusal.now) }
-    ensures spelled { OnOk result (out.new.items ≡ out.old.items ++ spelled_refusal refusal.now) }
+    ensures spelled { OnOk result (out.new.items ≡ out.old.items ++ encodable_refusal refusal.now) }
     ensures appends { OnErr result (StartsWith out.new.items out.old.items) }
 {
     write_u8(out, refusal.number())?;
-    write_u64(out, told(refusal))
+    write_u64(out, reported(refusal))
 }
 
 /// Appends a text. On an error the old bytes are still in front.
 fn append_text(out: &mut BytesMut, text: &Text) -> Result<(), AllocError>
     requires { length text.now < 2 ^ 32 }
     ensures fits { OnOk result (IsText text.now) }
-    ensures spelled { OnOk result (out.new.items ≡ out.old.items ++ spelled_text text.now) }
+    ensures spelled { OnOk result (out.new.items ≡ out.old.items ++ encodable_text text.now) }
     ensures appends { OnErr result (StartsWith out.new.items out.old.items) }
 {
     let bytes = text.as_str().as_bytes();
@@ -196,8 +197,8 @@ fn append_text(out: &mut BytesMut, text: &Text) -> Result<(), AllocError>
     out.put_slice(bytes)
 }
 
-impl Part for ClientReply {
-    ghost spelling = { spelled_answer };
+impl MessagePart for ClientReply {
+    ghost encoding = { encodable_answer };
 
     ghost fits = { AnswerFits };
 
@@ -207,7 +208,7 @@ impl Part for ClientReply {
 
     /// Does not test the rules of replies.
     #[tactic(auto, unfolding(crate::specs::Reading::answer_at))]
-    fn read(alloc: Global, bytes: &[u8]) -> Result<(Self, &[u8]), Unread> {
+    fn read(alloc: Global, bytes: &[u8]) -> Result<(Self, &[u8]), DecodeError> {
         let (kind, rest) = read_u8(bytes)?;
         read_answer_body(alloc, kind, rest)
     }
@@ -257,7 +258,7 @@ pub(crate) fn test_answer(answer: &ClientReply) -> bool
     ensures { result ≡ is_answer answer.now }
 {
     match answer {
-        ClientReply::Update { reply, .. } => is_spelled_reply(reply),
+        ClientReply::Update { reply, .. } => is_encodable_reply(reply),
         ClientReply::Read { version, value, .. } => {
             version.get() != 0 || value.as_slice().is_empty()
         }

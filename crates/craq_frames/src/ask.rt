@@ -2,14 +2,14 @@
 //! `versions`.
 ghost use Rattle.std.specs.Prelude.{◌≡◌, ⊤, ◌++◌, OnOk, OnErr};
 ghost use Rattle.std.specs.Io.{StartsWith};
-ghost use Rattle.craq_codec.specs.NumberReading.{Gives};
-ghost use Rattle.craq_frames.specs.Payload.{mode as spelled_mode, update as spelled_update, ask as spelled_ask, AskFits, ModeFits, UpdateFits};
+ghost use Rattle.craq_codec.specs.NumberReading.{Decodes};
+ghost use Rattle.craq_frames.specs.Payload.{mode as encodable_mode, update as encodable_update, ask as encodable_ask, AskFits, ModeFits, UpdateFits};
 ghost use Rattle.craq_frames.specs.Reading.{mode_at, mode_body_at, update_at, ask_at, ask_body_at};
 
 use bytes::BytesMut;
 use craq_codec::{
-    Part, Unread, read_command, read_u8, read_u32, read_u64, write_command, write_u8, write_u32,
-    write_u64,
+    DecodeError, MessagePart, read_command, read_u8, read_u32, read_u64, write_command, write_u8,
+    write_u32, write_u64,
 };
 use craq_commands::{ReadMode, Update};
 use craq_names::{ClientId, NodeId, ObjectId, Pass, RequestNo, Stamp};
@@ -38,8 +38,8 @@ pub enum ClientMessage {
 
 /// Reads what follows the tag of a mode; returns the mode with the bytes after it.
 #[tactic(auto, unfolding(crate::specs::Reading::mode_body_at))]
-fn read_mode_body(tag: u8, bytes: &[u8]) -> Result<(ReadMode, &[u8]), Unread>
-    ensures { Gives (λ x. (x.0, x.1.now)) result (mode_body_at tag bytes.now) }
+fn read_mode_body(tag: u8, bytes: &[u8]) -> Result<(ReadMode, &[u8]), DecodeError>
+    ensures { Decodes (λ x. (x.0, x.1.now)) result (mode_body_at tag bytes.now) }
 {
     match tag {
         1 => Ok((ReadMode::Strong, bytes)),
@@ -48,14 +48,14 @@ fn read_mode_body(tag: u8, bytes: &[u8]) -> Result<(ReadMode, &[u8]), Unread>
             let (above, rest) = read_u32(bytes)?;
             Ok((ReadMode::Bounded(above), rest))
         }
-        _ => Err(Unread::BadFrame),
+        _ => Err(DecodeError::BadFrame),
     }
 }
 
 /// Reads the mode at the front; returns it with the bytes after it.
 #[tactic(auto, unfolding(crate::specs::Reading::mode_at))]
-fn read_mode(bytes: &[u8]) -> Result<(ReadMode, &[u8]), Unread>
-    ensures { Gives (λ x. (x.0, x.1.now)) result (mode_at bytes.now) }
+fn read_mode(bytes: &[u8]) -> Result<(ReadMode, &[u8]), DecodeError>
+    ensures { Decodes (λ x. (x.0, x.1.now)) result (mode_at bytes.now) }
 {
     let (tag, rest) = read_u8(bytes)?;
     read_mode_body(tag, rest)
@@ -63,13 +63,13 @@ fn read_mode(bytes: &[u8]) -> Result<(ReadMode, &[u8]), Unread>
 
 /// Reads the update at the front; returns it with the bytes after it.
 #[tactic(auto, unfolding(crate::specs::Reading::update_at, craq_codec::specs::PartReading::pair_at, craq_codec::specs::PartReading::request_at))]
-fn read_update(alloc: Global, bytes: &[u8]) -> Result<(Update, &[u8]), Unread>
-    ensures { Gives (λ x. (x.0, x.1.now)) result (update_at bytes.now) }
+fn read_update(alloc: Global, bytes: &[u8]) -> Result<(Update, &[u8]), DecodeError>
+    ensures { Decodes (λ x. (x.0, x.1.now)) result (update_at bytes.now) }
 {
     let (client, rest) = read_u64(bytes)?;
     let (number, rest) = read_u64(rest)?;
     let Ok(number) = RequestNo::new(number) else {
-        return Err(Unread::BadFrame);
+        return Err(DecodeError::BadFrame);
     };
     let (command, rest) = read_command(alloc, rest)?;
     let update = Update {
@@ -86,8 +86,8 @@ pub(crate) fn read_ask_body(
     alloc: Global,
     kind: u8,
     bytes: &[u8],
-) -> Result<(ClientMessage, &[u8]), Unread>
-    ensures { Gives (λ x. (x.0, x.1.now)) result (ask_body_at kind bytes.now) }
+) -> Result<(ClientMessage, &[u8]), DecodeError>
+    ensures { Decodes (λ x. (x.0, x.1.now)) result (ask_body_at kind bytes.now) }
 {
     match kind {
         1 => {
@@ -115,7 +115,7 @@ pub(crate) fn read_ask_body(
             Ok((ask, rest))
         }
         3 => Ok((ClientMessage::Status, bytes)),
-        _ => Err(Unread::BadFrame),
+        _ => Err(DecodeError::BadFrame),
     }
 }
 
@@ -123,7 +123,7 @@ pub(crate) fn read_ask_body(
 #[tactic(auto, unfolding(crate::specs::Payload::mode))]
 fn append_mode(out: &mut BytesMut, mode: &ReadMode) -> Result<(), AllocError>
     ensures fits { OnOk result (ModeFits mode.now) }
-    ensures spelled { OnOk result (out.new.items ≡ out.old.items ++ spelled_mode mode.now) }
+    ensures spelled { OnOk result (out.new.items ≡ out.old.items ++ encodable_mode mode.now) }
     ensures appends { OnErr result (StartsWith out.new.items out.old.items) }
 {
     match mode {
@@ -140,7 +140,7 @@ fn append_mode(out: &mut BytesMut, mode: &ReadMode) -> Result<(), AllocError>
 #[tactic(auto, unfolding(crate::specs::Payload::update))]
 fn append_update(out: &mut BytesMut, update: &Update) -> Result<(), AllocError>
     ensures fits { OnOk result (UpdateFits update.now) }
-    ensures spelled { OnOk result (out.new.items ≡ out.old.items ++ spelled_update update.now) }
+    ensures spelled { OnOk result (out.new.items ≡ out.old.items ++ encodable_update update.now) }
     ensures appends { OnErr result (StartsWith out.new.items out.old.items) }
 {
     write_u64(out, update.client.get())?;
@@ -148,8 +148,8 @@ fn append_update(out: &mut BytesMut, update: &Update) -> Result<(), AllocError>
     write_command(out, &update.command)
 }
 
-impl Part for ClientMessage {
-    ghost spelling = { spelled_ask };
+impl MessagePart for ClientMessage {
+    ghost encoding = { encodable_ask };
 
     ghost fits = { AskFits };
 
@@ -158,7 +158,7 @@ impl Part for ClientMessage {
     ghost part_at = { ask_at };
 
     #[tactic(auto, unfolding(crate::specs::Reading::ask_at))]
-    fn read(alloc: Global, bytes: &[u8]) -> Result<(Self, &[u8]), Unread> {
+    fn read(alloc: Global, bytes: &[u8]) -> Result<(Self, &[u8]), DecodeError> {
         let (kind, rest) = read_u8(bytes)?;
         read_ask_body(alloc, kind, rest)
     }

@@ -15,7 +15,7 @@ pub use ask::ClientMessage;
 pub use frame::{
     MAX_PAYLOAD, cut_off_frame, cuts_frames, frame_codec, payload_in_front, write_frame,
 };
-pub use laws::{asks_with_spellings, replies_with_spellings};
+pub use laws::{asks_with_encodings, replies_with_encodings};
 pub use text::Text;
 pub use versions::{Answered, MOST_MESSAGES, Payload, PayloadVersion};
 

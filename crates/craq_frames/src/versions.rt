@@ -3,11 +3,11 @@
 ghost use Rattle.std.specs.Prelude.{◌≡◌, ◌≤◌, ◌+◌, ◌⊎◌, ℕ, List, ◌++◌, length, take, drop, Err, IfOk, IfErr, OnOk, OnErr};
 ghost use Rattle.std.specs.Io.{StartsWith};
 ghost use Rattle.std.specs.List.{AllByRecursion, list_all};
-ghost use Rattle.craq_codec.specs.NumberReading.{Gives};
-ghost use Rattle.craq_codec.specs.PartSpelling.{counted};
+ghost use Rattle.craq_codec.specs.NumberReading.{Decodes};
+ghost use Rattle.craq_codec.specs.PartEncoding.{counted};
 ghost use Rattle.craq_frames.specs.Frame.{frame, payload_limit};
 ghost use Rattle.std.specs.Int.{w8};
-ghost use Rattle.craq_frames.specs.Versions.{version_number, many_limit, AreFew, payload_spelling, PayloadFits, SpellsPayload, IsPayload, answered_spelling, AnsweredFits, IsAnswered, SpellsAnswered};
+ghost use Rattle.craq_frames.specs.Versions.{version_number, many_limit, AreFew, payload_encoding, PayloadFits, EncodesPayload, IsPayload, answered_encoding, AnsweredFits, IsAnswered, EncodesAnswered};
 ghost use Rattle.craq_frames.specs.Reading.{few_at, payload_body_at, answered_body_at, versioned_at};
 ghost use Rattle.craq_frames.specs.Tests.{is_answer, is_answered};
 
@@ -16,7 +16,9 @@ use crate::ask::read_ask_body;
 use crate::frame::set_u32;
 use crate::{ClientMessage, ClientReply, USUAL_PAYLOAD_SIZE};
 use bytes::{Bytes, BytesMut};
-use craq_codec::{Part, Unread, read_parts, read_u8, write_short_list, write_u8, write_u32};
+use craq_codec::{
+    DecodeError, MessagePart, read_parts, read_u8, write_short_list, write_u8, write_u32,
+};
 use craq_names::{Items, Refusal};
 use std::alloc::{AllocError, Global};
 
@@ -73,16 +75,16 @@ pub enum Answered {
 /// after them. `BadFrame` exactly if no such list is at the front; `Memory` if an allocation
 /// failed.
 #[tactic(auto, unfolding(crate::specs::Reading::few_at))]
-fn read_few<T: Part>(alloc: Global, bytes: &[u8]) -> Result<(Items<T>, &[u8]), Unread>
-    ensures { Gives (λ x. (x.0, x.1.now)) result (few_at T.part_at bytes.now) }
+fn read_few<T: MessagePart>(alloc: Global, bytes: &[u8]) -> Result<(Items<T>, &[u8]), DecodeError>
+    ensures { Decodes (λ x. (x.0, x.1.now)) result (few_at T.part_at bytes.now) }
 {
     let (count, rest) = read_u8(bytes)?;
     let count = count as usize;
     if count < 1 {
-        return Err(Unread::BadFrame);
+        return Err(DecodeError::BadFrame);
     }
     if MOST_MESSAGES < count {
-        return Err(Unread::BadFrame);
+        return Err(DecodeError::BadFrame);
     }
     read_parts(alloc, count, rest)
 }
@@ -95,8 +97,8 @@ fn read_payload_body(
     version: u8,
     kind: u8,
     bytes: &[u8],
-) -> Result<(Payload, &[u8]), Unread>
-    ensures { Gives (λ x. (x.0, x.1.now)) result (payload_body_at version kind bytes.now) }
+) -> Result<(Payload, &[u8]), DecodeError>
+    ensures { Decodes (λ x. (x.0, x.1.now)) result (payload_body_at version kind bytes.now) }
 {
     if version == 1 {
         let (message, rest) = read_ask_body(alloc, kind, bytes)?;
@@ -110,7 +112,7 @@ fn read_payload_body(
             Ok((Payload::One(PayloadVersion::Second, message), rest))
         }
     } else {
-        Err(Unread::BadFrame)
+        Err(DecodeError::BadFrame)
     }
 }
 
@@ -122,8 +124,8 @@ fn read_answered_body(
     version: u8,
     kind: u8,
     bytes: &[u8],
-) -> Result<(Answered, &[u8]), Unread>
-    ensures { Gives (λ x. (x.0, x.1.now)) result (answered_body_at version kind bytes.now) }
+) -> Result<(Answered, &[u8]), DecodeError>
+    ensures { Decodes (λ x. (x.0, x.1.now)) result (answered_body_at version kind bytes.now) }
 {
     if version == 1 {
         let (reply, rest) = read_answer_body(alloc, kind, bytes)?;
@@ -137,44 +139,44 @@ fn read_answered_body(
             Ok((Answered::One(PayloadVersion::Second, reply), rest))
         }
     } else {
-        Err(Unread::BadFrame)
+        Err(DecodeError::BadFrame)
     }
 }
 
 /// Decodes the client's payload that all of the bytes encode.
 #[tactic(auto, unfolding(crate::specs::Reading::versioned_at, craq_codec::specs::PartReading::pair_at))]
-fn read_payload(alloc: Global, bytes: &[u8]) -> Result<Payload, Unread>
-    ensures { Gives (λ p. p) result (versioned_at payload_body_at bytes.now) }
+fn read_payload(alloc: Global, bytes: &[u8]) -> Result<Payload, DecodeError>
+    ensures { Decodes (λ p. p) result (versioned_at payload_body_at bytes.now) }
 {
     let (version, rest) = read_u8(bytes)?;
     let (kind, rest) = read_u8(rest)?;
     let (payload, rest) = read_payload_body(alloc, version, kind, rest)?;
     if !rest.is_empty() {
-        return Err(Unread::BadFrame);
+        return Err(DecodeError::BadFrame);
     }
     Ok(payload)
 }
 
 /// Decodes the server's payload that all of the bytes encode, without testing the rules of replies.
 #[tactic(auto, unfolding(crate::specs::Reading::versioned_at, craq_codec::specs::PartReading::pair_at))]
-fn read_answered(alloc: Global, bytes: &[u8]) -> Result<Answered, Unread>
-    ensures { Gives (λ p. p) result (versioned_at answered_body_at bytes.now) }
+fn read_answered(alloc: Global, bytes: &[u8]) -> Result<Answered, DecodeError>
+    ensures { Decodes (λ p. p) result (versioned_at answered_body_at bytes.now) }
 {
     let (version, rest) = read_u8(bytes)?;
     let (kind, rest) = read_u8(rest)?;
     let (answered, rest) = read_answered_body(alloc, version, kind, rest)?;
     if !rest.is_empty() {
-        return Err(Unread::BadFrame);
+        return Err(DecodeError::BadFrame);
     }
     Ok(answered)
 }
 
 /// Writes a client's payload at the end.
-#[tactic(auto, unfolding(crate::specs::Versions::payload_spelling), using(craq_codec::proofs::Free::all_of_any))]
+#[tactic(auto, unfolding(crate::specs::Versions::payload_encoding), using(craq_codec::proofs::Free::all_of_any))]
 fn write_payload(out: &mut BytesMut, payload: &Payload) -> Result<(), AllocError>
     requires { IsPayload payload.now }
     ensures fits { OnOk result (PayloadFits payload.now) }
-    ensures spelled { OnOk result (out.new.items ≡ out.old.items ++ payload_spelling payload.now) }
+    ensures spelled { OnOk result (out.new.items ≡ out.old.items ++ payload_encoding payload.now) }
 {
     match payload {
         Payload::One(version, message) => {
@@ -190,11 +192,11 @@ fn write_payload(out: &mut BytesMut, payload: &Payload) -> Result<(), AllocError
 }
 
 /// Writes a server's payload at the end.
-#[tactic(auto, unfolding(crate::specs::Versions::answered_spelling))]
+#[tactic(auto, unfolding(crate::specs::Versions::answered_encoding))]
 fn write_answered(out: &mut BytesMut, answered: &Answered) -> Result<(), AllocError>
     requires { IsAnswered answered.now }
     ensures fits { OnOk result (AnsweredFits answered.now) }
-    ensures spelled { OnOk result (out.new.items ≡ out.old.items ++ answered_spelling answered.now) }
+    ensures spelled { OnOk result (out.new.items ≡ out.old.items ++ answered_encoding answered.now) }
     ensures appends { OnErr result (StartsWith out.new.items out.old.items) }
 {
     match answered {
@@ -213,8 +215,8 @@ fn write_answered(out: &mut BytesMut, answered: &Answered) -> Result<(), AllocEr
 /// Writes the frame of a server's payload at the end; sets its length after its payload is written.
 fn append_answered(out: &mut BytesMut, answered: &Answered) -> Result<(), AllocError>
     requires rules { IsAnswered answered.now }
-    requires few { (payload : List ℕ) → SpellsAnswered answered.now payload → length payload ≤ payload_limit }
-    ensures ok { OnOk result ((payload : List ℕ) × (out.new.items ≡ out.old.items ++ frame payload) × SpellsAnswered answered.now payload) }
+    requires few { (payload : List ℕ) → EncodesAnswered answered.now payload → length payload ≤ payload_limit }
+    ensures ok { OnOk result ((payload : List ℕ) × (out.new.items ≡ out.old.items ++ frame payload) × EncodesAnswered answered.now payload) }
     ensures appends { OnErr result (StartsWith out.new.items out.old.items) }
 {
     let start = out.len();
@@ -247,7 +249,7 @@ impl Payload {
     /// Encodes the payload. Several requests must be from 1 to 8. Fails only when out of memory.
     pub fn encode(&self, alloc: Global) -> Result<Bytes, AllocError>
         requires { IsPayload self.now }
-        ensures { IfOk result (λ bytes. SpellsPayload self.now bytes) }
+        ensures { IfOk result (λ bytes. EncodesPayload self.now bytes) }
     {
         let mut out = BytesMut::with_capacity(alloc, USUAL_PAYLOAD_SIZE)?;
         write_payload(&mut out, self)?;
@@ -259,17 +261,17 @@ impl Payload {
     /// were read.
     pub fn decode(alloc: Global, bytes: &[u8]) -> Result<Self, Refusal>
         // The bytes encode the payload that is returned.
-        ensures found { IfOk result (λ p. SpellsPayload p bytes.now) }
+        ensures found { IfOk result (λ p. EncodesPayload p bytes.now) }
         // They encode no other payload.
-        ensures only { IfOk result (λ p. (other : Payload) → SpellsPayload other bytes.now → other ≡ p) }
+        ensures only { IfOk result (λ p. (other : Payload) → EncodesPayload other bytes.now → other ≡ p) }
         // On an error the bytes encode no payload, or memory ran out.
-        ensures bad { result ≡ Err Refusal.BadFrame → (p : Payload) → SpellsPayload p bytes.now → ⊥ }
+        ensures bad { result ≡ Err Refusal.BadFrame → (p : Payload) → EncodesPayload p bytes.now → ⊥ }
         ensures err { IfErr result (λ e. (e ≡ Refusal.BadFrame) ⊎ (e ≡ Refusal.Memory)) }
     {
         match read_payload(alloc, bytes) {
             Ok(payload) => Ok(payload),
-            Err(Unread::BadFrame) => Err(Refusal::BadFrame),
-            Err(Unread::Memory) => Err(Refusal::Memory),
+            Err(DecodeError::BadFrame) => Err(Refusal::BadFrame),
+            Err(DecodeError::Memory) => Err(Refusal::Memory),
         }
     }
 }
@@ -280,8 +282,8 @@ impl Answered {
     /// bytes are then unchanged.
     pub fn write_frame(&self, out: &mut BytesMut) -> Result<(), AllocError>
         requires rules { IsAnswered self.now }
-        requires few { (payload : List ℕ) → SpellsAnswered self.now payload → length payload ≤ payload_limit }
-        ensures ok { OnOk result ((payload : List ℕ) × (out.new.items ≡ out.old.items ++ frame payload) × SpellsAnswered self.now payload) }
+        requires few { (payload : List ℕ) → EncodesAnswered self.now payload → length payload ≤ payload_limit }
+        ensures ok { OnOk result ((payload : List ℕ) × (out.new.items ≡ out.old.items ++ frame payload) × EncodesAnswered self.now payload) }
         ensures same { OnErr result (out.new.items ≡ out.old.items) }
     {
         out.reserve(USUAL_PAYLOAD_SIZE)?;
@@ -297,7 +299,7 @@ impl Answered {
     /// Fails only when out of memory.
     pub fn encode(&self, alloc: Global) -> Result<Bytes, AllocError>
         requires { IsAnswered self.now }
-        ensures { IfOk result (λ bytes. SpellsAnswered self.now bytes) }
+        ensures { IfOk result (λ bytes. EncodesAnswered self.now bytes) }
     {
         let mut out = BytesMut::with_capacity(alloc, USUAL_PAYLOAD_SIZE)?;
         write_answered(&mut out, self)?;
@@ -309,11 +311,11 @@ impl Answered {
     /// were read.
     pub fn decode(alloc: Global, bytes: &[u8]) -> Result<Self, Refusal>
         // The bytes encode the payload that is returned.
-        ensures found { IfOk result (λ p. SpellsAnswered p bytes.now) }
+        ensures found { IfOk result (λ p. EncodesAnswered p bytes.now) }
         // They encode no other payload.
-        ensures only { IfOk result (λ p. (other : Answered) → SpellsAnswered other bytes.now → other ≡ p) }
+        ensures only { IfOk result (λ p. (other : Answered) → EncodesAnswered other bytes.now → other ≡ p) }
         // On an error the bytes encode no payload, or memory ran out.
-        ensures bad { result ≡ Err Refusal.BadFrame → (p : Answered) → SpellsAnswered p bytes.now → ⊥ }
+        ensures bad { result ≡ Err Refusal.BadFrame → (p : Answered) → EncodesAnswered p bytes.now → ⊥ }
         ensures err { IfErr result (λ e. (e ≡ Refusal.BadFrame) ⊎ (e ≡ Refusal.Memory)) }
     {
         match read_answered(alloc, bytes) {
@@ -324,8 +326,8 @@ impl Answered {
                     Err(Refusal::BadFrame)
                 }
             }
-            Err(Unread::BadFrame) => Err(Refusal::BadFrame),
-            Err(Unread::Memory) => Err(Refusal::Memory),
+            Err(DecodeError::BadFrame) => Err(Refusal::BadFrame),
+            Err(DecodeError::Memory) => Err(Refusal::Memory),
         }
     }
 }

@@ -11,13 +11,13 @@ use Rattle.craq_commands.specs.declared.command.Command.{Command}
 use Rattle.craq_commands.specs.declared.command.Command.TheVariants.{Put, TestAndSet, Append, Prepend, Increment, Decrement, Mini}
 use Rattle.craq_commands.specs.declared.read_mode.ReadMode.{ReadMode}
 use Rattle.craq_commands.specs.declared.read_mode.ReadMode.TheVariants.{Strong, Eventual, Bounded}
-use Rattle.craq_codec.specs.NumberSpelling.{number}
-use Rattle.craq_codec.specs.PartSpelling.{key, value, object, pair, counted, IsObject, IsValue, IsPair}
-use Rattle.craq_codec.specs.CommandSpelling.{command, transaction, CommandFits, TransactionFits}
+use Rattle.craq_codec.specs.NumberEncoding.{number}
+use Rattle.craq_codec.specs.PartEncoding.{key, value, object, pair, counted, IsObject, IsValue, IsPair}
+use Rattle.craq_codec.specs.CommandEncoding.{command, transaction, CommandFits, TransactionFits}
 use Rattle.craq_frames.specs.declared.ask.ClientMessage.{ClientMessage}
 use Rattle.craq_frames.specs.declared.ask.ClientMessage.TheVariants as asks
 use Rattle.craq_frames.specs.Frame.{payload_limit}
-use Rattle.craq_frames.specs.Payload.{mode, update, ask, ask_spelling, AskFits, SpellsAsk, payload_version}
+use Rattle.craq_frames.specs.Payload.{mode, update, ask, ask_encoding, AskFits, EncodesAsk, payload_version}
 use Rattle.craq_front.proofs.Lengths.{len16, len32, len64, len_pair, tagged_few}
 
 object_few : (o : ObjectId) → IsObject o → length (object o) ≤ 131
@@ -32,15 +32,15 @@ append_few a b m n h k = omega (arith, length-append a b, h, k)
 number_few : (n : ℕ) → length (number w64 n) ≤ 8
 number_few n = omega (arith, len64 n)
 
-module _ {A : Type 0} (spelling : A → List ℕ) (P : A → Type 0) (each : (x : A) → P x → length (spelling x) ≤ 4229) where
-  all_few : (xs : List A) → AllByRecursion P xs → length (flat_map spelling xs) ≤ 4229 * length xs
+module _ {A : Type 0} (encoding : A → List ℕ) (P : A → Type 0) (each : (x : A) → P x → length (encoding x) ≤ 4229) where
+  all_few : (xs : List A) → AllByRecursion P xs → length (flat_map encoding xs) ≤ 4229 * length xs
   all_few [] h = omega arith
-  all_few (x ∷ xs) h = omega (arith, ap length (flat_map-cons spelling x xs), length-append (spelling x) (flat_map spelling xs), each x h.0, all_few xs h.1)
+  all_few (x ∷ xs) h = omega (arith, ap length (flat_map-cons encoding x xs), length-append (encoding x) (flat_map encoding xs), each x h.0, all_few xs h.1)
 
-  counted_few : (xs : List A) → AllByRecursion P xs → length xs ≤ 16 → length (counted w8 spelling xs) ≤ 67665
+  counted_few : (xs : List A) → AllByRecursion P xs → length xs ≤ 16 → length (counted w8 encoding xs) ≤ 67665
   counted_few xs h few =
-      let all : length (flat_map spelling xs) ≤ 67664 = omega (arith, all_few xs h, few) in
-      tagged_few (length xs) 67664 (flat_map spelling xs) all
+      let all : length (flat_map encoding xs) ≤ 67664 = omega (arith, all_few xs h, few) in
+      tagged_few (length xs) 67664 (flat_map encoding xs) all
 
 transaction_few : (t : Transaction) → TransactionFits t → length (transaction t) ≤ 202995
 transaction_few t f =
@@ -84,9 +84,9 @@ ask_short (asks.Read node pass m o) f =
     )
 ask_short asks.Status f = omega (arith, tagged_few 3 0 [] (omega arith))
 
-pub ask_few : (m : ClientMessage) (bytes : List ℕ) → SpellsAsk m bytes → length bytes ≤ payload_limit
-unfolding ask_spelling
-ask_few m bytes s = omega (arith, ap length s.spelling, tagged_few payload_version 300000 (ask m) (ask_short m s.fits))
+pub ask_few : (m : ClientMessage) (bytes : List ℕ) → EncodesAsk m bytes → length bytes ≤ payload_limit
+unfolding ask_encoding
+ask_few m bytes s = omega (arith, ap length s.encoding, tagged_few payload_version 300000 (ask m) (ask_short m s.fits))
 
 -- a payload that goes into a frame is refused for want of memory alone
 pub memory_alone : {T : Type 0} (r : Result T Refusal) (payload : List ℕ) → length payload ≤ payload_limit → ((r ≡ Err refusals.FrameTooLong) ↔ (payload_limit < length payload))

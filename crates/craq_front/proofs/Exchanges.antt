@@ -3,17 +3,17 @@ use Rattle.std.proofs.Common.{◌≡◌, ℕ, zero, suc, ◌<◌, ◌⊎◌, inl
 use Rattle.std.specs.Int.{w32}
 use Rattle.craq_names.specs.declared.refusal.Refusal.{Refusal}
 use Rattle.craq_names.specs.declared.refusal.Refusal.TheVariants as refusals
-use Rattle.craq_codec.specs.NumberSpelling.{number}
+use Rattle.craq_codec.specs.NumberEncoding.{number}
 use Rattle.craq_frames.specs.declared.ask.ClientMessage.{ClientMessage}
 use Rattle.craq_frames.specs.declared.answer.ClientReply.{ClientReply}
 use Rattle.craq_frames.specs.Frame.{frame, IsPartial}
-use Rattle.craq_frames.specs.Payload.{SpellsAnswer}
+use Rattle.craq_frames.specs.Payload.{EncodesAnswer}
 use Rattle.craq_front.specs.Exchange.{IsFrameOf, Exchanged}
 use Rattle.craq_front.proofs.Lengths.{len32}
 
 -- the payload of the frame that came is decoded
-pub decoded : (m : ClientMessage) (sent payload rest : List ℕ) (r : Result ClientReply Refusal) → IsFrameOf m sent → IfOk r (λ x. SpellsAnswer x payload)
-    → (r ≡ Err refusals.BadFrame → (x : ClientReply) → SpellsAnswer x payload → ⊥) → IfErr r (λ e. (e ≡ refusals.BadFrame) ⊎ (e ≡ refusals.Memory)) → Exchanged m sent (frame payload ++ rest) 0 r
+pub decoded : (m : ClientMessage) (sent payload rest : List ℕ) (r : Result ClientReply Refusal) → IsFrameOf m sent → IfOk r (λ x. EncodesAnswer x payload)
+    → (r ≡ Err refusals.BadFrame → (x : ClientReply) → EncodesAnswer x payload → ⊥) → IfErr r (λ e. (e ≡ refusals.BadFrame) ⊎ (e ≡ refusals.Memory)) → Exchanged m sent (frame payload ++ rest) 0 r
 decoded m sent payload rest (Ok x) h found bad err = (h, refl, (payload, rest, refl, found))
 decoded m sent payload rest (Err e) h found bad err = elim err [
   | inl q ↦ subst (λ (x : Refusal). Exchanged m sent (frame payload ++ rest) 0 (Err x)) (sym q) (h, refl, (payload, rest, refl, bad (ap Err q)))

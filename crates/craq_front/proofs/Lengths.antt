@@ -4,14 +4,14 @@ use Rattle.std.specs.Int.{w8, w16, w32, w64}
 use Rattle.std.specs.List.{flat_map, AllByRecursion}
 use Rattle.std.proofs.lemmas.List.{drop_at}
 use Rattle.std.proofs.lemmas.List.Concat.{flat_map-cons}
-use Rattle.craq_names.specs.Refused.{number_of, detail_of}
+use Rattle.craq_names.specs.Refused.{refusal_number, detail_of}
 use Rattle.craq_names.specs.declared.refusal.Refusal.{Refusal}
 use Rattle.craq_commands.specs.declared.reply.Reply.{Reply}
 use Rattle.craq_commands.specs.declared.reply.Reply.TheVariants.{Written, Mismatch, TooLong, NotANumber, Overflow, Underflow, Done, CompareFailed, Stale}
-use Rattle.craq_model.specs.Spelled.{IsReply}
-use Rattle.craq_codec.specs.NumberSpelling.{number}
-use Rattle.craq_codec.specs.PartSpelling.{value, pair, counted, IsValue, IsPair}
-use Rattle.craq_codec.specs.EntrySpelling.{reply, ReplyFits}
+use Rattle.craq_model.specs.Encodable.{IsReply}
+use Rattle.craq_codec.specs.NumberEncoding.{number}
+use Rattle.craq_codec.specs.PartEncoding.{value, pair, counted, IsValue, IsPair}
+use Rattle.craq_codec.specs.EntryEncoding.{reply, ReplyFits}
 use Rattle.craq_codec.proofs.NumberExact.{wide8, wide16, wide32, wide64}
 use Rattle.craq_frames.specs.declared.answer.ClientReply.{ClientReply}
 use Rattle.craq_frames.specs.declared.answer.ClientReply.TheVariants as answers
@@ -19,10 +19,10 @@ use Rattle.craq_frames.specs.declared.versions.PayloadVersion.{PayloadVersion}
 use Rattle.craq_frames.specs.declared.versions.Answered.{Answered}
 use Rattle.craq_frames.specs.declared.versions.Answered.TheVariants as replies
 use Rattle.craq_frames.specs.Frame.{frame, payload_limit}
-use Rattle.craq_frames.specs.Payload.{answer, AnswerFits, IsAnswer, answer_spelling, payload_version}
-use Rattle.craq_frames.specs.Versions.{version_number, many_answers, AreFew, answered_spelling, AnsweredFits, SpellsAnswered}
+use Rattle.craq_frames.specs.Payload.{answer, AnswerFits, IsAnswer, answer_encoding, payload_version}
+use Rattle.craq_frames.specs.Versions.{version_number, many_answers, AreFew, answered_encoding, AnsweredFits, EncodesAnswered}
 use Rattle.craq_front.specs.Door.{reply_limit, IsShort, IsAllowed}
-use Rattle.craq_front.specs.Serving.{refused, told}
+use Rattle.craq_front.specs.Serving.{refused, reported}
 
 pub len8 : (n : ℕ) → length (number w8 n) ≡ 1
 unfolding number
@@ -81,39 +81,39 @@ answer_few (answers.Update pass r) f a =
 answer_few (answers.Read pass version v) f a =
     omega (arith, tagged_few 2 4114 (number w64 pass ++ (number w64 version ++ value v)) (len_pair _ _ 8 4106 (len64 pass) (len_pair _ _ 8 4098 (len64 version) (len_pair _ _ 2 4096 (len16 (length v)) f.2))))
 answer_few (answers.Refused r) f a =
-    omega (arith, tagged_few 3 9 (number w8 (number_of r) ++ number w64 (detail_of r)) (len_pair _ _ 1 8 (len8 (number_of r)) (omega (arith, len64 (detail_of r)))))
+    omega (arith, tagged_few 3 9 (number w8 (refusal_number r) ++ number w64 (detail_of r)) (len_pair _ _ 1 8 (len8 (refusal_number r)) (omega (arith, len64 (detail_of r)))))
 answer_few (answers.Status t) f a =
     let few : length t ≤ 99994 = omega (arith, a.short) in
     omega (arith, tagged_few 4 99998 (number w32 (length t) ++ t) (len_pair _ _ 4 99994 (len32 (length t)) few))
 
 -- an allowed reply goes into a payload of the limit of replies
-pub allowed_few : (r : ClientReply) → AnswerFits r → IsAllowed r → length (answer_spelling r) ≤ reply_limit
-unfolding answer_spelling
+pub allowed_few : (r : ClientReply) → AnswerFits r → IsAllowed r → length (answer_encoding r) ≤ reply_limit
+unfolding answer_encoding
 allowed_few r f a = omega (arith, tagged_few payload_version 99999 (answer r) (answer_few r f a))
 
 -- ---- payloads
 
-one_few : (version : PayloadVersion) (r : ClientReply) → AnswerFits r → IsAllowed r → length (answered_spelling (replies.One version r)) ≤ payload_limit
-unfolding answered_spelling
+one_few : (version : PayloadVersion) (r : ClientReply) → AnswerFits r → IsAllowed r → length (answered_encoding (replies.One version r)) ≤ payload_limit
+unfolding answered_encoding
 one_few version r f a = omega (arith, tagged_few (version_number version) 99999 (answer r) (answer_few r f a))
 
 each_few : (rs : List ClientReply) → AllByRecursion AnswerFits rs → AllByRecursion IsAllowed rs → length (flat_map answer rs) ≤ 99999 * length rs
 each_few [] f a = omega arith
 each_few (r ∷ rs) f a = omega (arith, ap length (flat_map-cons answer r rs), length-append (answer r) (flat_map answer rs), answer_few r f.0 a.0, each_few rs f.1 a.1)
 
-many_few : (rs : List ClientReply) → AreFew AnswerFits rs → AllByRecursion IsAllowed rs → length (answered_spelling (replies.Many rs)) ≤ payload_limit
-unfolding answered_spelling
+many_few : (rs : List ClientReply) → AreFew AnswerFits rs → AllByRecursion IsAllowed rs → length (answered_encoding (replies.Many rs)) ≤ payload_limit
+unfolding answered_encoding
 many_few rs f a =
     let few : length rs ≤ 8 = f.few in
     let all : length (flat_map answer rs) ≤ 799992 = omega (arith, each_few rs f.each a, few) in
     omega (arith, tagged_few 2 799994 (number w8 many_answers ++ counted w8 answer rs) (tagged_few many_answers 799993 (counted w8 answer rs) (tagged_few (length rs) 799992 (flat_map answer rs) all)))
 
-pub answered_few : (a : Answered) → AnsweredFits a → AllByRecursion IsAllowed (told a) → length (answered_spelling a) ≤ payload_limit
+pub answered_few : (a : Answered) → AnsweredFits a → AllByRecursion IsAllowed (reported a) → length (answered_encoding a) ≤ payload_limit
 answered_few (replies.One version r) f a = one_few version r f a.0
 answered_few (replies.Many rs) f a = many_few rs f a
 
-pub payload_few : (a : Answered) (payload : List ℕ) → AllByRecursion IsAllowed (told a) → SpellsAnswered a payload → length payload ≤ payload_limit
-payload_few a payload h s = omega (arith, ap length s.spelling, answered_few a s.fits h)
+pub payload_few : (a : Answered) (payload : List ℕ) → AllByRecursion IsAllowed (reported a) → EncodesAnswered a payload → length payload ≤ payload_limit
+payload_few a payload h s = omega (arith, ap length s.encoding, answered_few a s.fits h)
 
 -- a frame in front, and what is behind it
 frame_len : (payload : List ℕ) → length (frame payload) ≡ length payload + 4
@@ -125,15 +125,15 @@ whole_frame bytes payload rest e = omega (arith, ap length e, length-append (fra
 pub behind_frame : (bytes payload rest : List ℕ) → bytes ≡ frame payload ++ rest → drop (length payload + 4) bytes ≡ rest
 behind_frame bytes payload rest e = ap (drop (length payload + 4)) e ∙ drop_at (frame payload) rest (length payload + 4) (frame_len payload)
 
-pub refused_len : (why : Refusal) → length (answered_spelling (refused why)) ≡ 11
-unfolding answered_spelling answer
+pub refused_len : (why : Refusal) → length (answered_encoding (refused why)) ≡ 11
+unfolding answered_encoding answer
 refused_len why =
-    let tail : length (number w8 (number_of why) ++ number w64 (detail_of why)) ≡ 9 = omega (arith, length-append (number w8 (number_of why)) (number w64 (detail_of why)), len8 (number_of why), len64 (detail_of why)) in
-    let body : length (number w8 3 ++ (number w8 (number_of why) ++ number w64 (detail_of why))) ≡ 10 = omega (arith, length-append (number w8 3) (number w8 (number_of why) ++ number w64 (detail_of why)), len8 3, tail) in
-    omega (arith, length-append (number w8 1) (number w8 3 ++ (number w8 (number_of why) ++ number w64 (detail_of why))), len8 1, body)
+    let tail : length (number w8 (refusal_number why) ++ number w64 (detail_of why)) ≡ 9 = omega (arith, length-append (number w8 (refusal_number why)) (number w64 (detail_of why)), len8 (refusal_number why), len64 (detail_of why)) in
+    let body : length (number w8 3 ++ (number w8 (refusal_number why) ++ number w64 (detail_of why))) ≡ 10 = omega (arith, length-append (number w8 3) (number w8 (refusal_number why) ++ number w64 (detail_of why)), len8 3, tail) in
+    omega (arith, length-append (number w8 1) (number w8 3 ++ (number w8 (refusal_number why) ++ number w64 (detail_of why))), len8 1, body)
 
-short_text : (r : ClientReply) → length (answer_spelling r) ≤ reply_limit → IsShort r
-unfolding answer_spelling answer
+short_text : (r : ClientReply) → length (answer_encoding r) ≤ reply_limit → IsShort r
+unfolding answer_encoding answer
 short_text (answers.Update pass r) h = tt
 short_text (answers.Read pass version v) h = tt
 short_text (answers.Refused r) h = tt
@@ -149,5 +149,5 @@ short_text (answers.Status t) h =
       len32 (length t),
     )
 
-pub allowed_exactly : (r : ClientReply) → AnswerFits r → IsAllowed r ↔ (IsAnswer r × (length (answer_spelling r) ≤ reply_limit))
+pub allowed_exactly : (r : ClientReply) → AnswerFits r → IsAllowed r ↔ (IsAnswer r × (length (answer_encoding r) ≤ reply_limit))
 allowed_exactly r f = (λ a. (a.rules, allowed_few r f a), λ p. record { rules = p.0; short = short_text r p.1 })

@@ -5,9 +5,9 @@ use Rattle.craq_names.specs.declared.refusal.Refusal.{Refusal}
 use Rattle.craq_names.specs.declared.refusal.Refusal.TheVariants as refusals
 use Rattle.craq_frames.specs.declared.ask.ClientMessage.{ClientMessage}
 use Rattle.craq_frames.specs.Frame.{frame, payload_limit}
-use Rattle.craq_front.specs.declared.conversation.Asking.{Asking}
-use Rattle.craq_front.specs.declared.conversation.Step.{Step}
-use Rattle.craq_front.specs.declared.conversation.Step.TheVariants.{Ask, Refused}
+use Rattle.craq_front.specs.declared.protocol_codec.Asking.{Asking}
+use Rattle.craq_front.specs.declared.protocol_codec.Step.{Step}
+use Rattle.craq_front.specs.declared.protocol_codec.Step.TheVariants.{Ask, Refused}
 use Rattle.craq_front.specs.Serving.{Turn, Replies, nothing, Begins, idle, begun, Next}
 use Rattle.craq_front.specs.Steps.{IsFirst, Advances}
 use Rattle.craq_front.proofs.Lengths.{behind_frame}
@@ -19,29 +19,29 @@ pub first_asked : (asking : Option Asking) (m : ClientMessage) (payload : List �
 first_asked asking m payload few first rest = (payload, refl, few, refl, first)
 
 -- what came of a payload, once its frame is taken off the bytes in which it lay
-pub taken_off : (input left due payload rest : List ℕ) (asking : Option Asking) (r : Result Step Refusal) → input ≡ frame payload ++ rest → left ≡ drop (length payload + 4) input
-    → ((rest : List ℕ) → Advances (frame payload ++ rest) rest due asking r) → Advances input left due asking r
-taken_off input left due payload rest asking r e l h =
-    subst (λ (x : List ℕ). Advances x left due asking r) (sym e)
-    (subst (λ (x : List ℕ). Advances (frame payload ++ rest) x due asking r) (sym (l ∙ behind_frame input payload rest e)) (h rest))
+pub taken_off : (input left unsent payload rest : List ℕ) (asking : Option Asking) (r : Result Step Refusal) → input ≡ frame payload ++ rest → left ≡ drop (length payload + 4) input
+    → ((rest : List ℕ) → Advances (frame payload ++ rest) rest unsent asking r) → Advances input left unsent asking r
+taken_off input left unsent payload rest asking r e l h =
+    subst (λ (x : List ℕ). Advances x left unsent asking r) (sym e)
+    (subst (λ (x : List ℕ). Advances (frame payload ++ rest) x unsent asking r) (sym (l ∙ behind_frame input payload rest e)) (h rest))
 
 -- no message is asked
-pub not_begun : {D : Type 0} (turn : Turn D) (a : D) (input rest due : List ℕ) (asking : Option Asking) (e : Refusal) → Advances input rest due asking (Err e) → Next turn a input rest due a (Err e)
-not_begun turn a input rest due asking refusals.FrameTooLong h = (h, refl)
-not_begun turn a input rest due asking refusals.Memory h = (idle refl, h)
-not_begun turn a input rest due asking _ h = absurd h
+pub not_begun : {D : Type 0} (turn : Turn D) (a : D) (input rest unsent : List ℕ) (asking : Option Asking) (e : Refusal) → Advances input rest unsent asking (Err e) → Next turn a input rest unsent a (Err e)
+not_begun turn a input rest unsent asking refusals.FrameTooLong h = (h, refl)
+not_begun turn a input rest unsent asking refusals.Memory h = (idle refl, h)
+not_begun turn a input rest unsent asking _ h = absurd h
 
 -- the payload spells nothing
-pub refused_one : {D : Type 0} (turn : Turn D) (a : D) (input rest due : List ℕ) (asking : Option Asking) → Advances input rest due asking (Ok Refused) → Next turn a input rest due a (Ok true)
-refused_one turn a input rest due asking h =
-    served_one turn a a input rest due h.0 h.1 h.3 h.2 h.4 (nothing h.6 refl h.7)
+pub refused_one : {D : Type 0} (turn : Turn D) (a : D) (input rest unsent : List ℕ) (asking : Option Asking) → Advances input rest unsent asking (Ok Refused) → Next turn a input rest unsent a (Ok true)
+refused_one turn a input rest unsent asking h =
+    served_one turn a a input rest unsent h.0 h.1 h.3 h.2 h.4 (nothing h.6 refl h.7)
 
 -- all replies to the payload
-pub answered_one : {D : Type 0} (turn : Turn D) (a c : D) (input rest old mid all due : List ℕ) (asking : Option Asking) (m : ClientMessage)
-    → Advances input rest due asking (Ok (Ask m)) → mid ≡ old ++ due
+pub answered_one : {D : Type 0} (turn : Turn D) (a c : D) (input rest old mid all unsent : List ℕ) (asking : Option Asking) (m : ClientMessage)
+    → Advances input rest unsent asking (Ok (Ask m)) → mid ≡ old ++ unsent
     → ((payload : List ℕ) → IsFirst asking m payload → (reply : List ℕ) × (all ≡ mid ++ frame reply) × Replies turn a payload reply c)
-    → (due : List ℕ) × (all ≡ old ++ due) × Next turn a input rest due c (Ok true)
-answered_one turn a c input rest old mid all due asking m h e answered =
+    → (unsent : List ℕ) × (all ≡ old ++ unsent) × Next turn a input rest unsent c (Ok true)
+answered_one turn a c input rest old mid all unsent asking m h e answered =
     let r = answered h.0 h.4 in (
       frame r.0,
       r.1 ∙ ap (λ (x : List ℕ). x ++ frame r.0) (e ∙ ap (λ (x : List ℕ). old ++ x) h.3 ∙ append-nil old),
@@ -49,10 +49,10 @@ answered_one turn a c input rest old mid all due asking m h e answered =
     )
 
 -- or some
-pub begun_one : {D : Type 0} (turn : Turn D) (a c : D) (input rest old mid all due : List ℕ) (asking : Option Asking) (m : ClientMessage)
-    → Advances input rest due asking (Ok (Ask m)) → mid ≡ old ++ due
+pub begun_one : {D : Type 0} (turn : Turn D) (a c : D) (input rest old mid all unsent : List ℕ) (asking : Option Asking) (m : ClientMessage)
+    → Advances input rest unsent asking (Ok (Ask m)) → mid ≡ old ++ unsent
     → ((payload : List ℕ) → IsFirst asking m payload → (all ≡ mid) × Begins turn a payload c)
-    → (due : List ℕ) × (all ≡ old ++ due) × Next turn a input rest due c (Err refusals.Memory)
-begun_one turn a c input rest old mid all due asking m h e answered =
+    → (unsent : List ℕ) × (all ≡ old ++ unsent) × Next turn a input rest unsent c (Err refusals.Memory)
+begun_one turn a c input rest old mid all unsent asking m h e answered =
     let r = answered h.0 h.4 in
     ([], r.0 ∙ e ∙ ap (λ (x : List ℕ). old ++ x) h.3, (begun h.0 rest h.1 r.1, refl))

@@ -56,6 +56,6 @@ always (Err e) p = p
 
 -- a reply that isn't told leaves the payload begun
 pub replies_begin : {D : Type 0} (turn : Turn D) (a b : D) (payload reply : List ℕ) → Replies turn a payload reply b → Begins turn a payload b
-replies_begin turn a b payload reply (one version m r spelled t told) = asked (payloads.One version m) (m ∷ []) [] (r ∷ []) spelled refl (b, t, refl)
-replies_begin turn a b payload reply (many ms rs spelled t told) = asked (payloads.Many ms) ms [] rs spelled (sym (append-nil ms)) t
-replies_begin turn a b payload reply (nothing none same told) = unasked same
+replies_begin turn a b payload reply (one version m r spelled t reported) = asked (payloads.One version m) (m ∷ []) [] (r ∷ []) spelled refl (b, t, refl)
+replies_begin turn a b payload reply (many ms rs spelled t reported) = asked (payloads.Many ms) ms [] rs spelled (sym (append-nil ms)) t
+replies_begin turn a b payload reply (nothing none same reported) = unasked same

@@ -5,20 +5,20 @@ use Rattle.craq_names.specs.declared.refusal.Refusal.TheVariants as refusals
 use Rattle.craq_frames.specs.declared.ask.ClientMessage.{ClientMessage}
 use Rattle.craq_frames.specs.declared.answer.ClientReply.{ClientReply}
 use Rattle.craq_frames.specs.Frame.{frame, BeginsTooLong, IsPartial}
-use Rattle.craq_frames.specs.Payload.{SpellsAsk, SpellsAnswer}
+use Rattle.craq_frames.specs.Payload.{EncodesAsk, EncodesAnswer}
 
 -- the bytes are the frame of the message, of version 1
 abbrev pub IsFrameOf : ClientMessage → List ℕ → Type 0
-IsFrameOf m bytes = (payload : List ℕ) × SpellsAsk m payload × (bytes ≡ frame payload)
+IsFrameOf m bytes = (payload : List ℕ) × EncodesAsk m payload × (bytes ≡ frame payload)
 
 -- what was sent and then received when `exchange` answers so, and how many calls failed
 abbrev pub Exchanged : ClientMessage → List ℕ → List ℕ → ℕ → Result ClientReply Refusal → Type 0
 -- the frame of the reply came
 Exchanged m sent received faults (Ok r) =
-    IsFrameOf m sent × (faults ≡ 0) × ((payload : List ℕ) × (rest : List ℕ) × (received ≡ frame payload ++ rest) × SpellsAnswer r payload)
+    IsFrameOf m sent × (faults ≡ 0) × ((payload : List ℕ) × (rest : List ℕ) × (received ≡ frame payload ++ rest) × EncodesAnswer r payload)
 -- a frame came that is no reply's
 Exchanged m sent received faults (Err refusals.BadFrame) =
-    IsFrameOf m sent × (faults ≡ 0) × ((payload : List ℕ) × (rest : List ℕ) × (received ≡ frame payload ++ rest) × ((r : ClientReply) → SpellsAnswer r payload → ⊥))
+    IsFrameOf m sent × (faults ≡ 0) × ((payload : List ℕ) × (rest : List ℕ) × (received ≡ frame payload ++ rest) × ((r : ClientReply) → EncodesAnswer r payload → ⊥))
 -- a length above the limit came
 Exchanged m sent received faults (Err refusals.FrameTooLong) = IsFrameOf m sent × (faults ≡ 0) × BeginsTooLong received
 -- less than a frame came, and then the end

@@ -13,7 +13,7 @@ use Rattle.craq_frames.specs.declared.versions.Payload.TheVariants as payloads
 use Rattle.craq_frames.specs.declared.versions.Answered.{Answered}
 use Rattle.craq_frames.specs.declared.versions.Answered.TheVariants as replies
 use Rattle.craq_frames.specs.Frame.{frame, payload_limit, BeginsTooLong, IsPartial}
-use Rattle.craq_frames.specs.Versions.{SpellsPayload, SpellsAnswered}
+use Rattle.craq_frames.specs.Versions.{EncodesPayload, EncodesAnswered}
 
 -- how a door goes from one state to another: old, what it is asked, what it answers, new
 abbrev pub Turn : Type 0 → Type 1
@@ -33,10 +33,10 @@ refused r = replies.One First (answers.Refused r)
 -- order; to a payload that spells nothing the refusal BadFrame, and the door is not asked
 pub data Replies {D : Type 0} (turn : Turn D) (old : D) (payload reply : List ℕ) (new : D) : Type 0 where
   one : (version : PayloadVersion) (m : ClientMessage) (r : ClientReply)
-      → SpellsPayload (payloads.One version m) payload → turn old m r new → SpellsAnswered (replies.One version r) reply → Replies turn old payload reply new
+      → EncodesPayload (payloads.One version m) payload → turn old m r new → EncodesAnswered (replies.One version r) reply → Replies turn old payload reply new
   many : (ms : List ClientMessage) (rs : List ClientReply)
-      → SpellsPayload (payloads.Many ms) payload → Turns turn old ms rs new → SpellsAnswered (replies.Many rs) reply → Replies turn old payload reply new
-  nothing : ((p : Payload) → SpellsPayload p payload → ⊥) → new ≡ old → SpellsAnswered (refused refusals.BadFrame) reply → Replies turn old payload reply new
+      → EncodesPayload (payloads.Many ms) payload → Turns turn old ms rs new → EncodesAnswered (replies.Many rs) reply → Replies turn old payload reply new
+  nothing : ((p : Payload) → EncodesPayload p payload → ⊥) → new ≡ old → EncodesAnswered (refused refusals.BadFrame) reply → Replies turn old payload reply new
 
 -- a reply to each payload, in order
 abbrev pub RepliesEach : {D : Type 0} → Turn D → D → List (List ℕ) → List (List ℕ) → D → Type 0
@@ -60,15 +60,15 @@ messages (payloads.One version m) = m ∷ []
 messages (payloads.Many ms) = ms
 
 -- the replies of a payload
-abbrev pub told : Answered → List ClientReply
-told (replies.One version r) = r ∷ []
-told (replies.Many rs) = rs
+abbrev pub reported : Answered → List ClientReply
+reported (replies.One version r) = r ∷ []
+reported (replies.Many rs) = rs
 
 -- the door was asked nothing, or some first messages of the payload, and their replies are not told
 pub data Begins {D : Type 0} (turn : Turn D) (old : D) (payload : List ℕ) (new : D) : Type 0 where
   unasked : new ≡ old → Begins turn old payload new
   asked : (p : Payload) (ms more : List ClientMessage) (rs : List ClientReply)
-      → SpellsPayload p payload → messages p ≡ ms ++ more → Turns turn old ms rs new → Begins turn old payload new
+      → EncodesPayload p payload → messages p ≡ ms ++ more → Turns turn old ms rs new → Begins turn old payload new
 
 -- the same of the frame that the bytes begin with
 pub data BeginsNext {D : Type 0} (turn : Turn D) (old : D) (rest : List ℕ) (new : D) : Type 0 where
@@ -79,21 +79,21 @@ pub data BeginsNext {D : Type 0} (turn : Turn D) (old : D) (rest : List ℕ) (ne
 pub record RefusesLength (rest last : List ℕ) : Type 0 where
   pub long : BeginsTooLong rest
   pub reply : List ℕ
-  pub spelled : SpellsAnswered (refused refusals.FrameTooLong) reply
+  pub spelled : EncodesAnswered (refused refusals.FrameTooLong) reply
   pub framed : last ≡ frame reply
 
 -- which stream counted a failed call
-pub data Fault : Type 0 where
-  neither : Fault
-  reader : Fault
-  writer : Fault
+pub data StreamFault : Type 0 where
+  neither : StreamFault
+  reader : StreamFault
+  writer : StreamFault
 
-abbrev pub read_faults : Fault → ℕ
+abbrev pub read_faults : StreamFault → ℕ
 read_faults neither = 0
 read_faults reader = 1
 read_faults writer = 0
 
-abbrev pub write_faults : Fault → ℕ
+abbrev pub write_faults : StreamFault → ℕ
 write_faults neither = 0
 write_faults reader = 0
 write_faults writer = 1
@@ -103,7 +103,7 @@ abbrev pub IsUsedUp : ℕ → List ℕ → Type 0
 IsUsedUp n read = 2 ^ 64 - 1 ≤ n + length read
 
 -- what was read and written when `serve` answers so
-abbrev pub Session : {D : Type 0} → Turn D → D → List ℕ → List ℕ → D → Fault → Result ℕ Refusal → Type 0
+abbrev pub Session : {D : Type 0} → Turn D → D → List ℕ → List ℕ → D → StreamFault → Result ℕ Refusal → Type 0
 -- all frames that were read are answered, and no byte is left
 Session turn old read written new neither (Ok n) = Served turn old read [] written n new
 -- less than a frame is left
@@ -128,21 +128,21 @@ Session turn old read written new fault result = ⊥
 
 -- ---- the parts of serving, on bytes that wait to be cut into frames and bytes that wait to be written
 
--- what is done with the next frame of the bytes `input`: `rest` is left of them, and the bytes `due` are to be written
+-- what is done with the next frame of the bytes `input`: `rest` is left of them, and the bytes `unsent` are to be written
 abbrev pub Next : {D : Type 0} → Turn D → D → List ℕ → List ℕ → List ℕ → D → Result Bool Refusal → Type 0
-Next turn old input rest due new (Ok true) = Served turn old input rest due 1 new
-Next turn old input rest due new (Ok false) = IsPartial input × (rest ≡ input) × (due ≡ []) × (new ≡ old)
-Next turn old input rest due new (Err refusals.FrameTooLong) = RefusesLength input due × (new ≡ old)
-Next turn old input rest due new (Err refusals.Memory) = BeginsNext turn old input new × (due ≡ [])
-Next turn old input rest due new result = ⊥
+Next turn old input rest unsent new (Ok true) = Served turn old input rest unsent 1 new
+Next turn old input rest unsent new (Ok false) = IsPartial input × (rest ≡ input) × (unsent ≡ []) × (new ≡ old)
+Next turn old input rest unsent new (Err refusals.FrameTooLong) = RefusesLength input unsent × (new ≡ old)
+Next turn old input rest unsent new (Err refusals.Memory) = BeginsNext turn old input new × (unsent ≡ [])
+Next turn old input rest unsent new result = ⊥
 
 -- the same of the next frames, n of them; true where less than a frame is left
 abbrev pub Batch : {D : Type 0} → Turn D → D → List ℕ → List ℕ → List ℕ → ℕ → D → Result Bool Refusal → Type 0
-Batch turn old input rest due n new (Ok true) = Served turn old input rest due n new × IsPartial rest
-Batch turn old input rest due n new (Ok false) = Served turn old input rest due n new
-Batch turn old input rest due n new (Err refusals.FrameTooLong) =
-    (left : List ℕ) × (replied : List ℕ) × (last : List ℕ) × Served turn old input left replied n new × RefusesLength left last × (due ≡ replied ++ last)
-Batch {D} turn old input rest due n new (Err refusals.Memory) =
-    (left : List ℕ) × (mid : D) × Served turn old input left due n mid × BeginsNext turn mid left new
-Batch turn old input rest due n new (Err refusals.Exhausted) = (left : List ℕ) × Served turn old input left due n new
-Batch turn old input rest due n new result = ⊥
+Batch turn old input rest unsent n new (Ok true) = Served turn old input rest unsent n new × IsPartial rest
+Batch turn old input rest unsent n new (Ok false) = Served turn old input rest unsent n new
+Batch turn old input rest unsent n new (Err refusals.FrameTooLong) =
+    (left : List ℕ) × (replied : List ℕ) × (last : List ℕ) × Served turn old input left replied n new × RefusesLength left last × (unsent ≡ replied ++ last)
+Batch {D} turn old input rest unsent n new (Err refusals.Memory) =
+    (left : List ℕ) × (mid : D) × Served turn old input left unsent n mid × BeginsNext turn mid left new
+Batch turn old input rest unsent n new (Err refusals.Exhausted) = (left : List ℕ) × Served turn old input left unsent n new
+Batch turn old input rest unsent n new result = ⊥

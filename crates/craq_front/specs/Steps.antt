@@ -10,13 +10,13 @@ use Rattle.craq_frames.specs.declared.versions.Payload.TheVariants as payloads
 use Rattle.craq_frames.specs.declared.versions.Answered.{Answered}
 use Rattle.craq_frames.specs.declared.versions.Answered.TheVariants as replies
 use Rattle.craq_frames.specs.Frame.{frame, payload_limit, IsPartial}
-use Rattle.craq_frames.specs.Versions.{many_limit, SpellsPayload, SpellsAnswered}
+use Rattle.craq_frames.specs.Versions.{many_limit, EncodesPayload, EncodesAnswered}
 use Rattle.craq_front.specs.declared.several.Replied.{Replied}
 use Rattle.craq_front.specs.declared.several.Replied.TheVariants as after
-use Rattle.craq_front.specs.declared.conversation.Asking.{Asking}
-use Rattle.craq_front.specs.declared.conversation.Asking.TheVariants.{One, Many}
-use Rattle.craq_front.specs.declared.conversation.Step.{Step}
-use Rattle.craq_front.specs.declared.conversation.Step.TheVariants.{Ask, Refused, Nothing}
+use Rattle.craq_front.specs.declared.protocol_codec.Asking.{Asking}
+use Rattle.craq_front.specs.declared.protocol_codec.Asking.TheVariants.{One, Many}
+use Rattle.craq_front.specs.declared.protocol_codec.Step.{Step}
+use Rattle.craq_front.specs.declared.protocol_codec.Step.TheVariants.{Ask, Refused, Nothing}
 use Rattle.craq_front.specs.Door.{IsAllowed}
 use Rattle.craq_front.specs.Serving.{messages, refused, RefusesLength}
 
@@ -39,24 +39,24 @@ IsForm (Some (Many several)) p = (ms : List ClientMessage) × (p ≡ payloads.Ma
 -- the payload's first message is asked
 pub record IsFirst (asking : Option Asking) (m : ClientMessage) (payload : List ℕ) : Type 0 where
   pub p : Payload
-  pub spelled : SpellsPayload p payload
+  pub spelled : EncodesPayload p payload
   pub form : IsForm asking p
   pub first : messages p ≡ m ∷ waiting asking
   pub none : replied asking ≡ []
 
--- what comes next: `rest` is left of the bytes `input`, and the bytes `due` are to be written
+-- what comes next: `rest` is left of the bytes `input`, and the bytes `unsent` are to be written
 abbrev pub Advances : List ℕ → List ℕ → List ℕ → Option Asking → Result Step Refusal → Type 0
 -- the first message of the payload in front is asked
-Advances input rest due asking (Ok (Ask m)) =
-    (payload : List ℕ) × (input ≡ frame payload ++ rest) × (length payload ≤ payload_limit) × (due ≡ []) × IsFirst asking m payload
+Advances input rest unsent asking (Ok (Ask m)) =
+    (payload : List ℕ) × (input ≡ frame payload ++ rest) × (length payload ≤ payload_limit) × (unsent ≡ []) × IsFirst asking m payload
 -- the payload in front spells nothing, and its refusal is due
-Advances input rest due asking (Ok Refused) =
-    (payload : List ℕ) × (reply : List ℕ) × (input ≡ frame payload ++ rest) × (length payload ≤ payload_limit) × (due ≡ frame reply) × (asking ≡ None)
-    × ((p : Payload) → SpellsPayload p payload → ⊥) × SpellsAnswered (refused refusals.BadFrame) reply
-Advances input rest due asking (Ok Nothing) = IsPartial input × (rest ≡ input) × (due ≡ []) × (asking ≡ None)
-Advances input rest due asking (Err refusals.FrameTooLong) = RefusesLength input due
-Advances input rest due asking (Err refusals.Memory) = due ≡ []
-Advances input rest due asking (Err _) = ⊥
+Advances input rest unsent asking (Ok Refused) =
+    (payload : List ℕ) × (reply : List ℕ) × (input ≡ frame payload ++ rest) × (length payload ≤ payload_limit) × (unsent ≡ frame reply) × (asking ≡ None)
+    × ((p : Payload) → EncodesPayload p payload → ⊥) × EncodesAnswered (refused refusals.BadFrame) reply
+Advances input rest unsent asking (Ok Nothing) = IsPartial input × (rest ≡ input) × (unsent ≡ []) × (asking ≡ None)
+Advances input rest unsent asking (Err refusals.FrameTooLong) = RefusesLength input unsent
+Advances input rest unsent asking (Err refusals.Memory) = unsent ≡ []
+Advances input rest unsent asking (Err _) = ⊥
 
 -- what bytes that came come to, behind which `input` is all that is there: the first message of the payload in front is asked, and
 -- `rest` is left behind that payload; or no message is asked, and all of it is left
@@ -69,17 +69,17 @@ abbrev pub all_replies : Asking → ClientReply → Answered
 all_replies (One version) r = replies.One version r
 all_replies (Many several) r = replies.Many (several.1 ++ r ∷ [])
 
--- what a reply comes to: the bytes `due` are to be written
+-- what a reply comes to: the bytes `unsent` are to be written
 abbrev pub Follows : Option Asking → ClientReply → List ℕ → Option Asking → Result (Option ClientMessage) Refusal → Type 0
 -- the next message of the payload is asked
-Follows (Some asking) r due new (Ok (Some m)) =
-    (waiting (Some asking) ≡ m ∷ waiting new) × (replied new ≡ replied (Some asking) ++ r ∷ []) × ((p : Payload) → IsForm (Some asking) p → IsForm new p) × (due ≡ [])
+Follows (Some asking) r unsent new (Ok (Some m)) =
+    (waiting (Some asking) ≡ m ∷ waiting new) × (replied new ≡ replied (Some asking) ++ r ∷ []) × ((p : Payload) → IsForm (Some asking) p → IsForm new p) × (unsent ≡ [])
 -- it was the last, and the frame of all replies is due
-Follows (Some asking) r due new (Ok None) =
-    (reply : List ℕ) × (waiting (Some asking) ≡ []) × (due ≡ frame reply) × SpellsAnswered (all_replies asking r) reply × (new ≡ None)
-Follows None r due new (Ok found) = (found ≡ None) × (due ≡ []) × (new ≡ None)
-Follows asking r due new (Err refusals.Memory) = due ≡ []
-Follows asking r due new (Err _) = ⊥
+Follows (Some asking) r unsent new (Ok None) =
+    (reply : List ℕ) × (waiting (Some asking) ≡ []) × (unsent ≡ frame reply) × EncodesAnswered (all_replies asking r) reply × (new ≡ None)
+Follows None r unsent new (Ok found) = (found ≡ None) × (unsent ≡ []) × (new ≡ None)
+Follows asking r unsent new (Err refusals.Memory) = unsent ≡ []
+Follows asking r unsent new (Err _) = ⊥
 
 -- what a reply comes to among several messages, of which those `ws` wait and those before have the replies `rs`
 abbrev pub AfterReply : List ClientMessage → List ClientReply → ClientReply → Replied → Type 0

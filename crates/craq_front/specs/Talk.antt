@@ -4,8 +4,8 @@ use Rattle.craq_frames.specs.declared.ask.ClientMessage.{ClientMessage}
 use Rattle.craq_frames.specs.declared.answer.ClientReply.{ClientReply}
 use Rattle.craq_frames.specs.declared.versions.Payload.{Payload}
 use Rattle.craq_frames.specs.Frame.{frame, payload_limit}
-use Rattle.craq_frames.specs.Versions.{SpellsPayload}
-use Rattle.craq_front.specs.declared.conversation.Asking.{Asking}
+use Rattle.craq_frames.specs.Versions.{EncodesPayload}
+use Rattle.craq_front.specs.declared.protocol_codec.Asking.{Asking}
 use Rattle.craq_front.specs.Serving.{Turn, Turns, Served, messages}
 use Rattle.craq_front.specs.Steps.{waiting, replied, IsForm}
 
@@ -20,7 +20,7 @@ next_turn old m r new = new ≡ old ++ (m, r) ∷ []
 -- the messages of the payload before m have their replies, and m is asked
 pub record UnderWay {D : Type 0} (turn : Turn D) (old : D) (payload : List ℕ) (asking : Option Asking) (m : ClientMessage) (new : D) : Type 0 where
   pub p : Payload
-  pub spelled : SpellsPayload p payload
+  pub spelled : EncodesPayload p payload
   pub form : IsForm asking p
   pub before : List ClientMessage
   pub rest : messages p ≡ before ++ m ∷ waiting asking

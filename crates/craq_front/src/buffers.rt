@@ -1,4 +1,4 @@
-//! The two buffers of a connection; for `Conversation`, `serve` and `exchange`.
+//! The two buffers of a connection; for `ProtocolCodec`, `serve` and `exchange`.
 ghost use Rattle.std.specs.Prelude.{◌≡◌, ◌+◌, ◌-◌, ◌^◌, ◌<◌, ◌≤◌, ◌⊎◌, ◌↔◌, ℕ, List, [], ◌++◌, length, take, Ok, Err, IsTrue, IfOk, IfErr, OnOk, OnErr};
 ghost use Rattle.std.specs.Io.KnownBytes.{Appends, Consumes, IsAtEnd, Keeps};
 
@@ -12,7 +12,7 @@ const MOST_AT_ONCE: usize = 8_192;
 
 /// The bytes of unsent replies from which on they are written before more are made. This project's
 /// profile.
-pub(crate) const MOST_DUE: usize = 65_536;
+pub(crate) const MOST_UNSENT: usize = 65_536;
 
 /// The input and the output buffer of a connection.
 #[derive(Drop)]
@@ -56,16 +56,16 @@ impl Buffers {
 
     /// Returns whether unsent bytes have to be written before more replies are made.
     pub(crate) fn is_full(&self) -> bool
-        ensures { IsTrue result ↔ (MOST_DUE ≤ length self.now.output.items) }
+        ensures { IsTrue result ↔ (MOST_UNSENT ≤ length self.now.output.items) }
     {
-        self.output.len() >= MOST_DUE
+        self.output.len() >= MOST_UNSENT
     }
 
     /// Reads once and returns how many bytes came: 0 exactly at the end of the input. Nothing may
     /// be unsent: no reply waits for a read. `Memory` where a growth was refused, and nothing was
     /// read; `Io` where the read failed.
     pub(crate) fn fill<R: Source>(&mut self, reader: &mut R) -> Result<usize, Refusal>
-        requires due { self.old.output.items ≡ [] }
+        requires unsent { self.old.output.items ≡ [] }
         requires count { R.count reader.old < 2 ^ 64 - 1 }
         ensures ok { IfOk result (λ n. (more : List ℕ) × (length more ≡ n)
             × (self.new.input.items ≡ self.old.input.items ++ more)

@@ -37,7 +37,7 @@ fn frame_message(
 /// - `Memory` where a growth was refused.
 fn receive<S: Source>(buffers: &mut Buffers, stream: &mut S) -> Result<BytesMut, Refusal>
     requires input { buffers.old.input.items ≡ [] }
-    requires due { buffers.old.output.items ≡ [] }
+    requires unsent { buffers.old.output.items ≡ [] }
     requires count { S.count stream.old < 2 ^ 64 - 1 }
     ensures ok { IfOk result (λ payload. (rest : List ℕ) × (S.count stream.new ≡ S.count stream.old)
         × Consumes (S.remaining stream.old) (S.remaining stream.new) (frame payload.items ++ rest)) }

@@ -2,10 +2,10 @@
 //! readers of the contracts; no code calls them.
 ghost use Rattle.std.specs.Prelude.{◌≤◌, ◌↔◌, ℕ, List, [], ◌∷◌, ◌++◌, length, Option, None, Some, Ok};
 ghost use Rattle.craq_frames.specs.declared.answer.ClientReply.{ClientReply};
-ghost use Rattle.craq_frames.specs.Payload.{AnswerFits, IsAnswer, answer_spelling};
+ghost use Rattle.craq_frames.specs.Payload.{AnswerFits, IsAnswer, answer_encoding};
 ghost use Rattle.craq_frames.specs.declared.ask.ClientMessage.{ClientMessage};
-ghost use Rattle.craq_front.specs.declared.conversation.Asking.{Asking};
-ghost use Rattle.craq_front.specs.declared.conversation.Step.TheVariants.{Ask, Refused};
+ghost use Rattle.craq_front.specs.declared.protocol_codec.Asking.{Asking};
+ghost use Rattle.craq_front.specs.declared.protocol_codec.Step.TheVariants.{Ask, Refused};
 ghost use Rattle.craq_front.specs.Door.{IsAllowed, reply_limit};
 ghost use Rattle.craq_front.specs.Steps.{Advances, Follows};
 ghost use Rattle.craq_front.specs.Talk.{History, Stands};
@@ -15,20 +15,20 @@ ghost use Rattle.craq_front.specs.Talk.{History, Stands};
 /// has no body: the contract is the law.
 pub fn allowed_replies_are_short()
     ensures { (r : ClientReply) → AnswerFits r
-        → IsAllowed r ↔ (IsAnswer r × (length (answer_spelling r) ≤ reply_limit)) }
+        → IsAllowed r ↔ (IsAnswer r × (length (answer_encoding r) ≤ reply_limit)) }
 {}
 
 /// Laws: the bytes that a codec makes answer the bytes that came to it. These may come in any
 /// parts; each request that is asked is a turn with the reply that is given back. It has no body:
 /// the contract is the law.
-pub fn conversations_answer()
+pub fn codecs_answer()
     ensures begins { Stands [] [] [] None None [] }
     ensures received { (read made input more : List ℕ) (a : Option Asking) (m : Option ClientMessage) (turns : History)
         → Stands read made input a m turns → Stands (read ++ more) made (input ++ more) a m turns }
-    ensures asked { (read made input rest due : List ℕ) (a b : Option Asking) (m : ClientMessage) (turns : History)
-        → Stands read made input a None turns → Advances input rest due b (Ok (Ask m)) → Stands read (made ++ due) rest b (Some m) turns }
-    ensures refused { (read made input rest due : List ℕ) (a b : Option Asking) (turns : History)
-        → Stands read made input a None turns → Advances input rest due b (Ok Refused) → Stands read (made ++ due) rest b None turns }
-    ensures replied { (read made input due : List ℕ) (a b : Option Asking) (m : ClientMessage) (r : ClientReply) (next : Option ClientMessage) (turns : History)
-        → Stands read made input a (Some m) turns → Follows a r due b (Ok next) → Stands read (made ++ due) input b next (turns ++ (m, r) ∷ []) }
+    ensures asked { (read made input rest unsent : List ℕ) (a b : Option Asking) (m : ClientMessage) (turns : History)
+        → Stands read made input a None turns → Advances input rest unsent b (Ok (Ask m)) → Stands read (made ++ unsent) rest b (Some m) turns }
+    ensures refused { (read made input rest unsent : List ℕ) (a b : Option Asking) (turns : History)
+        → Stands read made input a None turns → Advances input rest unsent b (Ok Refused) → Stands read (made ++ unsent) rest b None turns }
+    ensures replied { (read made input unsent : List ℕ) (a b : Option Asking) (m : ClientMessage) (r : ClientReply) (next : Option ClientMessage) (turns : History)
+        → Stands read made input a (Some m) turns → Follows a r unsent b (Ok next) → Stands read (made ++ unsent) input b next (turns ++ (m, r) ∷ []) }
 {}

@@ -4,18 +4,18 @@
 #![tactic(auto)]
 
 mod buffers;
-mod conversation;
 mod door;
 mod exchanging;
 mod laws;
+mod protocol_codec;
 mod replying;
 mod serving;
 mod several;
 mod stream;
 
-pub use conversation::{Conversation, Step};
 pub use door::{Door, is_allowed};
 pub use exchanging::exchange;
-pub use laws::{allowed_replies_are_short, conversations_answer};
+pub use laws::{allowed_replies_are_short, codecs_answer};
+pub use protocol_codec::{ProtocolCodec, Step};
 pub use serving::serve;
 pub use stream::{Counted, Failed, Sink, Source, Stream};

@@ -3,9 +3,9 @@ ghost use Rattle.std.specs.Prelude.{◌≡◌, ℕ, List, ◌++◌, IfErr, OnOk,
 ghost use Rattle.std.specs.List.{AllByRecursion};
 ghost use Rattle.craq_frames.specs.Frame.{frame};
 ghost use Rattle.craq_frames.specs.Payload.{NamesNode};
-ghost use Rattle.craq_frames.specs.Versions.{IsAnswered, SpellsAnswered};
+ghost use Rattle.craq_frames.specs.Versions.{IsAnswered, EncodesAnswered};
 ghost use Rattle.craq_front.specs.Door.{IsAllowed};
-ghost use Rattle.craq_front.specs.Serving.{refused, told};
+ghost use Rattle.craq_front.specs.Serving.{refused, reported};
 
 use bytes::BytesMut;
 use craq_frames::{Answered, ClientReply, PayloadVersion};
@@ -13,11 +13,11 @@ use craq_names::Refusal;
 
 /// Appends the frame of the replies to a payload, each of which a request handler may give.
 /// `Memory` where a growth was refused; `output` is unchanged then.
-pub(crate) fn make_due(output: &mut BytesMut, answered: Answered) -> Result<(), Refusal>
+pub(crate) fn make_unsent(output: &mut BytesMut, answered: Answered) -> Result<(), Refusal>
     requires rules { IsAnswered answered }
-    requires allowed { AllByRecursion IsAllowed (told answered) }
+    requires allowed { AllByRecursion IsAllowed (reported answered) }
     ensures ok { OnOk result ((reply : List ℕ) × (output.new.items ≡ output.old.items ++ frame reply)
-        × SpellsAnswered answered reply) }
+        × EncodesAnswered answered reply) }
     ensures err { IfErr result (λ e. e ≡ Refusal.Memory) }
     ensures same { OnErr result (output.new.items ≡ output.old.items) }
 {
@@ -32,10 +32,10 @@ pub(crate) fn make_due(output: &mut BytesMut, answered: Answered) -> Result<(), 
 pub(crate) fn refuse(output: &mut BytesMut, why: Refusal) -> Result<(), Refusal>
     requires { NamesNode why }
     ensures ok { OnOk result ((reply : List ℕ) × (output.new.items ≡ output.old.items ++ frame reply)
-        × SpellsAnswered (refused why) reply) }
+        × EncodesAnswered (refused why) reply) }
     ensures err { IfErr result (λ e. e ≡ Refusal.Memory) }
     ensures same { OnErr result (output.new.items ≡ output.old.items) }
 {
     let refusal = Answered::One(PayloadVersion::First, ClientReply::Refused(why));
-    make_due(output, refusal)
+    make_unsent(output, refusal)
 }

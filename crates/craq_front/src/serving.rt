@@ -2,10 +2,10 @@
 ghost use Rattle.std.specs.Prelude.{◌≡◌, ◌≢◌, ◌+◌, ◌-◌, ◌^◌, ◌<◌, ℕ, List, None, [], ◌++◌, false, Ok, Err, IfOk, IfErr, OnOk, OnErr};
 ghost use Rattle.std.specs.Io.KnownBytes.{Appends, Consumes, IsAtEnd};
 ghost use Rattle.craq_frames.specs.Frame.{frame};
-ghost use Rattle.craq_front.specs.Serving.{Replies, Begins, Fault, read_faults, write_faults, Session, Next, Batch};
+ghost use Rattle.craq_front.specs.Serving.{Replies, Begins, StreamFault, read_faults, write_faults, Session, Next, Batch};
 ghost use Rattle.craq_front.specs.Steps.{IsFirst};
 
-use crate::{Conversation, Door, Sink, Source, Step};
+use crate::{Door, ProtocolCodec, Sink, Source, Step};
 use craq_frames::ClientMessage;
 use craq_names::Refusal;
 use std::alloc::Global;
@@ -13,23 +13,23 @@ use std::alloc::Global;
 /// Asks the request handler the first request of a payload and those behind it, and appends the
 /// frame of their replies. `Memory` where a growth was refused; nothing was appended then.
 fn answer_payload<D: Door>(
-    talk: &mut Conversation,
+    codec: &mut ProtocolCodec,
     door: &mut D,
     first: ClientMessage,
 ) -> Result<(), Refusal>
-    ensures ok { OnOk result ((payload : List ℕ) → IsFirst talk.old.asking first payload
-        → (reply : List ℕ) × (talk.new.buffers.output.items ≡ talk.old.buffers.output.items ++ frame reply)
+    ensures ok { OnOk result ((payload : List ℕ) → IsFirst codec.old.asking first payload
+        → (reply : List ℕ) × (codec.new.buffers.output.items ≡ codec.old.buffers.output.items ++ frame reply)
         × Replies D.turn door.old payload reply door.new) }
     ensures err { IfErr result (λ e. e ≡ Refusal.Memory) }
-    ensures begun { OnErr result ((payload : List ℕ) → IsFirst talk.old.asking first payload
-        → (talk.new.buffers.output.items ≡ talk.old.buffers.output.items) × Begins D.turn door.old payload door.new) }
-    ensures idle { OnOk result (talk.new.asking ≡ None) }
-    ensures input { talk.new.buffers.input.items ≡ talk.old.buffers.input.items }
+    ensures begun { OnErr result ((payload : List ℕ) → IsFirst codec.old.asking first payload
+        → (codec.new.buffers.output.items ≡ codec.old.buffers.output.items) × Begins D.turn door.old payload door.new) }
+    ensures idle { OnOk result (codec.new.asking ≡ None) }
+    ensures input { codec.new.buffers.input.items ≡ codec.old.buffers.input.items }
 {
     let mut asked = Some(first);
     while let Some(message) = asked {
         let reply = door.ask(message);
-        asked = talk.reply(reply)?;
+        asked = codec.reply(reply)?;
     }
     Ok(())
 }
@@ -41,17 +41,17 @@ fn answer_payload<D: Door>(
 /// - `Memory` where a growth was refused; nothing was appended.
 fn answer_next<D: Door>(
     alloc: Global,
-    talk: &mut Conversation,
+    codec: &mut ProtocolCodec,
     door: &mut D,
 ) -> Result<bool, Refusal>
-    requires { talk.old.asking ≡ None }
-    ensures next { (due : List ℕ) × (talk.new.buffers.output.items ≡ talk.old.buffers.output.items ++ due)
-        × Next D.turn door.old talk.old.buffers.input.items talk.new.buffers.input.items due door.new result }
-    ensures idle { OnOk result (talk.new.asking ≡ None) }
+    requires { codec.old.asking ≡ None }
+    ensures next { (unsent : List ℕ) × (codec.new.buffers.output.items ≡ codec.old.buffers.output.items ++ unsent)
+        × Next D.turn door.old codec.old.buffers.input.items codec.new.buffers.input.items unsent door.new result }
+    ensures idle { OnOk result (codec.new.asking ≡ None) }
 {
-    match talk.next(alloc)? {
+    match codec.next(alloc)? {
         Step::Ask(message) => {
-            answer_payload(talk, door, message)?;
+            answer_payload(codec, door, message)?;
             Ok(true)
         }
         Step::Refused => Ok(true),
@@ -64,23 +64,23 @@ fn answer_next<D: Door>(
 /// comes only after a frame was answered.
 fn answer_batch<D: Door>(
     alloc: Global,
-    talk: &mut Conversation,
+    codec: &mut ProtocolCodec,
     door: &mut D,
     frames: &mut u64,
 ) -> Result<bool, Refusal>
-    requires { talk.old.asking ≡ None }
-    ensures batch { (due : List ℕ) × (n : ℕ) × (talk.new.buffers.output.items ≡ talk.old.buffers.output.items ++ due)
+    requires { codec.old.asking ≡ None }
+    ensures batch { (unsent : List ℕ) × (n : ℕ) × (codec.new.buffers.output.items ≡ codec.old.buffers.output.items ++ unsent)
         × (frames.new ≡ frames.old + n)
-        × Batch D.turn door.old talk.old.buffers.input.items talk.new.buffers.input.items due n door.new result }
-    ensures idle { OnOk result (talk.new.asking ≡ None) }
+        × Batch D.turn door.old codec.old.buffers.input.items codec.new.buffers.input.items unsent n door.new result }
+    ensures idle { OnOk result (codec.new.asking ≡ None) }
     ensures exhausted { result ≡ Err Refusal.Exhausted → frames.new ≡ 2 ^ 64 - 1 }
-    ensures more { result ≡ Ok false → talk.old.buffers.output.items ≡ [] → frames.old < frames.new }
+    ensures more { result ≡ Ok false → codec.old.buffers.output.items ≡ [] → frames.old < frames.new }
 {
-    while !talk.is_full() {
+    while !codec.is_full() {
         if *frames == u64::MAX {
             return Err(Refusal::Exhausted);
         }
-        match answer_next(alloc, talk, door) {
+        match answer_next(alloc, codec, door) {
             Ok(true) => *frames += 1,
             Ok(false) => return Ok(true),
             Err(refusal) => return Err(refusal),
@@ -118,7 +118,7 @@ pub fn serve<R: Source, W: Sink, D: Door>(
     requires reads { R.count reader.old < 2 ^ 64 - 1 }
     requires writes { W.count writer.old < 2 ^ 64 - 1 }
     // The bytes written answer the bytes read, as `Session` says for each result.
-    ensures session { (read : List ℕ) × (written : List ℕ) × (fault : Fault)
+    ensures session { (read : List ℕ) × (written : List ℕ) × (fault : StreamFault)
         × Consumes (R.remaining reader.old) (R.remaining reader.new) read
         × Appends (W.contents writer.old) (W.contents writer.new) written
         × (R.count reader.new ≡ R.count reader.old + read_faults fault)
@@ -128,16 +128,16 @@ pub fn serve<R: Source, W: Sink, D: Door>(
     ensures end { IfOk result (λ n. IsAtEnd (R.remaining reader.new)) }
     ensures closed { result ≡ Err Refusal.Closed → IsAtEnd (R.remaining reader.new) }
 {
-    let mut talk = Conversation::new(alloc);
+    let mut codec = ProtocolCodec::new(alloc);
     let mut frames = 0u64;
     for _turn in 0..u64::MAX {
-        let batch = answer_batch(alloc, &mut talk, door, &mut frames);
-        talk.buffers.flush(writer)?;
+        let batch = answer_batch(alloc, &mut codec, door, &mut frames);
+        codec.buffers.flush(writer)?;
         let is_drained = batch?;
         if is_drained {
-            let count = talk.buffers.fill(reader)?;
+            let count = codec.buffers.fill(reader)?;
             if count == 0 {
-                return talk.buffers.ended(frames);
+                return codec.buffers.ended(frames);
             }
         }
     }

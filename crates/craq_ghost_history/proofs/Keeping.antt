@@ -23,13 +23,13 @@ module _ {E : Type 0} (author : E → Author) (holds : List E → Type 0) where
       (λ (x : (j ≢ i) × (get_elem? views j ≡ some u)). others j u x.0 x.1)
       (at_set views i j w u e)
 
-  pub adds : (i : ℕ) (v : View E) (e : E) → Owns v.right (author e) → MayAdd author holds v.seen v.told e
+  pub adds : (i : ℕ) (v : View E) (e : E) → Owns v.right (author e) → MayAdd author holds v.seen v.reported e
       → (views : List (View E)) → Kept author holds views → get_elem? views i ≡ some v → (w : View E) × Kept author holds (set views i w) × Extends author holds v e w
   adds i v e owns may views kept at =
       let f : Fits author kept.log kept.seat i v = kept.fits i v at in
       let mine : (kept.seat (author e) ≡ i) × (of author (author e) v.seen ≡ of author (author e) kept.log) = f.mine (author e) owns in
       let now : List E = kept.log ++ e ∷ [] in
-      let history : holds now = may kept.log kept.history f.seen f.told mine.1 in (
+      let history : holds now = may kept.log kept.history f.seen f.reported mine.1 in (
         view now v.right,
         record {
           log = now;
@@ -40,17 +40,17 @@ module _ {E : Type 0} (author : E → Author) (holds : List E → Type 0) where
               let g : Fits author kept.log kept.seat j u = kept.fits j u there in
               record {
                 seen = prefix_append u.seen kept.log (e ∷ []) g.seen;
-                told = prefix_append u.told kept.log (e ∷ []) g.told;
+                reported = prefix_append u.reported kept.log (e ∷ []) g.reported;
                 mine = λ a o.
                     let m : (kept.seat a ≡ j) × (of author a u.seen ≡ of author a kept.log) = g.mine a o in
                     (m.0, m.1 ∙ sym (own_other author a kept.log e (λ is. apart (sym m.0 ∙ (ap kept.seat (sym is) ∙ mine.0)))));
               })
-              (record { seen = prefix_self now; told = prefix_nil now; mine = λ a o. ((f.mine a o).0, refl) });
+              (record { seen = prefix_self now; reported = prefix_nil now; mine = λ a o. ((f.mine a o).0, refl) });
         },
         record {
-          added = record { before = kept.log; kept = f.seen; heard = f.told; own = sym mine.1; now = refl };
+          added = record { before = kept.log; kept = f.seen; heard = f.reported; own = sym mine.1; now = refl };
           history = history;
-          told = refl;
+          reported = refl;
           right = refl;
         },
       )
@@ -65,9 +65,9 @@ module _ {E : Type 0} (author : E → Author) (holds : List E → Type 0) where
           seat = kept.seat;
           history = kept.history;
           fits = fits_set kept.log kept.seat views i w (λ j u apart there. kept.fits j u there)
-              (record { seen = prefix_self kept.log; told = prefix_nil kept.log; mine = λ a o. ((f.mine a o).0, refl) });
+              (record { seen = prefix_self kept.log; reported = prefix_nil kept.log; mine = λ a o. ((f.mine a o).0, refl) });
         },
-        record { seen = f.seen; told = f.told; history = kept.history; own = λ a o. sym (f.mine a o).1; silent = refl; right = refl },
+        record { seen = f.seen; reported = f.reported; history = kept.history; own = λ a o. sym (f.mine a o).1; silent = refl; right = refl },
       )
 
   -- a seat tells what it has seen
@@ -80,7 +80,7 @@ module _ {E : Type 0} (author : E → Author) (holds : List E → Type 0) where
         history = kept.history;
         fits = λ j u e. ⊎_elim
             (λ (was : get_elem? (set views i v) j ≡ some u). kept.fits j u (subst (λ l. get_elem? l j ≡ some u) (set_again views i v at) was))
-            (λ (last : (j ≡ length (set views i v)) × (witness v ≡ u)). subst (Fits author kept.log kept.seat j) last.1 (record { seen = f.seen; told = prefix_nil kept.log; mine = λ a o. absurd o }))
+            (λ (last : (j ≡ length (set views i v)) × (witness v ≡ u)). subst (Fits author kept.log kept.seat j) last.1 (record { seen = f.seen; reported = prefix_nil kept.log; mine = λ a o. absurd o }))
             (at_end (set views i v) (witness v) u j e);
       }
 
@@ -94,7 +94,7 @@ module _ {E : Type 0} (author : E → Author) (holds : List E → Type 0) where
       let here : (kept.seat k ≡ i) × (of author k v.seen ≡ of author k kept.log) = f.mine k (owns_given k v.right may) in
       let others : (a : Author) → a ≢ k → seat a ≡ kept.seat a = λ a apart. rw (same_apart a k apart) refl in
       let given_one : Fits author kept.log seat last (given k v) =
-      record { seen = f.seen; told = prefix_nil kept.log; mine = λ a o. (rw (same_eq a k o) refl, rw o here.1) } in
+      record { seen = f.seen; reported = prefix_nil kept.log; mine = λ a o. (rw (same_eq a k o) refl, rw o here.1) } in
       record {
         log = kept.log;
         seat = seat;
@@ -105,14 +105,14 @@ module _ {E : Type 0} (author : E → Author) (holds : List E → Type 0) where
             let g : Fits author kept.log kept.seat j' u' = kept.fits j' u' there in
             record {
               seen = g.seen;
-              told = g.told;
+              reported = g.reported;
               mine = λ a o.
                   let m : (kept.seat a ≡ j') × (of author a u'.seen ≡ of author a kept.log) = g.mine a o in
                   (others a (λ is. apart (sym m.0 ∙ (ap kept.seat is ∙ here.0))) ∙ m.0, m.1);
             })
             (record {
               seen = f.seen;
-              told = f.told;
+              reported = f.reported;
               mine = λ a o.
                   let left = owns_left k a v.right may o in
                   let m : (kept.seat a ≡ i) × (of author a v.seen ≡ of author a kept.log) = f.mine a left.0 in
@@ -138,8 +138,8 @@ module _ {E : Type 0} (author : E → Author) (holds : List E → Type 0) where
         history = kept.history;
         fits = fits_set kept.log kept.seat (set views i (informed v w)) other spent
             (λ j u _ e. fits_set kept.log kept.seat views i (informed v w) (λ j' u' _ e'. kept.fits j' u' e')
-            (record { seen = f.seen; told = g.seen; mine = f.mine }) j u e)
-            (record { seen = prefix_nil kept.log; told = prefix_nil kept.log; mine = λ a o. absurd o });
+            (record { seen = f.seen; reported = g.seen; mine = f.mine }) j u e)
+            (record { seen = prefix_nil kept.log; reported = prefix_nil kept.log; mine = λ a o. absurd o });
       }
 
   -- ---- the same of tables
@@ -151,10 +151,10 @@ module _ {E : Type 0} (author : E → Author) (holds : List E → Type 0) where
   begins ws h = record { log = []; seat = λ (a : Author). 0; history = h; fits = one }
     where
       one : (i : ℕ) (v : View E) → get_elem? (first_view ∷ []) i ≡ some v → Fits author [] (λ (a : Author). 0) i v
-      one zero v e = subst (Fits author [] (λ (a : Author). 0) 0) (some-injective _ _ e) (record { seen = prefix_nil []; told = prefix_nil []; mine = λ a o. (refl, refl) })
+      one zero v e = subst (Fits author [] (λ (a : Author). 0) 0) (some-injective _ _ e) (record { seen = prefix_nil []; reported = prefix_nil []; mine = λ a o. (refl, refl) })
       one (suc i) v e = absurd (some-ne-none v (sym e))
 
-  pub adds_allowed : (slots i : ℕ) (me : Me ℕ (View E)) (o : Option E) (e : E) → o ≡ Some e → Owns me.0.right (author e) → MayAdd author holds me.0.seen me.0.told e
+  pub adds_allowed : (slots i : ℕ) (me : Me ℕ (View E)) (o : Option E) (e : E) → o ≡ Some e → Owns me.0.right (author e) → MayAdd author holds me.0.seen me.0.reported e
       → Allows Law slots i me 0 (λ n. n) (λ n w. Adds author holds o me w)
   adds_allowed slots i me o e is owns may s law homes at bound =
       let r = adds i me.0 e owns may s.views law at in (r.0, keeps, tt, r.1, (rw is r.2, refl))

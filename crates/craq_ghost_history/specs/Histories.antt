@@ -12,14 +12,14 @@ HistoryId = TableId
 -- the entry keeps the rule, whatever others have added: after each history that begins with what the author has seen and was told, and has no more of
 -- the author's entries
 abbrev pub MayAdd : {E : Type 0} → (E → Author) → (List E → Type 0) → List E → List E → E → Type 0
-MayAdd {E} author holds seen told e =
-    (log : List E) → holds log → IsPrefix seen log → IsPrefix told log → of author (author e) seen ≡ of author (author e) log → holds (log ++ e ∷ [])
+MayAdd {E} author holds seen reported e =
+    (log : List E) → holds log → IsPrefix seen log → IsPrefix reported log → of author (author e) seen ≡ of author (author e) log → holds (log ++ e ∷ [])
 
 -- the entry was added to all that was there, which began with what was seen and told, and had no more of the author's entries
-pub record IsAdded {E : Type 0} (author : E → Author) (seen told : List E) (e : E) (new : List E) : Type 0 where
+pub record IsAdded {E : Type 0} (author : E → Author) (seen reported : List E) (e : E) (new : List E) : Type 0 where
   pub before : List E
   pub kept : IsPrefix seen before
-  pub heard : IsPrefix told before
+  pub heard : IsPrefix reported before
   pub own : of author (author e) before ≡ of author (author e) seen
   pub now : new ≡ before ++ e ∷ []
 

@@ -22,7 +22,7 @@ no_author = Client 0
 -- who has the right to an author's entries knows all of them, and no other seat has it
 pub record Fits {E : Type 0} (author : E → Author) (log : List E) (seat : Author → ℕ) (i : ℕ) (v : View E) : Type 0 where
   pub seen : IsPrefix v.seen log
-  pub told : IsPrefix v.told log
+  pub reported : IsPrefix v.reported log
   pub mine : (a : Author) → Owns v.right a → (seat a ≡ i) × (of author a v.seen ≡ of author a log)
 
 -- there is one history that keeps the rule, and it begins with what each seat has seen and was told
@@ -33,7 +33,7 @@ pub record Kept {E : Type 0} (author : E → Author) (holds : List E → Type 0)
   pub fits : (i : ℕ) (v : View E) → get_elem? views i ≡ some v → Fits author log seat i v
 
 abbrev pub view : {E : Type 0} → List E → Right → View E
-view seen right = record { seen = seen; told = []; right = right }
+view seen right = record { seen = seen; reported = []; right = right }
 
 abbrev pub first_view : {E : Type 0} → View E
 first_view {E} = view {E = E} [] (Others [] 0)
@@ -42,31 +42,31 @@ abbrev pub witness : {E : Type 0} → View E → View E
 witness v = view v.seen Nothing
 
 abbrev pub informed : {E : Type 0} → View E → View E → View E
-informed v w = record { seen = v.seen; told = w.seen; right = v.right }
+informed v w = record { seen = v.seen; reported = w.seen; right = v.right }
 
 abbrev pub spent : {E : Type 0} → View E
 spent {E} = view {E = E} [] Nothing
 
 abbrev pub after_giving : {E : Type 0} → Author → View E → View E
-after_giving a v = record { seen = v.seen; told = v.told; right = without a v.right }
+after_giving a v = record { seen = v.seen; reported = v.reported; right = without a v.right }
 
 abbrev pub given : {E : Type 0} → Author → View E → View E
 given a v = view v.seen (One a)
 
 -- the entry was added, and the seat has seen all
 pub record Extends {E : Type 0} (author : E → Author) (holds : List E → Type 0) (v : View E) (e : E) (w : View E) : Type 0 where
-  pub added : IsAdded author v.seen v.told e w.seen
+  pub added : IsAdded author v.seen v.reported e w.seen
   pub history : holds w.seen
-  pub told : w.told ≡ []
+  pub reported : w.reported ≡ []
   pub right : w.right ≡ v.right
 
 -- all that is there was seen
 pub record Looks {E : Type 0} (author : E → Author) (holds : List E → Type 0) (v : View E) (w : View E) : Type 0 where
   pub seen : IsPrefix v.seen w.seen
-  pub told : IsPrefix v.told w.seen
+  pub reported : IsPrefix v.reported w.seen
   pub history : holds w.seen
   pub own : (a : Author) → Owns v.right a → of author a w.seen ≡ of author a v.seen
-  pub silent : w.told ≡ []
+  pub silent : w.reported ≡ []
   pub right : w.right ≡ v.right
 
 abbrev pub AddsOne : {E : Type 0} → (E → Author) → (List E → Type 0) → View E → View E → Option E → Type 0
@@ -99,7 +99,7 @@ pub record IsWriter {E : Type 0} (holds : List E → Type 0) (id : HistoryId) (s
   pub at : s.table_id ≡ id
   pub slots : s.me.1 ≡ []
   pub right : s.me.0.right ≡ One (author_of s.me.0.right)
-  pub told : s.me.0.told ≡ []
+  pub reported : s.me.0.reported ≡ []
   pub history : holds s.me.0.seen
 
 -- the first seat, which may give all rights

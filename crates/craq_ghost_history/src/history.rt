@@ -38,7 +38,7 @@ impl Named for Brand {
 /// of it is made.
 pub struct View<E> {
     pub seen: LinkedList<E>,
-    pub told: LinkedList<E>,
+    pub reported: LinkedList<E>,
     pub right: Right,
 }
 
@@ -152,7 +152,7 @@ impl<E, X: HistoryRule<E>, N: Named> History<E, X, N> {
     pub(crate) fn add(&self, seat: &mut Seat<u8, View<E>>, entry: &E)
         requires table { seat.old.table_id ≡ N.history }
         requires owns { Owns seat.old.me.0.right (X.author entry.now) }
-        requires may { MayAdd X.author X.holds seat.old.me.0.seen seat.old.me.0.told entry.now }
+        requires may { MayAdd X.author X.holds seat.old.me.0.seen seat.old.me.0.reported entry.now }
         ensures table { (seat.new.table_id ≡ N.history) × (seat.new.me.1 ≡ seat.old.me.1) }
         ensures adds { Extends X.author X.holds seat.old.me.0 entry.now seat.new.me.0 }
     {
@@ -163,7 +163,7 @@ impl<E, X: HistoryRule<E>, N: Named> History<E, X, N> {
         requires entry { K.entry ≡ Some entry.now }
         requires table { seat.old.table_id ≡ N.history }
         requires owns { Owns seat.old.me.0.right (X.author entry.now) }
-        requires may { MayAdd X.author X.holds seat.old.me.0.seen seat.old.me.0.told entry.now }
+        requires may { MayAdd X.author X.holds seat.old.me.0.seen seat.old.me.0.reported entry.now }
         ensures table { (seat.new.table_id ≡ N.history) × (seat.new.me.1 ≡ seat.old.me.1) }
         ensures adds { Extends X.author X.holds seat.old.me.0 entry.now seat.new.me.0 }
     {
@@ -184,7 +184,7 @@ impl<E, X: HistoryRule<E>, N: Named> History<E, X, N> {
     pub(crate) fn tell(&self, seat: &mut Seat<u8, View<E>>) -> Seat<u8, View<E>>
         requires table { seat.old.table_id ≡ N.history }
         ensures same { (seat.new.table_id ≡ N.history) × (seat.new.me ≡ seat.old.me) }
-        ensures told { (result.table_id ≡ N.history) × (result.me ≡ (witness seat.old.me.0, [])) }
+        ensures reported { (result.table_id ≡ N.history) × (result.me ≡ (witness seat.old.me.0, [])) }
     {
         self.table.shared.split_seat::<Telling>(seat)
     }

@@ -58,29 +58,29 @@ impl<E, X: HistoryRule<E>, N: Named> Writer<E, X, N> {
         &mut self,
         history: &History<E, X, N>,
         entry: &E,
-        told: Token<E, X, N>,
+        reported: Token<E, X, N>,
     ) -> Token<E, X, N>
         requires own { X.author entry.now ≡ self.old.author }
-        requires may { MayAdd X.author X.holds self.old.seen told entry.now }
-        ensures added { IsAdded X.author self.old.seen told entry.now self.new.seen }
+        requires may { MayAdd X.author X.holds self.old.seen reported entry.now }
+        ensures added { IsAdded X.author self.old.seen reported entry.now self.new.seen }
         ensures author { self.new.author ≡ self.old.author }
         ensures token { result ≡ self.new.seen }
     {
-        let Token { seat, of: _ } = told;
+        let Token { seat, of: _ } = reported;
         history.hear(&mut self.seat, seat);
         history.add(&mut self.seat, entry);
         Token::of(history.tell(&mut self.seat))
     }
 
     /// Sees all that there is, and so all that the token has seen. The author has no more entries by it.
-    pub fn learn(&mut self, history: &History<E, X, N>, told: Token<E, X, N>)
+    pub fn learn(&mut self, history: &History<E, X, N>, reported: Token<E, X, N>)
         ensures this { IsPrefix self.old.seen self.new.seen }
-        ensures that { IsPrefix told self.new.seen }
+        ensures that { IsPrefix reported self.new.seen }
         ensures own { of X.author self.old.author self.new.seen ≡ of X.author self.old.author self.old.seen }
         ensures author { self.new.author ≡ self.old.author }
         ensures holds { X.holds self.new.seen }
     {
-        let Token { seat, of: _ } = told;
+        let Token { seat, of: _ } = reported;
         history.hear(&mut self.seat, seat);
         history.look(&mut self.seat);
     }

@@ -5,7 +5,7 @@ use Rattle.craq_history.specs.declared.change.GatheringChange.{GatheringChange}
 use Rattle.craq_history.specs.declared.change.GatheringChange.TheVariants as gatherings
 use Rattle.craq_history.specs.declared.change.HistoryChange.{HistoryChange}
 use Rattle.craq_history.specs.Change.{IsGain, past_by}
-use Rattle.craq_history.specs.Plans.{IsApart}
+use Rattle.craq_history.specs.Effects.{IsApart}
 
 pub past_stays : (g : GatheringChange) (h : HistoryChange) (past : Past) → IsApart g h → IsGain g → past_by h past ≡ past
 past_stays gatherings.Stays h past a i = absurd i

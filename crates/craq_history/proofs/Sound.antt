@@ -7,7 +7,7 @@ use Rattle.craq_commands.specs.declared.entry.Entry.{Entry}
 use Rattle.craq_model.specs.Deliveries.{are_applicable}
 use Rattle.craq_model.specs.Past.{Past, length_in, newest_in}
 use Rattle.craq_model.specs.Plain.{Plain}
-use Rattle.craq_model.specs.Spelled.{IsSpelledEntry}
+use Rattle.craq_model.specs.Encodable.{IsEncodableEntry}
 use Rattle.std.specs.List.{AllByRecursion}
 use Rattle.craq_node_invariant.specs.Sound.{AreInRow, IsSound, IsSoundState}
 use Rattle.craq_node_invariant.proofs.Applicable.{applicable_rest}
@@ -18,7 +18,7 @@ use Rattle.craq_history.specs.declared.change.Change.{Change}
 use Rattle.craq_history.specs.declared.change.HistoryChange.{HistoryChange}
 use Rattle.craq_history.specs.declared.change.HistoryChange.TheVariants as histories
 use Rattle.craq_history.specs.Change.{changed, past_by, commits_by}
-use Rattle.craq_history.specs.Plans.{FollowsInRow, IsApplicable, IsSoundCopy, IsSpelledGrowth}
+use Rattle.craq_history.specs.Effects.{FollowsInRow, IsApplicable, IsSoundCopy, IsEncodableGrowth}
 
 pub holds_after : (p : Plain) (c : Change) → IsSound (changed p c) → HoldsCommitted (commits_by c.acknowledged (past_by c.history p.past))
 holds_after p c s = record { based = s.based; within = s.within }
@@ -56,11 +56,11 @@ applicable_in o (histories.IsCopied position state) past a = tt
 pub grows_applicable : (p : Plain) (c : Change) → IsSound (changed p c) → IsApplicable (newest_in p.past) c.history
 grows_applicable p c s = applicable_in c.acknowledged c.history p.past s.applicable
 
-spelled_in : (o : Option ℕ) (h : HistoryChange) (past : Past) → AllByRecursion IsSpelledEntry (commits_by o (past_by h past)).entries → IsSpelledGrowth h
-spelled_in o histories.Stays past a = tt
-spelled_in None (histories.Grows entries) past a = (all_split IsSpelledEntry past.entries entries a).1
-spelled_in (Some n) (histories.Grows entries) past a = (all_split IsSpelledEntry past.entries entries a).1
-spelled_in o (histories.IsCopied position state) past a = tt
+encodable_in : (o : Option ℕ) (h : HistoryChange) (past : Past) → AllByRecursion IsEncodableEntry (commits_by o (past_by h past)).entries → IsEncodableGrowth h
+encodable_in o histories.Stays past a = tt
+encodable_in None (histories.Grows entries) past a = (all_split IsEncodableEntry past.entries entries a).1
+encodable_in (Some n) (histories.Grows entries) past a = (all_split IsEncodableEntry past.entries entries a).1
+encodable_in o (histories.IsCopied position state) past a = tt
 
-pub grows_spelled : (p : Plain) (c : Change) → IsSound (changed p c) → IsSpelledGrowth c.history
-grows_spelled p c s = spelled_in c.acknowledged c.history p.past s.entries
+pub grows_encodable : (p : Plain) (c : Change) → IsSound (changed p c) → IsEncodableGrowth c.history
+grows_encodable p c s = encodable_in c.acknowledged c.history p.past s.entries

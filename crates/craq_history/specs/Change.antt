@@ -49,7 +49,7 @@ members_by (Some config) members = config.members
 
 -- a new membership drops the floor; otherwise a received floor is kept
 abbrev pub floor_by : Option Config → Option ℕ → Option ℕ → Option ℕ
-floor_by (Some config) told floor = None
+floor_by (Some config) reported floor = None
 floor_by None (Some count) floor = Some count
 floor_by None None floor = floor
 

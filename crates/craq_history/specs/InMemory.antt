@@ -5,7 +5,7 @@ use Rattle.craq_model.specs.Past.{Past, entries_in}
 
 -- a prefix of the settled entries is applied to the state before them; the others, at least one,
 -- are still entries
-pub record ArePartlyFolded (old new : Past) : Type 0 where
+pub record ArePartlyApplied (old new : Past) : Type 0 where
   pub from : old.base ≤ new.base
   pub to : new.base < new.acknowledged
   pub base_state : new.base_state ≡ after_entries old.base_state (take (new.base - old.base) old.entries)

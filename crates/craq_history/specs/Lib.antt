@@ -2,5 +2,5 @@ pub mod Change
 pub mod Standing
 pub mod Nodes
 pub mod Room
-pub mod Plans
+pub mod Effects
 pub mod InMemory

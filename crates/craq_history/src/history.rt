@@ -3,15 +3,15 @@ ghost use Rattle.std.specs.Prelude.{Bool, true, ◌≡◌, ◌≤◌, ◌+◌, �
 ghost use Rattle.std.specs.List.{AllByRecursion};
 ghost use Rattle.craq_commands.specs.Objects.{object_of};
 ghost use Rattle.craq_commands.specs.SingleCopy.{said};
-ghost use Rattle.craq_commands.specs.Told.{told};
+ghost use Rattle.craq_commands.specs.Reported.{given_reply};
 ghost use Rattle.craq_model.specs.Deliveries.{are_applicable};
-ghost use Rattle.craq_model.specs.Spelled.{IsSpelledEntry};
+ghost use Rattle.craq_model.specs.Encodable.{IsEncodableEntry};
 ghost use Rattle.craq_node_invariant.specs.Sound.{AreInRow, IsSoundState};
 ghost use Rattle.craq_compaction.specs.Compacted.{HoldsCommitted, remembered_in};
-ghost use Rattle.craq_history.specs.InMemory.{ArePartlyFolded};
+ghost use Rattle.craq_history.specs.InMemory.{ArePartlyApplied};
 ghost use Rattle.craq_model.specs.Past.{Past, no_past, length_in, newest_in, clean_in, entries_in, object_within_in, last_position, with_entries_in, acknowledged_in, installed_in};
 
-use craq_commands::{Entry, Said, State};
+use craq_commands::{Entry, RequestStatus, State};
 use craq_names::{ClientId, Items, Key, RequestNo, Seq, Version};
 use std::alloc::{AllocError, Global};
 
@@ -72,8 +72,8 @@ pub trait History: Drop {
         ensures short { length result.1.now ≤ 4096 };
 
     /// Looks up a client's request number in the newest state.
-    fn said(&self, client: ClientId, number: RequestNo) -> Said<'_>
-        ensures { told result ≡ said (newest_in (past self.now)) client number };
+    fn said(&self, client: ClientId, number: RequestNo) -> RequestStatus<'_>
+        ensures { given_reply result ≡ said (newest_in (past self.now)) client number };
 
     /// Returns true exactly if each entry fits the state after those before it: each write has its
     /// object's next version, and the request number is new. Allocates nothing.
@@ -95,7 +95,7 @@ pub trait History: Drop {
         requires fits { length_in (past self.old) + length entries < 2 ^ 64 }
         requires in_row { AreInRow (length_in (past self.old) + 1) entries }
         requires applicable { are_applicable (newest_in (past self.old)) entries ≡ true }
-        requires spelled { AllByRecursion IsSpelledEntry entries }
+        requires spelled { AllByRecursion IsEncodableEntry entries }
         ensures ok { OnOk result (past self.new ≡ with_entries_in (past self.old) entries) }
         ensures err { OnErr result (past self.new ≡ past self.old) };
 
@@ -108,7 +108,7 @@ pub trait History: Drop {
         requires { HoldsCommitted (acknowledged_in (past self.old) position) }
         ensures past { past self.new ≡ remembered_in forgets (acknowledged_in (past self.old) position) }
         ensures ok { OnOk result (in_memory self.new ≡ past self.new) }
-        ensures err { OnErr result (ArePartlyFolded (acknowledged_in (in_memory self.old) position) (in_memory self.new)) };
+        ensures err { OnErr result (ArePartlyApplied (acknowledged_in (in_memory self.old) position) (in_memory self.new)) };
 
     /// Returns the state after the committed entries. Fails only when out of memory.
     fn snapshot(&self, alloc: Global) -> Result<State, AllocError>

@@ -8,7 +8,7 @@ ghost use Rattle.craq_node_invariant.specs.Sound.{IsSound};
 ghost use Rattle.craq_compaction.specs.Compacted.{HoldsCommitted, remembered, remembered_in};
 ghost use Rattle.craq_model.specs.Past.{length_in, newest_in};
 ghost use Rattle.craq_model.specs.Parts.{gathering_for, with_part};
-ghost use Rattle.craq_history.specs.Plans.{CanGrow, CanMake, FollowsInRow, IsApart, IsApplicable, IsSoundCopy, IsSpelledGrowth};
+ghost use Rattle.craq_history.specs.Effects.{CanGrow, CanMake, FollowsInRow, IsApart, IsApplicable, IsSoundCopy, IsEncodableGrowth};
 ghost use Rattle.craq_history.specs.Room.{HasRoomFor};
 
 use crate::{Change, GatheringChange, History, HistoryChange, Node, WaitingChange};
@@ -85,7 +85,7 @@ fn change_history<H: History>(history: &mut H, change: HistoryChange) -> Result<
     requires grows { CanGrow (length_in (H.past history.old)) change }
     requires in_row { FollowsInRow (length_in (H.past history.old)) change }
     requires applicable { IsApplicable (newest_in (H.past history.old)) change }
-    requires spelled { IsSpelledGrowth change }
+    requires spelled { IsEncodableGrowth change }
     requires copy { IsSoundCopy change }
     ensures ok { OnOk result (H.past history.new ≡ past_by change (H.past history.old)) }
     ensures err { OnErr result (H.past history.new ≡ H.past history.old) }
@@ -160,16 +160,16 @@ fn take_membership(
     members: &mut Items<NodeId>,
     floor: &mut Option<Seq>,
     membership: Option<Config>,
-    told: Option<Seq>,
+    reported: Option<Seq>,
 )
     ensures epoch { epoch.new ≡ epoch_by membership epoch.old }
     ensures members { members.new ≡ members_by membership members.old }
-    ensures floor { floor.new ≡ floor_by membership told floor.old }
+    ensures floor { floor.new ≡ floor_by membership reported floor.old }
 {
     match membership {
         None => {
-            if told.is_some() {
-                *floor = told;
+            if reported.is_some() {
+                *floor = reported;
             }
         }
         Some(config) => {

@@ -278,8 +278,8 @@ pub fn add_ready_outs(
 {
     let len = outs.len();
     catch_up(outs, alloc, sender, members, entries, later, length)?;
-    let told = tell_predecessor(outs, sender, members, Body::Ack(Seq::new(acknowledged)));
-    undo_if_err(outs, len, told)?;
+    let reported = tell_predecessor(outs, sender, members, Body::Ack(Seq::new(acknowledged)));
+    undo_if_err(outs, len, reported)?;
     let last = last_member(members);
     if last == sender.id() {
         return Ok(());

@@ -2,7 +2,7 @@
 //! `main`.
 use clap::builder::ValueParser;
 use clap::{Arg, ArgAction, ArgMatches, Command, Error};
-use craq_line::VERSION;
+use craq_cli::VERSION;
 use craq_script::GREATEST_NODE;
 use std::alloc::{AllocError, Global};
 

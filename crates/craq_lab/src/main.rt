@@ -13,12 +13,12 @@ mod numbers;
 mod runs;
 
 use command_line::{CoreKind, Nodes, Wanted, wanted_by};
-use craq_claim::{Misread, explanation_of};
-use craq_epochs::MEMBER_LIMIT;
-use craq_line::{
+use craq_claim::{JsonError, explanation_of};
+use craq_cli::{
     BAD_INPUT, NO_MEMORY, report_failure, report_memory, report_no_text, report_words, words_of,
 };
-use craq_list::ListCore;
+use craq_compact_history::ListCore;
+use craq_epochs::MEMBER_LIMIT;
 use craq_names::{NodeId, Refusal};
 use craq_node::Core;
 use craq_play::{PlainCore, PlayFault, play};
@@ -167,7 +167,7 @@ fn stops_file<R>(rt: &R, nodes: Nodes, file: &str, node: &str) -> io::Result<u8>
 where
     R: AllocGlobal + Files + Input + Print + Eprint + Wait,
 {
-    match numbers::number_of(node.as_bytes()) {
+    match numbers::number_in_word(node.as_bytes()) {
         Some(id) => play_file(rt, nodes, Some(file), &Way::Stops(NodeId::new(id))),
         None => {
             eprintln!(rt; "error: invalid value '{node}' for '<NODE>': a leading zero or sign")?;
@@ -177,11 +177,11 @@ where
 }
 
 /// Reports why a file was not read as a linearization witness, and returns the exit status.
-fn report_misread<R>(rt: &R, file: &str, misread: &Misread) -> io::Result<u8>
+fn report_misread<R>(rt: &R, file: &str, misread: &JsonError) -> io::Result<u8>
 where
     R: AllocGlobal + Eprint,
 {
-    if *misread == Misread::Memory {
+    if *misread == JsonError::Memory {
         return report_memory(rt, NO_MEMORY);
     }
     eprintln!(rt; "{file}: {misread}")?;

@@ -7,7 +7,7 @@ const GREATEST: u64 = 0xffff_ffff;
 
 /// Parses the word as a number of 32 bits: decimal digits without a leading zero. `None` for any
 /// other word.
-pub fn number_of(word: &[u8]) -> Option<u32> {
+pub fn number_in_word(word: &[u8]) -> Option<u32> {
     match number_up_to(GREATEST, word) {
         Ok(number) => Some(number as u32),
         Err(_) => None,
@@ -19,7 +19,7 @@ pub fn number_of(word: &[u8]) -> Option<u32> {
 pub fn choices_of(alloc: Global, text: &str) -> Result<Option<Vec<u32>>, AllocError> {
     let mut choices = Vec::new(alloc);
     for word in text.as_bytes().split(|byte| *byte == b',') {
-        match number_of(word) {
+        match number_in_word(word) {
             Some(choice) => choices.push(choice)?,
             None => return Ok(None),
         }

@@ -17,7 +17,7 @@ use Rattle.craq_commands.specs.declared.command.Update.{Update}
 use Rattle.std.proofs.lemmas.Bool.{cases_eq}
 use Rattle.craq_laws.proofs.Copies.{after_from-append}
 use Rattle.craq_commands.proofs.Keeping.{IsRising, found_is_old, kept_found, rising_keep, old_stays}
-use Rattle.craq_laws.proofs.Writes.{found_here, written_elsewhere, told_apart}
+use Rattle.craq_laws.proofs.Writes.{found_here, written_elsewhere, reported_apart}
 
 -- the object has a higher version, or is unchanged
 abbrev pub IsNoOlder : Objects → Objects → List ℕ → Type 0
@@ -88,7 +88,7 @@ kept_here s client w =
 pub put_elsewhere : (s : State) (client other : ℕ) (w : Window) → client ≢ other → window_of (record s { kept = put_number s.kept other w }) client ≡ window_of s client
 unfolding window_of
 put_elsewhere s client other w n =
-    let apart : eq_by_cmp nat_cmp client other ≡ false = told_apart (nat_cmp client other) (λ e. n (nat_cmp-IsAntisymmetric client other e)) in
+    let apart : eq_by_cmp nat_cmp client other ≡ false = reported_apart (nat_cmp client other) (λ e. n (nat_cmp-IsAntisymmetric client other e)) in
     ap (λ (o : Option Window). unwrap_or o []) (find-put nat_cmp nat_cmp_total client other w s.kept ∙ ap (λ b. cond b (Some w) (find nat_cmp client s.kept)) apart)
 
 -- a client's window depends only on the kept replies

@@ -13,10 +13,10 @@ use Rattle.craq_commands.specs.Objects.{Objects, object_of, version_of, set_obje
 use Rattle.craq_commands.specs.SingleCopy.{with_writes}
 use Rattle.craq_model.specs.Asks.{versioned_write}
 
-pub told_apart : (r : Ordering) → r ≢ Equal → is_eq r ≡ false
-told_apart Less n = refl
-told_apart Equal n = absurd (n refl)
-told_apart Greater n = refl
+pub reported_apart : (r : Ordering) → r ≢ Equal → is_eq r ≡ false
+reported_apart Less n = refl
+reported_apart Equal n = absurd (n refl)
+reported_apart Greater n = refl
 
 exact_keys : IsAntisymmetric key_cmp
 exact_keys = slice_cmp-IsAntisymmetric nat_cmp-IsAntisymmetric
@@ -24,7 +24,7 @@ exact_keys = slice_cmp-IsAntisymmetric nat_cmp-IsAntisymmetric
 -- keys with different bytes are different in the order
 two_keys : (k key : List ℕ) → same_bytes k key ≡ false → eq_by_cmp key_cmp key k ≡ false
 two_keys k key n =
-    told_apart (key_cmp key k) (λ e. let t : same_bytes k key ≡ true = (bytes_decides k key).1 (sym (exact_keys key k e)) in cc)
+    reported_apart (key_cmp key k) (λ e. let t : same_bytes k key ≡ true = (bytes_decides k key).1 (sym (exact_keys key k e)) in cc)
 
 same_key : (key : List ℕ) → eq_by_cmp key_cmp key key ≡ true
 same_key key = (eq_by_cmp_equiv nat_list_cmp_total).refl key

@@ -1,4 +1,4 @@
-//! The entries of a node's history after a base position, as `craq_settled` stores them.
+//! The entries of a node's history after a base position, as `craq_compact_state` stores them.
 //! Runs in the program.
 #![tactic(auto)]
 

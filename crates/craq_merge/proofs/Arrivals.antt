@@ -5,7 +5,7 @@ use Rattle.craq_model.specs.declared.ask.Event.TheVariants as events
 use Rattle.craq_model.specs.declared.message.Body.{Body}
 use Rattle.craq_model.specs.declared.message.Body.TheVariants as bodies
 use Rattle.craq_model.specs.declared.message.LinkMessage.{LinkMessage}
-use Rattle.craq_model.specs.Deliveries.{body_turn}
+use Rattle.craq_model.specs.Deliveries.{body_transition}
 use Rattle.craq_model.specs.Node.{node_step}
 use Rattle.craq_model.specs.Plain.{Plain}
 use Rattle.craq_seat.specs.declared.journal.Receipt.{Receipt}
@@ -34,7 +34,7 @@ named_from i receipt ms m h =
 abbrev stamped : LinkMessage → ℕ → ℕ → LinkMessage
 stamped m stamp index = record m { stamp = stamp; index = index }
 
-same_body : (p : Plain) (m : LinkMessage) (stamp index : ℕ) (b : Body) → body_turn p (stamped m stamp index) b ≡ body_turn p m b
+same_body : (p : Plain) (m : LinkMessage) (stamp index : ℕ) (b : Body) → body_transition p (stamped m stamp index) b ≡ body_transition p m b
 same_body p m stamp index (bodies.Config members) = refl
 same_body p m stamp index (bodies.Entry e) = refl
 same_body p m stamp index (bodies.Batch es) = refl

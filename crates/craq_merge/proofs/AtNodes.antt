@@ -16,7 +16,7 @@ use Rattle.craq_laws.proofs.Nodes.{node_here, node_elsewhere, node_id, ids_stay}
 use Rattle.craq_seat.specs.declared.journal.Receipt.{Receipt}
 use Rattle.craq_seat.specs.declared.journal.Record.{Record}
 use Rattle.craq_seat.specs.Journal.{Replays}
-use Rattle.craq_seat.specs.Merge.{AtNode, Line, move_among, node_line, number_among}
+use Rattle.craq_seat.specs.Merge.{AtNode, MergedStep, move_among, node_line, number_among}
 use Rattle.craq_merge.proofs.Arrivals.{named_from, unnamed}
 use Rattle.craq_merge.proofs.Nodes.{halts, is_receiver, runs, same_or_not, takes, counted}
 use Rattle.craq_merge.proofs.Numbers.{all_sent, number_names}
@@ -33,11 +33,11 @@ abbrev pub receivers_of : List LinkMessage → List ℕ
 receivers_of ms = map (λ (m : LinkMessage). m.receiver) ms
 
 -- a message that was sent has the effect of the delivered one
-abbrev pub StandsFor : Chain → List Line → Plain → LinkMessage → Type 0
-StandsFor c lines p m =
+abbrev pub StandsAt : Chain → List MergedStep → Plain → LinkMessage → Type 0
+StandsAt c lines p m =
     (n : LinkMessage) × (message_at c.messages (number_among lines m) ≡ Some n) × (node_step p (events.Deliver n) ≡ node_step p (events.Deliver m))
 
-moves : (lines : List Line) (c : Chain) (id : ℕ) (p q : Plain) (e : Event) (step : Step) → id ≢ 0 → node_at c.nodes id ≡ Some p → node_step p e ≡ Ok (q, step) → ((m : LinkMessage) → e ≡ events.Deliver m → StandsFor c lines p m) → move_progress c (move_among lines id (AtNode e)) ≡ Ok (record c { nodes = set_node c.nodes q }, step)
+moves : (lines : List MergedStep) (c : Chain) (id : ℕ) (p q : Plain) (e : Event) (step : Step) → id ≢ 0 → node_at c.nodes id ≡ Some p → node_step p e ≡ Ok (q, step) → ((m : LinkMessage) → e ≡ events.Deliver m → StandsAt c lines p m) → move_progress c (move_among lines id (AtNode e)) ≡ Ok (record c { nodes = set_node c.nodes q }, step)
 moves lines c id p q (events.Ask ask) step z at h f = rw (at, h) refl
 moves lines c id p q (events.Deliver m) step z at h f =
     let s = f m refl in
@@ -61,7 +61,7 @@ receiver_at ms zero n h = cc
 receiver_at ms (suc i) n h = index_of (λ (m : LinkMessage). m.receiver) ms i n h
 
 -- the move happens at the node
-places : (lines : List Line) (c : Chain) (id : ℕ) (p q : Plain) (e : Event) (step : Step) → node_at c.nodes id ≡ Some p → node_step p e ≡ Ok (q, step) → ((m : LinkMessage) → e ≡ events.Deliver m → StandsFor c lines p m) → node_of (receivers_of c.messages) (move_among lines id (AtNode e)) ≡ id
+places : (lines : List MergedStep) (c : Chain) (id : ℕ) (p q : Plain) (e : Event) (step : Step) → node_at c.nodes id ≡ Some p → node_step p e ≡ Ok (q, step) → ((m : LinkMessage) → e ≡ events.Deliver m → StandsAt c lines p m) → node_of (receivers_of c.messages) (move_among lines id (AtNode e)) ≡ id
 places lines c id p q (events.Ask ask) step at h f = refl
 places lines c id p q (events.Deliver m) step at h f =
     let s = f m refl in
@@ -70,7 +70,7 @@ places lines c id p q events.Tick step at h f = refl
 places lines c id p q events.Stop step at h f = refl
 
 -- a delivered message was sent
-stands_for : (chain : ℕ) (members : List ℕ) (lines done rest : List Line) (l : Line) (c : Chain) (p : Plain) (m : LinkMessage) → lines ≡ done ++ l ∷ rest → AreSound members lines → IsReached chain members done (l ∷ rest) c → IsIn lines l → l.event ≡ AtNode (events.Deliver m) → StandsFor c lines p m
+stands_for : (chain : ℕ) (members : List ℕ) (lines done rest : List MergedStep) (l : MergedStep) (c : Chain) (p : Plain) (m : LinkMessage) → lines ≡ done ++ l ∷ rest → AreSound members lines → IsReached chain members done (l ∷ rest) c → IsIn lines l → l.event ≡ AtNode (events.Deliver m) → StandsAt c lines p m
 stands_for chain members lines done rest l c p m e sound r i is =
     let s = sound.arrivals l m i is in
     let there : IsIn done s.line = is_done lines done rest l s.line e sound.order s.there s.earlier in
@@ -95,7 +95,7 @@ same_event a b h = cc
 pub true_false : (b : Bool) → b ≡ true → b ≡ false → ⊥
 true_false b h k = cc
 
-changes : (chain : ℕ) (members : List ℕ) (done rest : List Line) (c : Chain) (id : ℕ) (r : Record Event) (p q last : Plain) (rs : List (Record Event)) → IsReached chain members done (node_line id r ∷ rest) c → id ≢ 0 → node_at c.nodes id ≡ Some p → node_step p r.event ≡ Ok (q, r.step) → lines_at id rest ≡ map (node_line id) rs → Replays node_step q rs last → IsChanged chain (node_line id r) rest c (record c { nodes = set_node c.nodes q })
+changes : (chain : ℕ) (members : List ℕ) (done rest : List MergedStep) (c : Chain) (id : ℕ) (r : Record Event) (p q last : Plain) (rs : List (Record Event)) → IsReached chain members done (node_line id r ∷ rest) c → id ≢ 0 → node_at c.nodes id ≡ Some p → node_step p r.event ≡ Ok (q, r.step) → lines_at id rest ≡ map (node_line id) rs → Replays node_step q rs last → IsChanged chain (node_line id r) rest c (record c { nodes = set_node c.nodes q })
 changes chain members done rest c id r p q last rs old z at h ls replay =
     let own : id_of p ≡ id = node_id c.nodes id p at in
     let kept : id_of q ≡ id = ap (λ n. n.node) (name_kept p q r.event r.step h) ∙ own in
@@ -125,13 +125,13 @@ changes chain members done rest c id r p q last rs old z at h ls replay =
 -- ---- the whole
 
 -- the line is a move that is taken, and leads to a chain for which the same holds
-pub record IsNext (chain : ℕ) (members : List ℕ) (lines done : List Line) (l : Line) (rest : List Line) (c : Chain) : Type 0 where
+pub record IsNext (chain : ℕ) (members : List ℕ) (lines done : List MergedStep) (l : MergedStep) (rest : List MergedStep) (c : Chain) : Type 0 where
   pub next : Chain
   pub step : chain_step c (move_among lines l.node l.event) ≡ Ok (next, l.step)
   pub reached : IsReached chain members (done ++ l ∷ []) rest next
   pub place : node_of (receivers_of c.messages) (move_among lines l.node l.event) ≡ l.node
 
-pub taken : (chain : ℕ) (members : List ℕ) (lines done rest : List Line) (l : Line) (c x : Chain) → lines ≡ done ++ l ∷ rest → AreSound members lines → IsReached chain members done (l ∷ rest) c → move_progress c (move_among lines l.node l.event) ≡ Ok (x, l.step) → node_of (receivers_of c.messages) (move_among lines l.node l.event) ≡ l.node → IsChanged chain l rest c x → IsNext chain members lines done l rest c
+pub taken : (chain : ℕ) (members : List ℕ) (lines done rest : List MergedStep) (l : MergedStep) (c x : Chain) → lines ≡ done ++ l ∷ rest → AreSound members lines → IsReached chain members done (l ∷ rest) c → move_progress c (move_among lines l.node l.event) ≡ Ok (x, l.step) → node_of (receivers_of c.messages) (move_among lines l.node l.event) ≡ l.node → IsChanged chain l rest c x → IsNext chain members lines done l rest c
 taken chain members lines done rest l c x e sound r m at d =
     let few : c.moves < greatest = rw r.count (moves_left members lines done rest l e sound) in
     let short : length c.messages + length (sent_in l.step.outs) ≤ greatest = rw r.sent (messages_left members lines done rest l e sound) in
@@ -142,11 +142,11 @@ taken chain members lines done rest l c x e sound r m at d =
       place = at;
     }
 
-pub line_in : (lines done rest : List Line) (l : Line) → lines ≡ done ++ l ∷ rest → IsIn lines l
+pub line_in : (lines done rest : List MergedStep) (l : MergedStep) → lines ≡ done ++ l ∷ rest → IsIn lines l
 line_in lines done rest l e = subst (λ ls. IsIn ls l) (sym e) (in_right done (l ∷ rest) l (inl refl))
 
 -- the node of a line exists
-is_known : (chain : ℕ) (members : List ℕ) (lines done rest : List Line) (l : Line) (c : Chain) → lines ≡ done ++ l ∷ rest → AreSound members lines → IsReached chain members done (l ∷ rest) c → l.node ≢ 0 → IsThere c.nodes l.node
+is_known : (chain : ℕ) (members : List ℕ) (lines done rest : List MergedStep) (l : MergedStep) (c : Chain) → lines ≡ done ++ l ∷ rest → AreSound members lines → IsReached chain members done (l ∷ rest) c → l.node ≢ 0 → IsThere c.nodes l.node
 is_known chain members lines done rest l c e sound r z =
     elim (sound.joined l (line_in lines done rest l e) z) [
       | inl m ↦ r.first l.node m
@@ -157,9 +157,9 @@ now_is : (chain id : ℕ) (c : Chain) (p : Plain) → IsThere c.nodes id → IsN
 now_is chain id c p t (inl h) = h
 now_is chain id c p t (inr h) = let k = t.1 in let n = h.0 in cc
 
-at_record : (chain : ℕ) (members : List ℕ) (lines done rest : List Line) (c : Chain) (id : ℕ) (r : Record Event) (p q last : Plain) (rs : List (Record Event)) → lines ≡ done ++ node_line id r ∷ rest → AreSound members lines → IsReached chain members done (node_line id r ∷ rest) c → id ≢ 0 → IsNow chain id (node_at c.nodes id) p → node_step p r.event ≡ Ok (q, r.step) → lines_at id rest ≡ map (node_line id) rs → Replays node_step q rs last → IsNext chain members lines done (node_line id r) rest c
+at_record : (chain : ℕ) (members : List ℕ) (lines done rest : List MergedStep) (c : Chain) (id : ℕ) (r : Record Event) (p q last : Plain) (rs : List (Record Event)) → lines ≡ done ++ node_line id r ∷ rest → AreSound members lines → IsReached chain members done (node_line id r ∷ rest) c → id ≢ 0 → IsNow chain id (node_at c.nodes id) p → node_step p r.event ≡ Ok (q, r.step) → lines_at id rest ≡ map (node_line id) rs → Replays node_step q rs last → IsNext chain members lines done (node_line id r) rest c
 at_record chain members lines done rest c id r p q last rs e sound old z now h ls replay =
-    let l : Line = node_line id r in
+    let l : MergedStep = node_line id r in
     let at : node_at c.nodes id ≡ Some p = now_is chain id c p (is_known chain members lines done rest l c e sound old z) now in
     let i : IsIn lines l = line_in lines done rest l e in
     taken chain members lines done rest l c (record c { nodes = set_node c.nodes q }) e sound old
@@ -170,7 +170,7 @@ at_record chain members lines done rest c id r p q last rs e sound old z now h l
 pub first_same : {X : Type 0} (x y : X) (xs ys : List X) → x ∷ xs ≡ y ∷ ys → (x ≡ y) × (xs ≡ ys)
 first_same x y xs ys h = (cc, cc)
 
-by_records : (chain : ℕ) (members : List ℕ) (lines done rest : List Line) (l : Line) (c : Chain) (p last : Plain) (rs : List (Record Event)) → lines ≡ done ++ l ∷ rest → AreSound members lines → IsReached chain members done (l ∷ rest) c → l.node ≢ 0 → IsNow chain l.node (node_at c.nodes l.node) p → l ∷ lines_at l.node rest ≡ map (node_line l.node) rs → Replays node_step p rs last → IsNext chain members lines done l rest c
+by_records : (chain : ℕ) (members : List ℕ) (lines done rest : List MergedStep) (l : MergedStep) (c : Chain) (p last : Plain) (rs : List (Record Event)) → lines ≡ done ++ l ∷ rest → AreSound members lines → IsReached chain members done (l ∷ rest) c → l.node ≢ 0 → IsNow chain l.node (node_at c.nodes l.node) p → l ∷ lines_at l.node rest ≡ map (node_line l.node) rs → Replays node_step p rs last → IsNext chain members lines done l rest c
 by_records chain members lines done rest l c p last [] e sound old z now ls replay = cc
 by_records chain members lines done rest l c p last (r ∷ rs) e sound old z now ls (q, h, replay) =
     let s = first_same l (node_line l.node r) (lines_at l.node rest) (map (node_line l.node) rs) ls in
@@ -179,7 +179,7 @@ by_records chain members lines done rest l c p last (r ∷ rs) e sound old z now
     subst (λ x. IsNext chain members lines done x rest c) (sym s.0)
     (at_record chain members lines done rest c l.node r p q last rs f sound o z now h s.1 replay)
 
-pub at_node : (chain : ℕ) (members : List ℕ) (lines done rest : List Line) (l : Line) (c : Chain) → lines ≡ done ++ l ∷ rest → AreSound members lines → IsReached chain members done (l ∷ rest) c → l.node ≢ 0 → IsNext chain members lines done l rest c
+pub at_node : (chain : ℕ) (members : List ℕ) (lines done rest : List MergedStep) (l : MergedStep) (c : Chain) → lines ≡ done ++ l ∷ rest → AreSound members lines → IsReached chain members done (l ∷ rest) c → l.node ≢ 0 → IsNext chain members lines done l rest c
 at_node chain members lines done rest l c e sound r z =
     let g = r.nodes l.node z in
     by_records chain members lines done rest l c g.node g.last g.records e sound r z g.now (sym (at_here l.node l rest refl) ∙ g.lines) g.replay

@@ -12,14 +12,14 @@ use Rattle.craq_seat.specs.Books.{IsBook}
 use Rattle.craq_seat.specs.Calls.{Called}
 use Rattle.craq_seat.specs.Cells.{Celled}
 use Rattle.craq_seat.specs.Kept.{IsKept}
-use Rattle.craq_seat.specs.Merge.{IsMerge, Journals, Line, run_of}
+use Rattle.craq_seat.specs.Merge.{IsMerge, Journals, MergedStep, run_of}
 use Rattle.craq_merge.specs.Merged.{AreSeated, CanBeNumbered}
 use Rattle.craq_merge.specs.Within.{IsWithin}
 use Rattle.craq_merge.proofs.Calls.{calls_within}
 use Rattle.craq_merge.proofs.Orders.{all_by, all_in}
 use Rattle.craq_merge.proofs.Seated.{seated_run}
 
-holds : {C : Type 0} (R : C → Plain → Type 0) (book : Celled Mastered BookEvent) (cells : List (Celled C Event)) (j : Journals) (receipts : List Called) (run : Run) (lines : List Line) → AreSeated R book cells j → IsMerge j lines → CanBeNumbered lines → run ≡ run_of j.members lines → AllByRecursion (IsHeld j) receipts → IsRunOf book.opening.name.chain run × AllByRecursion (λ (c : Called). IsWithin lines run c) receipts
+holds : {C : Type 0} (R : C → Plain → Type 0) (book : Celled Mastered BookEvent) (cells : List (Celled C Event)) (j : Journals) (receipts : List Called) (run : Run) (lines : List MergedStep) → AreSeated R book cells j → IsMerge j lines → CanBeNumbered lines → run ≡ run_of j.members lines → AllByRecursion (IsHeld j) receipts → IsRunOf book.opening.name.chain run × AllByRecursion (λ (c : Called). IsWithin lines run c) receipts
 holds R book cells j receipts run lines s m fit is held =
     subst (λ (x : Run). IsRunOf book.opening.name.chain x × AllByRecursion (λ (c : Called). IsWithin lines x c) receipts) (sym is) (
       seated_run R book cells j lines s m fit,

@@ -17,10 +17,10 @@ use Rattle.craq_seat.specs.declared.journal.Record.{Record}
 use Rattle.craq_seat.specs.Audits.{IsAnswered, IsAsked, IsHeld}
 use Rattle.craq_seat.specs.Calls.{Called}
 use Rattle.craq_seat.specs.Cells.{Celled}
-use Rattle.craq_seat.specs.Merge.{AtNode, IsBefore, IsMerge, Journals, Line, node_line, run_of}
+use Rattle.craq_seat.specs.Merge.{AtNode, IsBefore, IsMerge, Journals, MergedStep, node_line, run_of}
 use Rattle.craq_seat.specs.Stamps.{event_stamp}
 use Rattle.craq_merge.specs.Merged.{AreSeated, CanBeNumbered}
-use Rattle.craq_merge.specs.Within.{answer_of_call, IsWithin, line_at}
+use Rattle.craq_merge.specs.Within.{run_answer_of_call, IsWithin, line_at}
 use Rattle.craq_merge.proofs.Good.{AreGood, records_above_pass, sound}
 use Rattle.craq_merge.proofs.Journals.{Kept, is_line, node_in}
 use Rattle.craq_merge.proofs.Orders.{AreRising, IsIn, from_contains, rising, to_contains}
@@ -33,11 +33,11 @@ use Rattle.craq_merge.proofs.Walk.{taken_among}
 
 -- ---- the lines of a call
 
-pub record HasPlace (lines : List Line) (id : ℕ) (r : Record Event) : Type 0 where
+pub record HasPlace (lines : List MergedStep) (id : ℕ) (r : Record Event) : Type 0 where
   pub place : ℕ
   pub at : slice_get lines place ≡ Some (node_line id r)
 
-has_place : (j : Journals) (lines : List Line) (n : Kept) (r : Record Event) → IsMerge j lines → IsIn j.nodes n → IsIn n.1 r → HasPlace lines n.0 r
+has_place : (j : Journals) (lines : List MergedStep) (n : Kept) (r : Record Event) → IsMerge j lines → IsIn j.nodes n → IsIn n.1 r → HasPlace lines n.0 r
 has_place j lines n r m i k =
     let t = place_of lines (node_line n.0 r) (is_line j lines (node_line n.0 r) m (node_in j n r i k)) in
     record { place = t.0; at = t.1 }
@@ -52,7 +52,7 @@ asked_of move node ticket ask = record { move = move; node = node; ticket = tick
 same_asked : (a b m n : ℕ) (s t : Option ℕ) (ask : Ask) → a ≡ b → m ≡ n → s ≡ t → asked_of a m s ask ≡ asked_of b n t ask
 same_asked a b m n s t ask e f g = rw (e, f, g) refl
 
-ask_seen : (chain : ℕ) (j : Journals) (lines : List Line) (g : AreGood chain j) → IsMerge j lines → (rs : List (Record Event)) (r : Record Event) (call : Call) → IsIn j.nodes (call.asked.node, rs) → IsIn rs r → (p : HasPlace lines call.asked.node r) → r.event ≡ events.Ask call.ask → r.step.ticket ≡ Some call.ticket → ask_with (seen (run_of j.members lines)).asks call.asked.node call.ticket ≡ Some (asked_of (suc p.place) call.asked.node (Some call.ticket) call.ask)
+ask_seen : (chain : ℕ) (j : Journals) (lines : List MergedStep) (g : AreGood chain j) → IsMerge j lines → (rs : List (Record Event)) (r : Record Event) (call : Call) → IsIn j.nodes (call.asked.node, rs) → IsIn rs r → (p : HasPlace lines call.asked.node r) → r.event ≡ events.Ask call.ask → r.step.ticket ≡ Some call.ticket → ask_with (seen (run_of j.members lines)).asks call.asked.node call.ticket ≡ Some (asked_of (suc p.place) call.asked.node (Some call.ticket) call.ask)
 ask_seen chain j lines g m rs r call among there p event ticket =
     let id : ℕ = call.asked.node in
     let a = asked_at lines lines 1 p.place (node_line id r) call.ask p.at (ap AtNode event) in
@@ -67,31 +67,31 @@ answered_of move node ticket answer = record { move = move; node = node; ticket 
 same_answered : (a b m n ticket : ℕ) (answer : Answer) → a ≡ b → m ≡ n → answered_of a m ticket answer ≡ answered_of b n ticket answer
 same_answered a b m n ticket answer e f = rw (e, f) refl
 
-answer_seen : (chain : ℕ) (j : Journals) (lines : List Line) (id : ℕ) (r : Record Event) (c : Called) (p : HasPlace lines id r) (g : AreGood chain j) → IsMerge j lines → AreSound j.members lines → id ≡ c.call.asked.node → IsIn r.step.outs (outs.Answer c.call.ticket c.answer) → Contains (seen (run_of j.members lines)).answers (answer_of_call c (suc p.place))
+answer_seen : (chain : ℕ) (j : Journals) (lines : List MergedStep) (id : ℕ) (r : Record Event) (c : Called) (p : HasPlace lines id r) (g : AreGood chain j) → IsMerge j lines → AreSound j.members lines → id ≡ c.call.asked.node → IsIn r.step.outs (outs.Answer c.call.ticket c.answer) → Contains (seen (run_of j.members lines)).answers (run_answer_of_call c (suc p.place))
 answer_seen chain j lines id r c p g m s own i =
     let a = answered_at chain j.members lines [] lines (opening_chain chain j.members) 1 p.place (node_line id r) c.call.ticket c.answer refl s (start chain j lines g m) p.at i in
-    to_contains (answers_from 1 [] (map (taken_among lines) lines)) (answer_of_call c (suc p.place))
+    to_contains (answers_from 1 [] (map (taken_among lines) lines)) (run_answer_of_call c (suc p.place))
     (subst (IsIn (answers_from 1 [] (map (taken_among lines) lines))) (same_answered (1 + p.place) (suc p.place) id c.call.asked.node c.call.ticket c.answer (one_more p.place) own) a)
 
 -- ---- their order
 
-not_before : (a b : Line) → a.node ≡ b.node → a.stamp ≤ b.stamp → IsBefore b a → ⊥
+not_before : (a b : MergedStep) → a.node ≡ b.node → a.stamp ≤ b.stamp → IsBefore b a → ⊥
 not_before a b n s (inl h) = omega (arith, s, h)
 not_before a b n s (inr h) = let x = h.1 in omega (arith, n, x)
 
-in_order : (lines : List Line) (i k : ℕ) (a b : Line) → AreRising lines → slice_get lines i ≡ Some a → slice_get lines k ≡ Some b → a.node ≡ b.node → a.stamp ≤ b.stamp → i ≤ k
+in_order : (lines : List MergedStep) (i k : ℕ) (a b : MergedStep) → AreRising lines → slice_get lines i ≡ Some a → slice_get lines k ≡ Some b → a.node ≡ b.node → a.stamp ≤ b.stamp → i ≤ k
 in_order lines i k a b r h g n s = grind (arith, not_after)
   where
     not_after : k < i → ⊥
     not_after lt = not_before a b n s (later_line lines k i b a r g h lt)
 
-covered_by : (lines : List Line) (k move pass : ℕ) (a l : Line) → AreRising lines → slice_get lines k ≡ Some a → pass < a.stamp → line_at lines move ≡ Some l → l.stamp ≤ pass → move < suc k
+covered_by : (lines : List MergedStep) (k move pass : ℕ) (a l : MergedStep) → AreRising lines → slice_get lines k ≡ Some a → pass < a.stamp → line_at lines move ≡ Some l → l.stamp ≤ pass → move < suc k
 covered_by lines k zero pass a l r h less at le = cc
 covered_by lines k (suc i) pass a l r h less at le = let t = before_by_stamp lines i k l a r at h (omega (arith, less, le)) in omega (arith, t)
 
 -- ---- the whole
 
-within : (chain : ℕ) (j : Journals) (lines : List Line) (g : AreGood chain j) → IsMerge j lines → AreSound j.members lines → (c : Called) (rs : List (Record Event)) → c.answered.node ≡ c.call.asked.node → IsIn j.nodes (c.call.asked.node, rs) → IsAsked rs c.call → IsAnswered rs c.answered.stamp c.call.ticket c.answer → IsWithin lines (run_of j.members lines) c
+within : (chain : ℕ) (j : Journals) (lines : List MergedStep) (g : AreGood chain j) → IsMerge j lines → AreSound j.members lines → (c : Called) (rs : List (Record Event)) → c.answered.node ≡ c.call.asked.node → IsIn j.nodes (c.call.asked.node, rs) → IsAsked rs c.call → IsAnswered rs c.answered.stamp c.call.ticket c.answer → IsWithin lines (run_of j.members lines) c
 within chain j lines g m s c rs own among (r, there, stamp, event, pass, ticket) (a, there_too, stamp_too, answer) =
     let id : ℕ = c.call.asked.node in
     let n : Kept = (id, rs) in
@@ -110,15 +110,15 @@ within chain j lines g m s c rs own among (r, there, stamp, event, pass, ticket)
       covered = λ move l at le. covered_by lines p.place move c.call.pass (node_line id r) l (rising lines m.order) p.at (omega (arith, over, pass)) at le;
     }
 
-by_parts : (chain : ℕ) (j : Journals) (lines : List Line) (g : AreGood chain j) → IsMerge j lines → AreSound j.members lines → (c : Called) → IsHeld j c → IsWithin lines (run_of j.members lines) c
+by_parts : (chain : ℕ) (j : Journals) (lines : List MergedStep) (g : AreGood chain j) → IsMerge j lines → AreSound j.members lines → (c : Called) → IsHeld j c → IsWithin lines (run_of j.members lines) c
 by_parts chain j lines g m s c (own, rs, among, asked, answered) = within chain j lines g m s c rs own (from_contains j.nodes (c.call.asked.node, rs) among) asked answered
 
-pub calls_within : {C : Type 0} (R : C → Plain → Type 0) (book : Celled Mastered BookEvent) (cells : List (Celled C Event)) (j : Journals) (lines : List Line) (c : Called) → AreSeated R book cells j → IsMerge j lines → CanBeNumbered lines → IsHeld j c → IsWithin lines (run_of j.members lines) c
+pub calls_within : {C : Type 0} (R : C → Plain → Type 0) (book : Celled Mastered BookEvent) (cells : List (Celled C Event)) (j : Journals) (lines : List MergedStep) (c : Called) → AreSeated R book cells j → IsMerge j lines → CanBeNumbered lines → IsHeld j c → IsWithin lines (run_of j.members lines) c
 calls_within R book cells j lines c seated m fit held =
     let g = good R book cells j seated in
     by_parts book.opening.name.chain j lines g m (sound j lines book.opening.name.chain g m fit.moves fit.messages) c held
 
-pub passes_order : (lines : List Line) (run : Run) (earlier later : Called) (first : IsWithin lines run earlier) (second : IsWithin lines run later) → earlier.answered.stamp ≤ later.call.pass → first.answered < second.asked
+pub passes_order : (lines : List MergedStep) (run : Run) (earlier later : Called) (first : IsWithin lines run earlier) (second : IsWithin lines run later) → earlier.answered.stamp ≤ later.call.pass → first.answered < second.asked
 passes_order lines run earlier later first second le =
     let t = first.answered_as in
     let at : t.0.stamp ≡ earlier.answered.stamp = t.3 in

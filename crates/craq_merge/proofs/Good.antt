@@ -17,7 +17,7 @@ use Rattle.craq_seat.specs.declared.journal.Record.{Record}
 use Rattle.craq_seat.specs.Audits.{HasSender, IsOfSent, NamesItsStop, WasSent}
 use Rattle.craq_seat.specs.Books.{book_step}
 use Rattle.craq_seat.specs.Journal.{AreStamped, Replays}
-use Rattle.craq_seat.specs.Merge.{AtNode, AtMaster, Happening, IsMerge, Journals, Line, all_lines, book_line}
+use Rattle.craq_seat.specs.Merge.{AtNode, AtMaster, Happening, IsMerge, Journals, MergedStep, all_lines, book_line}
 use Rattle.craq_seat.specs.Stamps.{book_stamp, event_stamp, next_stamp}
 use Rattle.craq_seat.proofs.Taking.{stamps_rise}
 use Rattle.craq_merge.proofs.Counts.{count}
@@ -50,7 +50,7 @@ pub record IsStarted (chain : ℕ) (members : List ℕ) (book : List (Record Boo
 pub record AreGood (chain : ℕ) (j : Journals) : Type 0 where
   pub membership : IsMembership j.members
   pub master : Mastered
-  pub replay : Replays book_step (masters.opened chain j.members) j.book master
+  pub replay : Replays book_step (masters.opened_master chain j.members) j.book master
   pub high : ℕ
   pub stamped : AreStamped book_stamp 0 j.book high
   pub ids : (id : ℕ) → count id (ids_of j.nodes) ≡ count id master.used
@@ -91,14 +91,14 @@ same_at_node x a b h k = cc
 same_at_master : (x : Happening) (a b : BookEvent) → AtMaster a ≡ x → x ≡ AtMaster b → a ≡ b
 same_at_master x a b h k = cc
 
-pub arrival : (j : Journals) (lines : List Line) (chain : ℕ) → AreGood chain j → IsMerge j lines → (l : Line) (m : LinkMessage) → IsIn lines l → l.event ≡ AtNode (events.Deliver m) → Sending lines l.stamp m
+pub arrival : (j : Journals) (lines : List MergedStep) (chain : ℕ) → AreGood chain j → IsMerge j lines → (l : MergedStep) (m : LinkMessage) → IsIn lines l → l.event ≡ AtNode (events.Deliver m) → Sending lines l.stamp m
 arrival j lines chain g merge l m i e =
     elim (line_of j lines l merge i) [
-      | inl b ↦ absurd (other_kind l.event (events.Deliver m) b.entry.event (sym e) (ap (λ (x : Line). x.event) (sym b.is)))
+      | inl b ↦ absurd (other_kind l.event (events.Deliver m) b.entry.event (sym e) (ap (λ (x : MergedStep). x.event) (sym b.is)))
       | inr n ↦ (
-          let event : n.entry.event ≡ events.Deliver m = same_at_node l.event n.entry.event (events.Deliver m) (ap (λ (x : Line). x.event) n.is) e in
+          let event : n.entry.event ≡ events.Deliver m = same_at_node l.event n.entry.event (events.Deliver m) (ap (λ (x : MergedStep). x.event) n.is) e in
           let w : WasSent j n.entry.stamp m = subst (IsOfSent j n.entry.stamp) event (g.sent n.kept n.entry n.among n.there) in
-          let at : n.entry.stamp ≡ l.stamp = ap (λ (x : Line). x.stamp) n.is in
+          let at : n.entry.stamp ≡ l.stamp = ap (λ (x : MergedStep). x.stamp) n.is in
           let less : m.stamp < n.entry.stamp = w.0 in
           let same : w.1.stamp ≡ m.stamp = w.4 in
           record {
@@ -112,14 +112,14 @@ arrival j lines chain g merge l m i e =
           )
     ]
 
-removal : (j : Journals) (lines : List Line) (chain : ℕ) → AreGood chain j → IsMerge j lines → (l : Line) (stopped : NodeName) (stop : Receipt) → IsIn lines l → l.event ≡ AtMaster (books.Remove stopped stop) → Earlier lines l.stamp (IsStopOf stopped.node)
+removal : (j : Journals) (lines : List MergedStep) (chain : ℕ) → AreGood chain j → IsMerge j lines → (l : MergedStep) (stopped : NodeName) (stop : Receipt) → IsIn lines l → l.event ≡ AtMaster (books.Remove stopped stop) → Earlier lines l.stamp (IsStopOf stopped.node)
 removal j lines chain g merge l stopped stop i e =
     elim (line_of j lines l merge i) [
-      | inr n ↦ absurd (other_kind l.event n.entry.event (books.Remove stopped stop) (ap (λ (x : Line). x.event) n.is) e)
+      | inr n ↦ absurd (other_kind l.event n.entry.event (books.Remove stopped stop) (ap (λ (x : MergedStep). x.event) n.is) e)
       | inl b ↦ (
-          let event : b.entry.event ≡ books.Remove stopped stop = same_at_master l.event b.entry.event (books.Remove stopped stop) (ap (λ (x : Line). x.event) b.is) e in
+          let event : b.entry.event ≡ books.Remove stopped stop = same_at_master l.event b.entry.event (books.Remove stopped stop) (ap (λ (x : MergedStep). x.event) b.is) e in
           let w : NamesItsStop j (books.Remove stopped stop) = subst (NamesItsStop j) event (g.stops b.entry b.there) in
-          let at : b.entry.stamp ≡ l.stamp = ap (λ (x : Line). x.stamp) b.is in
+          let at : b.entry.stamp ≡ l.stamp = ap (λ (x : MergedStep). x.stamp) b.is in
           let less : stop.stamp < b.entry.stamp = subst (λ x. book_stamp x < b.entry.stamp) event (records_above book_stamp 0 g.high j.book b.entry g.stamped b.there) in
           let same : w.1.stamp ≡ stop.stamp = w.4 in
           record {
@@ -131,17 +131,17 @@ removal j lines chain g merge l stopped stop i e =
           )
     ]
 
-book_at_zero : (l : Line) (r : Record BookEvent) → book_line r ≡ l → l.node ≡ 0
-book_at_zero l r e = ap (λ (x : Line). x.node) (sym e)
+book_at_zero : (l : MergedStep) (r : Record BookEvent) → book_line r ≡ l → l.node ≡ 0
+book_at_zero l r e = ap (λ (x : MergedStep). x.node) (sym e)
 
-joining : (j : Journals) (lines : List Line) (chain : ℕ) → AreGood chain j → IsMerge j lines → (l : Line) → IsIn lines l → l.node ≢ 0 → (is_member j.members l.node ≡ true) ⊎ Earlier lines l.stamp (IsJoinOf l.node)
+joining : (j : Journals) (lines : List MergedStep) (chain : ℕ) → AreGood chain j → IsMerge j lines → (l : MergedStep) → IsIn lines l → l.node ≢ 0 → (is_member j.members l.node ≡ true) ⊎ Earlier lines l.stamp (IsJoinOf l.node)
 joining j lines chain g merge l i z =
     elim (line_of j lines l merge i) [
       | inl b ↦ absurd (z (book_at_zero l b.entry b.is))
       | inr n ↦ (
           let s = g.nodes n.kept n.among in
-          let node : n.kept.0 ≡ l.node = ap (λ (x : Line). x.node) n.is in
-          let at : n.entry.stamp ≡ l.stamp = ap (λ (x : Line). x.stamp) n.is in
+          let node : n.kept.0 ≡ l.node = ap (λ (x : MergedStep). x.node) n.is in
+          let at : n.entry.stamp ≡ l.stamp = ap (λ (x : MergedStep). x.stamp) n.is in
           let less : s.low < n.entry.stamp = above_first s.low s.high n.kept.1 n.entry (stamps_rise event_stamp s.low s.high n.kept.1 s.stamped) n.there in
           elim s.opening [
             | inl a ↦ inl (subst (λ id. is_member j.members id ≡ true) node a.0)
@@ -155,7 +155,7 @@ joining j lines chain g merge l i z =
           )
     ]
 
-pub sound : (j : Journals) (lines : List Line) (chain : ℕ) → AreGood chain j → IsMerge j lines → length lines ≤ greatest → length (all_sent lines) ≤ greatest → AreSound j.members lines
+pub sound : (j : Journals) (lines : List MergedStep) (chain : ℕ) → AreGood chain j → IsMerge j lines → length lines ≤ greatest → length (all_sent lines) ≤ greatest → AreSound j.members lines
 sound j lines chain g merge few few_sent =
     record {
       order = rising lines merge.order;

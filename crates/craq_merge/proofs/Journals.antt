@@ -6,7 +6,7 @@ use Rattle.craq_model.specs.declared.ask.Event.{Event}
 use Rattle.craq_seat.specs.declared.journal.BookEvent.{BookEvent}
 use Rattle.craq_seat.specs.declared.journal.Record.{Record}
 use Rattle.craq_seat.specs.Journal.{RisesTo}
-use Rattle.craq_seat.specs.Merge.{IsBefore, IsMerge, Journals, Line, all_lines, book_line, node_line}
+use Rattle.craq_seat.specs.Merge.{IsBefore, IsMerge, Journals, MergedStep, all_lines, book_line, node_line}
 use Rattle.craq_merge.proofs.Counts.{count, count_cons, is_counted}
 use Rattle.craq_merge.proofs.Nodes.{same_or_not}
 use Rattle.craq_merge.proofs.Orders.{AreRising, IsIn, all_by, at_rising, from_at, from_contains, in_either, in_left, in_map, in_right, lines_at, of_map, rising, same_lines, to_at, to_contains}
@@ -15,7 +15,7 @@ use Rattle.craq_merge.proofs.Orders.{AreRising, IsIn, all_by, at_rising, from_at
 abbrev pub Kept : Type 0
 Kept = ℕ × List (Record Event)
 
-abbrev pub lines_of : Kept → List Line
+abbrev pub lines_of : Kept → List MergedStep
 lines_of n = map (node_line n.0) n.1
 
 -- ---- the elements of the lines
@@ -34,19 +34,19 @@ of_flat f (x ∷ xs) y i =
     ]
 
 -- a line is of the master or of a node
-pub record OfBook (j : Journals) (l : Line) : Type 0 where
+pub record OfBook (j : Journals) (l : MergedStep) : Type 0 where
   pub entry : Record BookEvent
   pub there : IsIn j.book entry
   pub is : book_line entry ≡ l
 
-pub record OfNode (j : Journals) (l : Line) : Type 0 where
+pub record OfNode (j : Journals) (l : MergedStep) : Type 0 where
   pub kept : Kept
   pub among : IsIn j.nodes kept
   pub entry : Record Event
   pub there : IsIn kept.1 entry
   pub is : node_line kept.0 entry ≡ l
 
-pub line_of : (j : Journals) (lines : List Line) (l : Line) → IsMerge j lines → IsIn lines l → OfBook j l ⊎ OfNode j l
+pub line_of : (j : Journals) (lines : List MergedStep) (l : MergedStep) → IsMerge j lines → IsIn lines l → OfBook j l ⊎ OfNode j l
 line_of j lines l m i =
     let c = from_contains (all_lines j) l (Contains-permutation lines (all_lines j) l (IsPermutation-sym (all_lines j) lines m.all) (to_contains lines l i)) in
     elim (in_either (map book_line j.book) (flat_map lines_of j.nodes) l c) [
@@ -54,7 +54,7 @@ line_of j lines l m i =
       | inr k ↦ (let s = of_flat lines_of j.nodes l k in let t = of_map (node_line s.0.0) s.0.1 l s.2 in inr (record { kept = s.0; among = s.1; entry = t.0; there = t.1; is = t.2 }))
     ]
 
-pub is_line : (j : Journals) (lines : List Line) (l : Line) → IsMerge j lines → IsIn (all_lines j) l → IsIn lines l
+pub is_line : (j : Journals) (lines : List MergedStep) (l : MergedStep) → IsMerge j lines → IsIn (all_lines j) l → IsIn lines l
 is_line j lines l m i = from_contains lines l (Contains-permutation (all_lines j) lines l m.all (to_contains (all_lines j) l i))
 
 pub book_in : (j : Journals) (r : Record BookEvent) → IsIn j.book r → IsIn (all_lines j) (book_line r)
@@ -70,16 +70,16 @@ above_first first last [] r h i = absurd i
 above_first first last (x ∷ rs) r h (inl e) = let a = h.0 in let s : x.stamp ≡ r.stamp = ap (λ y. y.stamp) e in omega (arith, a, s)
 above_first first last (x ∷ rs) r h (inr i) = let a = h.0 in let b = above_first x.stamp last rs r h.1 i in omega (arith, a, b)
 
-pub lines_rise : {E : Type 0} (line : Record E → Line) → ((r : Record E) → (line r).stamp ≡ r.stamp) → (first last : ℕ) (rs : List (Record E)) → RisesTo first rs last → AreRising (map line rs)
+pub lines_rise : {E : Type 0} (line : Record E → MergedStep) → ((r : Record E) → (line r).stamp ≡ r.stamp) → (first last : ℕ) (rs : List (Record E)) → RisesTo first rs last → AreRising (map line rs)
 lines_rise line at first last [] h = tt
 lines_rise line at first last (r ∷ rs) h =
     (all_by (IsBefore (line r)) (map line rs) (λ z i. inl (by_record z (of_map line rs z i))), lines_rise line at r.stamp last rs h.1)
   where
-    by_record : (z : Line) → (x : _) × IsIn rs x × (line x ≡ z) → (line r).stamp < z.stamp
+    by_record : (z : MergedStep) → (x : _) × IsIn rs x × (line x ≡ z) → (line r).stamp < z.stamp
     by_record z (x, i, e) =
         let a = above_first r.stamp last rs x h.1 i in
         let b = at r in
-        let c : x.stamp ≡ z.stamp = sym (at x) ∙ ap (λ (y : Line). y.stamp) e in
+        let c : x.stamp ≡ z.stamp = sym (at x) ∙ ap (λ (y : MergedStep). y.stamp) e in
         omega (arith, a, b, c)
 
 -- ---- one journal for an id
@@ -124,40 +124,40 @@ journal_at (x ∷ ns) id =
 
 -- ---- the lines at a node
 
-pub book_lines : (j : Journals) (lines : List Line) (first last : ℕ) → IsMerge j lines → RisesTo first j.book last → ((n : Kept) → IsIn j.nodes n → n.0 ≢ 0) → lines_at 0 lines ≡ map book_line j.book
+pub book_lines : (j : Journals) (lines : List MergedStep) (first last : ℕ) → IsMerge j lines → RisesTo first j.book last → ((n : Kept) → IsIn j.nodes n → n.0 ≢ 0) → lines_at 0 lines ≡ map book_line j.book
 book_lines j lines first last m up other =
     same_lines (lines_at 0 lines) (map book_line j.book) (at_rising 0 lines (rising lines m.order)) (lines_rise book_line (λ r. refl) first last j.book up)
     (λ z i. let t = from_at 0 lines z i in elim (line_of j lines z m t.0) [
       | inl b ↦ subst (IsIn (map book_line j.book)) b.is (in_map book_line j.book b.entry b.there)
-      | inr n ↦ absurd (other n.kept n.among (ap (λ (y : Line). y.node) n.is ∙ t.1))
+      | inr n ↦ absurd (other n.kept n.among (ap (λ (y : MergedStep). y.node) n.is ∙ t.1))
     ])
     (λ z i. let t = of_map book_line j.book z i in
-    to_at 0 lines z (is_line j lines z m (subst (IsIn (all_lines j)) t.2 (book_in j t.0 t.1))) (ap (λ (y : Line). y.node) (sym t.2)))
+    to_at 0 lines z (is_line j lines z m (subst (IsIn (all_lines j)) t.2 (book_in j t.0 t.1))) (ap (λ (y : MergedStep). y.node) (sym t.2)))
 
-pub node_lines : (j : Journals) (lines : List Line) (n : Kept) (first last : ℕ) → IsMerge j lines → RisesTo first n.1 last → n.0 ≢ 0 → IsIn j.nodes n → ((k : Kept) → IsIn j.nodes k → k.0 ≡ n.0 → k ≡ n) → lines_at n.0 lines ≡ map (node_line n.0) n.1
+pub node_lines : (j : Journals) (lines : List MergedStep) (n : Kept) (first last : ℕ) → IsMerge j lines → RisesTo first n.1 last → n.0 ≢ 0 → IsIn j.nodes n → ((k : Kept) → IsIn j.nodes k → k.0 ≡ n.0 → k ≡ n) → lines_at n.0 lines ≡ map (node_line n.0) n.1
 node_lines j lines n first last m up z among one =
     same_lines (lines_at n.0 lines) (lines_of n) (at_rising n.0 lines (rising lines m.order)) (lines_rise (node_line n.0) (λ r. refl) first last n.1 up)
     (λ x i. let t = from_at n.0 lines x i in elim (line_of j lines x m t.0) [
-      | inl b ↦ absurd (z (sym t.1 ∙ ap (λ (y : Line). y.node) (sym b.is)))
-      | inr k ↦ (let e = one k.kept k.among (ap (λ (y : Line). y.node) k.is ∙ t.1) in subst (λ (y : Kept). IsIn (lines_of y) x) e (subst (IsIn (lines_of k.kept)) k.is (in_map (node_line k.kept.0) k.kept.1 k.entry k.there)))
+      | inl b ↦ absurd (z (sym t.1 ∙ ap (λ (y : MergedStep). y.node) (sym b.is)))
+      | inr k ↦ (let e = one k.kept k.among (ap (λ (y : MergedStep). y.node) k.is ∙ t.1) in subst (λ (y : Kept). IsIn (lines_of y) x) e (subst (IsIn (lines_of k.kept)) k.is (in_map (node_line k.kept.0) k.kept.1 k.entry k.there)))
     ])
     (λ x i. let t = of_map (node_line n.0) n.1 x i in
-    to_at n.0 lines x (is_line j lines x m (subst (IsIn (all_lines j)) t.2 (node_in j n t.0 among t.1))) (ap (λ (y : Line). y.node) (sym t.2)))
+    to_at n.0 lines x (is_line j lines x m (subst (IsIn (all_lines j)) t.2 (node_in j n t.0 among t.1))) (ap (λ (y : MergedStep). y.node) (sym t.2)))
 
-pub no_lines : (j : Journals) (lines : List Line) (id : ℕ) → IsMerge j lines → id ≢ 0 → ((k : Kept) → IsIn j.nodes k → k.0 ≢ id) → lines_at id lines ≡ []
+pub no_lines : (j : Journals) (lines : List MergedStep) (id : ℕ) → IsMerge j lines → id ≢ 0 → ((k : Kept) → IsIn j.nodes k → k.0 ≢ id) → lines_at id lines ≡ []
 no_lines j lines id m z none =
     same_lines (lines_at id lines) [] (at_rising id lines (rising lines m.order)) tt
     (λ x i. let t = from_at id lines x i in elim (line_of j lines x m t.0) [
-      | inl b ↦ absurd (z (sym t.1 ∙ ap (λ (y : Line). y.node) (sym b.is)))
-      | inr k ↦ absurd (none k.kept k.among (ap (λ (y : Line). y.node) k.is ∙ t.1))
+      | inl b ↦ absurd (z (sym t.1 ∙ ap (λ (y : MergedStep). y.node) (sym b.is)))
+      | inr k ↦ absurd (none k.kept k.among (ap (λ (y : MergedStep). y.node) k.is ∙ t.1))
     ])
     (λ x i. absurd i)
 
 -- ---- there is at most one merge
 
-pub one_merge : (j : Journals) (xs ys : List Line) → IsMerge j xs → IsMerge j ys → xs ≡ ys
+pub one_merge : (j : Journals) (xs ys : List MergedStep) → IsMerge j xs → IsMerge j ys → xs ≡ ys
 one_merge j xs ys m n =
     same_lines xs ys (rising xs m.order) (rising ys n.order) (λ z i. crosses xs ys z m n i) (λ z i. crosses ys xs z n m i)
   where
-    crosses : (us vs : List Line) (z : Line) → IsMerge j us → IsMerge j vs → IsIn us z → IsIn vs z
+    crosses : (us vs : List MergedStep) (z : MergedStep) → IsMerge j us → IsMerge j vs → IsIn us z → IsIn vs z
     crosses us vs z a b i = is_line j vs z b (from_contains (all_lines j) z (Contains-permutation us (all_lines j) z (IsPermutation-sym (all_lines j) us a.all) (to_contains us z i)))

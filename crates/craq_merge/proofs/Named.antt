@@ -10,7 +10,7 @@ use Rattle.craq_runs.specs.Seen.{Asked, ask_in, ask_with, asks_from, is_ticket}
 use Rattle.craq_seat.specs.declared.journal.BookEvent.TheVariants as books
 use Rattle.craq_seat.specs.declared.journal.Record.{Record}
 use Rattle.craq_seat.specs.Journal.{Replays}
-use Rattle.craq_seat.specs.Merge.{AtNode, AtMaster, Happening, Line, move_among, node_line}
+use Rattle.craq_seat.specs.Merge.{AtNode, AtMaster, Happening, MergedStep, move_among, node_line}
 use Rattle.craq_merge.proofs.Orders.{AreRising, IsIn, in_either, in_get, lines_at, not_itself, of_map, to_at}
 use Rattle.craq_merge.proofs.Seen.{later_line}
 use Rattle.craq_merge.proofs.Tickets.{IsNextTicket, next_ticket}
@@ -66,15 +66,15 @@ finds test [] x i t = absurd i
 finds test (y ∷ xs) x i t = found_by test xs x y (test y) refl t i (λ k. finds test xs x k t)
 
 -- a request that is seen is of a line
-pub record IsAskOf (rest : List Line) (number : ℕ) (x : Asked) : Type 0 where
+pub record IsAskOf (rest : List MergedStep) (number : ℕ) (x : Asked) : Type 0 where
   pub place : ℕ
-  pub line : Line
+  pub line : MergedStep
   pub ask : Ask
   pub at : slice_get rest place ≡ Some line
   pub event : line.event ≡ AtNode (events.Ask ask)
   pub is : x ≡ record { move = number + place; node = line.node; ticket = line.step.ticket; ask = ask }
 
-of_line : (h : Happening) (lines rest : List Line) (l : Line) (number : ℕ) (x : Asked) → l.event ≡ h → IsIn (ask_in number l.step.ticket (move_among lines l.node h)) x → IsAskOf (l ∷ rest) number x
+of_line : (h : Happening) (lines rest : List MergedStep) (l : MergedStep) (number : ℕ) (x : Asked) → l.event ≡ h → IsIn (ask_in number l.step.ticket (move_among lines l.node h)) x → IsAskOf (l ∷ rest) number x
 of_line (AtNode (events.Ask ask)) lines rest l number x e (inl s) =
     let n : number + 0 ≡ number = omega arith in
     record { place = 0; line = l; ask = ask; at = refl; event = e; is = rw n (sym s) }
@@ -86,7 +86,7 @@ of_line (AtMaster (books.Join id)) lines rest l number x e k = absurd k
 of_line (AtMaster (books.Remove stopped stop)) lines rest l number x e k = absurd k
 of_line (AtMaster books.Tick) lines rest l number x e k = absurd k
 
-ask_of_line : (lines rest : List Line) (number : ℕ) (x : Asked) → IsIn (asks_from number (map (taken_among lines) rest)) x → IsAskOf rest number x
+ask_of_line : (lines rest : List MergedStep) (number : ℕ) (x : Asked) → IsIn (asks_from number (map (taken_among lines) rest)) x → IsAskOf rest number x
 unfolding asks_from
 ask_of_line lines [] number x i = absurd i
 ask_of_line lines (l ∷ rest) number x i =
@@ -99,7 +99,7 @@ ask_of_line lines (l ∷ rest) number x i =
           )
     ]
 
-one_place : (lines : List Line) (i k : ℕ) (a : Line) → AreRising lines → slice_get lines i ≡ Some a → slice_get lines k ≡ Some a → i ≡ k
+one_place : (lines : List MergedStep) (i k : ℕ) (a : MergedStep) → AreRising lines → slice_get lines i ≡ Some a → slice_get lines k ≡ Some a → i ≡ k
 one_place lines i k a r h g =
     let f : i < k → ⊥ = λ lt. not_itself a a refl (later_line lines i k a a r h g lt) in
     let b : k < i → ⊥ = λ lt. not_itself a a refl (later_line lines k i a a r g h lt) in
@@ -122,27 +122,27 @@ same_asked : (a b m n : ℕ) (s t : Option ℕ) (x y : Ask) → a ≡ b → m �
 same_asked a b m n s t x y e f g h = rw (e, f, g, h) refl
 
 -- a request that is seen with the ticket of a record is the record's
-is_record : (lines : List Line) (p last : Plain) (id place ticket : ℕ) (rs : List (Record Event)) (r : Record Event) (ask : Ask) (x : Asked) (k : ℕ) (l : Line) (other : Ask) → AreRising lines → lines_at id lines ≡ map (node_line id) rs → Replays node_step p rs last → IsIn rs r → slice_get lines place ≡ Some (node_line id r) → r.event ≡ events.Ask ask → r.step.ticket ≡ Some ticket → slice_get lines k ≡ Some l → l.event ≡ AtNode (events.Ask other) → x ≡ asked_of (1 + k) l.node l.step.ticket other → x.node ≡ id → x.ticket ≡ Some ticket → x ≡ asked_of (suc place) id (Some ticket) ask
+is_record : (lines : List MergedStep) (p last : Plain) (id place ticket : ℕ) (rs : List (Record Event)) (r : Record Event) (ask : Ask) (x : Asked) (k : ℕ) (l : MergedStep) (other : Ask) → AreRising lines → lines_at id lines ≡ map (node_line id) rs → Replays node_step p rs last → IsIn rs r → slice_get lines place ≡ Some (node_line id r) → r.event ≡ events.Ask ask → r.step.ticket ≡ Some ticket → slice_get lines k ≡ Some l → l.event ≡ AtNode (events.Ask other) → x ≡ asked_of (1 + k) l.node l.step.ticket other → x.node ≡ id → x.ticket ≡ Some ticket → x ≡ asked_of (suc place) id (Some ticket) ask
 is_record lines p last id place ticket rs r ask x k l other up own replay there at event tick here asks is of with =
     let node : l.node ≡ id = ap (λ (y : Asked). y.node) (sym is) ∙ of in
     let ticket_too : l.step.ticket ≡ Some ticket = ap (λ (y : Asked). y.ticket) (sym is) ∙ with in
     let among : IsIn (map (node_line id) rs) l = subst (λ ls. IsIn ls l) own (to_at id lines l (in_get lines k l here) node) in
     let u = of_map (node_line id) rs l among in
-    let same : u.0 ≡ r = one_ticket p last rs u.0 r ticket replay u.1 there (ap (λ (y : Line). y.step.ticket) u.2 ∙ ticket_too) tick in
+    let same : u.0 ≡ r = one_ticket p last rs u.0 r ticket replay u.1 there (ap (λ (y : MergedStep). y.step.ticket) u.2 ∙ ticket_too) tick in
     let line : l ≡ node_line id r = sym u.2 ∙ ap (node_line id) same in
     let places : k ≡ place = one_place lines k place (node_line id r) up (here ∙ ap Some line) at in
-    let asked : other ≡ ask = same_ask l.event r.event other ask asks (sym (ap (λ (y : Line). y.event) line)) event in
+    let asked : other ≡ ask = same_ask l.event r.event other ask asks (sym (ap (λ (y : MergedStep). y.event) line)) event in
     let move : 1 + k ≡ suc place = omega (arith, places) in
     is ∙ same_asked (1 + k) (suc place) l.node id l.step.ticket (Some ticket) other ask move node ticket_too asked
 
-found_named : (lines : List Line) (p last : Plain) (id place ticket : ℕ) (rs : List (Record Event)) (r : Record Event) (ask : Ask) (f : IsFound (λ (a : Asked). (a.node == id) && is_ticket a.ticket ticket) (asks_from 1 (map (taken_among lines) lines))) → IsAskOf lines 1 f.which → AreRising lines → lines_at id lines ≡ map (node_line id) rs → Replays node_step p rs last → IsIn rs r → slice_get lines place ≡ Some (node_line id r) → r.event ≡ events.Ask ask → r.step.ticket ≡ Some ticket → ask_with (asks_from 1 (map (taken_among lines) lines)) id ticket ≡ Some (asked_of (suc place) id (Some ticket) ask)
+found_named : (lines : List MergedStep) (p last : Plain) (id place ticket : ℕ) (rs : List (Record Event)) (r : Record Event) (ask : Ask) (f : IsFound (λ (a : Asked). (a.node == id) && is_ticket a.ticket ticket) (asks_from 1 (map (taken_among lines) lines))) → IsAskOf lines 1 f.which → AreRising lines → lines_at id lines ≡ map (node_line id) rs → Replays node_step p rs last → IsIn rs r → slice_get lines place ≡ Some (node_line id r) → r.event ≡ events.Ask ask → r.step.ticket ≡ Some ticket → ask_with (asks_from 1 (map (taken_among lines) lines)) id ticket ≡ Some (asked_of (suc place) id (Some ticket) ask)
 unfolding ask_with
 found_named lines p last id place ticket rs r ask f t up own replay there at event tick =
     let so = named_so f.which id ticket f.passes in
     f.found ∙ ap Some (is_record lines p last id place ticket rs r ask f.which t.place t.line t.ask up own replay there at event tick t.at t.event t.is so.0 so.1)
 
 -- the first request with the node and the ticket is the one of this record
-pub ask_named : (lines : List Line) (p last : Plain) (id place ticket : ℕ) (rs : List (Record Event)) (r : Record Event) (ask : Ask) → AreRising lines → lines_at id lines ≡ map (node_line id) rs → Replays node_step p rs last → IsIn rs r → slice_get lines place ≡ Some (node_line id r) → r.event ≡ events.Ask ask → r.step.ticket ≡ Some ticket → IsIn (asks_from 1 (map (taken_among lines) lines)) (asked_of (suc place) id (Some ticket) ask) → ask_with (asks_from 1 (map (taken_among lines) lines)) id ticket ≡ Some (asked_of (suc place) id (Some ticket) ask)
+pub ask_named : (lines : List MergedStep) (p last : Plain) (id place ticket : ℕ) (rs : List (Record Event)) (r : Record Event) (ask : Ask) → AreRising lines → lines_at id lines ≡ map (node_line id) rs → Replays node_step p rs last → IsIn rs r → slice_get lines place ≡ Some (node_line id r) → r.event ≡ events.Ask ask → r.step.ticket ≡ Some ticket → IsIn (asks_from 1 (map (taken_among lines) lines)) (asked_of (suc place) id (Some ticket) ask) → ask_with (asks_from 1 (map (taken_among lines) lines)) id ticket ≡ Some (asked_of (suc place) id (Some ticket) ask)
 ask_named lines p last id place ticket rs r ask up own replay there at event tick seen =
     let asks : List Asked = asks_from 1 (map (taken_among lines) lines) in
     let passes : ((id == id) && (ticket == ticket)) ≡ true = grind arith in

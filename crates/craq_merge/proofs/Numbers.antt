@@ -3,12 +3,12 @@ use Rattle.std.proofs.Common.{◌≡◌, ℕ, zero, suc, ◌+◌, List, [], ◌�
 use Rattle.std.specs.Prelude.{slice_get, flat_map}
 use Rattle.craq_model.specs.declared.message.LinkMessage.{LinkMessage}
 use Rattle.craq_runs.specs.Chain.{message_at, sent_in}
-use Rattle.craq_seat.specs.Merge.{Line, IsBefore, number_among}
+use Rattle.craq_seat.specs.Merge.{MergedStep, IsBefore, number_among}
 use Rattle.craq_merge.proofs.Orders.{AreRising, IsIn, all_in, in_left}
 
 -- the messages that were sent in these steps
-abbrev pub all_sent : List Line → List LinkMessage
-all_sent ls = flat_map (λ (l : Line). sent_in l.step.outs) ls
+abbrev pub all_sent : List MergedStep → List LinkMessage
+all_sent ls = flat_map (λ (l : MergedStep). sent_in l.step.outs) ls
 
 -- past the first list
 pub get_past : {X : Type 0} (xs ys : List X) (k : ℕ) → slice_get (xs ++ ys) (length xs + k) ≡ slice_get ys k
@@ -21,22 +21,22 @@ get_within [] ys k x h = cc
 get_within (y ∷ xs) ys zero x h = h
 get_within (y ∷ xs) ys (suc k) x h = get_within xs ys k x h
 
-pub first_is : (d : Line) (ls : List Line) (m : LinkMessage) → d.node ≡ m.sender → d.stamp ≡ m.stamp → number_among (d ∷ ls) m ≡ suc m.index
+pub first_is : (d : MergedStep) (ls : List MergedStep) (m : LinkMessage) → d.node ≡ m.sender → d.stamp ≡ m.stamp → number_among (d ∷ ls) m ≡ suc m.index
 unfolding number_among
 first_is d ls m e f = grind (arith, e, f)
 
-pub not_first : (d s : Line) (ls : List Line) (m : LinkMessage) → IsBefore d s → s.node ≡ m.sender → s.stamp ≡ m.stamp → number_among (d ∷ ls) m ≡ length (sent_in d.step.outs) + number_among ls m
+pub not_first : (d s : MergedStep) (ls : List MergedStep) (m : LinkMessage) → IsBefore d s → s.node ≡ m.sender → s.stamp ≡ m.stamp → number_among (d ∷ ls) m ≡ length (sent_in d.step.outs) + number_among ls m
 unfolding number_among
 not_first d s ls m (inl h) e f = grind (arith, h, e, f)
 not_first d s ls m (inr h) e f = let k = h.1 in grind (arith, k, e, f)
 
 -- the number names the message, among those of the steps so far
-numbered : (done rest : List Line) (s : Line) (m n : LinkMessage) → AreRising (done ++ rest) → IsIn done s → s.node ≡ m.sender → s.stamp ≡ m.stamp → slice_get (sent_in s.step.outs) m.index ≡ Some n → (k : ℕ) × (number_among (done ++ rest) m ≡ suc k) × (slice_get (all_sent done) k ≡ Some n)
+numbered : (done rest : List MergedStep) (s : MergedStep) (m n : LinkMessage) → AreRising (done ++ rest) → IsIn done s → s.node ≡ m.sender → s.stamp ≡ m.stamp → slice_get (sent_in s.step.outs) m.index ≡ Some n → (k : ℕ) × (number_among (done ++ rest) m ≡ suc k) × (slice_get (all_sent done) k ≡ Some n)
 numbered [] rest s m n r i e f g = absurd i
 numbered (d ∷ ds) rest s m n r (inl x) e f g = (
   m.index,
-  first_is d (ds ++ rest) m (ap (λ (l : Line). l.node) x ∙ e) (ap (λ (l : Line). l.stamp) x ∙ f),
-  get_within (sent_in d.step.outs) (all_sent ds) m.index n (subst (λ (l : Line). slice_get (sent_in l.step.outs) m.index ≡ Some n) (sym x) g),
+  first_is d (ds ++ rest) m (ap (λ (l : MergedStep). l.node) x ∙ e) (ap (λ (l : MergedStep). l.stamp) x ∙ f),
+  get_within (sent_in d.step.outs) (all_sent ds) m.index n (subst (λ (l : MergedStep). slice_get (sent_in l.step.outs) m.index ≡ Some n) (sym x) g),
 )
 numbered (d ∷ ds) rest s m n r (inr i) e f g =
     let t = numbered ds rest s m n r.1 i e f g in
@@ -49,11 +49,11 @@ numbered (d ∷ ds) rest s m n r (inr i) e f g =
       get_past (sent_in d.step.outs) (all_sent ds) t.0 ∙ t.2,
     )
 
-pub number_names : (done rest : List Line) (s : Line) (m n : LinkMessage) → AreRising (done ++ rest) → IsIn done s → s.node ≡ m.sender → s.stamp ≡ m.stamp → slice_get (sent_in s.step.outs) m.index ≡ Some n → message_at (all_sent done) (number_among (done ++ rest) m) ≡ Some n
+pub number_names : (done rest : List MergedStep) (s : MergedStep) (m n : LinkMessage) → AreRising (done ++ rest) → IsIn done s → s.node ≡ m.sender → s.stamp ≡ m.stamp → slice_get (sent_in s.step.outs) m.index ≡ Some n → message_at (all_sent done) (number_among (done ++ rest) m) ≡ Some n
 number_names done rest s m n r i e f g =
     let t = numbered done rest s m n r i e f g in
     rw t.1 t.2
 
-pub all_sent-append : (xs ys : List Line) → all_sent (xs ++ ys) ≡ all_sent xs ++ all_sent ys
+pub all_sent-append : (xs ys : List MergedStep) → all_sent (xs ++ ys) ≡ all_sent xs ++ all_sent ys
 all_sent-append [] ys = refl
 all_sent-append (x ∷ xs) ys = rw (all_sent-append xs ys) (search append_assoc)

@@ -3,7 +3,7 @@ use Rattle.std.proofs.Common.{◌≡◌, ◌≢◌, ◌<◌, ◌≤◌, ◌⊎�
 use Rattle.std.specs.Prelude.{⊤, filter, Contains, slice_get, Some}
 use Rattle.std.specs.List.{AllByRecursion}
 use Rattle.std.proofs.lemmas.Bool.{cond_both, eqb-true}
-use Rattle.craq_seat.specs.Merge.{Line, IsBefore, AreInOrder}
+use Rattle.craq_seat.specs.Merge.{MergedStep, IsBefore, AreInOrder}
 
 -- ---- the elements of a list
 
@@ -61,31 +61,31 @@ in_get (y ∷ xs) (suc k) x h = inr (in_get xs k x h)
 
 -- ---- the order of lines
 
-pub not_both : (a b : Line) → IsBefore a b → IsBefore b a → ⊥
+pub not_both : (a b : MergedStep) → IsBefore a b → IsBefore b a → ⊥
 not_both a b (inl h) (inl k) = omega (arith, h, k)
 not_both a b (inl h) (inr k) = let s = k.0 in omega (arith, h, s)
 not_both a b (inr h) (inl k) = let s = h.0 in omega (arith, s, k)
 not_both a b (inr h) (inr k) = let x = h.1 in let y = k.1 in omega (arith, x, y)
 
-pub not_itself : (a b : Line) → a ≡ b → IsBefore a b → ⊥
+pub not_itself : (a b : MergedStep) → a ≡ b → IsBefore a b → ⊥
 not_itself a b e h = not_both a a (subst (λ x. IsBefore a x) (sym e) h) (subst (λ x. IsBefore a x) (sym e) h)
 
-pub before_both : (a b c : Line) → IsBefore a b → IsBefore b c → IsBefore a c
+pub before_both : (a b c : MergedStep) → IsBefore a b → IsBefore b c → IsBefore a c
 before_both a b c (inl h) (inl k) = inl (omega (arith, h, k))
 before_both a b c (inl h) (inr k) = let s = k.0 in inl (omega (arith, h, s))
 before_both a b c (inr h) (inl k) = let s = h.0 in inl (omega (arith, s, k))
 before_both a b c (inr h) (inr k) = let x = h.1 in let y = k.1 in inr (h.0 ∙ k.0, omega (arith, x, y))
 
-pub no_later : (a b : Line) → IsBefore a b → a.stamp ≤ b.stamp
+pub no_later : (a b : MergedStep) → IsBefore a b → a.stamp ≤ b.stamp
 no_later a b (inl h) = omega (arith, h)
 no_later a b (inr h) = let s = h.0 in omega (arith, s)
 
 -- each line precedes all that follow
-abbrev pub AreRising : List Line → Type 0
+abbrev pub AreRising : List MergedStep → Type 0
 AreRising [] = ⊤
 AreRising (a ∷ ls) = AllByRecursion (IsBefore a) ls × AreRising ls
 
-pub rising : (ls : List Line) → AreInOrder ls → AreRising ls
+pub rising : (ls : List MergedStep) → AreInOrder ls → AreRising ls
 rising [] h = tt
 rising (a ∷ []) h = (tt, tt)
 rising (a ∷ b ∷ ls) h =
@@ -93,16 +93,16 @@ rising (a ∷ b ∷ ls) h =
     ((h.0, all_by (IsBefore a) ls (λ x i. before_both a b x h.0 (all_in (IsBefore b) ls x r.0 i))), r)
 
 -- ascending lists with the same lines are equal
-heads : (x y : Line) (xs ys : List Line) → AreRising (x ∷ xs) → AreRising (y ∷ ys) → (y ≡ x) ⊎ IsIn ys x → (x ≡ y) ⊎ IsIn xs y → x ≡ y
+heads : (x y : MergedStep) (xs ys : List MergedStep) → AreRising (x ∷ xs) → AreRising (y ∷ ys) → (y ≡ x) ⊎ IsIn ys x → (x ≡ y) ⊎ IsIn xs y → x ≡ y
 heads x y xs ys r s (inl e) g = sym e
 heads x y xs ys r s (inr i) (inl e) = e
 heads x y xs ys r s (inr i) (inr k) = absurd (not_both x y (all_in (IsBefore x) xs y r.0 k) (all_in (IsBefore y) ys x s.0 i))
 
-rest_in : (x y z : Line) (xs ys : List Line) → AllByRecursion (IsBefore x) xs → x ≡ y → IsIn xs z → (y ≡ z) ⊎ IsIn ys z → IsIn ys z
+rest_in : (x y z : MergedStep) (xs ys : List MergedStep) → AllByRecursion (IsBefore x) xs → x ≡ y → IsIn xs z → (y ≡ z) ⊎ IsIn ys z → IsIn ys z
 rest_in x y z xs ys r e i (inl same) = absurd (not_itself x z (e ∙ same) (all_in (IsBefore x) xs z r i))
 rest_in x y z xs ys r e i (inr k) = k
 
-pub same_lines : (xs ys : List Line) → AreRising xs → AreRising ys → ((z : Line) → IsIn xs z → IsIn ys z) → ((z : Line) → IsIn ys z → IsIn xs z) → xs ≡ ys
+pub same_lines : (xs ys : List MergedStep) → AreRising xs → AreRising ys → ((z : MergedStep) → IsIn xs z → IsIn ys z) → ((z : MergedStep) → IsIn ys z → IsIn xs z) → xs ≡ ys
 same_lines [] [] r s f g = refl
 same_lines [] (y ∷ ys) r s f g = absurd (g y (inl refl))
 same_lines (x ∷ xs) [] r s f g = absurd (f x (inl refl))
@@ -113,34 +113,34 @@ same_lines (x ∷ xs) (y ∷ ys) r s f g =
 
 -- ---- the lines of one node
 
-abbrev pub lines_at : ℕ → List Line → List Line
-lines_at id ls = filter (λ (l : Line). l.node == id) ls
+abbrev pub lines_at : ℕ → List MergedStep → List MergedStep
+lines_at id ls = filter (λ (l : MergedStep). l.node == id) ls
 
-pub at_here : (id : ℕ) (l : Line) (ls : List Line) → l.node ≡ id → lines_at id (l ∷ ls) ≡ l ∷ lines_at id ls
+pub at_here : (id : ℕ) (l : MergedStep) (ls : List MergedStep) → l.node ≡ id → lines_at id (l ∷ ls) ≡ l ∷ lines_at id ls
 at_here id l ls e = grind (arith, e)
 
-pub at_other : (id : ℕ) (l : Line) (ls : List Line) → l.node ≢ id → lines_at id (l ∷ ls) ≡ lines_at id ls
+pub at_other : (id : ℕ) (l : MergedStep) (ls : List MergedStep) → l.node ≢ id → lines_at id (l ∷ ls) ≡ lines_at id ls
 at_other id l ls n = grind (arith, n)
 
-pub to_at : (id : ℕ) (ls : List Line) (z : Line) → IsIn ls z → z.node ≡ id → IsIn (lines_at id ls) z
+pub to_at : (id : ℕ) (ls : List MergedStep) (z : MergedStep) → IsIn ls z → z.node ≡ id → IsIn (lines_at id ls) z
 to_at id [] z i e = absurd i
 to_at id (l ∷ ls) z (inl s) e =
-    rw (at_here id l ls (ap (λ (x : Line). x.node) s ∙ e)) (inl s)
+    rw (at_here id l ls (ap (λ (x : MergedStep). x.node) s ∙ e)) (inl s)
 to_at id (l ∷ ls) z (inr i) e =
     cond_both (l.node == id) (l ∷ lines_at id ls) (lines_at id ls) (λ xs. IsIn xs z) (λ b. inr (to_at id ls z i e)) (λ b. to_at id ls z i e)
 
-abbrev IsOf : ℕ → List Line → Line → Type 0
+abbrev IsOf : ℕ → List MergedStep → MergedStep → Type 0
 IsOf id ls z = IsIn ls z × (z.node ≡ id)
 
-pub from_at : (id : ℕ) (ls : List Line) (z : Line) → IsIn (lines_at id ls) z → IsIn ls z × (z.node ≡ id)
+pub from_at : (id : ℕ) (ls : List MergedStep) (z : MergedStep) → IsIn (lines_at id ls) z → IsIn ls z × (z.node ≡ id)
 from_at id [] z i = absurd i
 from_at id (l ∷ ls) z i =
     cond_both (l.node == id) (l ∷ lines_at id ls) (lines_at id ls) (λ xs. IsIn xs z → IsOf id (l ∷ ls) z)
-    (λ b k. elim k [ inl s ↦ (inl s, ap (λ (x : Line). x.node) (sym s) ∙ eqb-true l.node id b) | inr m ↦ (let r = from_at id ls z m in (inr r.0, r.1)) ])
+    (λ b k. elim k [ inl s ↦ (inl s, ap (λ (x : MergedStep). x.node) (sym s) ∙ eqb-true l.node id b) | inr m ↦ (let r = from_at id ls z m in (inr r.0, r.1)) ])
     (λ b k. let r = from_at id ls z k in (inr r.0, r.1))
     i
 
-pub at_rising : (id : ℕ) (ls : List Line) → AreRising ls → AreRising (lines_at id ls)
+pub at_rising : (id : ℕ) (ls : List MergedStep) → AreRising ls → AreRising (lines_at id ls)
 at_rising id [] r = tt
 at_rising id (l ∷ ls) r =
     cond_both (l.node == id) (l ∷ lines_at id ls) (lines_at id ls) AreRising

@@ -6,8 +6,8 @@ use Rattle.craq_runs.specs.declared.explanation.Place.{Place}
 use Rattle.craq_runs.specs.Seen.{Asked, Seen, ask_of, seen}
 use Rattle.craq_runs.specs.Valid.{IsExplained, OnlyGrows, committed_after}
 use Rattle.craq_seat.specs.Calls.{Called}
-use Rattle.craq_seat.specs.Merge.{Line, run_of}
-use Rattle.craq_merge.specs.Within.{IsWithin, answer_of_call, ask_of_call, line_at}
+use Rattle.craq_seat.specs.Merge.{MergedStep, run_of}
+use Rattle.craq_merge.specs.Within.{IsWithin, run_answer_of_call, ask_of_call, line_at}
 use Rattle.craq_merge.proofs.Calls.{passes_order}
 use Rattle.craq_merge.proofs.Walk.{taken_among}
 
@@ -27,7 +27,7 @@ grown_to s e i k g le few =
     subst (λ x. committed_after e i ≤ committed_after e x) n h
 
 -- there are as many moves as lines
-as_many : (all lines : List Line) → length (map (taken_among all) lines) ≡ length lines
+as_many : (all lines : List MergedStep) → length (map (taken_among all) lines) ≡ length lines
 as_many all [] = refl
 as_many all (l ∷ lines) = ap suc (as_many all lines)
 
@@ -36,18 +36,18 @@ within_length [] i x h = cc
 within_length (y ∷ xs) zero x h = omega arith
 within_length (y ∷ xs) (suc i) x h = let t = within_length xs i x h in omega (arith, t)
 
-is_move : (lines : List Line) (move : ℕ) (l : Line) → line_at lines move ≡ Some l → move ≤ length lines
+is_move : (lines : List MergedStep) (move : ℕ) (l : MergedStep) → line_at lines move ≡ Some l → move ≤ length lines
 is_move lines zero l h = omega arith
 is_move lines (suc i) l h = let t = within_length lines i l h in omega (arith, t)
 
 same_some : (x y : Asked) (o : Option Asked) → o ≡ Some x → o ≡ Some y → x ≡ y
 same_some x y o h k = cc
 
-pub no_older : (members : List ℕ) (lines : List Line) (e : Explanation) (earlier later : Called) (p q : Place) (first : IsWithin lines (run_of members lines) earlier) (second : IsWithin lines (run_of members lines) later) → OnlyGrows (seen (run_of members lines)) e → IsExplained (seen (run_of members lines)) e (answer_of_call earlier first.answered) p → IsExplained (seen (run_of members lines)) e (answer_of_call later second.answered) q → earlier.answered.stamp ≤ later.call.pass → p.position ≤ q.position
+pub no_older : (members : List ℕ) (lines : List MergedStep) (e : Explanation) (earlier later : Called) (p q : Place) (first : IsWithin lines (run_of members lines) earlier) (second : IsWithin lines (run_of members lines) later) → OnlyGrows (seen (run_of members lines)) e → IsExplained (seen (run_of members lines)) e (run_answer_of_call earlier first.answered) p → IsExplained (seen (run_of members lines)) e (run_answer_of_call later second.answered) q → earlier.answered.stamp ≤ later.call.pass → p.position ≤ q.position
 no_older members lines e earlier later p q first second g a b le =
     let s : Seen = seen (run_of members lines) in
     let before : first.answered < second.asked = passes_order lines (run_of members lines) earlier later first second le in
-    let ask : b.ask ≡ ask_of_call later second.asked = same_some b.ask (ask_of_call later second.asked) (ask_of s.asks (answer_of_call later second.answered)) b.is_ask second.is_ask in
+    let ask : b.ask ≡ ask_of_call later second.asked = same_some b.ask (ask_of_call later second.asked) (ask_of s.asks (run_answer_of_call later second.answered)) b.is_ask second.is_ask in
     let move : b.ask.move ≡ second.asked = ap (λ (x : Asked). x.move) ask in
     let many : s.moves ≡ length lines = as_many lines lines in
     let last : second.asked ≤ length lines = is_move lines second.asked second.asked_as.0 second.asked_as.1 in

@@ -18,7 +18,7 @@ use Rattle.craq_seat.specs.declared.journal.Receipt.{Receipt}
 use Rattle.craq_seat.specs.declared.journal.Record.{Record}
 use Rattle.craq_seat.specs.Books.{book_step}
 use Rattle.craq_seat.specs.Journal.{Replays}
-use Rattle.craq_seat.specs.Merge.{AtNode, AtMaster, IsBefore, Line, book_line, node_line}
+use Rattle.craq_seat.specs.Merge.{AtNode, AtMaster, IsBefore, MergedStep, book_line, node_line}
 use Rattle.craq_seat.specs.Numbered.{numbered_from}
 use Rattle.craq_merge.proofs.Orders.{AreRising, IsIn, all_in, in_either, lines_at, no_later}
 use Rattle.craq_merge.proofs.Numbers.{all_sent, all_sent-append}
@@ -28,8 +28,8 @@ use Rattle.craq_seat.specs.Numbered.{AreFrom}
 -- ---- the conditions of the lines
 
 -- a message's sending
-pub record Sending (lines : List Line) (stamp : ℕ) (m : LinkMessage) : Type 0 where
-  pub line : Line
+pub record Sending (lines : List MergedStep) (stamp : ℕ) (m : LinkMessage) : Type 0 where
+  pub line : MergedStep
   pub there : IsIn lines line
   pub node : line.node ≡ m.sender
   pub at : line.stamp ≡ m.stamp
@@ -37,39 +37,39 @@ pub record Sending (lines : List Line) (stamp : ℕ) (m : LinkMessage) : Type 0 
   pub message : slice_get (numbered_from 0 (record { node = line.node; stamp = line.stamp }) (sent_in line.step.outs)) m.index ≡ Some m
 
 -- an earlier line of this kind
-pub record Earlier (lines : List Line) (stamp : ℕ) (P : Line → Type 0) : Type 0 where
-  pub line : Line
+pub record Earlier (lines : List MergedStep) (stamp : ℕ) (P : MergedStep → Type 0) : Type 0 where
+  pub line : MergedStep
   pub there : IsIn lines line
   pub earlier : line.stamp < stamp
   pub is : P line
 
-abbrev pub IsStopOf : ℕ → Line → Type 0
+abbrev pub IsStopOf : ℕ → MergedStep → Type 0
 IsStopOf id l = (l.node ≡ id) × (l.event ≡ AtNode events.Stop)
 
-abbrev pub IsJoinOf : ℕ → Line → Type 0
+abbrev pub IsJoinOf : ℕ → MergedStep → Type 0
 IsJoinOf id l = l.event ≡ AtMaster (books.Join id)
 
 -- the lines are in order, and the line that a line needs precedes it
-pub record AreSound (members : List ℕ) (lines : List Line) : Type 0 where
+pub record AreSound (members : List ℕ) (lines : List MergedStep) : Type 0 where
   pub order : AreRising lines
-  pub arrivals : (l : Line) (m : LinkMessage) → IsIn lines l → l.event ≡ AtNode (events.Deliver m) → Sending lines l.stamp m
-  pub removals : (l : Line) (stopped : NodeName) (stop : Receipt) → IsIn lines l → l.event ≡ AtMaster (books.Remove stopped stop) → Earlier lines l.stamp (IsStopOf stopped.node)
-  pub joined : (l : Line) → IsIn lines l → l.node ≢ 0 → (is_member members l.node ≡ true) ⊎ Earlier lines l.stamp (IsJoinOf l.node)
+  pub arrivals : (l : MergedStep) (m : LinkMessage) → IsIn lines l → l.event ≡ AtNode (events.Deliver m) → Sending lines l.stamp m
+  pub removals : (l : MergedStep) (stopped : NodeName) (stop : Receipt) → IsIn lines l → l.event ≡ AtMaster (books.Remove stopped stop) → Earlier lines l.stamp (IsStopOf stopped.node)
+  pub joined : (l : MergedStep) → IsIn lines l → l.node ≢ 0 → (is_member members l.node ≡ true) ⊎ Earlier lines l.stamp (IsJoinOf l.node)
   pub few : length lines ≤ greatest
   pub few_sent : length (all_sent lines) ≤ greatest
 
 -- an earlier line was already taken
-pub is_done : (lines done rest : List Line) (l s : Line) → lines ≡ done ++ l ∷ rest → AreRising lines → IsIn lines s → s.stamp < l.stamp → IsIn done s
+pub is_done : (lines done rest : List MergedStep) (l s : MergedStep) → lines ≡ done ++ l ∷ rest → AreRising lines → IsIn lines s → s.stamp < l.stamp → IsIn done s
 is_done lines done rest l s e r i less =
     of_parts done (subst AreRising e r) (in_either done (l ∷ rest) s (subst (λ ls. IsIn ls s) e i))
   where
-    later : (ds : List Line) → AreRising (ds ++ l ∷ rest) → AreRising (l ∷ rest)
+    later : (ds : List MergedStep) → AreRising (ds ++ l ∷ rest) → AreRising (l ∷ rest)
     later [] r = r
     later (d ∷ ds) r = later ds r.1
 
-    of_parts : (ds : List Line) → AreRising (ds ++ l ∷ rest) → IsIn ds s ⊎ ((l ≡ s) ⊎ IsIn rest s) → IsIn ds s
+    of_parts : (ds : List MergedStep) → AreRising (ds ++ l ∷ rest) → IsIn ds s ⊎ ((l ≡ s) ⊎ IsIn rest s) → IsIn ds s
     of_parts ds r (inl i) = i
-    of_parts ds r (inr (inl same)) = let f : l.stamp ≡ s.stamp = ap (λ (x : Line). x.stamp) same in absurd (omega (arith, f, less))
+    of_parts ds r (inr (inl same)) = let f : l.stamp ≡ s.stamp = ap (λ (x : MergedStep). x.stamp) same in absurd (omega (arith, f, less))
     of_parts ds r (inr (inr i)) = let f = no_later l s (all_in (IsBefore l) rest s (later ds r).0 i) in absurd (omega (arith, f, less))
 
 -- ---- the invariant of the chain
@@ -81,7 +81,7 @@ abbrev pub IsStopped : List Plain → ℕ → Type 0
 IsStopped ps id = (p : Plain) × (node_at ps id ≡ Some p) × (p.running ≡ false)
 
 -- the rest of the master's journal goes on from this master
-pub record MasterGoes (m : Mastered) (ls : List Line) : Type 0 where
+pub record MasterGoes (m : Mastered) (ls : List MergedStep) : Type 0 where
   pub records : List (Record BookEvent)
   pub last : Mastered
   pub lines : ls ≡ map book_line records
@@ -92,7 +92,7 @@ abbrev pub IsNow : ℕ → ℕ → Option Plain → Plain → Type 0
 IsNow chain id o p = (o ≡ Some p) ⊎ ((o ≡ None) × (p ≡ opening_joined (record { chain = chain; node = id })))
 
 -- the rest of a node's journal goes on from it
-pub record NodeGoes (chain id : ℕ) (o : Option Plain) (ls : List Line) : Type 0 where
+pub record NodeGoes (chain id : ℕ) (o : Option Plain) (ls : List MergedStep) : Type 0 where
   pub node : Plain
   pub records : List (Record Event)
   pub last : Plain
@@ -101,19 +101,19 @@ pub record NodeGoes (chain id : ℕ) (o : Option Plain) (ls : List Line) : Type 
   pub replay : Replays node_step node records last
 
 -- the chain after these lines
-pub record IsReached (chain : ℕ) (members : List ℕ) (done rest : List Line) (c : Chain) : Type 0 where
+pub record IsReached (chain : ℕ) (members : List ℕ) (done rest : List MergedStep) (c : Chain) : Type 0 where
   pub chained : c.chain ≡ chain
   pub sent : c.messages ≡ all_sent done
   pub count : c.moves ≡ length done
   pub master : MasterGoes (master_of c) (lines_at 0 rest)
   pub nodes : (id : ℕ) → id ≢ 0 → NodeGoes chain id (node_at c.nodes id) (lines_at id rest)
   pub first : (id : ℕ) → is_member members id ≡ true → IsThere c.nodes id
-  pub joins : (l : Line) → IsIn done l → (id : ℕ) → IsJoinOf id l → IsThere c.nodes id
-  pub stops : (l : Line) → IsIn done l → l.event ≡ AtNode events.Stop → IsStopped c.nodes l.node
-  pub from : (l : Line) → IsIn done l → AreFrom l.node l.step.outs
+  pub joins : (l : MergedStep) → IsIn done l → (id : ℕ) → IsJoinOf id l → IsThere c.nodes id
+  pub stops : (l : MergedStep) → IsIn done l → l.event ≡ AtNode events.Stop → IsStopped c.nodes l.node
+  pub from : (l : MergedStep) → IsIn done l → AreFrom l.node l.step.outs
 
 -- the changes that a line makes
-pub record IsChanged (chain : ℕ) (l : Line) (rest : List Line) (c x : Chain) : Type 0 where
+pub record IsChanged (chain : ℕ) (l : MergedStep) (rest : List MergedStep) (c x : Chain) : Type 0 where
   pub chained : x.chain ≡ c.chain
   pub master : MasterGoes (master_of x) (lines_at 0 rest)
   pub nodes : (id : ℕ) → id ≢ 0 → NodeGoes chain id (node_at x.nodes id) (lines_at id rest)
@@ -123,7 +123,7 @@ pub record IsChanged (chain : ℕ) (l : Line) (rest : List Line) (c x : Chain) :
   pub stop : l.event ≡ AtNode events.Stop → IsStopped x.nodes l.node
   pub from : AreFrom l.node l.step.outs
 
-last_in : (P : Line → Type 0) (done : List Line) (l : Line) → ((s : Line) → IsIn done s → P s) → P l → (s : Line) → IsIn (done ++ l ∷ []) s → P s
+last_in : (P : MergedStep → Type 0) (done : List MergedStep) (l : MergedStep) → ((s : MergedStep) → IsIn done s → P s) → P l → (s : MergedStep) → IsIn (done ++ l ∷ []) s → P s
 last_in P done l f here s i =
     elim (in_either done (l ∷ []) s i) [
       | inl k ↦ f s k
@@ -131,7 +131,7 @@ last_in P done l f here s i =
     ]
 
 -- one more line
-pub reached_more : (chain : ℕ) (members : List ℕ) (done rest : List Line) (l : Line) (c x : Chain) → IsReached chain members done (l ∷ rest) c → IsChanged chain l rest c x → IsReached chain members (done ++ l ∷ []) rest (counted c x l.step)
+pub reached_more : (chain : ℕ) (members : List ℕ) (done rest : List MergedStep) (l : MergedStep) (c x : Chain) → IsReached chain members done (l ∷ rest) c → IsChanged chain l rest c x → IsReached chain members (done ++ l ∷ []) rest (counted c x l.step)
 reached_more chain members done rest l c x r d =
     record {
       chained = d.chained ∙ r.chained;
@@ -146,13 +146,13 @@ reached_more chain members done rest l c x r d =
     }
 
 -- the numbers that are left
-pub moves_left : (members : List ℕ) (lines done rest : List Line) (l : Line) → lines ≡ done ++ l ∷ rest → AreSound members lines → length done < greatest
+pub moves_left : (members : List ℕ) (lines done rest : List MergedStep) (l : MergedStep) → lines ≡ done ++ l ∷ rest → AreSound members lines → length done < greatest
 moves_left members lines done rest l e s =
     let few : length lines ≤ greatest = s.few in
     let long : length lines ≡ length done + suc (length rest) = ap length e ∙ length-append done (l ∷ rest) in
     grind (arith, few, long)
 
-pub messages_left : (members : List ℕ) (lines done rest : List Line) (l : Line) → lines ≡ done ++ l ∷ rest → AreSound members lines → length (all_sent done) + length (sent_in l.step.outs) ≤ greatest
+pub messages_left : (members : List ℕ) (lines done rest : List MergedStep) (l : MergedStep) → lines ≡ done ++ l ∷ rest → AreSound members lines → length (all_sent done) + length (sent_in l.step.outs) ≤ greatest
 messages_left members lines done rest l e s =
     let few : length (all_sent lines) ≤ greatest = s.few_sent in
     let all : length (all_sent lines) ≡ length (all_sent done) + length (all_sent (l ∷ rest)) = ap (λ ls. length (all_sent ls)) e ∙ ap length (all_sent-append done (l ∷ rest)) ∙ length-append (all_sent done) (all_sent (l ∷ rest)) in

@@ -19,7 +19,7 @@ use Rattle.craq_seat.specs.Books.{IsBook, book_step, first_master, members_of}
 use Rattle.craq_seat.specs.Cells.{Celled}
 use Rattle.craq_seat.specs.Journal.{IsStamped, Stands}
 use Rattle.craq_seat.specs.Kept.{IsKept}
-use Rattle.craq_seat.specs.Merge.{IsMerge, Journals, Line, book_line, node_line, run_of}
+use Rattle.craq_seat.specs.Merge.{IsMerge, Journals, MergedStep, book_line, node_line, run_of}
 use Rattle.craq_seat.specs.Stamps.{book_stamp, event_stamp}
 use Rattle.craq_merge.specs.Merged.{AreSeated, CanBeNumbered}
 use Rattle.craq_merge.proofs.Counts.{count, count_same}
@@ -112,13 +112,13 @@ good R book cells j s =
       sent = λ n r i k. all_in (HasSender j) n.1 r (all_in (λ (n : Kept). AllByRecursion (HasSender j) n.1) j.nodes n s.sent i) k;
     }
 
-pub seated_run : {C : Type 0} (R : C → Plain → Type 0) (book : Celled Mastered BookEvent) (cells : List (Celled C Event)) (j : Journals) (lines : List Line) → AreSeated R book cells j → IsMerge j lines → CanBeNumbered lines → IsRunOf book.opening.name.chain (run_of j.members lines)
+pub seated_run : {C : Type 0} (R : C → Plain → Type 0) (book : Celled Mastered BookEvent) (cells : List (Celled C Event)) (j : Journals) (lines : List MergedStep) → AreSeated R book cells j → IsMerge j lines → CanBeNumbered lines → IsRunOf book.opening.name.chain (run_of j.members lines)
 seated_run R book cells j lines s m fit = is_run book.opening.name.chain j lines (good R book cells j s) m fit.moves fit.messages
 
 -- ---- the lines at a node
 
-pub seated_node : {C : Type 0} (R : C → Plain → Type 0) (book : Celled Mastered BookEvent) (cells : List (Celled C Event)) (j : Journals) (lines : List Line) (id : ℕ) (rs : List (Record Event)) → AreSeated R book cells j → IsMerge j lines → Contains j.nodes (id, rs) → lines_at id lines ≡ map (node_line id) rs
+pub seated_node : {C : Type 0} (R : C → Plain → Type 0) (book : Celled Mastered BookEvent) (cells : List (Celled C Event)) (j : Journals) (lines : List MergedStep) (id : ℕ) (rs : List (Record Event)) → AreSeated R book cells j → IsMerge j lines → Contains j.nodes (id, rs) → lines_at id lines ≡ map (node_line id) rs
 seated_node R book cells j lines id rs s m i = node_journal book.opening.name.chain j lines (good R book cells j s) m (id, rs) (from_contains j.nodes (id, rs) i)
 
-pub seated_book : {C : Type 0} (R : C → Plain → Type 0) (book : Celled Mastered BookEvent) (cells : List (Celled C Event)) (j : Journals) (lines : List Line) → AreSeated R book cells j → IsMerge j lines → lines_at 0 lines ≡ map book_line j.book
+pub seated_book : {C : Type 0} (R : C → Plain → Type 0) (book : Celled Mastered BookEvent) (cells : List (Celled C Event)) (j : Journals) (lines : List MergedStep) → AreSeated R book cells j → IsMerge j lines → lines_at 0 lines ≡ map book_line j.book
 seated_book R book cells j lines s m = book_journal book.opening.name.chain j lines (good R book cells j s) m

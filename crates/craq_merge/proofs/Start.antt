@@ -7,7 +7,7 @@ use Rattle.craq_epochs.specs.Mastered.{Mastered}
 use Rattle.craq_epochs.specs.Mastered as masters
 use Rattle.craq_runs.specs.Chain.{node_at, opening_chain}
 use Rattle.craq_runs.specs.Runs.{IsRunOf}
-use Rattle.craq_seat.specs.Merge.{IsMerge, Journals, Line, book_line, node_line, run_of}
+use Rattle.craq_seat.specs.Merge.{IsMerge, Journals, MergedStep, book_line, node_line, run_of}
 use Rattle.craq_seat.specs.Stamps.{book_stamp, event_stamp}
 use Rattle.craq_seat.proofs.Taking.{stamps_rise}
 use Rattle.craq_merge.proofs.Counts.{count, distinct_once, none_is_zero}
@@ -41,7 +41,7 @@ opening_none chain all (m ∷ members) id h = grind (arith, h, opening_none chai
 -- ---- the start
 
 -- some node, for an id without a journal
-no_journal : (chain id : ℕ) (o : Option Plain) (ls : List Line) → ls ≡ [] → NodeGoes chain id o ls
+no_journal : (chain id : ℕ) (o : Option Plain) (ls : List MergedStep) → ls ≡ [] → NodeGoes chain id o ls
 no_journal chain id None ls e =
     let p : Plain = opening_joined (record { chain = chain; node = id }) in
     record { node = p; records = []; last = p; now = inr (refl, refl); lines = e; replay = refl }
@@ -49,7 +49,7 @@ no_journal chain id (Some p) ls e = record { node = p; records = []; last = p; n
 
 good_used : (chain : ℕ) (j : Journals) (g : AreGood chain j) → AreUsed g.master.used
 good_used chain j g =
-    are_used (masters.opened chain j.members) g.master j.book g.replay
+    are_used (masters.opened_master chain j.members) g.master j.book g.replay
     (record { some = none_is_zero j.members _ g.membership.ids; once = λ id. distinct_once j.members id g.membership.distinct })
 
 pub own_zero : (chain : ℕ) (j : Journals) (g : AreGood chain j) (n : Kept) → IsIn j.nodes n → n.0 ≢ 0
@@ -63,16 +63,16 @@ own_one : (chain : ℕ) (j : Journals) (g : AreGood chain j) (n k : Kept) → Is
 own_one chain j g n k = only_one j.nodes n k (own_counts chain j g)
 
 -- the lines of a merge are the journals
-pub node_journal : (chain : ℕ) (j : Journals) (lines : List Line) (g : AreGood chain j) → IsMerge j lines → (n : Kept) → IsIn j.nodes n → lines_at n.0 lines ≡ map (node_line n.0) n.1
+pub node_journal : (chain : ℕ) (j : Journals) (lines : List MergedStep) (g : AreGood chain j) → IsMerge j lines → (n : Kept) → IsIn j.nodes n → lines_at n.0 lines ≡ map (node_line n.0) n.1
 node_journal chain j lines g m n i =
     let s = g.nodes n i in
     node_lines j lines n s.low s.high m (stamps_rise event_stamp s.low s.high n.1 s.stamped) (own_zero chain j g n i) i (λ k l e. own_one chain j g k n l i e)
 
-pub book_journal : (chain : ℕ) (j : Journals) (lines : List Line) (g : AreGood chain j) → IsMerge j lines → lines_at 0 lines ≡ map book_line j.book
+pub book_journal : (chain : ℕ) (j : Journals) (lines : List MergedStep) (g : AreGood chain j) → IsMerge j lines → lines_at 0 lines ≡ map book_line j.book
 book_journal chain j lines g m = book_lines j lines 0 g.high m (stamps_rise book_stamp 0 g.high j.book g.stamped) (own_zero chain j g)
 
 -- a node with a journal
-with_journal : (chain : ℕ) (j : Journals) (lines : List Line) (g : AreGood chain j) → IsMerge j lines → (n : Kept) → IsIn j.nodes n → NodeGoes chain n.0 (node_at (opening_nodes chain j.members j.members) n.0) (lines_at n.0 lines)
+with_journal : (chain : ℕ) (j : Journals) (lines : List MergedStep) (g : AreGood chain j) → IsMerge j lines → (n : Kept) → IsIn j.nodes n → NodeGoes chain n.0 (node_at (opening_nodes chain j.members j.members) n.0) (lines_at n.0 lines)
 with_journal chain j lines g m n i =
     let s = g.nodes n i in
     record {
@@ -81,13 +81,13 @@ with_journal chain j lines g m n i =
       last = s.last;
       now = elim s.opening [
         | inl a ↦ inl (opening_there chain j.members j.members n.0 a.0 ∙ ap Some (sym a.1))
-        | inr b ↦ inr (opening_none chain j.members j.members n.0 (joins_new (masters.opened chain j.members) g.master j.book b.1 n.0 g.replay b.2 b.3), b.0)
+        | inr b ↦ inr (opening_none chain j.members j.members n.0 (joins_new (masters.opened_master chain j.members) g.master j.book b.1 n.0 g.replay b.2 b.3), b.0)
       ];
       lines = node_journal chain j lines g m n i;
       replay = s.replay;
     }
 
-pub start : (chain : ℕ) (j : Journals) (lines : List Line) (g : AreGood chain j) → IsMerge j lines → IsReached chain j.members [] lines (opening_chain chain j.members)
+pub start : (chain : ℕ) (j : Journals) (lines : List MergedStep) (g : AreGood chain j) → IsMerge j lines → IsReached chain j.members [] lines (opening_chain chain j.members)
 start chain j lines g m =
     let nodes : List Plain = opening_nodes chain j.members j.members in
     record {
@@ -112,7 +112,7 @@ start chain j lines g m =
 
 -- ---- the merge is a run
 
-pub is_run : (chain : ℕ) (j : Journals) (lines : List Line) → AreGood chain j → IsMerge j lines → length lines ≤ greatest → length (all_sent lines) ≤ greatest → IsRunOf chain (run_of j.members lines)
+pub is_run : (chain : ℕ) (j : Journals) (lines : List MergedStep) → AreGood chain j → IsMerge j lines → length lines ≤ greatest → length (all_sent lines) ≤ greatest → IsRunOf chain (run_of j.members lines)
 is_run chain j lines g m few few_sent =
     record {
       members = g.membership;

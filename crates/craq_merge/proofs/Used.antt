@@ -3,7 +3,7 @@ use Rattle.std.proofs.Common.{◌≡◌, ◌≢◌, ◌≤◌, ℕ, false, List,
 use Rattle.craq_names.specs.declared.refusal.Refusal.{Refusal}
 use Rattle.craq_model.specs.declared.step.Step.{Step}
 use Rattle.craq_model.specs.Members.{is_member}
-use Rattle.craq_epochs.specs.Mastered.{Mastered, joined, removed}
+use Rattle.craq_epochs.specs.Mastered.{Mastered, master_after_join, removed}
 use Rattle.craq_chain.proofs.Commands.{join_made, removal_made}
 use Rattle.craq_seat.specs.declared.journal.BookEvent.{BookEvent}
 use Rattle.craq_seat.specs.declared.journal.BookEvent.TheVariants as books
@@ -11,12 +11,12 @@ use Rattle.craq_seat.specs.declared.journal.Record.{Record}
 use Rattle.craq_seat.specs.Books.{book_step}
 use Rattle.craq_seat.specs.Journal.{Replays}
 use Rattle.craq_merge.proofs.Counts.{count, count_push, none_counted}
-use Rattle.craq_merge.proofs.Masters.{is_told}
+use Rattle.craq_merge.proofs.Masters.{is_reported}
 use Rattle.craq_merge.proofs.Orders.{IsIn}
 
 -- a new id is not 0
-pub new_id : (m n : Mastered) (id : ℕ) → joined m id ≡ Ok n → (id ≢ 0) × (is_member m.used id ≡ false)
-unfolding joined
+pub new_id : (m n : Mastered) (id : ℕ) → master_after_join m id ≡ Ok n → (id ≢ 0) × (is_member m.used id ≡ false)
+unfolding master_after_join
 new_id m n id h = (λ e. grind (arith, h, e), grind (arith, h))
 
 -- each id is used once
@@ -33,14 +33,14 @@ one_more used id a z new =
 
 step_used : (event : BookEvent) (m n : Mastered) (step : Step) → book_step m event ≡ Ok (n, step) → AreUsed m.used → AreUsed n.used
 step_used (books.Join id) m n step h a =
-    let t = is_told (joined m id) n step h in
+    let t = is_reported (master_after_join m id) n step h in
     let new = new_id m n id t.0 in
     subst (λ (x : Mastered). AreUsed x.used) (sym (join_made m n id t.0)) (one_more m.used id a new.0 new.1)
 step_used (books.Remove stopped stop) m n step h a =
-    let t = is_told (removed m stopped) n step h in
+    let t = is_reported (removed m stopped) n step h in
     subst (λ (x : Mastered). AreUsed x.used) (sym (removal_made m n stopped t.0)) a
 step_used books.Tick m n step h a =
-    let t = is_told (Ok m) n step h in subst (λ (x : Mastered). AreUsed x.used) (ok_same m n (Ok m) refl t.0) a
+    let t = is_reported (Ok m) n step h in subst (λ (x : Mastered). AreUsed x.used) (ok_same m n (Ok m) refl t.0) a
   where
     ok_same : (x y : Mastered) (r : Result Mastered Refusal) → r ≡ Ok x → r ≡ Ok y → x ≡ y
     ok_same x y r p q = cc
@@ -58,13 +58,13 @@ pushed (y ∷ xs) x id h = grind (arith, h, pushed xs x id)
 
 step_unused : (event : BookEvent) (m n : Mastered) (step : Step) (id : ℕ) → book_step m event ≡ Ok (n, step) → is_member n.used id ≡ false → is_member m.used id ≡ false
 step_unused (books.Join other) m n step id h a =
-    let t = is_told (joined m other) n step h in
+    let t = is_reported (master_after_join m other) n step h in
     pushed m.used other id (subst (λ (x : Mastered). is_member x.used id ≡ false) (join_made m n other t.0) a)
 step_unused (books.Remove stopped stop) m n step id h a =
-    let t = is_told (removed m stopped) n step h in
+    let t = is_reported (removed m stopped) n step h in
     subst (λ (x : Mastered). is_member x.used id ≡ false) (removal_made m n stopped t.0) a
 step_unused books.Tick m n step id h a =
-    let t = is_told (Ok m) n step h in subst (λ (x : Mastered). is_member x.used id ≡ false) (sym (ok_same m n (Ok m) refl t.0)) a
+    let t = is_reported (Ok m) n step h in subst (λ (x : Mastered). is_member x.used id ≡ false) (sym (ok_same m n (Ok m) refl t.0)) a
   where
     ok_same : (x y : Mastered) (r : Result Mastered Refusal) → r ≡ Ok x → r ≡ Ok y → x ≡ y
     ok_same x y r p q = cc
@@ -73,5 +73,5 @@ pub joins_new : (m last : Mastered) (rs : List (Record BookEvent)) (r : Record B
 joins_new m last [] r id is i e = absurd i
 joins_new m last (x ∷ rs) r id (n, h, rest) (inl s) e =
     let event : x.event ≡ books.Join id = ap (λ (y : Record BookEvent). y.event) s ∙ e in
-    (new_id m n id (is_told (joined m id) n x.step (subst (λ (b : BookEvent). book_step m b ≡ Ok (n, x.step)) event h)).0).1
+    (new_id m n id (is_reported (master_after_join m id) n x.step (subst (λ (b : BookEvent). book_step m b ≡ Ok (n, x.step)) event h)).0).1
 joins_new m last (x ∷ rs) r id (n, h, rest) (inr i) e = step_unused x.event m n x.step id h (joins_new n last rs r id rest i e)

@@ -12,7 +12,7 @@ use Rattle.craq_seat.specs.Audits.{AreKept, AreOfChain, HasSender}
 use Rattle.craq_seat.specs.Books.{IsBook}
 use Rattle.craq_seat.specs.Cells.{Celled}
 use Rattle.craq_seat.specs.Kept.{IsKept}
-use Rattle.craq_seat.specs.Merge.{Journals, Line}
+use Rattle.craq_seat.specs.Merge.{Journals, MergedStep}
 
 -- the cells of a chain that keep these journals, in which each message that arrived was sent
 pub record AreSeated {C : Type 0} (represents : C → Plain → Type 0) (book : Celled Mastered BookEvent) (cells : List (Celled C Event)) (j : Journals) : Type 0 where
@@ -23,6 +23,6 @@ pub record AreSeated {C : Type 0} (represents : C → Plain → Type 0) (book : 
   pub sent : AllByRecursion (λ (n : ℕ × List (Record Event)). AllByRecursion (HasSender j) n.1) j.nodes
 
 -- there are numbers for all these steps and for all their messages
-pub record CanBeNumbered (lines : List Line) : Type 0 where
+pub record CanBeNumbered (lines : List MergedStep) : Type 0 where
   pub moves : length lines ≤ greatest
-  pub messages : length (flat_map (λ (l : Line). sent_in l.step.outs) lines) ≤ greatest
+  pub messages : length (flat_map (λ (l : MergedStep). sent_in l.step.outs) lines) ≤ greatest

@@ -9,7 +9,7 @@ use Rattle.craq_runs.specs.Typed.{IsAskOfType}
 use Rattle.craq_seat.specs.declared.journal.Receipt.{Receipt}
 use Rattle.craq_seat.specs.declared.journal.Record.{Record}
 use Rattle.craq_seat.specs.Calls.{Called}
-use Rattle.craq_seat.specs.Merge.{Journals, Line}
+use Rattle.craq_seat.specs.Merge.{Journals, MergedStep}
 
 -- a requested transaction is within the limits of its type
 abbrev pub IsEventOfType : Event → Type 0
@@ -24,30 +24,30 @@ AreAsksOfType j =
     AllByRecursion (λ (n : ℕ × List (Record Event)). AllByRecursion (λ (r : Record Event). IsEventOfType r.event) n.1) j.nodes
 
 -- the line of a number, counted from 1
-abbrev pub line_at : List Line → ℕ → Option Line
+abbrev pub line_at : List MergedStep → ℕ → Option MergedStep
 line_at lines zero = None
 line_at lines (suc i) = slice_get lines i
 
 -- the move of this number is the step that the receipt names
-abbrev pub IsMoveOf : List Line → Receipt → ℕ → Type 0
-IsMoveOf lines receipt move = (l : Line) × (line_at lines move ≡ Some l) × (l.node ≡ receipt.node) × (l.stamp ≡ receipt.stamp)
+abbrev pub IsMoveOf : List MergedStep → Receipt → ℕ → Type 0
+IsMoveOf lines receipt move = (l : MergedStep) × (line_at lines move ≡ Some l) × (l.node ≡ receipt.node) × (l.stamp ≡ receipt.stamp)
 
 -- a call as clients see it, requested and answered by the moves of these numbers
 abbrev pub ask_of_call : Called → ℕ → Asked
 ask_of_call c move = record { move = move; node = c.call.asked.node; ticket = Some c.call.ticket; ask = c.call.ask }
 
 -- a call's reply as clients see it, given by the move of this number
-abbrev pub answer_of_call : Called → ℕ → Answered
-answer_of_call c move = record { move = move; node = c.call.asked.node; ticket = c.call.ticket; answer = c.answer }
+abbrev pub run_answer_of_call : Called → ℕ → Answered
+run_answer_of_call c move = record { move = move; node = c.call.asked.node; ticket = c.call.ticket; answer = c.answer }
 
 -- a call is a request and its reply in the run of these lines, and its request follows each step
 -- that its pass covers
-pub record IsWithin (lines : List Line) (run : Run) (c : Called) : Type 0 where
+pub record IsWithin (lines : List MergedStep) (run : Run) (c : Called) : Type 0 where
   pub asked : ℕ  -- the number of the move
   pub answered : ℕ
   pub is_ask : ask_with (seen run).asks c.call.asked.node c.call.ticket ≡ Some (ask_of_call c asked)
-  pub is_answer : Contains (seen run).answers (answer_of_call c answered)
+  pub is_answer : Contains (seen run).answers (run_answer_of_call c answered)
   pub asked_as : IsMoveOf lines c.call.asked asked
   pub answered_as : IsMoveOf lines c.answered answered
   pub in_order : c.call.asked.stamp ≤ c.answered.stamp → asked ≤ answered
-  pub covered : (move : ℕ) (l : Line) → line_at lines move ≡ Some l → l.stamp ≤ c.call.pass → move < asked
+  pub covered : (move : ℕ) (l : MergedStep) → line_at lines move ≡ Some l → l.stamp ≤ c.call.pass → move < asked

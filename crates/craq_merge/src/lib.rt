@@ -25,11 +25,11 @@ ghost use Rattle.craq_seat.specs.Calls.{Called};
 ghost use Rattle.craq_seat.specs.Cells.{Celled};
 ghost use Rattle.craq_seat.specs.Journal.{AreStamped};
 ghost use Rattle.craq_seat.specs.Kept.{IsKept};
-ghost use Rattle.craq_seat.specs.Merge.{IsMerge, Journals, Line, all_lines, book_line, node_line, run_of};
+ghost use Rattle.craq_seat.specs.Merge.{IsMerge, Journals, MergedStep, all_lines, book_line, node_line, run_of};
 ghost use Rattle.craq_seat.specs.Stamps.{book_stamp, event_stamp};
 ghost use Rattle.craq_merge.specs.Merged.{AreSeated, CanBeNumbered};
 ghost use Rattle.craq_merge.specs.Sorted.{AreSorted};
-ghost use Rattle.craq_merge.specs.Within.{AreAsksOfType, IsWithin, answer_of_call};
+ghost use Rattle.craq_merge.specs.Within.{AreAsksOfType, IsWithin, run_answer_of_call};
 
 use craq_node::Core;
 
@@ -44,34 +44,34 @@ pub fn stamps_exceed_causes()
 
 /// States that journals have at most one merge.
 pub fn one_merge()
-    ensures { (j : Journals) (xs ys : List Line) → IsMerge j xs → IsMerge j ys → xs ≡ ys }
+    ensures { (j : Journals) (xs ys : List MergedStep) → IsMerge j xs → IsMerge j ys → xs ≡ ys }
 {}
 
 /// States that all lines of these journals, sorted by stamp and then by node, are their merge: no
 /// two have the same stamp and node.
 pub fn sorted_lines_are_the_merge<C: Core>()
-    ensures { (book : Celled Mastered BookEvent) (cells : List (Celled C Event)) (j : Journals) (lines : List Line)
+    ensures { (book : Celled Mastered BookEvent) (cells : List (Celled C Event)) (j : Journals) (lines : List MergedStep)
         → AreSeated C.represents book cells j → IsPermutation (all_lines j) lines → AreSorted lines → IsMerge j lines }
 {}
 
 /// States that the lines of a node in a merge are its journal, and those of node 0 are the
 /// master's.
 pub fn merge_keeps_journals<C: Core>()
-    ensures nodes { (book : Celled Mastered BookEvent) (cells : List (Celled C Event)) (j : Journals) (lines : List Line) (id : ℕ) (rs : List (Record Event))
+    ensures nodes { (book : Celled Mastered BookEvent) (cells : List (Celled C Event)) (j : Journals) (lines : List MergedStep) (id : ℕ) (rs : List (Record Event))
         → AreSeated C.represents book cells j → IsMerge j lines → Contains j.nodes (id, rs)
-        → filter (λ (l : Line). l.node == id) lines ≡ map (node_line id) rs }
-    ensures master { (book : Celled Mastered BookEvent) (cells : List (Celled C Event)) (j : Journals) (lines : List Line)
+        → filter (λ (l : MergedStep). l.node == id) lines ≡ map (node_line id) rs }
+    ensures master { (book : Celled Mastered BookEvent) (cells : List (Celled C Event)) (j : Journals) (lines : List MergedStep)
         → AreSeated C.represents book cells j → IsMerge j lines
-        → filter (λ (l : Line). l.node == 0) lines ≡ map book_line j.book }
+        → filter (λ (l : MergedStep). l.node == 0) lines ≡ map book_line j.book }
 {}
 
 /// States that the merge of a chain's journals is a run of that chain, if there are numbers for its
 /// moves and messages; and a run of values that the types allow, if its requests are.
 pub fn merge_is_a_run<C: Core>()
-    ensures run { (book : Celled Mastered BookEvent) (cells : List (Celled C Event)) (j : Journals) (lines : List Line)
+    ensures run { (book : Celled Mastered BookEvent) (cells : List (Celled C Event)) (j : Journals) (lines : List MergedStep)
         → AreSeated C.represents book cells j → IsMerge j lines → CanBeNumbered lines
         → IsRunOf book.opening.name.chain (run_of j.members lines) }
-    ensures typed { (book : Celled Mastered BookEvent) (cells : List (Celled C Event)) (j : Journals) (lines : List Line)
+    ensures typed { (book : Celled Mastered BookEvent) (cells : List (Celled C Event)) (j : Journals) (lines : List MergedStep)
         → AreSeated C.represents book cells j → IsMerge j lines → CanBeNumbered lines → AreAsksOfType j
         → IsTypedRunOf book.opening.name.chain (run_of j.members lines) }
 {}
@@ -79,7 +79,7 @@ pub fn merge_is_a_run<C: Core>()
 /// States that each call whose request and reply are in its node's journal is a request and its
 /// reply in that run. The request follows each step that the call's pass covers.
 pub fn calls_are_in_the_run<C: Core>()
-    ensures { (book : Celled Mastered BookEvent) (cells : List (Celled C Event)) (j : Journals) (lines : List Line) (call : Called)
+    ensures { (book : Celled Mastered BookEvent) (cells : List (Celled C Event)) (j : Journals) (lines : List MergedStep) (call : Called)
         → AreSeated C.represents book cells j → IsMerge j lines → CanBeNumbered lines → IsHeld j call
         → IsWithin lines (run_of j.members lines) call }
 {}
@@ -95,17 +95,17 @@ pub fn audited_runs_hold<C: Core>()
 
 /// States that a call whose pass covers an earlier reply is requested after that reply.
 pub fn passes_order_calls()
-    ensures { (lines : List Line) (run : Run) (earlier later : Called) (first : IsWithin lines run earlier) (second : IsWithin lines run later)
+    ensures { (lines : List MergedStep) (run : Run) (earlier later : Called) (first : IsWithin lines run earlier) (second : IsWithin lines run later)
         → earlier.answered.stamp ≤ later.call.pass → first.answered < second.asked }
 {}
 
 /// States that in an explanation whose list only grows, the place of a reply is not below that of
 /// an earlier reply which the call's pass covers.
 pub fn later_answers_are_no_older()
-    ensures { (members : List ℕ) (lines : List Line) (e : Explanation) (earlier later : Called) (p q : Place)
+    ensures { (members : List ℕ) (lines : List MergedStep) (e : Explanation) (earlier later : Called) (p q : Place)
         (first : IsWithin lines (run_of members lines) earlier) (second : IsWithin lines (run_of members lines) later)
         → OnlyGrows (seen (run_of members lines)) e
-        → IsExplained (seen (run_of members lines)) e (answer_of_call earlier first.answered) p
-        → IsExplained (seen (run_of members lines)) e (answer_of_call later second.answered) q
+        → IsExplained (seen (run_of members lines)) e (run_answer_of_call earlier first.answered) p
+        → IsExplained (seen (run_of members lines)) e (run_answer_of_call later second.answered) q
         → earlier.answered.stamp ≤ later.call.pass → p.position ≤ q.position }
 {}

@@ -23,15 +23,15 @@ use Rattle.craq_model.specs.declared.step.Out.TheVariants as outs
 use Rattle.craq_model.specs.Members.{first_of, last_of}
 use Rattle.craq_model.specs.Plain.{Plain, id_of, successor, is_first, is_last, length_of, newest, newest_object, clean_object, object_within, position_of, with_entries, acknowledging}
 use Rattle.craq_model.specs.Sends.{send, send_all, to_neighbour, entry_bodies}
-use Rattle.craq_model.specs.Settle.{Turn, read_answer}
+use Rattle.craq_model.specs.Settle.{Transition, read_answer}
 
 -- the request is accepted and takes the next ticket
-abbrev pub accepted_turn : Plain → List Out → Turn
-accepted_turn p outs = (record p { last_ticket = p.last_ticket + 1 }, record { ticket = Some (p.last_ticket + 1); outs = outs; ignored = None })
+abbrev pub accepted_transition : Plain → List Out → Transition
+accepted_transition p outs = (record p { last_ticket = p.last_ticket + 1 }, record { ticket = Some (p.last_ticket + 1); outs = outs; ignored = None })
 
 -- the request is accepted and gets its reply in this step
-abbrev pub answered_turn : Plain → Answer → List Out → Turn
-answered_turn p answer sends = accepted_turn p (outs.Answer (p.last_ticket + 1) answer ∷ sends)
+abbrev pub answered_transition : Plain → Answer → List Out → Transition
+answered_transition p answer sends = accepted_transition p (outs.Answer (p.last_ticket + 1) answer ∷ sends)
 
 -- no more requests can wait
 unfoldable pub is_full : Plain → Bool
@@ -63,29 +63,29 @@ abbrev pub committed_if_last : Plain → Plain
 committed_if_last p = if is_last p then acknowledging p (length_of p) else p
 
 -- the reply is known, and is sent once the history is committed up to a position
-unfoldable pub reply_turn : Plain → ℕ → Reply → List Out → Result Turn Refusal
-reply_turn p position reply sends =
-    if nat_le position p.past.acknowledged then Ok (answered_turn p (answers.Update reply) sends)
+unfoldable pub reply_transition : Plain → ℕ → Reply → List Out → Result Transition Refusal
+reply_transition p position reply sends =
+    if nat_le position p.past.acknowledged then Ok (answered_transition p (answers.Update reply) sends)
     else if is_full p then Err refusals.PendingFull
-    else Ok (accepted_turn (record p { waiting_updates = p.waiting_updates ++ (record { ticket = p.last_ticket + 1; position = position; reply = reply }) ∷ [] }) sends)
+    else Ok (accepted_transition (record p { waiting_updates = p.waiting_updates ++ (record { ticket = p.last_ticket + 1; position = position; reply = reply }) ∷ [] }) sends)
 
 -- a new update makes an entry, which goes to the successor
-abbrev pub new_update_turn : Plain → Entry → Result Turn Refusal
-new_update_turn p e =
-    reply_turn (committed_if_last (with_entry p e)) e.position e.reply (to_neighbour (successor p) (λ to. send_all p to (entry_bodies (e ∷ []))))
+abbrev pub new_update_transition : Plain → Entry → Result Transition Refusal
+new_update_transition p e =
+    reply_transition (committed_if_last (with_entry p e)) e.position e.reply (to_neighbour (successor p) (λ to. send_all p to (entry_bodies (e ∷ []))))
 
 -- an update at the head: a repeated one gets its reply, a new one makes an entry
-unfoldable pub update_turn : Plain → Update → Option Reply → Result Turn Refusal
-update_turn p u (Some reply) = reply_turn (committed_if_last p) (position_of p u.client) reply []
-update_turn p u None =
+unfoldable pub update_transition : Plain → Update → Option Reply → Result Transition Refusal
+update_transition p u (Some reply) = reply_transition (committed_if_last p) (position_of p u.client) reply []
+update_transition p u None =
     if length_of p == greatest || some_used_up (newest p).objects (objects_named u.command) then Err refusals.Exhausted
-    else new_update_turn p (entry_of p u (eval (newest p).objects u.command))
+    else new_update_transition p (entry_of p u (eval (newest p).objects u.command))
 
 -- a read of a dirty object waits for the tail's version
-unfoldable pub waiting_read_turn : Plain → List ℕ → Result Turn Refusal
-waiting_read_turn p key =
+unfoldable pub waiting_read_transition : Plain → List ℕ → Result Transition Refusal
+waiting_read_transition p key =
     if is_full p then Err refusals.PendingFull
-    else Ok (accepted_turn (record p { waiting_reads = p.waiting_reads ++ (record { ticket = p.last_ticket + 1; key = key }) ∷ [] })
+    else Ok (accepted_transition (record p { waiting_reads = p.waiting_reads ++ (record { ticket = p.last_ticket + 1; key = key }) ∷ [] })
     (send p (last_of p.members) (bodies.Query (p.last_ticket + 1) key) ∷ []))
 
 -- an object is clean if its newest version is the committed one
@@ -93,10 +93,10 @@ abbrev pub is_clean : Plain → List ℕ → Bool
 is_clean p key = (newest_object p key).0 == (clean_object p key).0
 
 -- a read at a ready node
-unfoldable pub read_turn : Plain → ReadMode → List ℕ → Result Turn Refusal
-read_turn p Eventual key = Ok (answered_turn p (read_answer (newest_object p key)) [])
-read_turn p (Bounded k) key = Ok (answered_turn p (read_answer (object_within p key ((clean_object p key).0 + k))) [])
-read_turn p Strong key = if is_clean p key then Ok (answered_turn p (read_answer (newest_object p key)) []) else waiting_read_turn p key
+unfoldable pub read_transition : Plain → ReadMode → List ℕ → Result Transition Refusal
+read_transition p Eventual key = Ok (answered_transition p (read_answer (newest_object p key)) [])
+read_transition p (Bounded k) key = Ok (answered_transition p (read_answer (object_within p key ((clean_object p key).0 + k))) [])
+read_transition p Strong key = if is_clean p key then Ok (answered_transition p (read_answer (newest_object p key)) []) else waiting_read_transition p key
 
 -- the objects that a request names
 abbrev pub asked_objects : Ask → List ObjectId
@@ -104,18 +104,18 @@ asked_objects (asks.Update u) = objects_named u.command
 asked_objects (asks.Read mode object) = object ∷ []
 
 -- a request to this chain, while tickets are left
-abbrev pub accepted_ask_turn : Plain → Ask → Result Turn Refusal
-accepted_ask_turn p (asks.Update u) =
+abbrev pub accepted_ask_transition : Plain → Ask → Result Transition Refusal
+accepted_ask_transition p (asks.Update u) =
     if not (is_first p) then Err (refusals.NotHead (first_of p.members))
     else if p.last_ticket == greatest then Err refusals.Exhausted
-    else update_turn p u (said (newest p) u.client u.number)
-accepted_ask_turn p (asks.Read mode object) =
+    else update_transition p u (said (newest p) u.client u.number)
+accepted_ask_transition p (asks.Read mode object) =
     if p.last_ticket == greatest then Err refusals.Exhausted
-    else read_turn p mode object.key
+    else read_transition p mode object.key
 
 -- a request to a running node
-unfoldable pub ask_turn : Plain → Ask → Result Turn Refusal
-ask_turn p ask =
+unfoldable pub ask_transition : Plain → Ask → Result Transition Refusal
+ask_transition p ask =
     if not p.ready then Err refusals.NotReady
     else if not (all_of_chain p.name.chain (asked_objects ask)) then Err refusals.TwoChains
-    else accepted_ask_turn p ask
+    else accepted_ask_transition p ask

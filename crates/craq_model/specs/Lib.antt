@@ -1,5 +1,5 @@
 pub mod Members
-pub mod Spelled
+pub mod Encodable
 pub mod Past
 pub mod Parts
 pub mod Plain

@@ -13,20 +13,20 @@ use Rattle.craq_model.specs.declared.step.Out.{Out}
 use Rattle.craq_model.specs.declared.step.Out.TheVariants.{Send, Answer}
 use Rattle.craq_model.specs.Plain.{Plain, id_of}
 use Rattle.craq_model.specs.Sends.{tick_sends}
-use Rattle.craq_model.specs.Settle.{Turn, turn_with}
-use Rattle.craq_model.specs.Asks.{ask_turn}
-use Rattle.craq_model.specs.Deliveries.{delivery_turn}
+use Rattle.craq_model.specs.Settle.{Transition, transition_with}
+use Rattle.craq_model.specs.Asks.{ask_transition}
+use Rattle.craq_model.specs.Deliveries.{delivery_transition}
 
 -- the message is for this node
 abbrev pub is_for : Plain → LinkMessage → Bool
 is_for p m = (m.chain == p.name.chain) && (m.receiver == id_of p)
 
 -- the step on an event at a running node
-abbrev pub event_turn : Plain → Event → Result Turn Refusal
-event_turn p (Ask ask) = ask_turn p ask
-event_turn p (Deliver m) = if is_for p m then Ok (delivery_turn p m) else Err refusals.WrongNode
-event_turn p Tick = Ok (turn_with p (tick_sends p))
-event_turn p Stop = Ok (turn_with (record p { running = false }) [])
+abbrev pub event_transition : Plain → Event → Result Transition Refusal
+event_transition p (Ask ask) = ask_transition p ask
+event_transition p (Deliver m) = if is_for p m then Ok (delivery_transition p m) else Err refusals.WrongNode
+event_transition p Tick = Ok (transition_with p (tick_sends p))
+event_transition p Stop = Ok (transition_with (record p { running = false }) [])
 
 -- the state's counts fit in a message
 abbrev pub counts_fit : Body → Bool
@@ -47,10 +47,10 @@ unfoldable pub outs_fit : List Out → Bool
 outs_fit outs = nat_le (count_by is_send outs) (greatest_count + 1) && list_all out_fits outs
 
 -- a step whose outs do not fit is refused with `Exhausted`
-abbrev pub within_counts : Result Turn Refusal → Result Turn Refusal
+abbrev pub within_counts : Result Transition Refusal → Result Transition Refusal
 within_counts (Ok t) = if outs_fit t.1.outs then Ok t else Err refusals.Exhausted
 within_counts (Err e) = Err e
 
 -- one step of a node: the node after it and its outputs, or a refusal
-unfoldable pub node_step : Plain → Event → Result Turn Refusal
-node_step p e = if p.running then within_counts (event_turn p e) else Err refusals.Stopped
+unfoldable pub node_step : Plain → Event → Result Transition Refusal
+node_step p e = if p.running then within_counts (event_transition p e) else Err refusals.Stopped

@@ -1,7 +1,7 @@
 -- Number and detail together determine a refusal.
 use Rattle.std.proofs.Common.{◌≡◌, ℕ, refl, sym, ◌∙◌}
 use Rattle.std.specs.Prelude.{◌==◌, if◌then◌else◌}
-use Rattle.craq_names.specs.Refused.{number_of, detail_of}
+use Rattle.craq_names.specs.Refused.{refusal_number, detail_of}
 use Rattle.craq_names.specs.declared.refusal.Refusal.{Refusal}
 use Rattle.craq_names.specs.declared.refusal.Refusal.TheVariants.{BadKey, ValueTooLong, TooManyItems, EmptyTransaction, DuplicateKey, BadNumber, UnknownChain, TwoChains, NotHead, NotReady, Stopped, PendingFull, Exhausted, Memory, BadFrame, FrameTooLong, NotMember, NotStopped, UsedId, ChainFull, LastNode, UnknownMessage, WrongNode, JournalOff, BadScript, BadConfig, Closed, Io}
 
@@ -37,7 +37,7 @@ refusal_of n d =
     else if n == 27 then Closed
     else Io
 
-again : (r : Refusal) → refusal_of (number_of r) (detail_of r) ≡ r
+again : (r : Refusal) → refusal_of (refusal_number r) (detail_of r) ≡ r
 again BadKey = refl
 again ValueTooLong = refl
 again TooManyItems = refl
@@ -67,5 +67,5 @@ again BadConfig = refl
 again Closed = refl
 again Io = refl
 
-pub known : (r s : Refusal) → number_of r ≡ number_of s → detail_of r ≡ detail_of s → r ≡ s
+pub known : (r s : Refusal) → refusal_number r ≡ refusal_number s → detail_of r ≡ detail_of s → r ≡ s
 known r s n d = sym (again r) ∙ (λ i. refusal_of (n i) (d i)) ∙ again s

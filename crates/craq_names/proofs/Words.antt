@@ -127,5 +127,3 @@ word_leaves xs ys us vs n m bx by isu isv lx ly isn ism same =
     let m_is : m ≡ spelled 0 (take 8 ys) = ism ∙ ap (λ w. from_be_bytes w64 w) isv ∙ word_of (take 8 ys) lv in
     sym (λ i. slice_cmp nat_cmp (take-append-drop 8 xs i) (take-append-drop 8 ys i))
     ∙ leave (take 8 xs) (take 8 ys) (drop 8 xs) (drop 8 ys) 0 (lu ∙ sym lv) (front 8 xs bx) (front 8 ys by) (sym n_is ∙ same ∙ m_is)
-
-

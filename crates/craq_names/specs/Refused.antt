@@ -4,35 +4,35 @@ use Rattle.craq_names.specs.declared.refusal.Refusal.{Refusal}
 use Rattle.craq_names.specs.declared.refusal.Refusal.TheVariants.{BadKey, ValueTooLong, TooManyItems, EmptyTransaction, DuplicateKey, BadNumber, UnknownChain, TwoChains, NotHead, NotReady, Stopped, PendingFull, Exhausted, Memory, BadFrame, FrameTooLong, NotMember, NotStopped, UsedId, ChainFull, LastNode, UnknownMessage, WrongNode, JournalOff, BadScript, BadConfig, Closed, Io}
 
 -- the number of a refusal
-abbrev pub number_of : Refusal → ℕ
-number_of BadKey = 1
-number_of ValueTooLong = 2
-number_of TooManyItems = 3
-number_of EmptyTransaction = 4
-number_of DuplicateKey = 5
-number_of BadNumber = 6
-number_of UnknownChain = 7
-number_of TwoChains = 8
-number_of (NotHead head) = 9
-number_of NotReady = 10
-number_of Stopped = 11
-number_of PendingFull = 12
-number_of Exhausted = 13
-number_of Memory = 14
-number_of BadFrame = 15
-number_of FrameTooLong = 16
-number_of NotMember = 17
-number_of NotStopped = 18
-number_of UsedId = 19
-number_of ChainFull = 20
-number_of LastNode = 21
-number_of UnknownMessage = 22
-number_of WrongNode = 23
-number_of JournalOff = 24
-number_of (BadScript line) = 25
-number_of BadConfig = 26
-number_of Closed = 27
-number_of Io = 28
+abbrev pub refusal_number : Refusal → ℕ
+refusal_number BadKey = 1
+refusal_number ValueTooLong = 2
+refusal_number TooManyItems = 3
+refusal_number EmptyTransaction = 4
+refusal_number DuplicateKey = 5
+refusal_number BadNumber = 6
+refusal_number UnknownChain = 7
+refusal_number TwoChains = 8
+refusal_number (NotHead head) = 9
+refusal_number NotReady = 10
+refusal_number Stopped = 11
+refusal_number PendingFull = 12
+refusal_number Exhausted = 13
+refusal_number Memory = 14
+refusal_number BadFrame = 15
+refusal_number FrameTooLong = 16
+refusal_number NotMember = 17
+refusal_number NotStopped = 18
+refusal_number UsedId = 19
+refusal_number ChainFull = 20
+refusal_number LastNode = 21
+refusal_number UnknownMessage = 22
+refusal_number WrongNode = 23
+refusal_number JournalOff = 24
+refusal_number (BadScript line) = 25
+refusal_number BadConfig = 26
+refusal_number Closed = 27
+refusal_number Io = 28
 
 -- the head that the update should have gone to, or the line of the script; else 0
 abbrev pub detail_of : Refusal → ℕ

@@ -1,5 +1,5 @@
 //! Insertion into a list of pairs sorted by key, used as a map. `list`, `craq_commands` and
-//! `craq_plain` call it.
+//! `craq_full_history` call it.
 ghost use Rattle.std.specs.Prelude.{◌≡◌, ◌≤◌, OnOk, OnErr, vec_len, vec_capacity};
 ghost use Rattle.std.specs.FinMap.Entries.{put};
 

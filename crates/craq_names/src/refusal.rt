@@ -101,11 +101,11 @@ pub enum Refusal {
 }
 
 impl Refusal {
-    ghost use Rattle.craq_names.specs.Refused.{number_of, detail_of};
+    ghost use Rattle.craq_names.specs.Refused.{refusal_number, detail_of};
 
     /// Returns the refusal's number, 1 to 28, in the order of the variants.
     pub fn number(self) -> u8
-        ensures { result ≡ number_of self }
+        ensures { result ≡ refusal_number self }
     {
         match self {
             Refusal::BadKey => 1,

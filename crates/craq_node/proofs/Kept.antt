@@ -10,67 +10,67 @@ use Rattle.craq_model.specs.declared.step.Step.{Step}
 use Rattle.craq_model.specs.declared.ask.Ask.{Ask}
 use Rattle.craq_model.specs.declared.ask.Event.TheVariants as events
 use Rattle.craq_model.specs.declared.message.LinkMessage.{LinkMessage}
-use Rattle.craq_model.specs.Asks.{ask_turn}
-use Rattle.craq_model.specs.Deliveries.{delivery_turn, turn_in_epoch}
-use Rattle.craq_model.specs.Node.{event_turn, is_for, outs_fit, within_counts}
-use Rattle.craq_model.specs.Settle.{Turn}
-use Rattle.craq_model.specs.Spelled.{IsSpelled}
+use Rattle.craq_model.specs.Asks.{ask_transition}
+use Rattle.craq_model.specs.Deliveries.{delivery_transition, transition_in_epoch}
+use Rattle.craq_model.specs.Node.{event_transition, is_for, outs_fit, within_counts}
+use Rattle.craq_model.specs.Settle.{Transition}
+use Rattle.craq_model.specs.Encodable.{IsEncodable}
 use Rattle.craq_history.specs.declared.change.Change.{Change}
 use Rattle.craq_history.specs.Change.{changed, no_change}
-use Rattle.craq_compaction.specs.Compacted.{remembered, remembered_turn}
+use Rattle.craq_compaction.specs.Compacted.{remembered, remembered_transition}
 use Rattle.craq_compaction.proofs.Soundness.{remembered_is}
 use Rattle.craq_admission.specs.Admitted.{is_heeded, tells_membership}
-use Rattle.craq_node.proofs.Turns.{turn_in}
+use Rattle.craq_node.proofs.Transitions.{transition_in}
 use Rattle.craq_model.specs.Plain.{Plain, opening_member}
-use Rattle.craq_node_invariant.specs.Sound.{AreSpelled, IsSound, IsSpelledEvent}
+use Rattle.craq_node_invariant.specs.Sound.{AreEncodable, IsSound, IsEncodableEvent}
 use Rattle.craq_node_invariant.proofs.Openings.{member_is_sound, joined_is_sound}
-use Rattle.craq_node_invariant.proofs.Steps.{turn_is_sound}
-use Rattle.craq_node.specs.Represented.{Gives, IsFirstWith, LeadsToSound}
+use Rattle.craq_node_invariant.proofs.Steps.{transition_is_sound}
+use Rattle.craq_node.specs.Represented.{StepGives, IsFirstWith, LeadsToSound}
 
 -- a transition whose remembered part is this node and step
-pub taken : (forgets : Bool) (r : Result Turn Refusal) (n : Plain) (s : Step) → remembered_turn forgets r ≡ Ok (n, s) → (q : Plain) × (r ≡ Ok (q, s)) × (remembered forgets q ≡ n)
+pub taken : (forgets : Bool) (r : Result Transition Refusal) (n : Plain) (s : Step) → remembered_transition forgets r ≡ Ok (n, s) → (q : Plain) × (r ≡ Ok (q, s)) × (remembered forgets q ≡ n)
 taken forgets (Ok t) n s e =
-    let same : (remembered forgets t.0, t.1) ≡ (n, s) = ap (turn_in t) e in
-    (t.0, ap (λ (x : Step). Ok (t.0, x)) (ap (λ (x : Turn). x.1) same), ap (λ (x : Turn). x.0) same)
+    let same : (remembered forgets t.0, t.1) ≡ (n, s) = ap (transition_in t) e in
+    (t.0, ap (λ (x : Step). Ok (t.0, x)) (ap (λ (x : Transition). x.1) same), ap (λ (x : Transition). x.0) same)
 taken forgets (Err x) n s e = absurd (let w : Err x ≡ Ok (n, s) = e in cc)
 
-pub sound_after : (forgets : Bool) (p q : Plain) (e : Event) (r : Result Step Refusal) → Gives forgets p q r (event_turn p e) → IsSound p → IsSpelledEvent e → IsSound q
+pub sound_after : (forgets : Bool) (p q : Plain) (e : Event) (r : Result Step Refusal) → StepGives forgets p q r (event_transition p e) → IsSound p → IsEncodableEvent e → IsSound q
 sound_after forgets p q e (Ok s) given h a =
-    let t = taken forgets (within_counts (event_turn p e)) q s given in
-    subst IsSound t.2 (remembered_is forgets t.0 (turn_is_sound p t.0 e s h a t.1).0)
+    let t = taken forgets (within_counts (event_transition p e)) q s given in
+    subst IsSound t.2 (remembered_is forgets t.0 (transition_is_sound p t.0 e s h a t.1).0)
 sound_after forgets p q e (Err refusal) given h a = subst IsSound (sym given.1) h
 
-pub said_spelled : (forgets : Bool) (p q : Plain) (e : Event) (r : Result Step Refusal) → Gives forgets p q r (event_turn p e) → IsSound p → IsSpelledEvent e → IfOk r (λ s. AreSpelled s.outs)
-said_spelled forgets p q e (Ok s) given h a =
-    let t = taken forgets (within_counts (event_turn p e)) q s given in
-    (turn_is_sound p t.0 e s h a t.1).1
-said_spelled forgets p q e (Err refusal) given h a = tt
+pub said_encodable : (forgets : Bool) (p q : Plain) (e : Event) (r : Result Step Refusal) → StepGives forgets p q r (event_transition p e) → IsSound p → IsEncodableEvent e → IfOk r (λ s. AreEncodable s.outs)
+said_encodable forgets p q e (Ok s) given h a =
+    let t = taken forgets (within_counts (event_transition p e)) q s given in
+    (transition_is_sound p t.0 e s h a t.1).1
+said_encodable forgets p q e (Err refusal) given h a = tt
 
 -- a transition whose counts fit leads to a node that satisfies the invariant
-sound_turn : (p q : Plain) (e : Event) (s : Step) → IsSound p → IsSpelledEvent e → event_turn p e ≡ Ok (q, s) → outs_fit s.outs ≡ true → IsSound q
-sound_turn p q e s h a is fits =
-    let turn : Result Turn Refusal = Ok (q, s) in
-    let fitting : within_counts turn ≡ turn = rw fits refl in
-    (turn_is_sound p q e s h a (ap (λ (r : Result Turn Refusal). within_counts r) is ∙ fitting)).0
+sound_transition : (p q : Plain) (e : Event) (s : Step) → IsSound p → IsEncodableEvent e → event_transition p e ≡ Ok (q, s) → outs_fit s.outs ≡ true → IsSound q
+sound_transition p q e s h a is fits =
+    let transition : Result Transition Refusal = Ok (q, s) in
+    let fitting : within_counts transition ≡ transition = rw fits refl in
+    (transition_is_sound p q e s h a (ap (λ (r : Result Transition Refusal). within_counts r) is ∙ fitting)).0
 
-pub ask_leads : (p : Plain) (ask : Ask) (wanted : Result Turn Refusal) → IsSound p → IsSpelledEvent (events.Ask ask) → ask_turn p ask ≡ wanted → LeadsToSound wanted
-ask_leads p ask wanted h a is = record { sound = λ q s e fits. sound_turn p q (events.Ask ask) s h a (is ∙ e) fits }
+pub ask_leads : (p : Plain) (ask : Ask) (wanted : Result Transition Refusal) → IsSound p → IsEncodableEvent (events.Ask ask) → ask_transition p ask ≡ wanted → LeadsToSound wanted
+ask_leads p ask wanted h a is = record { sound = λ q s e fits. sound_transition p q (events.Ask ask) s h a (is ∙ e) fits }
 
-pub delivery_leads : (p : Plain) (m : LinkMessage) (turn : Turn) → IsSound p → IsSpelled m → is_for p m ≡ true → delivery_turn p m ≡ turn → LeadsToSound (Ok turn)
-delivery_leads p m turn h a here is = record { sound = λ q s e fits. sound_turn p q (events.Deliver m) s h a (rw here (ap (λ (t : Turn). Ok t) is ∙ e)) fits }
+pub delivery_leads : (p : Plain) (m : LinkMessage) (transition : Transition) → IsSound p → IsEncodable m → is_for p m ≡ true → delivery_transition p m ≡ transition → LeadsToSound (Ok transition)
+delivery_leads p m transition h a here is = record { sound = λ q s e fits. sound_transition p q (events.Deliver m) s h a (rw here (ap (λ (t : Transition). Ok t) is ∙ e)) fits }
 
 -- so does a current message other than a membership: it has the node's epoch
-pub in_epoch_leads : (p : Plain) (m : LinkMessage) (turn : Turn) → IsSound p → IsSpelled m → is_for p m ≡ true → is_heeded p m ≡ true → tells_membership m.body ≡ false → delivery_turn p m ≡ turn_in_epoch p m turn → LeadsToSound (Ok turn)
-in_epoch_leads p m turn h a here heeded tells is =
+pub in_epoch_leads : (p : Plain) (m : LinkMessage) (transition : Transition) → IsSound p → IsEncodable m → is_for p m ≡ true → is_heeded p m ≡ true → tells_membership m.body ≡ false → delivery_transition p m ≡ transition_in_epoch p m transition → LeadsToSound (Ok transition)
+in_epoch_leads p m transition h a here heeded tells is =
     let same : (m.epoch == p.epoch) ≡ true = rw tells at heeded in
-    delivery_leads p m turn h a here (is ∙ rw same refl)
+    delivery_leads p m transition h a here (is ∙ rw same refl)
 
 -- a change planned for a transition leads to the node of the transition
-pub planned_sound : (p : Plain) (c : Change) (s : Step) (wanted : Result Turn Refusal) → LeadsToSound wanted → wanted ≡ Ok (changed p c, s) → outs_fit s.outs ≡ true → IsSound (changed p c)
+pub planned_sound : (p : Plain) (c : Change) (s : Step) (wanted : Result Transition Refusal) → LeadsToSound wanted → wanted ≡ Ok (changed p c, s) → outs_fit s.outs ≡ true → IsSound (changed p c)
 planned_sound p c s wanted leads is fits = leads.sound (changed p c) s is fits
 
-pub turn_sound : (p : Plain) (c : Change) (s : Step) (turn : Turn) → LeadsToSound (Ok turn) → turn ≡ (changed p c, s) → outs_fit s.outs ≡ true → IsSound (changed p c)
-turn_sound p c s turn leads is fits = leads.sound (changed p c) s (ap (λ (t : Turn). Ok t) is) fits
+pub transition_sound : (p : Plain) (c : Change) (s : Step) (transition : Transition) → LeadsToSound (Ok transition) → transition ≡ (changed p c, s) → outs_fit s.outs ≡ true → IsSound (changed p c)
+transition_sound p c s transition leads is fits = leads.sound (changed p c) s (ap (λ (t : Transition). Ok t) is) fits
 
 -- the empty change keeps the invariant
 pub still_sound : (p : Plain) (c : Change) → c ≡ no_change → IsSound p → IsSound (changed p c)

@@ -1,4 +1,4 @@
-pub mod Turns
+pub mod Transitions
 pub mod Kept
 pub mod Remembered
 pub mod Stops

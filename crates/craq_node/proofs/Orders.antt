@@ -13,7 +13,7 @@ use Rattle.craq_model.specs.declared.message.Body.TheVariants as bodies
 use Rattle.craq_model.specs.declared.message.LinkMessage.{LinkMessage}
 use Rattle.craq_model.specs.declared.message.StatePart.{StatePart}
 use Rattle.craq_model.specs.Parts.{joined_state}
-use Rattle.craq_model.specs.Spelled.{IsConsecutive, IsSpelled, IsSpelledBody}
+use Rattle.craq_model.specs.Encodable.{IsConsecutive, IsEncodable, IsEncodableBody}
 use Rattle.craq_node_invariant.specs.Sound.{IsSoundIfAny}
 use Rattle.craq_node_invariant.proofs.Sorted.{rising_parts}
 use Rattle.craq_write.specs.Gathered.{IsInOrder, IsOrdered}
@@ -34,12 +34,12 @@ ordered (Some g) h = record {
   states = All-from_recursion (λ (held : ℕ × State). IsInOrder held.1) g.parts (each_in_order g.parts h.state.keys_rise h.state.clients_rise);
 }
 
-pub part_ordered : (m : LinkMessage) (part : StatePart) → IsSpelled m → m.body ≡ bodies.Part part → IsInOrder part.state
+pub part_ordered : (m : LinkMessage) (part : StatePart) → IsEncodable m → m.body ≡ bodies.Part part → IsInOrder part.state
 part_ordered m part s e =
-    let body : IsSpelledBody (bodies.Part part) = rw e at s.body in
+    let body : IsEncodableBody (bodies.Part part) = rw e at s.body in
     record { objects = body.state.keys_rise; kept = body.state.clients_rise }
 
-pub batch_in_row : (m : LinkMessage) (es : List Entry) → IsSpelled m → m.body ≡ bodies.Batch es → IsConsecutive es
+pub batch_in_row : (m : LinkMessage) (es : List Entry) → IsEncodable m → m.body ≡ bodies.Batch es → IsConsecutive es
 batch_in_row m es s e =
-    let body : IsSpelledBody (bodies.Batch es) = rw e at s.body in
+    let body : IsEncodableBody (bodies.Batch es) = rw e at s.body in
     body.consecutive

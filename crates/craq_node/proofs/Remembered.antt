@@ -8,19 +8,19 @@ use Rattle.craq_model.specs.declared.ask.Event.TheVariants.{Ask, Deliver, Tick, 
 use Rattle.craq_model.specs.declared.message.LinkMessage.{LinkMessage}
 use Rattle.craq_model.specs.declared.step.Step.{Step}
 use Rattle.craq_model.specs.declared.step.Why.TheVariants.{OtherEpoch}
-use Rattle.craq_model.specs.Deliveries.{delivery_turn}
-use Rattle.craq_model.specs.Node.{event_turn, is_for, node_step, outs_fit, within_counts}
+use Rattle.craq_model.specs.Deliveries.{delivery_transition}
+use Rattle.craq_model.specs.Node.{event_transition, is_for, node_step, outs_fit, within_counts}
 use Rattle.craq_model.specs.Past.{Past, no_past}
 use Rattle.craq_model.specs.Plain.{Plain}
-use Rattle.craq_model.specs.Settle.{Turn, turn_ignoring}
-use Rattle.craq_node_invariant.specs.Sound.{IsSound, IsSpelledEvent}
+use Rattle.craq_model.specs.Settle.{Transition, transition_ignoring}
+use Rattle.craq_node_invariant.specs.Sound.{IsSound, IsEncodableEvent}
 use Rattle.craq_node_invariant.proofs.Steps.{step_is_sound}
-use Rattle.craq_compaction.specs.Compacted.{remembered_in, remembered, remembered_turn}
+use Rattle.craq_compaction.specs.Compacted.{remembered_in, remembered, remembered_transition}
 use Rattle.craq_compaction.proofs.Pasts.{compacted_twice}
-use Rattle.craq_compaction.proofs.Steps.{turn_remembered, step_remembered, delivery_remembered}
+use Rattle.craq_compaction.proofs.Steps.{transition_remembered, step_remembered, delivery_remembered}
 use Rattle.craq_history.specs.declared.change.Change.{Change}
 use Rattle.craq_history.specs.Change.{changed}
-use Rattle.craq_node.specs.Represented.{Answers, Gives, IsFree, IsRemembered, uncounted_step}
+use Rattle.craq_node.specs.Represented.{StepAnswers, StepGives, IsFree, IsRemembered, uncounted_step}
 use Rattle.craq_node.proofs.Kept.{taken}
 use Rattle.craq_node.proofs.Stops.{nothing_fits}
 
@@ -30,61 +30,61 @@ remembered_twice : (forgets : Bool) (p : Plain) → remembered forgets (remember
 remembered_twice true p = ap (λ (h : Past). record p { past = h }) (compacted_twice p.past)
 remembered_twice false p = refl
 
-refused : (forgets : Bool) (r : Result Turn Refusal) (x : Refusal) → remembered_turn forgets r ≡ Err x → r ≡ Err x
+refused : (forgets : Bool) (r : Result Transition Refusal) (x : Refusal) → remembered_transition forgets r ≡ Err x → r ≡ Err x
 refused forgets (Ok t) x e = absurd (let w : Ok (remembered forgets t.0, t.1) ≡ Err x = e in cc)
 refused forgets (Err y) x e = e
 
-ok_of : (forgets : Bool) (r : Result Turn Refusal) → IsOk (remembered_turn forgets r) → IsOk r
+ok_of : (forgets : Bool) (r : Result Transition Refusal) → IsOk (remembered_transition forgets r) → IsOk r
 ok_of forgets (Ok t) h = refl
 ok_of forgets (Err y) h = h
 
-of_ok : (forgets : Bool) (r : Result Turn Refusal) → IsOk r → IsOk (remembered_turn forgets r)
+of_ok : (forgets : Bool) (r : Result Transition Refusal) → IsOk r → IsOk (remembered_transition forgets r)
 of_ok forgets (Ok t) h = refl
 of_ok forgets (Err y) h = h
 
 -- ---- applying a change
 
-pub made_given : (forgets : Bool) (old new : Plain) (c : Change) (s : Step) → outs_fit s.outs ≡ true → new ≡ remembered forgets (changed old c) → Gives forgets old new (Ok s) (Ok (changed old c, s))
+pub made_given : (forgets : Bool) (old new : Plain) (c : Change) (s : Step) → outs_fit s.outs ≡ true → new ≡ remembered forgets (changed old c) → StepGives forgets old new (Ok s) (Ok (changed old c, s))
 made_given forgets old new c s fits e =
-    let turn : Result Turn Refusal = Ok (changed old c, s) in
-    let fitting : within_counts turn ≡ turn = rw fits refl in
-    ap (λ (r : Result Turn Refusal). remembered_turn forgets r) fitting ∙ ap (λ (q : Plain). Ok (q, s)) (sym e)
+    let transition : Result Transition Refusal = Ok (changed old c, s) in
+    let fitting : within_counts transition ≡ transition = rw fits refl in
+    ap (λ (r : Result Transition Refusal). remembered_transition forgets r) fitting ∙ ap (λ (q : Plain). Ok (q, s)) (sym e)
 
 -- an ignored message leaves the remembered part unchanged
-pub ignored_gives : (forgets : Bool) (p : Plain) (m : LinkMessage) (s : Step) → remembered forgets p ≡ p → is_for p m ≡ true → delivery_turn p m ≡ turn_ignoring p OtherEpoch → s ≡ record { ticket = None; outs = []; ignored = Some OtherEpoch } → Gives forgets p p (Ok s) (event_turn p (Deliver m))
+pub ignored_gives : (forgets : Bool) (p : Plain) (m : LinkMessage) (s : Step) → remembered forgets p ≡ p → is_for p m ≡ true → delivery_transition p m ≡ transition_ignoring p OtherEpoch → s ≡ record { ticket = None; outs = []; ignored = Some OtherEpoch } → StepGives forgets p p (Ok s) (event_transition p (Deliver m))
 ignored_gives forgets p m s same here is said =
-    let turn : Result Turn Refusal = Ok (turn_ignoring p OtherEpoch) in
-    let fitting : within_counts turn ≡ turn = rw (nothing_fits [] refl) refl in
-    rw (here, is, said) (ap (λ (r : Result Turn Refusal). remembered_turn forgets r) fitting ∙ ap (λ (q : Plain). Ok (q, (turn_ignoring p OtherEpoch).1)) same)
+    let transition : Result Transition Refusal = Ok (transition_ignoring p OtherEpoch) in
+    let fitting : within_counts transition ≡ transition = rw (nothing_fits [] refl) refl in
+    rw (here, is, said) (ap (λ (r : Result Transition Refusal). remembered_transition forgets r) fitting ∙ ap (λ (q : Plain). Ok (q, (transition_ignoring p OtherEpoch).1)) same)
 
 -- ---- a step of the seen node
 
-seen_turn : (forgets : Bool) (p c : Plain) (e : Event) → IsRemembered forgets p c → remembered_turn forgets (event_turn p e) ≡ remembered_turn forgets (event_turn c e)
-seen_turn forgets p c e h = sym (turn_remembered forgets p e h.sound) ∙ ap (λ (x : Plain). remembered_turn forgets (event_turn x e)) h.same
+seen_transition : (forgets : Bool) (p c : Plain) (e : Event) → IsRemembered forgets p c → remembered_transition forgets (event_transition p e) ≡ remembered_transition forgets (event_transition c e)
+seen_transition forgets p c e h = sym (transition_remembered forgets p e h.sound) ∙ ap (λ (x : Plain). remembered_transition forgets (event_transition x e)) h.same
 
-seen_step : (forgets : Bool) (p c : Plain) (e : Event) → IsRemembered forgets p c → remembered_turn forgets (node_step p e) ≡ remembered_turn forgets (node_step c e)
-seen_step forgets p c e h = sym (step_remembered forgets p e h.sound) ∙ ap (λ (x : Plain). remembered_turn forgets (node_step x e)) h.same
+seen_step : (forgets : Bool) (p c : Plain) (e : Event) → IsRemembered forgets p c → remembered_transition forgets (node_step p e) ≡ remembered_transition forgets (node_step c e)
+seen_step forgets p c e h = sym (step_remembered forgets p e h.sound) ∙ ap (λ (x : Plain). remembered_transition forgets (node_step x e)) h.same
 
-seen_uncounted : (forgets : Bool) (p c : Plain) (e : Event) → IsRemembered forgets p c → remembered_turn forgets (uncounted_step p e) ≡ remembered_turn forgets (uncounted_step c e)
+seen_uncounted : (forgets : Bool) (p c : Plain) (e : Event) → IsRemembered forgets p c → remembered_transition forgets (uncounted_step p e) ≡ remembered_transition forgets (uncounted_step c e)
 seen_uncounted forgets p c e h =
     let runs : p.running ≡ c.running = ap (λ (x : Plain). x.running) h.same in
-    let by : (b : Bool) → remembered_turn forgets (cond b (event_turn p e) (Err refusals.Stopped)) ≡ remembered_turn forgets (cond b (event_turn c e) (Err refusals.Stopped)) = elim [
-      | true ↦ seen_turn forgets p c e h
+    let by : (b : Bool) → remembered_transition forgets (cond b (event_transition p e) (Err refusals.Stopped)) ≡ remembered_transition forgets (cond b (event_transition c e) (Err refusals.Stopped)) = elim [
+      | true ↦ seen_transition forgets p c e h
       | false ↦ refl
     ] in
-    by p.running ∙ ap (λ (b : Bool). remembered_turn forgets (cond b (event_turn c e) (Err refusals.Stopped))) runs
+    by p.running ∙ ap (λ (b : Bool). remembered_transition forgets (cond b (event_transition c e) (Err refusals.Stopped))) runs
 
 -- the core's step, as seen, is a step of each node that it represents
-pub seen_answers : (forgets : Bool) (p c n : Plain) (e : Event) (r : Result Step Refusal) → IsRemembered forgets p c → IsSpelledEvent e → Answers (λ q. remembered forgets q ≡ n) c e r → Answers (λ q. IsRemembered forgets q n) p e r
+pub seen_answers : (forgets : Bool) (p c n : Plain) (e : Event) (r : Result Step Refusal) → IsRemembered forgets p c → IsEncodableEvent e → StepAnswers (λ q. remembered forgets q ≡ n) c e r → StepAnswers (λ q. IsRemembered forgets q n) p e r
 seen_answers forgets p c n e (Ok s) h a given =
-    let t = taken forgets (node_step p e) n s (seen_step forgets p c e h ∙ ap (λ (x : Result Turn Refusal). remembered_turn forgets x) given.1 ∙ ap (λ (q : Plain). Ok (q, s)) given.2) in
+    let t = taken forgets (node_step p e) n s (seen_step forgets p c e h ∙ ap (λ (x : Result Transition Refusal). remembered_transition forgets x) given.1 ∙ ap (λ (q : Plain). Ok (q, s)) given.2) in
     (t.0, t.1, record { sound = (step_is_sound p t.0 e s h.sound a t.1).0; same = t.2 })
 seen_answers forgets p c n e (Err x) h a given =
     let same : remembered forgets p ≡ n = sym (remembered_twice forgets p) ∙ ap (λ (y : Plain). remembered forgets y) h.same ∙ given.1 in
     let kept : IsRemembered forgets p n = record { sound = h.sound; same = same } in (
       elim given.0 [
-        | inl w ↦ inl (w.0, ok_of forgets (uncounted_step p e) (subst (λ (y : Result Turn Refusal). IsOk y) (sym (seen_uncounted forgets p c e h)) (of_ok forgets (uncounted_step c e) w.1)))
-        | inr w ↦ inr (refused forgets (node_step p e) x (seen_step forgets p c e h ∙ ap (λ (y : Result Turn Refusal). remembered_turn forgets y) w))
+        | inl w ↦ inl (w.0, ok_of forgets (uncounted_step p e) (subst (λ (y : Result Transition Refusal). IsOk y) (sym (seen_uncounted forgets p c e h)) (of_ok forgets (uncounted_step c e) w.1)))
+        | inr w ↦ inr (refused forgets (node_step p e) x (seen_step forgets p c e h ∙ ap (λ (y : Result Transition Refusal). remembered_transition forgets y) w))
       ],
       kept,
     )

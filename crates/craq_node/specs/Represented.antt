@@ -7,18 +7,18 @@ use Rattle.craq_model.specs.declared.ask.Event.{Event}
 use Rattle.craq_model.specs.declared.ask.Event.TheVariants.{Ask, Deliver, Tick, Stop}
 use Rattle.craq_model.specs.declared.config.Config.{Config}
 use Rattle.craq_model.specs.declared.step.Step.{Step}
-use Rattle.craq_model.specs.Deliveries.{delivery_turn}
+use Rattle.craq_model.specs.Deliveries.{delivery_transition}
 use Rattle.craq_model.specs.Members.{IsMembership, is_member}
 use Rattle.craq_model.specs.Node.{is_for, node_step, outs_fit, within_counts}
 use Rattle.craq_model.specs.Plain.{Plain, opening_joined, opening_member}
-use Rattle.craq_model.specs.Settle.{Turn}
-use Rattle.craq_model.specs.Spelled.{IsSpelled}
+use Rattle.craq_model.specs.Settle.{Transition}
+use Rattle.craq_model.specs.Encodable.{IsEncodable}
 use Rattle.craq_history.specs.declared.node.Node.{Node}
 use Rattle.craq_model.specs.Past.{Past}
 use Rattle.craq_history.specs.Nodes.{plain_of}
 use Rattle.craq_node_invariant.specs.Sound.{IsSound}
 pub use Rattle.craq_admission.specs.Admitted.{uncounted_step}
-use Rattle.craq_compaction.specs.Compacted.{remembered, remembered_turn}
+use Rattle.craq_compaction.specs.Compacted.{remembered, remembered_transition}
 
 -- the plain node of a node that runs or is stopped
 abbrev pub plain_at : {H : Type 0} → (H → Past) → Node H → Bool → Plain
@@ -42,27 +42,27 @@ CanOpen name None = 1 ≤ name.node
 
 -- a delivered message has an encoding
 abbrev pub CanArrive : Event → Type 0
-CanArrive (Deliver m) = IsSpelled m
+CanArrive (Deliver m) = IsEncodable m
 CanArrive (Ask ask) = ⊤
 CanArrive Tick = ⊤
 CanArrive Stop = ⊤
 
 -- a running node stops, or ignores a message
 abbrev pub IsFree : Plain → Event → Type 0
-IsFree p (Deliver m) = (p.running ≡ true) × (is_for p m ≡ true) × IsSome (delivery_turn p m).1.ignored
+IsFree p (Deliver m) = (p.running ≡ true) × (is_for p m ≡ true) × IsSome (delivery_transition p m).1.ignored
 IsFree p (Ask ask) = ⊥
 IsFree p Tick = ⊥
 IsFree p Stop = p.running ≡ true
 
 -- the remembered part takes this transition, within its counts; or it is unchanged and refused: as
 -- the transition is, with `Exhausted` for its counts, or with `Memory` instead of a transition
-abbrev pub Gives : Bool → Plain → Plain → Result Step Refusal → Result Turn Refusal → Type 0
-Gives forgets old new (Ok step) turn = remembered_turn forgets (within_counts turn) ≡ Ok (new, step)
-Gives forgets old new (Err e) turn = RefusesWhere (IsOk turn) e (within_counts turn) × (new ≡ old)
+abbrev pub StepGives : Bool → Plain → Plain → Result Step Refusal → Result Transition Refusal → Type 0
+StepGives forgets old new (Ok step) transition = remembered_transition forgets (within_counts transition) ≡ Ok (new, step)
+StepGives forgets old new (Err e) transition = RefusesWhere (IsOk transition) e (within_counts transition) × (new ≡ old)
 
 -- if the wanted result is a transition whose sends fit into messages, its node satisfies the
 -- invariant
-pub record LeadsToSound (wanted : Result Turn Refusal) : Type 0 where
+pub record LeadsToSound (wanted : Result Transition Refusal) : Type 0 where
   pub sound : (q : Plain) (s : Step) → wanted ≡ Ok (q, s) → outs_fit s.outs ≡ true → IsSound q
 
 -- a sound plain node of which the seen node is the remembered part
@@ -72,6 +72,6 @@ pub record IsRemembered (forgets : Bool) (p seen : Plain) : Type 0 where
 
 -- the result of a core's step: the step of the represented node, which `now` represents; or its
 -- refusal, or `Memory` if no refusal other than that of counts applies
-abbrev pub Answers : (Plain → Type 0) → Plain → Event → Result Step Refusal → Type 0
-Answers now old event (Ok step) = (new : Plain) × (node_step old event ≡ Ok (new, step)) × now new
-Answers now old event (Err e) = RefusesWhere (IsOk (uncounted_step old event)) e (node_step old event) × now old
+abbrev pub StepAnswers : (Plain → Type 0) → Plain → Event → Result Step Refusal → Type 0
+StepAnswers now old event (Ok step) = (new : Plain) × (node_step old event ≡ Ok (new, step)) × now new
+StepAnswers now old event (Err e) = RefusesWhere (IsOk (uncounted_step old event)) e (node_step old event) × now old

@@ -1,20 +1,20 @@
 //! `NodeCore`: the `Core` of this crate, over any `History`. It admits an event, lets a rule plan a
-//! change, and applies the change. `craq_list`, `craq_play` and `craq_explain` instantiate it with
+//! change, and applies the change. `craq_compact_history`, `craq_play` and `craq_explain` instantiate it with
 //! their pasts.
 ghost use Rattle.std.specs.Prelude.{◌≡◌, ◌≢◌, true, IfOk, IsOk, IsSome};
-ghost use Rattle.craq_model.specs.Deliveries.{delivery_turn};
+ghost use Rattle.craq_model.specs.Deliveries.{delivery_transition};
 ghost use Rattle.craq_model.specs.Plain.{Plain, opening_member};
-ghost use Rattle.craq_model.specs.Node.{event_turn, is_for};
-ghost use Rattle.craq_model.specs.Spelled.{IsSpelled};
-ghost use Rattle.craq_node_invariant.specs.Sound.{AreSpelled, IsSound, IsSpelledAsk, IsSpelledEvent};
+ghost use Rattle.craq_model.specs.Node.{event_transition, is_for};
+ghost use Rattle.craq_model.specs.Encodable.{IsEncodable};
+ghost use Rattle.craq_node_invariant.specs.Sound.{AreEncodable, IsSound, IsEncodableAsk, IsEncodableEvent};
 ghost use Rattle.craq_node_invariant.proofs.Props.{IsSound-prop};
 ghost use Rattle.craq_compaction.specs.Compacted.{remembered};
 ghost use Rattle.craq_history.specs.Nodes.{plain_of};
 ghost use Rattle.craq_admission.specs.Admitted.{IsAdmitted};
-ghost use Rattle.craq_node.specs.Represented.{Answers, CanArrive, Gives, IsFree, IsRemembered, plain_at};
+ghost use Rattle.craq_node.specs.Represented.{StepAnswers, CanArrive, StepGives, IsFree, IsRemembered, plain_at};
 
 use crate::Core;
-use crate::planning::{heed, made, take_ask};
+use crate::computing::{commit_change, compute_ask, deliver_current};
 use craq_admission::{admit, is_heeded};
 use craq_commands::Command;
 use craq_epochs::{Config, Switch};
@@ -38,7 +38,7 @@ pub struct NodeCore<H: History> {
 /// is within its limits.
 fn keep_limits(event: &Event)
     requires { CanArrive event.now }
-    ensures { IsSpelledEvent event.now }
+    ensures { IsEncodableEvent event.now }
 {
     if let Event::Ask(Ask::Update(update)) = event {
         if let Command::Mini(mini) = &update.command {
@@ -56,66 +56,66 @@ fn hear<H: History>(
     message: LinkMessage,
 ) -> Result<Step, Refusal>
     requires sound { IsSound (plain_of H.past node.old) }
-    requires spelled { IsSpelled message }
+    requires spelled { IsEncodable message }
     requires here { is_for (plain_of H.past node.old) message ≡ true }
-    ensures gives { Gives H.forgets (plain_of H.past node.old) (plain_of H.past node.new) result (event_turn (plain_of H.past node.old) (Event.Deliver message)) }
+    ensures gives { StepGives H.forgets (plain_of H.past node.old) (plain_of H.past node.new) result (event_transition (plain_of H.past node.old) (Event.Deliver message)) }
     ensures name { (plain_of H.past node.new).name ≡ (plain_of H.past node.old).name }
-    ensures free { IsSome (delivery_turn (plain_of H.past node.old) message).1.ignored → IsOk result }
+    ensures free { IsSome (delivery_transition (plain_of H.past node.old) message).1.ignored → IsOk result }
 {
     if !is_heeded(node, &message) {
         return Ok(ignoring(alloc, Why::OtherEpoch));
     }
-    heed(alloc, node, message)
+    deliver_current(alloc, node, message)
 }
 
 /// Handles a tick: sends what the node repeats.
 #[tactic(auto, using(crate::proofs::Kept::still_sound), unfolding(craq_model::specs::Sends::tick_sends))]
 fn tick<H: History>(alloc: Global, node: &mut Node<H>) -> Result<Step, Refusal>
     requires sound { IsSound (plain_of H.past node.old) }
-    ensures gives { Gives H.forgets (plain_of H.past node.old) (plain_of H.past node.new) result (event_turn (plain_of H.past node.old) Event.Tick) }
+    ensures gives { StepGives H.forgets (plain_of H.past node.old) (plain_of H.past node.new) result (event_transition (plain_of H.past node.old) Event.Tick) }
     ensures name { (plain_of H.past node.new).name ≡ (plain_of H.past node.old).name }
 {
     let mut outs = Vec::new(alloc);
     add_tick_outs(&mut outs, alloc, node)?;
-    made(alloc, node, Change::none(), done(outs))
+    commit_change(alloc, node, Change::none(), done(outs))
 }
 
 /// Dispatches an admitted event, other than a stop, at a running node: its rule plans the change,
 /// which is then applied.
-fn meet<H: History>(alloc: Global, node: &mut Node<H>, event: Event) -> Result<Step, Refusal>
+fn dispatch<H: History>(alloc: Global, node: &mut Node<H>, event: Event) -> Result<Step, Refusal>
     requires sound { IsSound (plain_of H.past node.old) }
     requires arrives { CanArrive event }
-    requires spelled { IsSpelledEvent event }
+    requires spelled { IsEncodableEvent event }
     requires goes_on { event ≢ Event.Stop }
     requires admitted { IsAdmitted (plain_of H.past node.old) event }
-    ensures gives { Gives H.forgets (plain_of H.past node.old) (plain_of H.past node.new) result (event_turn (plain_of H.past node.old) event) }
+    ensures gives { StepGives H.forgets (plain_of H.past node.old) (plain_of H.past node.new) result (event_transition (plain_of H.past node.old) event) }
     ensures name { (plain_of H.past node.new).name ≡ (plain_of H.past node.old).name }
     ensures free { IsFree (plain_of H.past node.old) event → IsOk result }
 {
     match event {
-        Event::Ask(ask) => take_ask(alloc, node, ask),
+        Event::Ask(ask) => compute_ask(alloc, node, ask),
         Event::Deliver(message) => hear(alloc, node, message),
         Event::Tick => tick(alloc, node),
         Event::Stop => Ok(done(Vec::new(alloc))),
     }
 }
 
-/// Handles an event as `meet` does. The node's invariant holds afterwards, and each out of the step
+/// Handles an event as `dispatch` does. The node's invariant holds afterwards, and each out of the step
 /// has an encoding.
-#[tactic(auto, using(crate::proofs::Kept::sound_after, crate::proofs::Kept::said_spelled))]
-fn happen<H: History>(alloc: Global, node: &mut Node<H>, event: Event) -> Result<Step, Refusal>
+#[tactic(auto, using(crate::proofs::Kept::sound_after, crate::proofs::Kept::said_encodable))]
+fn apply_event<H: History>(alloc: Global, node: &mut Node<H>, event: Event) -> Result<Step, Refusal>
     requires sound { IsSound (plain_of H.past node.old) }
     requires arrives { CanArrive event }
-    requires spelled_event { IsSpelledEvent event }
+    requires encodable_event { IsEncodableEvent event }
     requires goes_on { event ≢ Event.Stop }
     requires admitted { IsAdmitted (plain_of H.past node.old) event }
-    ensures gives { Gives H.forgets (plain_of H.past node.old) (plain_of H.past node.new) result (event_turn (plain_of H.past node.old) event) }
+    ensures gives { StepGives H.forgets (plain_of H.past node.old) (plain_of H.past node.new) result (event_transition (plain_of H.past node.old) event) }
     ensures free { IsFree (plain_of H.past node.old) event → IsOk result }
     ensures sound { IsSound (plain_of H.past node.new) }
-    ensures spelled { IfOk result (λ step. AreSpelled step.outs) }
+    ensures spelled { IfOk result (λ step. AreEncodable step.outs) }
     ensures name { (plain_of H.past node.new).name ≡ (plain_of H.past node.old).name }
 {
-    meet(alloc, node, event)
+    dispatch(alloc, node, event)
 }
 
 impl<H: History> NodeCore<H> {
@@ -164,9 +164,9 @@ impl<H: History> NodeCore<H> {
         requires runs { self.old.switch.running ≡ true }
         requires admitted { IsAdmitted (plain_of H.past self.old.node) event }
         requires arrives { CanArrive event }
-        requires spelled_event { IsSpelledEvent event }
-        ensures gives { Answers (λ p. remembered H.forgets p ≡ plain_at H.past self.new.node self.new.switch.running) (plain_of H.past self.old.node) event result }
-        ensures spelled { IfOk result (λ step. AreSpelled step.outs) }
+        requires encodable_event { IsEncodableEvent event }
+        ensures gives { StepAnswers (λ p. remembered H.forgets p ≡ plain_at H.past self.new.node self.new.switch.running) (plain_of H.past self.old.node) event result }
+        ensures spelled { IfOk result (λ step. AreEncodable step.outs) }
         ensures free { IsFree (plain_of H.past self.old.node) event → IsOk result }
     {
         if let Event::Stop = &event {
@@ -174,7 +174,7 @@ impl<H: History> NodeCore<H> {
             self.switch.stop()?;
             return Ok(done(Vec::new(alloc)));
         }
-        happen(alloc, &mut self.node, event)
+        apply_event(alloc, &mut self.node, event)
     }
 
     /// Handles one event. An event that is not admitted is dropped before the refusal is returned;
@@ -182,9 +182,9 @@ impl<H: History> NodeCore<H> {
     #[tactic(auto, unfolding(craq_model::specs::Node::node_step), using(crate::proofs::Stops::free_is_admitted))]
     fn take(&mut self, alloc: Global, event: Event) -> Result<Step, Refusal>
         requires arrives { CanArrive event }
-        requires spelled_event { IsSpelledEvent event }
-        ensures gives { Answers (λ p. remembered H.forgets p ≡ plain_at H.past self.new.node self.new.switch.running) (plain_at H.past self.old.node self.old.switch.running) event result }
-        ensures spelled { IfOk result (λ step. AreSpelled step.outs) }
+        requires encodable_event { IsEncodableEvent event }
+        ensures gives { StepAnswers (λ p. remembered H.forgets p ≡ plain_at H.past self.new.node self.new.switch.running) (plain_at H.past self.old.node self.old.switch.running) event result }
+        ensures spelled { IfOk result (λ step. AreEncodable step.outs) }
         ensures free { IsFree (plain_at H.past self.old.node self.old.switch.running) event → IsOk result }
     {
         match admit(&self.node, &self.switch, &event) {

@@ -2,10 +2,10 @@
 //! Runs in the program: chains, seats and workers run nodes by it.
 #![tactic(auto)]
 
+mod computing;
 mod core_over_past;
 mod fitting;
 mod node_core;
-mod planning;
 
 pub use core_over_past::NodeCore;
 pub use node_core::Core;

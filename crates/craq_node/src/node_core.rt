@@ -2,8 +2,8 @@
 ghost use Rattle.std.specs.Prelude.{◌≡◌, IfOk, IfErr, IsOk};
 ghost use Rattle.std.specs.Option.{option_copied};
 ghost use Rattle.craq_model.specs.Plain.{Plain};
-ghost use Rattle.craq_node_invariant.specs.Sound.{AreSpelled};
-ghost use Rattle.craq_node.specs.Represented.{Answers, CanArrive, CanOpen, IsFree, opening_of};
+ghost use Rattle.craq_node_invariant.specs.Sound.{AreEncodable};
+ghost use Rattle.craq_node.specs.Represented.{StepAnswers, CanArrive, CanOpen, IsFree, opening_of};
 
 use craq_epochs::{Config, Switch};
 use craq_model::{Event, Step};
@@ -35,8 +35,8 @@ pub trait Core: Drop {
     /// memory holds.
     fn step(&mut self, alloc: Global, event: Event) -> Result<Step, Refusal>
         requires { CanArrive event }
-        ensures step { (p : Plain) → represents self.old p → Answers (represents self.new) p event result }
-        ensures spelled { IfOk result (λ step. AreSpelled step.outs) }
+        ensures step { (p : Plain) → represents self.old p → StepAnswers (represents self.new) p event result }
+        ensures spelled { IfOk result (λ step. AreEncodable step.outs) }
         ensures free { (p : Plain) → represents self.old p → IsFree p event → IsOk result };
 
     /// Returns the node's switch. It is stopped exactly if the node does not run. Allocates

@@ -17,8 +17,8 @@ use Rattle.craq_commands.specs.declared.reply.Reply.TheVariants.{Mismatch, TooLo
 use Rattle.craq_commands.specs.Objects.{Objects, object_of, version_of, value_of}
 use Rattle.craq_commands.specs.Transaction.{Transaction, IsWithinLimits, same_object}
 use Rattle.craq_commands.specs.Evaluation.{Outcome, writes_one, writes_none, writes_number, tested, joined, number_at, increased, decreased, first_difference, transacted, eval, objects_named, all_of_chain}
-use Rattle.craq_model.specs.Spelled.{IsObjectRead, IsReply, IsNotStale}
-use Rattle.craq_node_invariant.specs.Sound.{IsSpelledCommand}
+use Rattle.craq_model.specs.Encodable.{IsObjectRead, IsReply, IsNotStale}
+use Rattle.craq_node_invariant.specs.Sound.{IsEncodableCommand}
 use Rattle.craq_node_invariant.proofs.States.{AreWritten, object_is_read}
 
 pub record IsSoundOutcome (o : Outcome) : Type 0 where
@@ -140,7 +140,7 @@ transacted_is m chain t None a l h d =
       once = keys_once chain t.writes h l.written_once;
     }
 
-pub outcome_is : (m : Objects) (chain : ℕ) (c : Command) → AreWritten m → IsSpelledCommand c → all_of_chain chain (objects_named c) ≡ true → IsSoundOutcome (eval m c)
+pub outcome_is : (m : Objects) (chain : ℕ) (c : Command) → AreWritten m → IsEncodableCommand c → all_of_chain chain (objects_named c) ≡ true → IsSoundOutcome (eval m c)
 outcome_is m chain (Put object value) a l h = one_is object.key (version_of m object.key) value
 outcome_is m chain (TestAndSet object expect value) a l h = tested_is object.key expect value (version_of m object.key)
 outcome_is m chain (Append object value) a l h = joined_is object.key (value_of m object.key ++ value) (version_of m object.key)

@@ -17,7 +17,7 @@ use Rattle.craq_commands.specs.declared.state.State.{State}
 use Rattle.craq_model.specs.declared.gathering.Gathering.{Gathering}
 use Rattle.craq_model.specs.declared.message.StatePart.{StatePart}
 use Rattle.craq_model.specs.Parts.{precedes, is_in_order, with_part, joined_state}
-use Rattle.craq_model.specs.Spelled.{IsSpelledWindow}
+use Rattle.craq_model.specs.Encodable.{IsEncodableWindow}
 use Rattle.craq_node_invariant.specs.Sound.{IsSoundState, IsSoundGathering}
 use Rattle.craq_node_invariant.proofs.Sorted.{first, second, all_split, AreBelow, IsRising, rising_append, rising_parts}
 
@@ -161,7 +161,7 @@ gathered_is g part s h none order = record {
   numbers_rise = is_sorted-put nat_cmp nat_cmp_total part.number part.state g.parts s.numbers_rise;
   state = record {
     versions = all_put key_cmp objects_of (λ (o : List ℕ × (ℕ × List ℕ)). 1 ≤ o.1.0) g.parts part.number part.state h.versions s.state.versions;
-    windows = all_put nat_cmp kept_of (λ (k : ℕ × Window). IsSpelledWindow k.1) g.parts part.number part.state h.windows s.state.windows;
+    windows = all_put nat_cmp kept_of (λ (k : ℕ × Window). IsEncodableWindow k.1) g.parts part.number part.state h.windows s.state.windows;
     keys_rise = rising_put key_cmp objects_of g.parts part.number part.state s.numbers_rise none h.keys_rise s.state.keys_rise (objects_in_order part.number part.state g.parts order);
     clients_rise = rising_put nat_cmp kept_of g.parts part.number part.state s.numbers_rise none h.clients_rise s.state.clients_rise (kept_in_order part.number part.state g.parts order);
   };

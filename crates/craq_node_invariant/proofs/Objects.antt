@@ -8,7 +8,7 @@ use Rattle.craq_commands.specs.declared.entry.Entry.{Entry}
 use Rattle.craq_commands.specs.declared.entry.Write.{Write}
 use Rattle.craq_model.specs.Past.{values_in, values_after, newest_within}
 use Rattle.craq_model.specs.Plain.{Plain, newest, clean, newest_object, clean_object, object_within, entries_after}
-use Rattle.craq_model.specs.Spelled.{IsObjectRead, IsSpelledEntry}
+use Rattle.craq_model.specs.Encodable.{IsObjectRead, IsEncodableEntry}
 use Rattle.craq_node_invariant.specs.Sound.{IsSound}
 use Rattle.craq_node_invariant.proofs.States.{written_read, object_is_read, newest_is, clean_is}
 
@@ -23,7 +23,7 @@ values_read (w ∷ ws) key a =
     (λ e. (written_read (w.version, w.value) a.0, values_read ws key a.1))
     (λ e. values_read ws key a.1)
 
-values_after_read : (es : List Entry) (key : List ℕ) → AllByRecursion IsSpelledEntry es → AreRead (values_after es key)
+values_after_read : (es : List Entry) (key : List ℕ) → AllByRecursion IsEncodableEntry es → AreRead (values_after es key)
 unfolding values_after
 values_after_read [] key a = tt
 values_after_read (e ∷ es) key a = all_append IsObjectRead (values_in e.writes key) (values_after es key) (values_read e.writes key (a.0).versions) (values_after_read es key a.1)
@@ -44,4 +44,4 @@ pub bounded_read : (p : Plain) (key : List ℕ) (bound : ℕ) → IsSound p → 
 unfolding clean entries_after
 bounded_read p key bound s =
     within_read bound (clean_object p key) (values_after (entries_after p p.past.acknowledged) key) (clean_read p key s)
-    (values_after_read (entries_after p p.past.acknowledged) key (all_drop IsSpelledEntry (p.past.acknowledged - p.past.base) p.past.entries s.entries))
+    (values_after_read (entries_after p p.past.acknowledged) key (all_drop IsEncodableEntry (p.past.acknowledged - p.past.base) p.past.entries s.entries))

@@ -18,7 +18,7 @@ use Rattle.craq_model.specs.declared.waiting.WaitingRead.{WaitingRead}
 use Rattle.craq_model.specs.declared.waiting.WaitingUpdate.{WaitingUpdate}
 use Rattle.craq_model.specs.Deliveries.{are_applicable}
 use Rattle.craq_model.specs.Plain.{Plain, id_of, length_of}
-use Rattle.craq_model.specs.Spelled.{IsObjectRead, IsReply, IsNotStale, IsSpelledEntry, IsSpelledWindow}
+use Rattle.craq_model.specs.Encodable.{IsObjectRead, IsReply, IsNotStale, IsEncodableEntry, IsEncodableWindow}
 use Rattle.craq_node_invariant.specs.Sound.{AreInRow, IsSound, IsSoundGathering, IsSoundIfAny, IsSoundState}
 
 IsObjectRead-prop : (o : ℕ × List ℕ) → IsProp (IsObjectRead o)
@@ -46,8 +46,8 @@ IsNotStale-prop (Done objects) = hlevel props
 IsNotStale-prop (CompareFailed place) = hlevel props
 IsNotStale-prop (Stale last) = hlevel props
 
-IsSpelledEntry-prop : (e : Entry) → IsProp (IsSpelledEntry e)
-IsSpelledEntry-prop e x y =
+IsEncodableEntry-prop : (e : Entry) → IsProp (IsEncodableEntry e)
+IsEncodableEntry-prop e x y =
     let position : IsProp (1 ≤ e.position) = hlevel props in
     let origin_node : IsProp (1 ≤ e.origin_node) = hlevel props in
     let origin_ticket : IsProp (1 ≤ e.origin_ticket) = hlevel props in
@@ -65,8 +65,8 @@ IsSpelledEntry-prop e x y =
       once = once x.once y.once i;
     }
 
-IsSpelledWindow-prop : (w : Window) → IsProp (IsSpelledWindow w)
-IsSpelledWindow-prop w x y =
+IsEncodableWindow-prop : (w : Window) → IsProp (IsEncodableWindow w)
+IsEncodableWindow-prop w x y =
     let some : IsProp (1 ≤ length w) = hlevel props in
     let few : IsProp (length w ≤ window_limit) = hlevel props in
     let replies : IsProp (AllByRecursion (λ (k : Kept). IsReply k.1 × IsNotStale k.1) w) = hlevel (props, IsReply-prop, IsNotStale-prop) in
@@ -76,7 +76,7 @@ IsSpelledWindow-prop w x y =
 IsSoundState-prop : (s : State) → IsProp (IsSoundState s)
 IsSoundState-prop s x y =
     let versions : IsProp (AllByRecursion (λ (o : List ℕ × (ℕ × List ℕ)). 1 ≤ o.1.0) s.objects) = hlevel props in
-    let windows : IsProp (AllByRecursion (λ (k : ℕ × Window). IsSpelledWindow k.1) s.kept) = hlevel (props, IsSpelledWindow-prop) in
+    let windows : IsProp (AllByRecursion (λ (k : ℕ × Window). IsEncodableWindow k.1) s.kept) = hlevel (props, IsEncodableWindow-prop) in
     let keys_rise : IsProp (T (is_sorted key_cmp s.objects)) = hlevel props in
     let clients_rise : IsProp (T (is_sorted nat_cmp s.kept)) = hlevel props in
     λ i. record {
@@ -110,7 +110,7 @@ IsSound-prop p x y =
     let idle_reads : IsProp (p.ready ≡ false → p.waiting_reads ≡ []) = hlevel props in
     let based : IsProp (p.past.base ≤ p.past.acknowledged) = hlevel props in
     let within : IsProp (p.past.acknowledged ≤ length_of p) = hlevel props in
-    let entries : IsProp (AllByRecursion IsSpelledEntry p.past.entries) = hlevel (props, IsSpelledEntry-prop) in
+    let entries : IsProp (AllByRecursion IsEncodableEntry p.past.entries) = hlevel (props, IsEncodableEntry-prop) in
     let applicable : IsProp (are_applicable p.past.base_state p.past.entries ≡ true) = hlevel props in
     let replies : IsProp (AllByRecursion (λ (u : WaitingUpdate). IsReply u.reply) p.waiting_updates) = hlevel (props, IsReply-prop) in
     let tickets : IsProp (AllByRecursion (λ (r : WaitingRead). 1 ≤ r.ticket) p.waiting_reads) = hlevel props in

@@ -3,7 +3,7 @@ use Rattle.std.proofs.Common.{◌≡◌, ◌≤◌, ◌<◌, ℕ, zero, suc, ◌
 use Rattle.std.proofs.lemmas.Bool.{cond_both, cond-true, ltb-true, ltb-false, lt-ltb}
 use Rattle.craq_commands.specs.declared.entry.Entry.{Entry}
 use Rattle.craq_model.specs.Deliveries.{first_position, entries_above}
-use Rattle.craq_model.specs.Spelled.{IsConsecutive}
+use Rattle.craq_model.specs.Encodable.{IsConsecutive}
 use Rattle.craq_node_invariant.specs.Sound.{AreInRow}
 
 moved : (m n : ℕ) (es : List Entry) → m ≡ n → AreInRow m es → AreInRow n es

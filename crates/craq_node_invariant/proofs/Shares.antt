@@ -9,7 +9,7 @@ use Rattle.craq_names.proofs.Lists.{all_drop, all_take}
 use Rattle.craq_commands.specs.Kept.{Window}
 use Rattle.craq_commands.specs.declared.state.State.{State}
 use Rattle.craq_model.specs.Parts.{item_count, share, part_count, part_of, parts_of}
-use Rattle.craq_model.specs.Spelled.{IsSpelledPart, IsSpelledWindow}
+use Rattle.craq_model.specs.Encodable.{IsEncodablePart, IsEncodableWindow}
 use Rattle.craq_node_invariant.specs.Sound.{IsSoundState}
 use Rattle.craq_node_invariant.proofs.Sorted.{rising_drop, rising_take}
 
@@ -23,7 +23,7 @@ share_is s a b i =
     let m : ℕ = length s.objects in
     record {
       versions = all_drop (λ (o : List ℕ × (ℕ × List ℕ)). 1 ≤ o.1.0) a (take b s.objects) (all_take (λ (o : List ℕ × (ℕ × List ℕ)). 1 ≤ o.1.0) b s.objects i.versions);
-      windows = all_drop (λ (k : ℕ × Window). IsSpelledWindow k.1) (a - m) (take (b - m) s.kept) (all_take (λ (k : ℕ × Window). IsSpelledWindow k.1) (b - m) s.kept i.windows);
+      windows = all_drop (λ (k : ℕ × Window). IsEncodableWindow k.1) (a - m) (take (b - m) s.kept) (all_take (λ (k : ℕ × Window). IsEncodableWindow k.1) (b - m) s.kept i.windows);
       keys_rise = rising_drop key_cmp a (take b s.objects) (rising_take key_cmp b s.objects i.keys_rise);
       clients_rise = rising_drop nat_cmp (a - m) (take (b - m) s.kept) (rising_take nat_cmp (b - m) s.kept i.clients_rise);
     }
@@ -55,7 +55,7 @@ two_parts n many = omega (arith, many)
 few_of : (a b n : ℕ) → a + b ≡ n → n ≤ 64 → (a ≤ 4294967295) × (b ≤ 4294967295)
 few_of a b n e f = (omega (arith, e, f), omega (arith, e, f))
 
-part_is : (position : ℕ) (s : State) (i : ℕ) → 1 ≤ position → IsSoundState s → 64 < item_count s → 1 ≤ i → i < 1 + part_count s → IsSpelledPart (part_of position s i)
+part_is : (position : ℕ) (s : State) (i : ℕ) → 1 ≤ position → IsSoundState s → 64 < item_count s → 1 ≤ i → i < 1 + part_count s → IsEncodablePart (part_of position s i)
 part_is position s i h sound many some last =
     let part : State = share s (64 * (i - 1)) (64 * i) in
     let count : item_count part ≡ min (64 * i) (item_count s) - 64 * (i - 1) = items_in_share s (64 * (i - 1)) (64 * i) (from_before i) in
@@ -74,6 +74,6 @@ part_is position s i h sound many some last =
       state = record { few_objects = fits.0; few_kept = fits.1; versions = is.versions; windows = is.windows; keys_rise = is.keys_rise; clients_rise = is.clients_rise };
     }
 
-pub parts_are : (position : ℕ) (s : State) → 1 ≤ position → IsSoundState s → 64 < item_count s → AllByRecursion IsSpelledPart (parts_of position s)
+pub parts_are : (position : ℕ) (s : State) → 1 ≤ position → IsSoundState s → 64 < item_count s → AllByRecursion IsEncodablePart (parts_of position s)
 unfolding parts_of
-parts_are position s h sound many = all_range IsSpelledPart (part_of position s) 1 (part_count s) (λ i some last. part_is position s i h sound many some last)
+parts_are position s h sound many = all_range IsEncodablePart (part_of position s) 1 (part_count s) (λ i some last. part_is position s i h sound many some last)

@@ -17,7 +17,7 @@ use Rattle.craq_commands.specs.Objects.{Objects, object_of, set_object}
 use Rattle.craq_commands.specs.declared.state.State.{State}
 use Rattle.craq_commands.specs.SingleCopy.{window_of, with_writes, kept_with, after_entry, after_entries}
 use Rattle.craq_model.specs.Plain.{Plain, newest, clean}
-use Rattle.craq_model.specs.Spelled.{IsObjectRead, IsReply, IsNotStale, IsSpelledEntry, IsSpelledWindow}
+use Rattle.craq_model.specs.Encodable.{IsObjectRead, IsReply, IsNotStale, IsEncodableEntry, IsEncodableWindow}
 use Rattle.craq_node_invariant.specs.Sound.{IsSoundState, IsSound}
 use Rattle.craq_node_invariant.proofs.Maps.{found_is, put_is}
 
@@ -49,18 +49,18 @@ pub object_is_read : (m : Objects) (key : List ℕ) → AreWritten m → IsObjec
 unfolding object_of
 object_is_read m key a = read_of (at_key m key) (found_is key_cmp IsWritten key m a)
 
-window_found : (o : Option Window) → MatchOption o ⊤ IsSpelledWindow → IsWindow (unwrap_or o [])
+window_found : (o : Option Window) → MatchOption o ⊤ IsEncodableWindow → IsWindow (unwrap_or o [])
 window_found None h = record { few = omega arith; replies = tt; numbers_rise = tt }
 window_found (Some w) h = record { few = h.few; replies = h.replies; numbers_rise = h.numbers_rise }
 
 window_is : (s : State) (client : ℕ) → IsSoundState s → IsWindow (window_of s client)
 unfolding window_of
-window_is s client i = window_found (at_number s.kept client) (found_is nat_cmp IsSpelledWindow client s.kept i.windows)
+window_is s client i = window_found (at_number s.kept client) (found_is nat_cmp IsEncodableWindow client s.kept i.windows)
 
 pub replies_are : (s : State) (client : ℕ) → IsSoundState s → AllByRecursion (λ (k : Kept). IsReply k.1 × IsNotStale k.1) (window_of s client)
 replies_are s client i = (window_is s client i).replies
 
-window_keeps : (w : Window) (number : ℕ) (reply : Reply) → IsWindow w → IsReply reply → IsNotStale reply → IsSpelledWindow (keep w number reply)
+window_keeps : (w : Window) (number : ℕ) (reply : Reply) → IsWindow w → IsReply reply → IsNotStale reply → IsEncodableWindow (keep w number reply)
 window_keeps w number reply i h n = record {
   some = some_kept w number reply;
   few = few_kept w number reply i.few;
@@ -80,16 +80,16 @@ unfolding set_object
 writes_rise m [] h = h
 writes_rise m (w ∷ ws) h = writes_rise (put_key m w.key (w.version, w.value)) ws (is_sorted-put key_cmp nat_list_cmp_total w.key (w.version, w.value) m h)
 
-pub entry_keeps : (s : State) (e : Entry) → IsSoundState s → IsSpelledEntry e → IsSoundState (after_entry s e)
+pub entry_keeps : (s : State) (e : Entry) → IsSoundState s → IsEncodableEntry e → IsSoundState (after_entry s e)
 unfolding after_entry kept_with
 entry_keeps s e i h = record {
   versions = writes_written s.objects e.writes i.versions h.versions;
-  windows = put_is nat_cmp IsSpelledWindow e.client (keep (window_of s e.client) e.number e.reply) s.kept (window_keeps (window_of s e.client) e.number e.reply (window_is s e.client i) h.reply h.not_stale) i.windows;
+  windows = put_is nat_cmp IsEncodableWindow e.client (keep (window_of s e.client) e.number e.reply) s.kept (window_keeps (window_of s e.client) e.number e.reply (window_is s e.client i) h.reply h.not_stale) i.windows;
   keys_rise = writes_rise s.objects e.writes i.keys_rise;
   clients_rise = is_sorted-put nat_cmp nat_cmp_total e.client (keep (window_of s e.client) e.number e.reply) s.kept i.clients_rise;
 }
 
-entries_keep : (s : State) (es : List Entry) → IsSoundState s → AllByRecursion IsSpelledEntry es → IsSoundState (after_entries s es)
+entries_keep : (s : State) (es : List Entry) → IsSoundState s → AllByRecursion IsEncodableEntry es → IsSoundState (after_entries s es)
 entries_keep s [] i h = i
 entries_keep s (e ∷ es) i h = entries_keep (after_entry s e) es (entry_keeps s e i h.0) h.1
 
@@ -99,4 +99,4 @@ newest_is p s = entries_keep p.past.base_state p.past.entries s.state s.entries
 
 pub clean_is : (p : Plain) → IsSound p → IsSoundState (clean p)
 unfolding clean
-clean_is p s = entries_keep p.past.base_state (take (p.past.acknowledged - p.past.base) p.past.entries) s.state (all_take IsSpelledEntry (p.past.acknowledged - p.past.base) p.past.entries s.entries)
+clean_is p s = entries_keep p.past.base_state (take (p.past.acknowledged - p.past.base) p.past.entries) s.state (all_take IsEncodableEntry (p.past.acknowledged - p.past.base) p.past.entries s.entries)

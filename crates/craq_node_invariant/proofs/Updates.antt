@@ -24,26 +24,26 @@ use Rattle.craq_model.specs.declared.ask.Answer.TheVariants as answers
 use Rattle.craq_model.specs.declared.step.Out.{Out}
 use Rattle.craq_model.specs.declared.step.Out.TheVariants as outs
 use Rattle.craq_model.specs.declared.waiting.WaitingUpdate.{WaitingUpdate}
-use Rattle.craq_model.specs.Asks.{accepted_turn, answered_turn, is_full, versioned_write, entry_of, with_entry, committed_if_last, reply_turn, new_update_turn, update_turn}
+use Rattle.craq_model.specs.Asks.{accepted_transition, answered_transition, is_full, versioned_write, entry_of, with_entry, committed_if_last, reply_transition, new_update_transition, update_transition}
 use Rattle.craq_model.specs.Plain.{Plain, successor, is_last, length_of, newest, position_of, acknowledging}
 use Rattle.craq_model.specs.Sends.{send_all, to_neighbour, entry_bodies}
-use Rattle.craq_model.specs.Settle.{Turn}
-use Rattle.craq_model.specs.Spelled.{IsReply, IsNotStale, IsSpelledEntry}
-use Rattle.craq_node_invariant.specs.Sound.{IsSound, IsSpelledCommand}
+use Rattle.craq_model.specs.Settle.{Transition}
+use Rattle.craq_model.specs.Encodable.{IsReply, IsNotStale, IsEncodableEntry}
+use Rattle.craq_node_invariant.specs.Sound.{IsSound, IsEncodableCommand}
 use Rattle.craq_node_invariant.proofs.Applicable.{entry_is_applicable}
 use Rattle.craq_node_invariant.proofs.Entries.{with_entries_is, entries_sent}
 use Rattle.craq_node_invariant.proofs.Evaluations.{IsSoundOutcome, outcome_is}
 use Rattle.craq_node_invariant.proofs.Maps.{found_is}
-use Rattle.craq_node_invariant.proofs.Sends.{AreSpelledIfFitting}
-use Rattle.craq_node_invariant.proofs.Settling.{IsSoundTurn, committed_is}
+use Rattle.craq_node_invariant.proofs.Sends.{AreEncodableIfFitting}
+use Rattle.craq_node_invariant.proofs.Settling.{IsSoundTransition, committed_is}
 use Rattle.craq_node_invariant.proofs.States.{newest_is, replies_are}
 
 -- an accepted request makes a sound transition
-abbrev pub IsSoundIfTaken : Result Turn Refusal → Type 0
-IsSoundIfTaken (Ok t) = IsSoundTurn t
+abbrev pub IsSoundIfTaken : Result Transition Refusal → Type 0
+IsSoundIfTaken (Ok t) = IsSoundTransition t
 IsSoundIfTaken (Err e) = Unit {0}
 
-pub accepted_is : (p : Plain) (os : List Out) → IsSound p → AreSpelledIfFitting os → IsSoundTurn (accepted_turn p os)
+pub accepted_is : (p : Plain) (os : List Out) → IsSound p → AreEncodableIfFitting os → IsSoundTransition (accepted_transition p os)
 accepted_is p os s a = (
   record {
     own = s.own;
@@ -86,23 +86,23 @@ waits p u s r h = record {
   tickets = s.tickets;
 }
 
-reply_is : (p : Plain) (position : ℕ) (reply : Reply) (sends : List Out) → IsSound p → p.ready ≡ true → IsReply reply → AreSpelledIfFitting sends → IsSoundIfTaken (reply_turn p position reply sends)
-unfolding reply_turn
+reply_is : (p : Plain) (position : ℕ) (reply : Reply) (sends : List Out) → IsSound p → p.ready ≡ true → IsReply reply → AreEncodableIfFitting sends → IsSoundIfTaken (reply_transition p position reply sends)
+unfolding reply_transition
 reply_is p position reply sends s r h a =
     let u : WaitingUpdate = record { ticket = p.last_ticket + 1; position = position; reply = reply } in
     let q : Plain = record p { waiting_updates = p.waiting_updates ++ u ∷ [] } in
-    let later : Result Turn Refusal = cond (is_full p) (Err refusals.PendingFull) (Ok (accepted_turn q sends)) in
-    cond_both (nat_le position p.past.acknowledged) (Ok (answered_turn p (answers.Update reply) sends)) later (λ (r : Result Turn Refusal). IsSoundIfTaken r)
+    let later : Result Transition Refusal = cond (is_full p) (Err refusals.PendingFull) (Ok (accepted_transition q sends)) in
+    cond_both (nat_le position p.past.acknowledged) (Ok (answered_transition p (answers.Update reply) sends)) later (λ (r : Result Transition Refusal). IsSoundIfTaken r)
     (λ e. accepted_is p (outs.Answer (p.last_ticket + 1) (answers.Update reply) ∷ sends) s (λ f. h, a))
-    (λ e. cond_both (is_full p) (Err refusals.PendingFull) (Ok (accepted_turn q sends)) (λ (r : Result Turn Refusal). IsSoundIfTaken r)
+    (λ e. cond_both (is_full p) (Err refusals.PendingFull) (Ok (accepted_transition q sends)) (λ (r : Result Transition Refusal). IsSoundIfTaken r)
     (λ b. tt)
     (λ b. accepted_is q sends (waits p u s r h) a))
 
 -- a reply at a node that commits first if it is last
-replies_after : (p : Plain) (position : ℕ) (reply : Reply) (sends : List Out) → IsSound p → p.ready ≡ true → IsReply reply → AreSpelledIfFitting sends
-    → IsSoundIfTaken (reply_turn (committed_if_last p) position reply sends)
+replies_after : (p : Plain) (position : ℕ) (reply : Reply) (sends : List Out) → IsSound p → p.ready ≡ true → IsReply reply → AreEncodableIfFitting sends
+    → IsSoundIfTaken (reply_transition (committed_if_last p) position reply sends)
 replies_after p position reply sends s r h a =
-    cond_both (is_last p) (acknowledging p (length_of p)) p (λ (q : Plain). IsSoundIfTaken (reply_turn q position reply sends))
+    cond_both (is_last p) (acknowledging p (length_of p)) p (λ (q : Plain). IsSoundIfTaken (reply_transition q position reply sends))
     (λ e. reply_is (acknowledging p (length_of p)) position reply sends (committed_is p s) r h a)
     (λ e. reply_is p position reply sends s r h a)
 
@@ -112,7 +112,7 @@ same_keys : (m : Objects) (ws : List (List ℕ × List ℕ)) → map (λ (w : Wr
 same_keys m [] = refl
 same_keys m (w ∷ ws) = ap (λ (keys : List (List ℕ)). w.0 ∷ keys) (same_keys m ws)
 
-entry_of_is : (p : Plain) (u : Update) (o : Outcome) → IsSound p → IsSoundOutcome o → IsSpelledEntry (entry_of p u o)
+entry_of_is : (p : Plain) (u : Update) (o : Outcome) → IsSound p → IsSoundOutcome o → IsEncodableEntry (entry_of p u o)
 entry_of_is p u o s i =
     let m : Objects = (newest p).objects in
     let count : length (map (versioned_write m) o.0) ≡ length o.0 = length-map o.0 (versioned_write m) in
@@ -141,16 +141,16 @@ said_is p client number s = said_of_is (window_of (newest p) client) number (rep
 
 -- ---- the transition
 
-pub update_is : (p : Plain) (u : Update) (o : Option Reply) → IsSound p → p.ready ≡ true → IsSpelledCommand u.command → all_of_chain p.name.chain (objects_named u.command) ≡ true
-    → MatchOption o ⊤ IsReply → (o ≡ None → is_new_to (newest p) u.client u.number ≡ true) → IsSoundIfTaken (update_turn p u o)
-unfolding update_turn
+pub update_is : (p : Plain) (u : Update) (o : Option Reply) → IsSound p → p.ready ≡ true → IsEncodableCommand u.command → all_of_chain p.name.chain (objects_named u.command) ≡ true
+    → MatchOption o ⊤ IsReply → (o ≡ None → is_new_to (newest p) u.client u.number ≡ true) → IsSoundIfTaken (update_transition p u o)
+unfolding update_transition
 update_is p u (Some reply) s r c h a n = replies_after p (position_of p u.client) reply [] s r a tt
 update_is p u None s r c h a n =
     let m : Objects = (newest p).objects in
     let o : Outcome = eval m u.command in
     let e : Entry = entry_of p u o in
-    let i : IsSpelledEntry e = entry_of_is p u o s (outcome_is m p.name.chain u.command (newest_is p s).versions c h) in
-    cond_both (length_of p == greatest || some_used_up m (objects_named u.command)) (Err refusals.Exhausted) (new_update_turn p e) (λ (r : Result Turn Refusal). IsSoundIfTaken r)
+    let i : IsEncodableEntry e = entry_of_is p u o s (outcome_is m p.name.chain u.command (newest_is p s).versions c h) in
+    cond_both (length_of p == greatest || some_used_up m (objects_named u.command)) (Err refusals.Exhausted) (new_update_transition p e) (λ (r : Result Transition Refusal). IsSoundIfTaken r)
     (λ b. tt)
     (λ b. replies_after (with_entry p e) e.position e.reply (to_neighbour (successor p) (λ to. send_all p to (entry_bodies (e ∷ [])))) (with_entries_is p (e ∷ []) s (i, tt) (refl, tt) (entry_is_applicable p u o (n refl))) r i.reply
     (entries_sent p (e ∷ []) (length_of p + 1) s (s.own, s.in_epoch r) (i, tt) (refl, tt)))

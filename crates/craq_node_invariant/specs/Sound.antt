@@ -24,12 +24,12 @@ use Rattle.craq_model.specs.declared.gathering.Gathering.{Gathering}
 use Rattle.craq_model.specs.Deliveries.{are_applicable}
 use Rattle.craq_model.specs.Parts.{joined_state}
 use Rattle.craq_model.specs.Plain.{Plain, id_of, length_of}
-use Rattle.craq_model.specs.Spelled.{IsObjectRead, IsReply, IsSpelled, IsSpelledEntry, IsSpelledWindow}
+use Rattle.craq_model.specs.Encodable.{IsObjectRead, IsReply, IsEncodable, IsEncodableEntry, IsEncodableWindow}
 
 -- a state that has an encoding if its counts fit
 pub record IsSoundState (s : State) : Type 0 where
   pub versions : AllByRecursion (λ (o : List ℕ × (ℕ × List ℕ)). 1 ≤ o.1.0) s.objects  -- each object in the list was written
-  pub windows : AllByRecursion (λ (k : ℕ × Window). IsSpelledWindow k.1) s.kept  -- each client has 1 to 8 kept replies, to updates that were new
+  pub windows : AllByRecursion (λ (k : ℕ × Window). IsEncodableWindow k.1) s.kept  -- each client has 1 to 8 kept replies, to updates that were new
   pub keys_rise : T (is_sorted key_cmp s.objects)  -- the keys are strictly increasing
   pub clients_rise : T (is_sorted nat_cmp s.kept)  -- the clients are strictly increasing
 
@@ -59,7 +59,7 @@ pub record IsSound (p : Plain) : Type 0 where
   pub based : p.past.base ≤ p.past.acknowledged  -- entries that only its state represents are committed
   pub within : p.past.acknowledged ≤ length_of p  -- it holds its committed entries
   pub state : IsSoundState p.past.base_state  -- the state before its entries
-  pub entries : AllByRecursion IsSpelledEntry p.past.entries  -- each may be sent again
+  pub entries : AllByRecursion IsEncodableEntry p.past.entries  -- each may be sent again
   pub placed : AreInRow (p.past.base + 1) p.past.entries  -- consecutive entries are sent as one message
   pub applicable : are_applicable p.past.base_state p.past.entries ≡ true  -- each writes the next versions of its objects, under a new request number
   pub gathering : IsSoundIfAny p.gathering  -- the gathered state may replace its history
@@ -67,36 +67,36 @@ pub record IsSound (p : Plain) : Type 0 where
   pub tickets : AllByRecursion (λ (r : WaitingRead). 1 ≤ r.ticket) p.waiting_reads  -- tickets count from 1
 
 -- a command whose transaction is within its limits
-abbrev pub IsSpelledCommand : Command → Type 0
-IsSpelledCommand (Put object value) = ⊤
-IsSpelledCommand (TestAndSet object expect value) = ⊤
-IsSpelledCommand (Append object value) = ⊤
-IsSpelledCommand (Prepend object value) = ⊤
-IsSpelledCommand (Increment object by) = ⊤
-IsSpelledCommand (Decrement object by) = ⊤
-IsSpelledCommand (Mini t) = IsWithinLimits t
+abbrev pub IsEncodableCommand : Command → Type 0
+IsEncodableCommand (Put object value) = ⊤
+IsEncodableCommand (TestAndSet object expect value) = ⊤
+IsEncodableCommand (Append object value) = ⊤
+IsEncodableCommand (Prepend object value) = ⊤
+IsEncodableCommand (Increment object by) = ⊤
+IsEncodableCommand (Decrement object by) = ⊤
+IsEncodableCommand (Mini t) = IsWithinLimits t
 
-abbrev pub IsSpelledAsk : Ask → Type 0
-IsSpelledAsk (asks.Update u) = IsSpelledCommand u.command
-IsSpelledAsk (asks.Read mode object) = ⊤
+abbrev pub IsEncodableAsk : Ask → Type 0
+IsEncodableAsk (asks.Update u) = IsEncodableCommand u.command
+IsEncodableAsk (asks.Read mode object) = ⊤
 
 -- the event has an encoding
-abbrev pub IsSpelledEvent : Event → Type 0
-IsSpelledEvent (events.Ask ask) = IsSpelledAsk ask
-IsSpelledEvent (events.Deliver m) = IsSpelled m
-IsSpelledEvent events.Tick = ⊤
-IsSpelledEvent events.Stop = ⊤
+abbrev pub IsEncodableEvent : Event → Type 0
+IsEncodableEvent (events.Ask ask) = IsEncodableAsk ask
+IsEncodableEvent (events.Deliver m) = IsEncodable m
+IsEncodableEvent events.Tick = ⊤
+IsEncodableEvent events.Stop = ⊤
 
 -- a reply that has an encoding: an absent object has no bytes
-abbrev pub IsSpelledAnswer : Answer → Type 0
-IsSpelledAnswer (answers.Update reply) = IsReply reply
-IsSpelledAnswer (answers.Read version value) = IsObjectRead (version, value)
+abbrev pub IsEncodableAnswer : Answer → Type 0
+IsEncodableAnswer (answers.Update reply) = IsReply reply
+IsEncodableAnswer (answers.Read version value) = IsObjectRead (version, value)
 
 -- the message has an encoding, and goes to its receiver
-abbrev pub IsSpelledOut : Out → Type 0
-IsSpelledOut (outs.Send to m) = IsSpelled m × (to ≡ m.receiver)
-IsSpelledOut (outs.Answer ticket answer) = IsSpelledAnswer answer
+abbrev pub IsEncodableOut : Out → Type 0
+IsEncodableOut (outs.Send to m) = IsEncodable m × (to ≡ m.receiver)
+IsEncodableOut (outs.Answer ticket answer) = IsEncodableAnswer answer
 
 -- all outs of a step have an encoding
-abbrev pub AreSpelled : List Out → Type 0
-AreSpelled os = AllByRecursion IsSpelledOut os
+abbrev pub AreEncodable : List Out → Type 0
+AreEncodable os = AllByRecursion IsEncodableOut os

@@ -8,10 +8,10 @@ ghost use Rattle.craq_model.specs.declared.ask.Event.{Event};
 ghost use Rattle.craq_model.specs.declared.message.LinkMessage.{LinkMessage};
 ghost use Rattle.craq_model.specs.declared.step.Step.{Step};
 ghost use Rattle.craq_model.specs.Members.{IsMembership};
-ghost use Rattle.craq_model.specs.Node.{event_turn, node_step, within_counts};
+ghost use Rattle.craq_model.specs.Node.{event_transition, node_step, within_counts};
 ghost use Rattle.craq_model.specs.Plain.{Plain, opening_joined, opening_member};
-ghost use Rattle.craq_model.specs.Spelled.{IsSpelled};
-ghost use Rattle.craq_node_invariant.specs.Sound.{AreSpelled, IsSound, IsSpelledEvent};
+ghost use Rattle.craq_model.specs.Encodable.{IsEncodable};
+ghost use Rattle.craq_node_invariant.specs.Sound.{AreEncodable, IsSound, IsEncodableEvent};
 
 /// A node satisfies the invariant before its first step: an opening member, and one that joins
 /// later.
@@ -23,17 +23,17 @@ pub fn opening_is_sound()
 /// A step keeps the invariant if its event has an encoding. Then all sends and replies of the step
 /// have one.
 pub fn steps_are_sound()
-    ensures { (p q : Plain) (e : Event) (s : Step) → IsSound p → IsSpelledEvent e → node_step p e ≡ Ok (q, s) → IsSound q × AreSpelled s.outs }
+    ensures { (p q : Plain) (e : Event) (s : Step) → IsSound p → IsEncodableEvent e → node_step p e ≡ Ok (q, s) → IsSound q × AreEncodable s.outs }
 {}
 
 /// A step of a running node keeps the invariant if its event has an encoding. Then all sends and
 /// replies of the step have one.
-pub fn turns_are_sound()
-    ensures { (p q : Plain) (e : Event) (s : Step) → IsSound p → IsSpelledEvent e → within_counts (event_turn p e) ≡ Ok (q, s) → IsSound q × AreSpelled s.outs }
+pub fn transitions_are_sound()
+    ensures { (p q : Plain) (e : Event) (s : Step) → IsSound p → IsEncodableEvent e → within_counts (event_transition p e) ≡ Ok (q, s) → IsSound q × AreEncodable s.outs }
 {}
 
 /// A message with an encoding has one under any stamp from 1 and any index. Both are set after the
 /// step that sends it.
 pub fn stamps_are_free()
-    ensures { (m : LinkMessage) (stamp index : ℕ) → IsSpelled m → 1 ≤ stamp → IsSpelled (record m { stamp = stamp; index = index }) }
+    ensures { (m : LinkMessage) (stamp index : ℕ) → IsEncodable m → 1 ≤ stamp → IsEncodable (record m { stamp = stamp; index = index }) }
 {}

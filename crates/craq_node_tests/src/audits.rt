@@ -3,8 +3,8 @@
 use crate::cells::{deliver_at, opened, take_all};
 use crate::moves::print_explanation;
 use craq_audit::{Audit, audit};
+use craq_cell_chain::CellChain;
 use craq_epochs::StopReceipt;
-use craq_locked::LockedChain;
 use craq_names::{NodeId, Pass, Refusal, Stamp};
 use craq_node::Core;
 use craq_play::print_refusal;
@@ -351,7 +351,7 @@ deliver 9",
 fn play<C: Core, R: AllocGlobal + Wait>(
     rt: &R,
     played: &Played,
-    chains: &mut Vec<LockedChain<C>>,
+    chains: &mut Vec<CellChain<C>>,
     calls: &mut Vec<CallReceipt>,
     text: &mut String,
 ) -> Result<(), Refusal> {
@@ -371,7 +371,7 @@ fn stopped_at<C: Core, R: Wait>(rt: &R, seat: &Seat<C>) -> Option<StopReceipt> {
 /// node runs.
 fn remove<C: Core, R: AllocGlobal + Wait>(
     rt: &R,
-    cells: &LockedChain<C>,
+    cells: &CellChain<C>,
     seat: &Seat<C>,
     stamp: u64,
 ) -> Result<(), Refusal> {
@@ -396,7 +396,7 @@ fn remove<C: Core, R: AllocGlobal + Wait>(
 /// Applies the extra event to the chain of this node.
 fn happen<C: Core, R: AllocGlobal + Wait>(
     rt: &R,
-    cells: &LockedChain<C>,
+    cells: &CellChain<C>,
     seat: &Seat<C>,
     besides: Besides,
 ) -> Result<(), Refusal> {
@@ -448,8 +448,8 @@ fn print_audit<C: Core>(
 /// Audits nodes of these chains with the last chain's book, while all their locks are held.
 fn audit_all<C: Core, R: AllocGlobal + Wait>(
     rt: &R,
-    chains: &[LockedChain<C>],
-    last: &LockedChain<C>,
+    chains: &[CellChain<C>],
+    last: &CellChain<C>,
     cells: &[(usize, u32)],
     calls: &[CallReceipt],
     text: &mut String,
@@ -472,7 +472,7 @@ fn audit_all<C: Core, R: AllocGlobal + Wait>(
 fn tell<C: Core, R: AllocGlobal + Wait>(
     rt: &R,
     case: &Case,
-    chains: &mut Vec<LockedChain<C>>,
+    chains: &mut Vec<CellChain<C>>,
     calls: &mut Vec<CallReceipt>,
     text: &mut String,
 ) -> Result<(), Refusal> {
@@ -497,10 +497,10 @@ fn tell<C: Core, R: AllocGlobal + Wait>(
 }
 
 /// Returns the output of a case: the receipts of its steps, and the result of the audit.
-pub fn told<C: Core, R: AllocGlobal + Wait>(rt: &R, case: &Case) -> Result<String, Refusal> {
+pub fn reported<C: Core, R: AllocGlobal + Wait>(rt: &R, case: &Case) -> Result<String, Refusal> {
     let alloc = rt.alloc();
     let mut text = String::new(alloc);
-    let mut chains: Vec<LockedChain<C>> = Vec::new(alloc);
+    let mut chains: Vec<CellChain<C>> = Vec::new(alloc);
     let mut calls = Vec::new(alloc);
     tell(rt, case, &mut chains, &mut calls, &mut text)?;
     Ok(text)

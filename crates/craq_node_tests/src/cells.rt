@@ -1,10 +1,10 @@
 //! Tests the locked nodes of a chain beyond scripts: at the last stamp, and in two threads. Run by
 //! `main`, and used by `audits`, `spoiled` and `refused`.
-ghost use Rattle.craq_model.specs.Spelled.{IsSpelled};
+ghost use Rattle.craq_model.specs.Encodable.{IsEncodable};
 
 use crate::moves::{members, moves_of};
-use craq_list::ListCore;
-use craq_locked::LockedChain;
+use craq_cell_chain::CellChain;
+use craq_compact_history::ListCore;
 use craq_model::{Event, LinkMessage};
 use craq_names::{ChainId, NodeId, NodeName, Pass, Refusal, Stamp};
 use craq_node::Core;
@@ -16,13 +16,9 @@ use std::thread;
 use std::thread::Threads;
 
 /// Opens locked nodes of chain 0, with or without journals.
-pub fn opened<C: Core>(
-    alloc: Global,
-    ids: &[u32],
-    journal: bool,
-) -> Result<LockedChain<C>, Refusal> {
+pub fn opened<C: Core>(alloc: Global, ids: &[u32], journal: bool) -> Result<CellChain<C>, Refusal> {
     let members = members(alloc, ids)?;
-    LockedChain::open(alloc, ChainId::new(0), members.as_slice(), journal)
+    CellChain::open(alloc, ChainId::new(0), members.as_slice(), journal)
 }
 
 /// Prints the node and the stamp of a receipt.
@@ -36,7 +32,7 @@ fn print_receipt(text: &mut String, receipt: Receipt) -> Result<(), AllocError> 
 /// the steps. Adds the receipts of answered calls to `calls`.
 pub fn take_all<C: Core, R: AllocGlobal + Wait>(
     rt: &R,
-    cells: &mut LockedChain<C>,
+    cells: &mut CellChain<C>,
     moves: &[(u64, &str)],
     calls: &mut Vec<CallReceipt>,
     text: &mut String,
@@ -59,7 +55,7 @@ pub fn deliver_at<C: Core, R: AllocGlobal + Wait>(
     seat: &Seat<C>,
     message: LinkMessage,
 ) -> Result<Receipt, Refusal>
-    requires { IsSpelled message }
+    requires { IsEncodable message }
 {
     let event = Event::Deliver(message);
     let (receipt, calls) = seat.lock(rt).desk.take(rt.alloc(), event, Pass::start())?;
@@ -84,7 +80,7 @@ fn stop_and_tick<C: Core>(
 
 /// Returns the output of a node one below the last stamp: once stopped, it is refused because
 /// stamps are used up, not as stopped.
-pub fn told_of_last_stamp<C: Core>(alloc: Global) -> Result<String, Refusal> {
+pub fn reported_of_last_stamp<C: Core>(alloc: Global) -> Result<String, Refusal> {
     let mut text = String::new(alloc);
     let name = NodeName {
         chain: ChainId::new(0),
@@ -112,7 +108,7 @@ fn tick<R: Wait>(rt: &R, alloc: Global, seat: &Seat<ListCore>) -> Result<u64, Re
 /// Prints the stamps of the last ticks of two threads, each of which ticks a node of its own.
 fn tick_in_threads<R: AllocGlobal + Threads + Wait + Sync>(
     rt: &R,
-    cells: &LockedChain<ListCore>,
+    cells: &CellChain<ListCore>,
     text: &mut String,
 ) -> Result<(), Refusal> {
     let alloc = rt.alloc();
@@ -128,7 +124,9 @@ fn tick_in_threads<R: AllocGlobal + Threads + Wait + Sync>(
 }
 
 /// Returns the output of two threads on new nodes.
-pub fn told_of_threads<R: AllocGlobal + Threads + Wait + Sync>(rt: &R) -> Result<String, Refusal> {
+pub fn reported_of_threads<R: AllocGlobal + Threads + Wait + Sync>(
+    rt: &R,
+) -> Result<String, Refusal> {
     let mut text = String::new(rt.alloc());
     let cells = opened(rt.alloc(), &[1, 2], true)?;
     tick_in_threads(rt, &cells, &mut text)?;

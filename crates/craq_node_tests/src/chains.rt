@@ -11,7 +11,7 @@ use craq_names::{ChainId, Items, Key, NodeId, ObjectId, Refusal, Ticket, Value, 
 use craq_node::Core;
 use craq_play::{PlayedChain, explanation_text};
 use craq_runs::{Explanation, Move, Run, Taken};
-use craq_schedules::chain_after;
+use craq_schedules::replayed_chain;
 use craq_world::explain_run;
 use std::alloc::{AllocError, Global};
 
@@ -255,7 +255,7 @@ fn holds(alloc: Global, run: &Run, text: &str) -> Result<bool, Refusal> {
 }
 
 /// Returns true if a linearization witness is encoded as this text.
-fn is_spelled(alloc: Global, explanation: &Explanation, text: &str) -> Result<bool, AllocError> {
+fn is_encodable(alloc: Global, explanation: &Explanation, text: &str) -> Result<bool, AllocError> {
     Ok(explanation_text(alloc, explanation)?.as_str() == text)
 }
 
@@ -269,19 +269,19 @@ fn print_verdict<C: Core>(
 ) -> Result<(), Refusal> {
     let holds = holds(alloc, chain.run(), explained)?;
     let known = explain_run_of(alloc, chain.chain(), chain.run())?;
-    let known = is_spelled(alloc, &known, explained)?;
+    let known = is_encodable(alloc, &known, explained)?;
     let anywhere = explain_run(alloc, chain.run())?;
-    let anywhere = is_spelled(alloc, &anywhere, explained)?;
+    let anywhere = is_encodable(alloc, &anywhere, explained)?;
     let sent = chain.sent();
     writeln!(text, "{holds}, chosen {known} {anywhere}, {sent} sent")?;
     Ok(())
 }
 
 /// Plays the script of a case, and returns the verdict on its linearization witness.
-pub fn told<C: Core>(alloc: Global, case: &Case) -> Result<String, Refusal> {
+pub fn reported<C: Core>(alloc: Global, case: &Case) -> Result<String, Refusal> {
     let mut text = String::new(alloc);
     let nodes = case.nodes.max(1).min(8);
-    let chain: PlayedChain<C> = chain_after(alloc, nodes, case.script.as_bytes())?;
+    let chain: PlayedChain<C> = replayed_chain(alloc, nodes, case.script.as_bytes())?;
     print_verdict(alloc, chain.as_chain(), case.explained, &mut text)?;
     Ok(text)
 }
@@ -348,7 +348,7 @@ fn print_read(alloc: Global, value: &[u8], text: &mut String) -> Result<(), Refu
 
 /// Returns the output for two reads of an object that was never put: with its value, and with
 /// another value.
-pub fn told_of_values(alloc: Global) -> Result<String, Refusal> {
+pub fn reported_of_values(alloc: Global) -> Result<String, Refusal> {
     let mut text = String::new(alloc);
     print_read(alloc, b"", &mut text)?;
     print_read(alloc, b"b", &mut text)?;

@@ -18,7 +18,7 @@ mod refused;
 mod spoiled;
 mod worlds;
 
-use craq_list::ListCore;
+use craq_compact_history::ListCore;
 use craq_names::Refusal;
 use craq_node::Core;
 use craq_play::PlainCore;
@@ -48,23 +48,23 @@ fn tell<R: Print>(rt: &R, fact: &str, seen: &Result<String, Refusal>) -> io::Res
 fn tell_core<C: Core, R: AllocGlobal + Print>(rt: &R) -> io::Result<()> {
     let alloc = rt.alloc();
     for case in &nodes::CASES {
-        tell(rt, case.fact, &nodes::told::<C>(alloc, case))?;
+        tell(rt, case.fact, &nodes::reported::<C>(alloc, case))?;
     }
     for case in &chains::CASES {
-        tell(rt, case.fact, &chains::told::<C>(alloc, case))?;
+        tell(rt, case.fact, &chains::reported::<C>(alloc, case))?;
     }
     for scene in &worlds::SCENES {
-        tell(rt, scene.fact, &worlds::told::<C>(alloc, scene))?;
+        tell(rt, scene.fact, &worlds::reported::<C>(alloc, scene))?;
     }
     tell(
         rt,
         "a list of moves goes on after a refusal",
-        &worlds::told_of_list::<C>(alloc),
+        &worlds::reported_of_list::<C>(alloc),
     )?;
     tell(
         rt,
         "worlds have 1 to 64 chains of memberships",
-        &worlds::told_of_counts::<C>(alloc),
+        &worlds::reported_of_counts::<C>(alloc),
     )
 }
 
@@ -83,15 +83,15 @@ fn tell_cells<R: AllocGlobal + Print + Threads + Wait + Sync>(rt: &R) -> io::Res
     tell(
         rt,
         "at the last stamp a stopped node has no next one",
-        &cells::told_of_last_stamp::<ListCore>(rt.alloc()),
+        &cells::reported_of_last_stamp::<ListCore>(rt.alloc()),
     )?;
     tell(
         rt,
         "two threads take steps on two cells",
-        &cells::told_of_threads(rt),
+        &cells::reported_of_threads(rt),
     )?;
     for case in &audits::CASES {
-        tell(rt, case.fact, &audits::told::<ListCore, R>(rt, case))?;
+        tell(rt, case.fact, &audits::reported::<ListCore, R>(rt, case))?;
     }
     Ok(())
 }
@@ -99,7 +99,7 @@ fn tell_cells<R: AllocGlobal + Print + Threads + Wait + Sync>(rt: &R) -> io::Res
 /// Prints whether both cores take the same steps when corrupted messages arrive.
 fn tell_spoiled<R: AllocGlobal + Files + Print + Wait>(rt: &R) -> io::Result<()> {
     for case in &spoiled::CASES {
-        tell(rt, case.file, &spoiled::told(rt, case))?;
+        tell(rt, case.file, &spoiled::reported(rt, case))?;
     }
     Ok(())
 }
@@ -112,7 +112,7 @@ where
     tell(
         &host,
         "a read of a value that was never put is refused",
-        &chains::told_of_values(host.alloc()),
+        &chains::reported_of_values(host.alloc()),
     )?;
     println!(host; "over nodes that keep every entry:")?;
     tell_core::<PlainCore, _>(&host)?;

@@ -1,9 +1,9 @@
 //! Reads moves from script lines, and prints linearization witnesses; for all other modules except
 //! `main` and `refused`.
 use craq_names::{ChainId, Items, NodeId, Refusal};
-use craq_play::{Script, explanation_text, move_of, read_of, update_of};
+use craq_play::{Script, asked_update, explanation_text, move_of, read_of};
 use craq_runs::{Explanation, Move};
-use craq_script::Line;
+use craq_script::ScriptLine;
 use std::alloc::{AllocError, Global};
 
 /// Returns a list of members.
@@ -16,14 +16,14 @@ pub fn members(alloc: Global, ids: &[u32]) -> Result<Items<NodeId>, AllocError> 
 }
 
 /// Returns the move of a line, for an object of any chain; `None` for `explain`.
-fn chosen_by(alloc: Global, line: &Line) -> Result<Option<Move>, Refusal> {
+fn chosen_by(alloc: Global, line: &ScriptLine) -> Result<Option<Move>, Refusal> {
     match line {
-        Line::Update { update } => {
+        ScriptLine::Update { update } => {
             let node = update.node;
-            let ask = update_of(alloc, update)?;
+            let ask = asked_update(alloc, update)?;
             Ok(Some(Move::Ask { node, ask }))
         }
-        Line::Read { node, mode, object } => {
+        ScriptLine::Read { node, mode, object } => {
             let ask = read_of(alloc, *mode, object)?;
             Ok(Some(Move::Ask { node: *node, ask }))
         }

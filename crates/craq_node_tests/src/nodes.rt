@@ -5,8 +5,8 @@ ghost use Rattle.craq_node.specs.Represented.{CanArrive};
 
 use crate::moves::{members, moves_of};
 use craq_commands::{Command, Update};
+use craq_compact_history::ListCore;
 use craq_epochs::{Master, is_among};
-use craq_list::ListCore;
 use craq_model::{Ask, Event};
 use craq_names::{
     ChainId, ClientId, Key, NodeId, NodeName, ObjectId, Refusal, RequestNo, Seq, Value,
@@ -204,7 +204,7 @@ fn take_all<C: Core>(
 }
 
 /// Returns the output of the steps of a case.
-pub fn told<C: Core>(alloc: Global, case: &Case) -> Result<String, Refusal> {
+pub fn reported<C: Core>(alloc: Global, case: &Case) -> Result<String, Refusal> {
     let mut text = String::new(alloc);
     let mut node: C = node_of(alloc, case)?;
     take_all(alloc, &mut node, case, &mut text)?;

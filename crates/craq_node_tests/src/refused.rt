@@ -16,7 +16,7 @@ mod teller;
 mod ways;
 mod worlds;
 
-use craq_list::ListCore;
+use craq_compact_history::ListCore;
 use craq_names::Refusal;
 use craq_play::PlainCore;
 use rows::Row;
@@ -61,11 +61,11 @@ where
         alloc: host.alloc(),
     };
     let script = fs::read(&host, file)?;
-    let told = match &Row::read(teller.alloc, nodes, script.as_slice()) {
+    let reported = match &Row::read(teller.alloc, nodes, script.as_slice()) {
         Ok(row) => play_on(rt, teller, word, kind, row),
         Err(refusal) => Err(*refusal),
     };
-    match told {
+    match reported {
         Ok(()) => Ok(()),
         Err(refusal) => println!(host; "refused: {refusal}"),
     }

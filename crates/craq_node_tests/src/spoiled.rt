@@ -1,12 +1,12 @@
 //! Tests that both cores take the same steps if corrupted messages arrive after each move of a
 //! script; run by `main`.
 ghost use Rattle.std.specs.Prelude.{◌<◌, ◌≤◌};
-ghost use Rattle.craq_model.specs.Spelled.{IsSpelled};
+ghost use Rattle.craq_model.specs.Encodable.{IsEncodable};
 
 use crate::cells::{deliver_at, opened};
 use crate::moves::moves_of;
-use craq_list::ListCore;
-use craq_locked::{CellStep, LockedChain};
+use craq_cell_chain::{CellChain, CellStep};
+use craq_compact_history::ListCore;
 use craq_model::{LinkMessage, Out, Why};
 use craq_names::{NodeId, Pass, Refusal, Same};
 use craq_node::Core;
@@ -134,7 +134,7 @@ fn spoiled<E>(alloc: Global, dice: &mut Pcg32, steps: &[Record<E>]) -> Result<Ve
 /// for 0.
 fn spoiled_of<C: Core, R: AllocGlobal + Wait>(
     rt: &R,
-    cells: &LockedChain<C>,
+    cells: &CellChain<C>,
     id: u32,
     dice: &mut Pcg32,
 ) -> Result<Vec<u8>, AllocError> {
@@ -156,11 +156,11 @@ fn spoiled_of<C: Core, R: AllocGlobal + Wait>(
 /// outcome.
 fn deliver<C: Core, R: AllocGlobal + Wait>(
     rt: &R,
-    cells: &LockedChain<C>,
+    cells: &CellChain<C>,
     dice: &mut Pcg32,
     message: LinkMessage,
 ) -> Taken
-    requires { IsSpelled message }
+    requires { IsEncodable message }
 {
     let to = match below(dice, 10) {
         0 => NodeId::new(below(dice, MOST_NODES) + 1),
@@ -177,12 +177,12 @@ fn deliver<C: Core, R: AllocGlobal + Wait>(
 /// Delivers corrupted messages of each node that still decode, and keeps the outcomes.
 fn deliver_spoiled<C: Core, R: AllocGlobal + Wait>(
     rt: &R,
-    cells: &LockedChain<C>,
+    cells: &CellChain<C>,
     dice: &mut Pcg32,
     taken: &mut Vec<Taken>,
 ) -> Result<(), AllocError> {
-    for turn in 0..TIMES * (MOST_NODES + 1) {
-        let bytes = spoiled_of(rt, cells, turn % (MOST_NODES + 1), dice)?;
+    for transition in 0..TIMES * (MOST_NODES + 1) {
+        let bytes = spoiled_of(rt, cells, transition % (MOST_NODES + 1), dice)?;
         if let Ok(message) = decode(rt.alloc(), bytes.as_slice()) {
             taken.push(deliver(rt, cells, dice, message))?;
         }
@@ -194,7 +194,7 @@ fn deliver_spoiled<C: Core, R: AllocGlobal + Wait>(
 /// number of answered calls.
 fn play<C: Core, R: AllocGlobal + Wait>(
     rt: &R,
-    cells: &mut LockedChain<C>,
+    cells: &mut CellChain<C>,
     moves: &[Move],
     taken: &mut Vec<Taken>,
 ) -> Result<usize, AllocError> {
@@ -221,8 +221,8 @@ fn are_same<E>(one: &[Record<E>], other: &[Record<E>]) -> bool {
 /// Returns true if the nodes of this id took the same steps, or neither chain has one.
 fn agree_at<P: Core, L: Core, R: Wait>(
     rt: &R,
-    plain: &LockedChain<P>,
-    list: &LockedChain<L>,
+    plain: &CellChain<P>,
+    list: &CellChain<L>,
     id: NodeId,
 ) -> bool {
     match (plain.seat(id), list.seat(id)) {
@@ -236,7 +236,7 @@ fn agree_at<P: Core, L: Core, R: Wait>(
 }
 
 /// Returns true if the nodes of the two chains took the same steps.
-fn agree<P: Core, L: Core, R: Wait>(rt: &R, plain: &LockedChain<P>, list: &LockedChain<L>) -> bool {
+fn agree<P: Core, L: Core, R: Wait>(rt: &R, plain: &CellChain<P>, list: &CellChain<L>) -> bool {
     for id in 1..MOST_NODES + 1 {
         if !agree_at(rt, plain, list, NodeId::new(id)) {
             return false;
@@ -263,7 +263,7 @@ fn add_reasons<E>(steps: &[Record<E>], reasons: &mut Vec<Why>) -> Result<(), All
 /// Prints the reasons for which the nodes of a chain ignored messages, each once.
 fn print_reasons<C: Core, R: AllocGlobal + Wait>(
     rt: &R,
-    cells: &LockedChain<C>,
+    cells: &CellChain<C>,
     text: &mut String,
 ) -> Result<(), AllocError> {
     let mut reasons = Vec::new(rt.alloc());
@@ -284,8 +284,8 @@ fn print_reasons<C: Core, R: AllocGlobal + Wait>(
 /// corrupted messages; and the reasons for which messages were ignored.
 fn play_both<P: Core, L: Core, R: AllocGlobal + Wait>(
     rt: &R,
-    plain: &mut LockedChain<P>,
-    list: &mut LockedChain<L>,
+    plain: &mut CellChain<P>,
+    list: &mut CellChain<L>,
     moves: &[Move],
     text: &mut String,
 ) -> Result<(), AllocError> {
@@ -306,14 +306,14 @@ fn play_new<P: Core, L: Core, R: AllocGlobal + Wait>(
     text: &mut String,
 ) -> Result<(), Refusal> {
     let moves = moves_of(rt.alloc(), script)?;
-    let mut plain: LockedChain<P> = opened(rt.alloc(), members, true)?;
-    let mut list: LockedChain<L> = opened(rt.alloc(), members, true)?;
+    let mut plain: CellChain<P> = opened(rt.alloc(), members, true)?;
+    let mut list: CellChain<L> = opened(rt.alloc(), members, true)?;
     play_both(rt, &mut plain, &mut list, moves.as_slice(), text)?;
     Ok(())
 }
 
 /// Returns the output of a case.
-pub fn told<R: AllocGlobal + Files + Wait>(rt: &R, case: &Case) -> Result<String, Refusal> {
+pub fn reported<R: AllocGlobal + Files + Wait>(rt: &R, case: &Case) -> Result<String, Refusal> {
     let mut text = String::new(rt.alloc());
     let script = fs::read_to_string(rt, case.file).map_err(|_| Refusal::Memory)?;
     play_new::<PlainCore, ListCore, R>(rt, case.members, script.as_str(), &mut text)?;

@@ -181,7 +181,7 @@ fn take_all<C: Core>(
 /// The observation of a chain: the outcomes of the moves, the chain's run, and its linearization
 /// witness.
 #[derive(Drop)]
-struct Seen {
+struct WorldView {
     results: String,
     run: String,
     explanation: String,
@@ -193,7 +193,7 @@ fn look<C: Core>(
     alloc: Global,
     world: &World<C>,
     chain: ChainId,
-    seen: &mut Seen,
+    seen: &mut WorldView,
 ) -> Result<(), AllocError> {
     let text = &mut seen.run;
     match world.run_of(chain) {
@@ -211,7 +211,7 @@ fn come_to<C: Core>(
     alloc: Global,
     lines: &[Line],
     chain: ChainId,
-    seen: &mut Seen,
+    seen: &mut WorldView,
 ) -> Result<(), Refusal> {
     let mut world: World<C> = opened(alloc, 2, &[1, 2])?;
     take_all(alloc, &mut world, lines, &mut seen.results)?;
@@ -220,8 +220,12 @@ fn come_to<C: Core>(
 }
 
 /// Returns the observation of a chain after these moves in a new world.
-fn come_to_by<C: Core>(alloc: Global, lines: &[Line], chain: ChainId) -> Result<Seen, Refusal> {
-    let mut seen = Seen {
+fn come_to_by<C: Core>(
+    alloc: Global,
+    lines: &[Line],
+    chain: ChainId,
+) -> Result<WorldView, Refusal> {
+    let mut seen = WorldView {
         results: String::new(alloc),
         run: String::new(alloc),
         explanation: String::new(alloc),
@@ -231,7 +235,7 @@ fn come_to_by<C: Core>(alloc: Global, lines: &[Line], chain: ChainId) -> Result<
 }
 
 /// Prints the observation of a chain, and whether it equals another.
-fn print_seen(text: &mut String, one: &Seen, other: &Seen) -> Result<(), AllocError> {
+fn print_seen(text: &mut String, one: &WorldView, other: &WorldView) -> Result<(), AllocError> {
     let is_same = one.run == other.run && one.explanation == other.explanation;
     text.push_str(one.results.as_str())?;
     text.push_str(one.explanation.as_str())?;
@@ -239,7 +243,7 @@ fn print_seen(text: &mut String, one: &Seen, other: &Seen) -> Result<(), AllocEr
 }
 
 /// Returns the output of a scene, and whether the other moves lead to the same observation.
-pub fn told<C: Core>(alloc: Global, scene: &Scene) -> Result<String, Refusal> {
+pub fn reported<C: Core>(alloc: Global, scene: &Scene) -> Result<String, Refusal> {
     let mut text = String::new(alloc);
     let chain = ChainId::new(scene.chain);
     let one = come_to_by::<C>(alloc, scene.moves, chain)?;
@@ -272,7 +276,7 @@ fn run_listed<C: Core>(
 }
 
 /// Returns the outcomes of the moves of `LISTED`.
-pub fn told_of_list<C: Core>(alloc: Global) -> Result<String, Refusal> {
+pub fn reported_of_list<C: Core>(alloc: Global) -> Result<String, Refusal> {
     let mut text = String::new(alloc);
     let mut world: World<C> = opened(alloc, 2, &[1, 2])?;
     run_listed(alloc, &mut world, &mut text)?;
@@ -293,7 +297,7 @@ static MEMBERSHIPS: [(usize, &[u32]); 9] = [
 ];
 
 /// Returns for each of these counts of lists that a world was opened, or the refusal.
-pub fn told_of_counts<C: Core>(alloc: Global) -> Result<String, Refusal> {
+pub fn reported_of_counts<C: Core>(alloc: Global) -> Result<String, Refusal> {
     let mut text = String::new(alloc);
     for (count, ids) in &MEMBERSHIPS {
         match &opened::<C>(alloc, *count, ids) {

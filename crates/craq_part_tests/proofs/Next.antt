@@ -6,8 +6,8 @@ use Rattle.craq_commands.specs.declared.entry.Write.{Write}
 use Rattle.craq_commands.specs.declared.state.State.{State}
 use Rattle.craq_commands.specs.Objects.{version_of}
 use Rattle.craq_model.specs.Past.{values_in, values_after}
-use Rattle.craq_settled.specs.Followed.{AreNext, AreNextVersions}
-use Rattle.craq_settled.proofs.Placing.{same_is}
+use Rattle.craq_compact_state.specs.Followed.{AreNext, AreNextVersions}
+use Rattle.craq_compact_state.proofs.Placing.{same_is}
 
 pub one_write_is_next : (s : State) (e : Entry) (w : Write) → e.writes ≡ w ∷ [] → w.version ≡ version_of s.objects w.key + 1 → AreNextVersions s (e ∷ [])
 unfolding values_in values_after

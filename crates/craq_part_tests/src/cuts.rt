@@ -1,7 +1,7 @@
 //! Tests connections that are cut, changed or fail at each byte or call; run by `main`.
 ghost use Rattle.std.specs.Prelude.{◌≤◌, length};
 
-use crate::rows::{Row, Served, serve_row};
+use crate::rows::{Row, RowResult, serve_row};
 use crate::worked::{BAD_FRAME, PUT, WRITTEN};
 use craq_frames::Payload;
 use craq_names::Refusal;
@@ -10,7 +10,7 @@ use std::io;
 
 /// Serves a connection on which the put comes twice, one byte at a time. The read number `fails_at`
 /// fails, and at most `room` bytes are written.
-fn two_puts(alloc: Global, fails_at: u64, room: usize) -> io::Result<Served> {
+fn two_puts(alloc: Global, fails_at: u64, room: usize) -> io::Result<RowResult> {
     let mut sent = Vec::new(alloc);
     sent.extend_from_slice(&PUT)?;
     sent.extend_from_slice(&PUT)?;

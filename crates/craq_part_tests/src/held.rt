@@ -3,11 +3,11 @@
 ghost use Rattle.std.specs.Prelude.{◌≡◌, ◌+◌, [], ◌∷◌, IfOk};
 ghost use Rattle.craq_commands.specs.Objects.{version_of};
 ghost use Rattle.craq_commands.specs.SingleCopy.{after_entries};
-ghost use Rattle.craq_settled.specs.Followed.{AreNextVersions};
+ghost use Rattle.craq_compact_state.specs.Followed.{AreNextVersions};
 
 use craq_commands::{Entry, Reply, Write};
+use craq_compact_state::HeldPast;
 use craq_names::{ClientId, Items, Key, NodeId, Refusal, RequestNo, Seq, Ticket, Value, Version};
-use craq_settled::HeldPast;
 use std::alloc::Global;
 use std::io;
 

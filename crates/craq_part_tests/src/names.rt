@@ -42,13 +42,13 @@ fn print_refusals<R: Print>(rt: &R) -> io::Result<()> {
 /// a list.
 pub(crate) fn run<R: AllocGlobal + Print>(rt: &R) -> io::Result<()> {
     for count in [0, 1, 128, 129] {
-        let letters = vec![in rt.alloc(); b'a'; count]?;
-        let made = key_again(rt.alloc(), letters.as_slice());
+        let completions = vec![in rt.alloc(); b'a'; count]?;
+        let made = key_again(rt.alloc(), completions.as_slice());
         println!(rt; "key of {count} bytes: {made:?}")?;
     }
     for count in [0, 4096, 4097] {
-        let letters = vec![in rt.alloc(); b'a'; count]?;
-        let made = value_again(rt.alloc(), letters.as_slice());
+        let completions = vec![in rt.alloc(); b'a'; count]?;
+        let made = value_again(rt.alloc(), completions.as_slice());
         println!(rt; "value of {count} bytes: {made:?}")?;
     }
     for number in [0, 1, u64::MAX] {

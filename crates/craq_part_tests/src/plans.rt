@@ -13,7 +13,7 @@ const TWO_CHAINS: &str =
     "[[chain]]\nname = \"a\"\nnodes = [1, 2, 3]\n[[chain]]\nnodes = [4]\nname = \"b-2\"\n";
 
 /// Returns the object of this chain and key.
-fn object_of(alloc: Global, chain: u16, key: &[u8]) -> Result<ObjectId, Refusal> {
+fn plan_object(alloc: Global, chain: u16, key: &[u8]) -> Result<ObjectId, Refusal> {
     Ok(ObjectId {
         chain: ChainId::new(chain),
         key: Key::new(alloc, key)?,
@@ -29,7 +29,7 @@ fn print_place<R: Print>(rt: &R, plan: &Plan, object: &ObjectId) -> io::Result<(
 /// Returns the configuration of two chains, and an object of this chain.
 fn plan_and_object(alloc: Global, chain: u16) -> Result<(Plan, ObjectId), Refusal> {
     let plan = Plan::read(alloc, TWO_CHAINS)?;
-    Ok((plan, object_of(alloc, chain, b"k")?))
+    Ok((plan, plan_object(alloc, chain, b"k")?))
 }
 
 fn print_place_in<R: AllocGlobal + Print>(rt: &R, chain: u16) -> io::Result<()> {
@@ -42,8 +42,8 @@ fn print_place_in<R: AllocGlobal + Print>(rt: &R, chain: u16) -> io::Result<()> 
 /// Returns a transaction that reads an object of each of these chains.
 fn mini_of(alloc: Global, first: u16, second: u16) -> Result<Mini, Refusal> {
     let mut reads = Items::new(alloc);
-    reads.push(object_of(alloc, first, b"a")?)?;
-    reads.push(object_of(alloc, second, b"b")?)?;
+    reads.push(plan_object(alloc, first, b"a")?)?;
+    reads.push(plan_object(alloc, second, b"b")?)?;
     Mini::new(Items::new(alloc), reads, Items::new(alloc))
 }
 

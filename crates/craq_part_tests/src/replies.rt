@@ -1,6 +1,6 @@
 //! Tests tables of kept replies; run by `main`.
 use crate::say;
-use craq_commands::{Reply, Said};
+use craq_commands::{Reply, RequestStatus};
 use craq_names::{ClientId, Copied, Refusal, RequestNo, Version};
 use craq_replies::ReplyTable;
 use std::alloc::Global;
@@ -17,7 +17,7 @@ enum Ask {
     Reserve(u64),
 }
 
-fn look(table: &ReplyTable, client: u64, number: u64) -> Result<Said<'_>, Refusal> {
+fn look(table: &ReplyTable, client: u64, number: u64) -> Result<RequestStatus<'_>, Refusal> {
     Ok(table.look(ClientId::new(client), RequestNo::new(number)?))
 }
 

@@ -24,7 +24,7 @@ pub(crate) struct Row<'a> {
 
 /// The outcome of serving a connection.
 #[derive(Debug, Drop)]
-pub(crate) struct Served {
+pub(crate) struct RowResult {
     pub(crate) answer: Result<u64, Refusal>,
     pub(crate) written: Vec<u8>,
     pub(crate) writes: u64,
@@ -33,7 +33,7 @@ pub(crate) struct Served {
 }
 
 /// Serves the connection.
-pub(crate) fn serve_row(alloc: Global, row: &Row<'_>) -> Served {
+pub(crate) fn serve_row(alloc: Global, row: &Row<'_>) -> RowResult {
     let mut reader = Stream::new(Pieces {
         rest: row.sent,
         size: row.size,
@@ -49,7 +49,7 @@ pub(crate) fn serve_row(alloc: Global, row: &Row<'_>) -> Served {
     let answer = serve(alloc, &mut reader, &mut writer, &mut door);
     let faults = reader.faults().saturating_add(writer.faults());
     let room = writer.into_inner();
-    Served {
+    RowResult {
         answer,
         written: room.held,
         writes: room.writes,

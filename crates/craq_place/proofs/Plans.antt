@@ -21,7 +21,7 @@ use Rattle.std.proofs.Common.{inl, inr}
 use Rattle.craq_names.specs.declared.refusal.Refusal.{Refusal}
 use Rattle.craq_names.specs.declared.refusal.Refusal.TheVariants.{Memory, BadConfig}
 use Rattle.toml.specs.Parse.{parse_document}
-use Rattle.craq_place.specs.Plan.{Chain, is_name, IsChain, IsPlan, node_data, chain_data, plan_data, StandsFor}
+use Rattle.craq_place.specs.Plan.{Chain, is_name, IsChain, IsPlan, node_data, chain_data, plan_data, IsPlanText}
 use Rattle.craq_place.specs.Reading.{number_in, numbers_from, is_node, is_membership, fields_in, field_in, name_in, nodes_in, chain_in, has_name, chains_from, plan_in, Reads}
 
 -- ---- memberships as a test
@@ -267,18 +267,18 @@ plan_again cs h =
 
 -- ---- the contract of `read`
 
-stands_is_read : (text : List ℕ) (ms : Members) (p : List Chain) → parse_document text ≡ Some ms → StandsFor text p → plan_in ms ≡ Some p
+stands_is_read : (text : List ℕ) (ms : Members) (p : List Chain) → parse_document text ≡ Some ms → IsPlanText text p → plan_in ms ≡ Some p
 stands_is_read text ms p e s = ap plan_in (some_is ms (plan_data p) (sym e ∙ s.read)) ∙ plan_again p s.plan
 
-pub found : (text : List ℕ) (ms : Members) (r : Result (List Chain) Refusal) → parse_document text ≡ Some ms → Reads (λ p. p) r (plan_in ms) → IfOk r (λ p. StandsFor text p)
+pub found : (text : List ℕ) (ms : Members) (r : Result (List Chain) Refusal) → parse_document text ≡ Some ms → Reads (λ p. p) r (plan_in ms) → IfOk r (λ p. IsPlanText text p)
 found text ms (Ok p) e given = let t = plan_takes ms p given in record { read = e ∙ ap (λ (x : Members). Some x) t.0; plan = t.1 }
 found text ms (Err f) e given = tt
 
-pub only : (text : List ℕ) (ms : Members) (r : Result (List Chain) Refusal) → parse_document text ≡ Some ms → Reads (λ p. p) r (plan_in ms) → IfOk r (λ p. (other : List Chain) → StandsFor text other → other ≡ p)
+pub only : (text : List ℕ) (ms : Members) (r : Result (List Chain) Refusal) → parse_document text ≡ Some ms → Reads (λ p. p) r (plan_in ms) → IfOk r (λ p. (other : List Chain) → IsPlanText text other → other ≡ p)
 only text ms (Ok p) e given = λ other s. some_is other p (sym (stands_is_read text ms other e s) ∙ given)
 only text ms (Err f) e given = tt
 
-pub bad : (text : List ℕ) (ms : Members) (r : Result (List Chain) Refusal) → parse_document text ≡ Some ms → Reads (λ p. p) r (plan_in ms) → r ≡ Err BadConfig → (p : List Chain) → StandsFor text p → ⊥
+pub bad : (text : List ℕ) (ms : Members) (r : Result (List Chain) Refusal) → parse_document text ≡ Some ms → Reads (λ p. p) r (plan_in ms) → r ≡ Err BadConfig → (p : List Chain) → IsPlanText text p → ⊥
 bad text ms (Ok q) e given is p s = cc
 bad text ms (Err f) e (inl memory) is p s = cc
 bad text ms (Err f) e (inr given) is p s = let one = sym (stands_is_read text ms p e s) ∙ given.1 in cc
@@ -288,5 +288,5 @@ errors text ms (Ok p) given = tt
 errors text ms (Err f) (inl memory) = inr memory
 errors text ms (Err f) (inr given) = inl given.0
 
-pub no_text : (text : List ℕ) (p : List Chain) → parse_document text ≡ None → StandsFor text p → ⊥
+pub no_text : (text : List ℕ) (p : List Chain) → parse_document text ≡ None → IsPlanText text p → ⊥
 no_text text p e s = let one = sym s.read ∙ e in cc

@@ -45,6 +45,6 @@ abbrev pub plan_data : List Chain → Members
 plan_data chains = member (codes "chain") (array (items_of (map chain_data chains))) no_members
 
 -- TOML reads the text as these chains, and they are a plan
-pub record StandsFor (text : List ℕ) (chains : List Chain) : Type 0 where
+pub record IsPlanText (text : List ℕ) (chains : List Chain) : Type 0 where
   pub read : parse_document text ≡ Some (plan_data chains)
   pub plan : IsPlan chains

@@ -5,7 +5,7 @@ ghost use Rattle.toml.specs.View.{items_of, table_view, view};
 ghost use Rattle.std.specs.List.{list_any};
 ghost use Rattle.craq_names.specs.declared.name.ObjectId.{ObjectId};
 ghost use Rattle.craq_place.specs.Chains.{chains_of};
-ghost use Rattle.craq_place.specs.Plan.{Chain, StandsFor};
+ghost use Rattle.craq_place.specs.Plan.{Chain, IsPlanText};
 ghost use Rattle.craq_place.specs.Place.{chain_at, chain_of_all, first_chain_of, goes_elsewhere, is_of_another, objects_of};
 ghost use Rattle.craq_place.specs.Reading.{Reads, chains_from, has_name, plan_in};
 
@@ -159,11 +159,11 @@ impl Plan {
     /// `BadConfig` exactly if the text is no such plan; `Memory` if an allocation failed.
     pub fn read(alloc: Global, text: &str) -> Result<Self, Refusal>
         // The text stands for the plan that is returned.
-        ensures found { IfOk result (λ p. StandsFor text.now p) }
+        ensures found { IfOk result (λ p. IsPlanText text.now p) }
         // It stands for no other plan.
-        ensures only { IfOk result (λ p. (other : List Chain) → StandsFor text.now other → other ≡ p) }
+        ensures only { IfOk result (λ p. (other : List Chain) → IsPlanText text.now other → other ≡ p) }
         // On an error the text stands for no plan, or memory ran out.
-        ensures bad { result ≡ Err Refusal.BadConfig → (p : List Chain) → StandsFor text.now p → ⊥ }
+        ensures bad { result ≡ Err Refusal.BadConfig → (p : List Chain) → IsPlanText text.now p → ⊥ }
         ensures err { IfErr result (λ e. (e ≡ Refusal.BadConfig) ⊎ (e ≡ Refusal.Memory)) }
     {
         match toml::table_from_str(alloc, text) {

@@ -3,7 +3,7 @@ ghost use Rattle.std.specs.Prelude.{◌≡◌, [], map, codes, string_bytes, opt
 ghost use Rattle.std.specs.List.{list_all};
 ghost use Rattle.toml.specs.View.{view, items_of, table_view};
 ghost use Rattle.craq_place.specs.Plan.{is_name, is_name_byte};
-ghost use Rattle.craq_place.specs.Reading.{Reads, number_in, numbers_from, is_membership as spelled_membership, fields_in, field_in, name_in, nodes_in, chain_in};
+ghost use Rattle.craq_place.specs.Reading.{Reads, number_in, numbers_from, is_membership as encodable_membership, fields_in, field_in, name_in, nodes_in, chain_in};
 
 use craq_epochs::is_membership;
 use craq_names::{Items, NodeId, Refusal};
@@ -55,7 +55,7 @@ fn read_name(alloc: Global, value: &Value) -> Result<String, Refusal>
 }
 
 /// Reads a number of 32 bits.
-fn number_of(value: &Value) -> Option<u32>
+fn toml_number(value: &Value) -> Option<u32>
     ensures { result ≡ number_in (view value.now) }
 {
     match value.as_integer() {
@@ -75,7 +75,7 @@ fn read_numbers(alloc: Global, items: &[Value]) -> Result<Vec<NodeId>, Refusal>
 {
     let mut list = Vec::new(alloc);
     for value in items {
-        let Some(number) = number_of(value) else {
+        let Some(number) = toml_number(value) else {
             return Err(Refusal::BadConfig);
         };
         list.push(NodeId::new(number))?;
@@ -85,7 +85,7 @@ fn read_numbers(alloc: Global, items: &[Value]) -> Result<Vec<NodeId>, Refusal>
 
 /// Returns true if a chain may have these nodes.
 fn test_nodes(nodes: &[NodeId]) -> bool
-    ensures { result ≡ spelled_membership nodes.now }
+    ensures { result ≡ encodable_membership nodes.now }
 {
     is_membership(nodes)
 }

@@ -1,10 +1,10 @@
 -- A world of one chain.
 use Rattle.std.specs.Prelude.{◌≡◌, ℕ, List, [], ◌∷◌}
-use Rattle.craq_chain.specs.Chained.{Chained, opened}
+use Rattle.craq_chain.specs.Chained.{Chained, opened_chain}
 
 -- the first chain of a world
 abbrev pub only_chain : List Chained → Chained
-only_chain [] = opened 0 []
+only_chain [] = opened_chain 0 []
 only_chain (w ∷ ws) = w
 
 -- the world has this chain alone, with id 0

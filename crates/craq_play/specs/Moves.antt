@@ -7,9 +7,9 @@ use Rattle.craq_model.specs.declared.ask.Ask.{Ask}
 use Rattle.craq_model.specs.Asks.{asked_objects}
 use Rattle.craq_runs.specs.declared.run.Move.{Move}
 use Rattle.craq_runs.specs.declared.run.Move.TheVariants as moves
-use Rattle.craq_script.specs.declared.line.Line.{Line}
-use Rattle.craq_script.specs.declared.line.Line.TheVariants as lines
-use Rattle.craq_words.specs.Asked.{update_of, read_of}
+use Rattle.craq_script.specs.declared.line.ScriptLine.{ScriptLine}
+use Rattle.craq_script.specs.declared.line.ScriptLine.TheVariants as lines
+use Rattle.craq_text.specs.Asked.{asked_update, read_of}
 
 -- a request to a node; only chain 0 exists
 abbrev pub asked_move : ℕ → Result Ask Refusal → Result (Option Move) Refusal
@@ -18,8 +18,8 @@ asked_move node (Ok ask) =
     if chain_of_first (asked_objects ask) == 0 then Ok (Some (moves.Ask node ask)) else Err refusals.UnknownChain
 
 -- the move of a line, or the refusal before the chain sees it; `explain` is not a move
-unfoldable pub move_of : Line → Result (Option Move) Refusal
-move_of (lines.Update update) = asked_move update.node (update_of update)
+unfoldable pub move_of : ScriptLine → Result (Option Move) Refusal
+move_of (lines.Update update) = asked_move update.node (asked_update update)
 move_of (lines.Read node mode object) = asked_move node (read_of mode object)
 move_of (lines.Deliver message) = Ok (Some (moves.Deliver message))
 move_of (lines.Tick node) = Ok (Some (moves.Tick node))

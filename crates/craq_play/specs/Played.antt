@@ -6,11 +6,11 @@ use Rattle.craq_runs.specs.declared.explanation.Explanation.{Explanation}
 use Rattle.craq_runs.specs.declared.run.Move.{Move}
 use Rattle.craq_runs.specs.Chain.{Chain, Progress, chain_step}
 use Rattle.craq_runs.specs.Explain.{explain}
-use Rattle.craq_chain.specs.Chained.{Chained, after_taking, chain_of, mover, opened}
+use Rattle.craq_chain.specs.Chained.{Chained, after_taking, chain_of_run, mover, opened_chain}
 use Rattle.craq_play.specs.Explained.{explanation_text}
-use Rattle.craq_script.specs.declared.line.Line.{Line}
+use Rattle.craq_script.specs.declared.line.ScriptLine.{ScriptLine}
 use Rattle.craq_script.specs.Texts.{script_of}
-use Rattle.craq_words.specs.Printed.{refusal_text}
+use Rattle.craq_text.specs.Printed.{refusal_text}
 use Rattle.craq_play.specs.Printed.{step_text}
 use Rattle.craq_play.specs.Moves.{move_of}
 
@@ -20,7 +20,7 @@ progress_text c m (Ok x) = step_text (mover c m) (length c.messages) x.1
 progress_text c m (Err refusal) = refusal_text refusal
 
 abbrev pub move_text : Chained → Move → List ℕ
-move_text w m = progress_text (chain_of w) m (chain_step (chain_of w) m)
+move_text w m = progress_text (chain_of_run w) m (chain_step (chain_of_run w) m)
 
 -- the line of a linearization witness
 abbrev pub explanation_line : Explanation → List ℕ
@@ -47,7 +47,7 @@ after_line w (Ok None) = w
 after_line w (Ok (Some m)) = after_one w m
 
 -- the text printed for lines, one after another
-abbrev pub lines_text : Chained → List Line → List ℕ
+abbrev pub lines_text : Chained → List ScriptLine → List ℕ
 lines_text w [] = []
 lines_text w (line ∷ lines) = line_text w (move_of line) ++ lines_text (after_line w (move_of line)) lines
 
@@ -57,15 +57,15 @@ first_ids zero = []
 first_ids (suc n) = first_ids n ++ suc n ∷ []
 
 -- chain 0 of the nodes 1 to `nodes`, with 1 as the head, before any move
-abbrev pub opening : ℕ → Chained
-opening nodes = opened 0 (first_ids nodes)
+abbrev pub script_opening : ℕ → Chained
+script_opening nodes = opened_chain 0 (first_ids nodes)
 
 -- the text printed for lines played on a new chain of `nodes` nodes
-abbrev pub played_text : ℕ → List Line → List ℕ
-played_text nodes lines = lines_text (opening nodes) lines
+abbrev pub played_text : ℕ → List ScriptLine → List ℕ
+played_text nodes lines = lines_text (script_opening nodes) lines
 
 -- the text printed for a script's lines, or the number of the first line outside the grammar
-abbrev pub printed : ℕ → Result (List Line) ℕ → Result (List ℕ) Refusal
+abbrev pub printed : ℕ → Result (List ScriptLine) ℕ → Result (List ℕ) Refusal
 printed nodes (Ok lines) = Ok (played_text nodes lines)
 printed nodes (Err line) = Err (refusals.BadScript line)
 

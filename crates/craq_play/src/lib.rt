@@ -12,12 +12,12 @@ mod playing;
 mod printing;
 
 pub use craq_script::Script;
-pub use craq_words::{print_answer, print_refusal, print_reply, read_of, update_of};
+pub use craq_text::{asked_update, print_answer, print_refusal, print_reply, read_of};
 pub use explanation::explanation_text;
 pub use fault::PlayFault;
 pub use moving::move_of;
 pub use on_cells::play;
 pub use plain_core::PlainCore;
 pub use played_chain::PlayedChain;
-pub use playing::{opened, play_line, play_move};
+pub use playing::{opened_core, play_line, play_move};
 pub use printing::{print_message, print_step, word_of};

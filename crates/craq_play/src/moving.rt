@@ -1,13 +1,13 @@
 //! Turns a script line into a move, or refuses it before the chain sees it.
 ghost use Rattle.std.specs.Prelude.{◌≡◌, Ok};
-ghost use Rattle.craq_words.specs.Asked.{Answers};
+ghost use Rattle.craq_text.specs.Asked.{AskedOrRefused};
 ghost use Rattle.craq_play.specs.Moves.{asked_move, move_of};
 
 use craq_model::Ask;
 use craq_names::{NodeId, Refusal};
 use craq_runs::Move;
-use craq_script::Line;
-use craq_words::{read_of, update_of};
+use craq_script::ScriptLine;
+use craq_text::{asked_update, read_of};
 use std::alloc::Global;
 
 /// Returns the move that sends a request to a node of chain 0. `UnknownChain` if the request is for
@@ -27,23 +27,23 @@ fn asked(node: NodeId, ask: Ask) -> Result<Option<Move>, Refusal>
 /// `ValueTooLong`, a transaction's refusal, `BadNumber`; then `UnknownChain` if the first object is
 /// not of chain 0. `Memory` when out of memory.
 #[tactic(auto, unfolding(crate::specs::Moves::move_of))]
-pub fn move_of(alloc: Global, line: &Line) -> Result<Option<Move>, Refusal>
-    ensures { Answers (λ m. m) result (move_of line.now) }
+pub fn move_of(alloc: Global, line: &ScriptLine) -> Result<Option<Move>, Refusal>
+    ensures { AskedOrRefused (λ m. m) result (move_of line.now) }
 {
     match line {
-        Line::Update { update } => {
-            let ask = update_of(alloc, update)?;
+        ScriptLine::Update { update } => {
+            let ask = asked_update(alloc, update)?;
             asked(update.node, ask)
         }
-        Line::Read { node, mode, object } => {
+        ScriptLine::Read { node, mode, object } => {
             let ask = read_of(alloc, *mode, object)?;
             asked(*node, ask)
         }
-        Line::Deliver { message } => Ok(Some(Move::Deliver(*message))),
-        Line::Tick { node } => Ok(Some(Move::Tick(*node))),
-        Line::Stop { node } => Ok(Some(Move::Stop(*node))),
-        Line::Remove { node } => Ok(Some(Move::Remove(*node))),
-        Line::Join { node } => Ok(Some(Move::Join(*node))),
-        Line::Explain => Ok(None),
+        ScriptLine::Deliver { message } => Ok(Some(Move::Deliver(*message))),
+        ScriptLine::Tick { node } => Ok(Some(Move::Tick(*node))),
+        ScriptLine::Stop { node } => Ok(Some(Move::Stop(*node))),
+        ScriptLine::Remove { node } => Ok(Some(Move::Remove(*node))),
+        ScriptLine::Join { node } => Ok(Some(Move::Join(*node))),
+        ScriptLine::Explain => Ok(None),
     }
 }

@@ -3,7 +3,7 @@
 ghost use Rattle.std.specs.Prelude.{◌≡◌, ◌++◌, ◌∷◌, [], ◌≤◌, List, IfErr, IfOk, OnOk, string_bytes};
 ghost use Rattle.craq_runs.specs.declared.run.Taken.{Taken};
 ghost use Rattle.craq_play.specs.Moves.{move_of};
-ghost use Rattle.craq_words.specs.Printed.{refusal_text};
+ghost use Rattle.craq_text.specs.Printed.{refusal_text};
 ghost use Rattle.craq_play.specs.Printed.{step_text};
 ghost use Rattle.craq_play.specs.Played.{after_line, after_one, line_text, move_text, played, played_text};
 ghost use Rattle.craq_play.specs.OnCells.{EndsPlay, PlaysOnCells};
@@ -11,15 +11,15 @@ ghost use Rattle.craq_play.specs.OnCells.{EndsPlay, PlaysOnCells};
 use crate::PlayFault;
 use crate::moving::move_of;
 use crate::played_chain::PlayedChain;
-use crate::playing::{first_ids, opened, print_explanation};
+use crate::playing::{first_ids, opened_core, print_explanation};
 use crate::printing::print_step;
-use craq_locked::{CellStep, LockedChain};
+use craq_cell_chain::{CellChain, CellStep};
 use craq_model::Step;
 use craq_names::{ChainId, NodeId, Pass, Refusal, Same};
 use craq_node::Core;
 use craq_runs::{Move, Run};
-use craq_script::{Line, Script};
-use craq_words::print_refusal;
+use craq_script::{Script, ScriptLine};
+use craq_text::print_refusal;
 use std::alloc::{AllocError, Global};
 use std::sync::Wait;
 
@@ -87,7 +87,7 @@ fn print_refused(text: &mut String, done: &OnCells, refusal: Refusal) -> Result<
 fn take_on_cells<C: Core, R: Wait>(
     rt: &R,
     alloc: Global,
-    cells: &mut LockedChain<C>,
+    cells: &mut CellChain<C>,
     chosen: &Move,
 ) -> OnCells {
     let mut calls = Vec::new(alloc);
@@ -101,7 +101,7 @@ fn take_on_cells<C: Core, R: Wait>(
 fn play_move<C: Core, R: Wait>(
     rt: &R,
     alloc: Global,
-    cells: &mut LockedChain<C>,
+    cells: &mut CellChain<C>,
     chain: &mut PlayedChain<C>,
     text: &mut String,
     chosen: Move,
@@ -129,10 +129,10 @@ fn play_move<C: Core, R: Wait>(
 fn play_line<C: Core, R: Wait>(
     rt: &R,
     alloc: Global,
-    cells: &mut LockedChain<C>,
+    cells: &mut CellChain<C>,
     chain: &mut PlayedChain<C>,
     text: &mut String,
-    line: &Line,
+    line: &ScriptLine,
 ) -> Result<(), PlayFault>
     ensures chain { OnOk result (chain.new ≡ after_line chain.old (move_of line.now)) }
     ensures text { OnOk result (string_bytes text.new ≡ string_bytes text.old ++ line_text chain.old (move_of line.now)) }
@@ -148,9 +148,9 @@ fn play_line<C: Core, R: Wait>(
 
 /// Creates the locked nodes 1 to `nodes` of chain 0, without journals. Fails only when out of
 /// memory.
-fn cells_of<C: Core>(alloc: Global, nodes: u32) -> Result<LockedChain<C>, AllocError> {
+fn cells_of<C: Core>(alloc: Global, nodes: u32) -> Result<CellChain<C>, AllocError> {
     let members = first_ids(alloc, nodes)?;
-    match LockedChain::open(alloc, ChainId::new(0), members.as_slice(), false) {
+    match CellChain::open(alloc, ChainId::new(0), members.as_slice(), false) {
         Ok(cells) => Ok(cells),
         Err(_) => Err(AllocError),
     }
@@ -162,14 +162,14 @@ fn play_lines<C: Core, R: Wait>(
     rt: &R,
     alloc: Global,
     nodes: u32,
-    lines: &[Line],
+    lines: &[ScriptLine],
 ) -> Result<String, PlayFault>
     requires { (1 ≤ nodes) × (nodes ≤ 8) }
     ensures text { IfOk result (λ text. string_bytes text ≡ played_text nodes lines.now) }
     ensures err { IfErr result EndsPlay }
 {
-    let mut cells: LockedChain<C> = cells_of(alloc, nodes)?;
-    let mut chain: PlayedChain<C> = opened(alloc, nodes)?;
+    let mut cells: CellChain<C> = cells_of(alloc, nodes)?;
+    let mut chain: PlayedChain<C> = opened_core(alloc, nodes)?;
     let mut text = String::new(alloc);
     for line in lines {
         play_line(rt, alloc, &mut cells, &mut chain, &mut text, line)?;

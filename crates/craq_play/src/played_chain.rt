@@ -6,8 +6,8 @@ ghost use Rattle.craq_model.specs.Members.{IsMembership};
 ghost use Rattle.craq_runs.specs.Explain.{explain};
 ghost use Rattle.craq_runs.specs.Typed.{IsTypedRunOf};
 ghost use Rattle.craq_runs.specs.Valid.{IsValid};
-ghost use Rattle.craq_chain.specs.Chained.{GivesMove, chain_of, mover, opened};
-ghost use Rattle.craq_world.specs.Promise.{BeginsAs, IsExplained};
+ghost use Rattle.craq_chain.specs.Chained.{GivesMove, chain_of_run, mover, opened_chain};
+ghost use Rattle.craq_world.specs.Promise.{BeginsAs, ChainIsExplained};
 
 use craq_chain::ChainCore;
 use craq_names::{ChainId, Items, NodeId, Refusal};
@@ -43,8 +43,8 @@ impl<C: Core> PlayedChain<C> {
     /// `BadConfig` exactly if they are no membership: 1 to 8 ids from 1, none twice. `Memory` if a
     /// growth was refused and they are one.
     pub fn open(alloc: Global, members: &[NodeId]) -> Result<Self, Refusal>
-        ensures ok { IfOk result (λ w. w ≡ opened 0 members.now) }
-        ensures explained { IfOk result (λ w. IsExplained 0 w) }
+        ensures ok { IfOk result (λ w. w ≡ opened_chain 0 members.now) }
+        ensures explained { IfOk result (λ w. ChainIsExplained 0 w) }
         ensures bad { IfErr result (λ e. (e ≡ Refusal.BadConfig) ↔ ¬ (IsMembership members.now)) }
         ensures err { IfErr result (λ e. (e ≡ Refusal.BadConfig) ⊎ (e ≡ Refusal.Memory)) }
     {
@@ -59,7 +59,7 @@ impl<C: Core> PlayedChain<C> {
     /// Refused, with nothing changed, as `World::take` refuses a move of chain 0.
     pub fn take(&mut self, alloc: Global, chosen: Move) -> Result<u64, Refusal>
         ensures gives { GivesMove self.old self.new chosen result }
-        ensures explained { IsExplained 0 self.new }
+        ensures explained { ChainIsExplained 0 self.new }
         ensures grows { BeginsAs self.old self.new }
     {
         self.world.take(alloc, ChainId::new(CHAIN), chosen)
@@ -68,7 +68,7 @@ impl<C: Core> PlayedChain<C> {
     /// Lends the chain. Allocates nothing.
     pub fn as_chain(&self) -> &ChainCore<C>
         ensures same { result.now ≡ self.now }
-        ensures explained { IsExplained 0 self.now }
+        ensures explained { ChainIsExplained 0 self.now }
     {
         match self.world.chain(ChainId::new(CHAIN)) {
             Ok(chain) => chain,
@@ -87,7 +87,7 @@ impl<C: Core> PlayedChain<C> {
 
     /// Returns the number of messages sent so far. Never allocates.
     pub fn sent(&self) -> u64
-        ensures { result ≡ length (chain_of self.now).messages }
+        ensures { result ≡ length (chain_of_run self.now).messages }
     {
         self.as_chain().sent()
     }
@@ -95,7 +95,7 @@ impl<C: Core> PlayedChain<C> {
     /// Returns the core of each node that ever was a member, in the order of joining. Never
     /// allocates.
     pub fn cores(&self) -> &[C]
-        ensures { AllZip C.represents result.now (chain_of self.now).nodes }
+        ensures { AllZip C.represents result.now (chain_of_run self.now).nodes }
     {
         self.as_chain().cores()
     }
@@ -104,7 +104,7 @@ impl<C: Core> PlayedChain<C> {
     /// for a move of the master, and for the delivery of a message that was not sent. Never
     /// allocates.
     pub fn mover(&self, chosen: &Move) -> NodeId
-        ensures { result ≡ mover (chain_of self.now) chosen.now }
+        ensures { result ≡ mover (chain_of_run self.now) chosen.now }
     {
         self.as_chain().mover(chosen)
     }

@@ -12,7 +12,7 @@ ghost use Rattle.craq_play.specs.Played.{
   first_ids,
   line_text,
   move_text,
-  opening,
+  script_opening,
 };
 
 use crate::explanation::explanation_text;
@@ -22,8 +22,8 @@ use crate::printing::print_step;
 use craq_names::{NodeId, Refusal};
 use craq_node::Core;
 use craq_runs::{Move, Run};
-use craq_script::Line;
-use craq_words::print_refusal;
+use craq_script::ScriptLine;
+use craq_text::print_refusal;
 use std::alloc::{AllocError, Global};
 
 /// Returns the ids from 1 to `count`.
@@ -39,9 +39,9 @@ pub(crate) fn first_ids(alloc: Global, count: u32) -> Result<Vec<NodeId>, AllocE
 
 /// Opens chain 0 of the nodes 1 to `nodes`, with 1 as the head, before any move. `nodes` is from 1
 /// to 8. Fails only when out of memory.
-pub fn opened<C: Core>(alloc: Global, nodes: u32) -> Result<PlayedChain<C>, AllocError>
+pub fn opened_core<C: Core>(alloc: Global, nodes: u32) -> Result<PlayedChain<C>, AllocError>
     requires { (1 ≤ nodes) × (nodes ≤ 8) }
-    ensures { IfOk result (λ w. w ≡ opening nodes) }
+    ensures { IfOk result (λ w. w ≡ script_opening nodes) }
 {
     let members = first_ids(alloc, nodes)?;
     match PlayedChain::open(alloc, members.as_slice()) {
@@ -106,7 +106,7 @@ pub fn play_line<C: Core>(
     alloc: Global,
     chain: &mut PlayedChain<C>,
     text: &mut String,
-    line: &Line,
+    line: &ScriptLine,
 ) -> Result<(), AllocError>
     ensures chain { OnOk result (chain.new ≡ after_line chain.old (move_of line.now)) }
     ensures kept { OnErr result ((chain.new ≡ chain.old) ⊎ (chain.new ≡ after_line chain.old (move_of line.now))) }

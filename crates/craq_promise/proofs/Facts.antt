@@ -20,19 +20,19 @@ use Rattle.craq_model.specs.declared.ask.Answer.{Answer}
 use Rattle.craq_model.specs.declared.ask.Answer.TheVariants as answers
 use Rattle.craq_model.specs.declared.step.Out.{Out}
 use Rattle.craq_model.specs.declared.step.Out.TheVariants as outs
-use Rattle.craq_protocol.specs.Machine.{World}
+use Rattle.craq_protocol.specs.Machine.{MachineState}
 use Rattle.craq_protocol.specs.Promises.{IsPrefix}
 use Rattle.craq_protocol.proofs.Prefix.{take_prefix}
 use Rattle.craq_runs.specs.Seen.{Asked, Answered, ask_with, answers_in}
 use Rattle.craq_runs.specs.Explain.{Account}
 use Rattle.craq_runs.specs.Valid.{single_object, any_mode, bounded_within}
-use Rattle.craq_updates.specs.Genuine.{AllGenuine}
+use Rattle.craq_updates.specs.ValidEntries.{AllValid}
 use Rattle.craq_updates.proofs.Found.{find_all}
-use Rattle.craq_updates.proofs.Entries.{genuine_stays}
+use Rattle.craq_updates.proofs.Entries.{valid_stays}
 use Rattle.craq_updates.proofs.Lens.{AreLens}
 use Rattle.craq_updates.proofs.Updates.{numbers_of, number_is, numbers_stay, numbers_length}
 use Rattle.craq_updates.proofs.Known.{Known}
-use Rattle.craq_strong_answers.proofs.Outs.{AllTold}
+use Rattle.craq_strong_answers.proofs.Outs.{AllReported}
 use Rattle.craq_strong_answers.proofs.Stands.{state_after, Owed, IsAnswer}
 use Rattle.craq_strong_answers.proofs.Stays.{GoesOn}
 use Rattle.craq_strong_answers.proofs.Answering.{Answered as IsAnswered, Questions, Versions}
@@ -42,22 +42,22 @@ use Rattle.craq_promise.proofs.Lows.{CommittedAs, committed_stays, LowWrite, Low
 
 -- a line of entries at a reply
 pub record LineAt (a : Account) (x : Answered) (h : List Entry) : Type 0 where
-  pub genuine : AllGenuine a.asks opening_state h
+  pub valid_entry : AllValid a.asks opening_state h
   pub in_time : AllByRecursion (λ k. k ≤ x.move) (numbers_of a.asks h)
   pub begins : IsPrefix (take (after_move a x.move) a.committed) h
   pub moved : x.move ≤ length a.lens
 
-pub record BelowWrite (a : Account) (object : ObjectId) (version : ℕ) (u : Update) (told : ℕ) : Type 0 where
+pub record BelowWrite (a : Account) (object : ObjectId) (version : ℕ) (u : Update) (reported : ℕ) : Type 0 where
   pub update : Update
   pub found : CommittedAs a u update
-  pub below : (o : ObjectId) → single_object update.command ≡ Some o → o.key ≡ object.key → told ≤ version
+  pub below : (o : ObjectId) → single_object update.command ≡ Some o → o.key ≡ object.key → reported ≤ version
 
 -- the version in a reply about the object is no later
 abbrev pub BelowBy : Account → (ReadMode → Bool) → ObjectId → ℕ → Ask → Answer → Type 0
-BelowBy a counts object version (asks.Read mode o) (answers.Read told value) = counts mode ≡ true → o.key ≡ object.key → told ≤ version
-BelowBy a counts object version (asks.Update u) (answers.Update reply) = (told : ℕ) → reply ≡ Written told → BelowWrite a object version u told
+BelowBy a counts object version (asks.Read mode o) (answers.Read reported value) = counts mode ≡ true → o.key ≡ object.key → reported ≤ version
+BelowBy a counts object version (asks.Update u) (answers.Update reply) = (reported : ℕ) → reply ≡ Written reported → BelowWrite a object version u reported
 BelowBy a counts object version (asks.Read mode o) (answers.Update reply) = ⊤
-BelowBy a counts object version (asks.Update u) (answers.Read told value) = ⊤
+BelowBy a counts object version (asks.Update u) (answers.Read reported value) = ⊤
 
 pub record Below (a : Account) (counts : ReadMode → Bool) (object : ObjectId) (version : ℕ) (y : Answered) : Type 0 where
   pub ask : Asked
@@ -89,7 +89,7 @@ LookBy a x earlier (asks.Read Strong object) (answers.Read version value) = ⊤
 LookBy a x earlier (asks.Read mode object) (answers.Update reply) = ⊤
 LookBy a x earlier (asks.Update u) answer = ⊤
 
-pub record Look (a : Account) (x : Answered) (earlier : List Answered) : Type 0 where
+pub record ReadFact (a : Account) (x : Answered) (earlier : List Answered) : Type 0 where
   pub ask : Asked
   pub is_ask : ask_with a.asks x.node x.ticket ≡ Some ask
   pub fact : LookBy a x earlier ask.ask x.answer
@@ -97,7 +97,7 @@ pub record Look (a : Account) (x : Answered) (earlier : List Answered) : Type 0 
 -- each reply, after those before it
 abbrev pub Facts : Account → List Answered → List Answered → Type 0
 Facts a earlier [] = ⊤
-Facts a earlier (x ∷ xs) = Look a x earlier × Facts a (earlier ++ x ∷ []) xs
+Facts a earlier (x ∷ xs) = ReadFact a x earlier × Facts a (earlier ++ x ∷ []) xs
 
 pub facts_append : (a : Account) (earlier xs ys : List Answered) → Facts a earlier xs → Facts a (earlier ++ xs) ys → Facts a earlier (xs ++ ys)
 facts_append a earlier [] ys f g = let P : List Answered → Type 0 = λ l. Facts a l ys in subst P (append-nil earlier) g
@@ -105,44 +105,44 @@ facts_append a earlier (x ∷ xs) ys f g =
     let P : List Answered → Type 0 = λ l. Facts a l ys in
     (f.0, facts_append a (earlier ++ x ∷ []) xs ys f.1 (subst P (sym (append_assoc earlier (x ∷ []) xs)) g))
 
-pub fact_at : (a : Account) (front earlier later : List Answered) (x : Answered) → Facts a front (earlier ++ x ∷ later) → Look a x (front ++ earlier)
-fact_at a front [] later x f = let P : List Answered → Type 0 = λ l. Look a x l in subst P (sym (append-nil front)) f.0
-fact_at a front (y ∷ earlier) later x f = let P : List Answered → Type 0 = λ l. Look a x l in subst P (append_assoc front (y ∷ []) earlier) (fact_at a (front ++ y ∷ []) earlier later x f.1)
+pub fact_at : (a : Account) (front earlier later : List Answered) (x : Answered) → Facts a front (earlier ++ x ∷ later) → ReadFact a x (front ++ earlier)
+fact_at a front [] later x f = let P : List Answered → Type 0 = λ l. ReadFact a x l in subst P (sym (append-nil front)) f.0
+fact_at a front (y ∷ earlier) later x f = let P : List Answered → Type 0 = λ l. ReadFact a x l in subst P (append_assoc front (y ∷ []) earlier) (fact_at a (front ++ y ∷ []) earlier later x f.1)
 
 -- ---- earlier claims stay true
 
-below_by_stays : (a b : Account) (w v : World Entry) → Known a w → Known b v → GoesOn a b w v → IsPrefix a.committed b.committed → (counts : ReadMode → Bool) (object : ObjectId) (version : ℕ) (ask : Ask) (answer : Answer)
+below_by_stays : (a b : Account) (w v : MachineState Entry) → Known a w → Known b v → GoesOn a b w v → IsPrefix a.committed b.committed → (counts : ReadMode → Bool) (object : ObjectId) (version : ℕ) (ask : Ask) (answer : Answer)
     → BelowBy a counts object version ask answer → BelowBy b counts object version ask answer
-below_by_stays a b w v k n g p counts object version (asks.Read mode o) (answers.Read told value) h = h
+below_by_stays a b w v k n g p counts object version (asks.Read mode o) (answers.Read reported value) h = h
 below_by_stays a b w v k n g p counts object version (asks.Update u) (answers.Update reply) h =
-    λ told is. let i : BelowWrite a object version u told = h told is in record { update = i.update; found = committed_stays k n g p u i.update i.found; below = i.below }
+    λ reported is. let i : BelowWrite a object version u reported = h reported is in record { update = i.update; found = committed_stays k n g p u i.update i.found; below = i.below }
 below_by_stays a b w v k n g p counts object version (asks.Read mode o) (answers.Update reply) h = tt
-below_by_stays a b w v k n g p counts object version (asks.Update u) (answers.Read told value) h = tt
+below_by_stays a b w v k n g p counts object version (asks.Update u) (answers.Read reported value) h = tt
 
-belows_stay : (a b : Account) (w v : World Entry) → Known a w → Known b v → GoesOn a b w v → IsPrefix a.committed b.committed → (node : ℕ) (counts : ReadMode → Bool) (object : ObjectId) (version : ℕ) (ys : List Answered)
+belows_stay : (a b : Account) (w v : MachineState Entry) → Known a w → Known b v → GoesOn a b w v → IsPrefix a.committed b.committed → (node : ℕ) (counts : ReadMode → Bool) (object : ObjectId) (version : ℕ) (ys : List Answered)
     → AllByRecursion (BelowAt a node counts object version) ys → AllByRecursion (BelowAt b node counts object version) ys
 belows_stay a b w v k n g p node counts object version ys h =
     all_like (BelowAt a node counts object version) (BelowAt b node counts object version) ys
     (λ y f same. let i : Below a counts object version y = f same in record { ask = i.ask; is_ask = g.stay y.node y.ticket i.ask i.is_ask; below = below_by_stays a b w v k n g p counts object version i.ask.ask y.answer i.below }) h
 
 -- the first that were committed by then
-taken_stays : (a b : Account) (w v : World Entry) → Known a w → GoesOn a b w v → IsPrefix a.committed b.committed → (move : ℕ) → move ≤ length a.lens → take (after_move b move) b.committed ≡ take (after_move a move) a.committed
+taken_stays : (a b : Account) (w v : MachineState Entry) → Known a w → GoesOn a b w v → IsPrefix a.committed b.committed → (move : ℕ) → move ≤ length a.lens → take (after_move b move) b.committed ≡ take (after_move a move) a.committed
 taken_stays a b w v k g p move le =
     let l : AreLens a.chain.moves a.lens (numbers_of a.asks a.committed) = k.lens in
     ap (λ j. take j b.committed) (g.lens move le) ∙ take_prefix (after_move a move) p (omega (arith, l.within move, numbers_length a.asks a.committed))
 
-line_stays : (a b : Account) (w v : World Entry) → Known a w → GoesOn a b w v → IsPrefix a.committed b.committed → (x : Answered) (h : List Entry) → LineAt a x h → LineAt b x h
+line_stays : (a b : Account) (w v : MachineState Entry) → Known a w → GoesOn a b w v → IsPrefix a.committed b.committed → (x : Answered) (h : List Entry) → LineAt a x h → LineAt b x h
 line_stays a b w v k g p x h l =
     let N : List ℕ → Type 0 = λ ns. AllByRecursion (λ k. k ≤ x.move) ns in
     let P : List Entry → Type 0 = λ es. IsPrefix es h in
     record {
-      genuine = genuine_stays a.asks b.asks g.stay opening_state h l.genuine;
-      in_time = subst N (sym (numbers_stay a.asks b.asks g.stay opening_state h l.genuine)) l.in_time;
+      valid_entry = valid_stays a.asks b.asks g.stay opening_state h l.valid_entry;
+      in_time = subst N (sym (numbers_stay a.asks b.asks g.stay opening_state h l.valid_entry)) l.in_time;
       begins = subst P (sym (taken_stays a b w v k g p x.move l.moved)) l.begins;
       moved = omega (arith, l.moved, g.longer);
     }
 
-look_by_stays : (a b : Account) (w v : World Entry) → Known a w → Known b v → GoesOn a b w v → IsPrefix a.committed b.committed → (x : Answered) (earlier : List Answered) (ask : Ask) (answer : Answer) → LookBy a x earlier ask answer → LookBy b x earlier ask answer
+look_by_stays : (a b : Account) (w v : MachineState Entry) → Known a w → Known b v → GoesOn a b w v → IsPrefix a.committed b.committed → (x : Answered) (earlier : List Answered) (ask : Ask) (answer : Answer) → LookBy a x earlier ask answer → LookBy b x earlier ask answer
 look_by_stays a b w v k n g p x earlier (asks.Read Eventual object) (answers.Read version value) f = record {
   line = f.line;
   is_line = line_stays a b w v k g p x f.line f.is_line;
@@ -168,38 +168,38 @@ look_by_stays a b w v k n g p x earlier (asks.Read (Bounded j) object) (answers.
 look_by_stays a b w v k n g p x earlier (asks.Update u) (answers.Update reply) f = tt
 look_by_stays a b w v k n g p x earlier (asks.Update u) (answers.Read version value) f = tt
 
-pub facts_stay : (a b : Account) (w v : World Entry) → Known a w → Known b v → GoesOn a b w v → IsPrefix a.committed b.committed → (earlier xs : List Answered) → Facts a earlier xs → Facts b earlier xs
+pub facts_stay : (a b : Account) (w v : MachineState Entry) → Known a w → Known b v → GoesOn a b w v → IsPrefix a.committed b.committed → (earlier xs : List Answered) → Facts a earlier xs → Facts b earlier xs
 facts_stay a b w v k n g p earlier [] f = tt
 facts_stay a b w v k n g p earlier (x ∷ xs) f =
-    let l : Look a x earlier = f.0 in
+    let l : ReadFact a x earlier = f.0 in
     (record { ask = l.ask; is_ask = g.stay x.node x.ticket l.ask l.is_ask; fact = look_by_stays a b w v k n g p x earlier l.ask.ask x.answer l.fact }, facts_stay a b w v k n g p (earlier ++ x ∷ []) xs f.1)
 
 -- ---- a new reply
 
 -- a later read is not below the earlier replies
-below_eventual : (b : Account) (v : World Entry) → Known b v → (object : ObjectId) (version node : ℕ) → newest_at v node object.key ≡ version → (ask : Ask) (answer : Answer) → LowBy b v node ask answer → BelowBy b any_mode object version ask answer
-below_eventual b v n object version node is (asks.Read mode o) (answers.Read told value) l =
+below_eventual : (b : Account) (v : MachineState Entry) → Known b v → (object : ObjectId) (version node : ℕ) → newest_at v node object.key ≡ version → (ask : Ask) (answer : Answer) → LowBy b v node ask answer → BelowBy b any_mode object version ask answer
+below_eventual b v n object version node is (asks.Read mode o) (answers.Read reported value) l =
     λ c same. let e : newest_at v node o.key ≡ newest_at v node object.key = ap (newest_at v node) same in omega (arith, l.whole, e, is)
 below_eventual b v n object version node is (asks.Update u) (answers.Update reply) l =
-    λ told w. let i : LowWrite b v node u told = l told w in
+    λ reported w. let i : LowWrite b v node u reported = l reported w in
     record { update = i.update; found = i.found; below = λ o single same. let e : newest_at v node o.key ≡ newest_at v node object.key = ap (newest_at v node) same in omega (arith, i.low o single, clean_whole b v n node o.key, e, is) }
 below_eventual b v n object version node is (asks.Read mode o) (answers.Update reply) l = tt
-below_eventual b v n object version node is (asks.Update u) (answers.Read told value) l = tt
+below_eventual b v n object version node is (asks.Update u) (answers.Read reported value) l = tt
 
 -- the same for a bounded read, and earlier reads of no larger bound
-pub record IsMost (v : World Entry) (node k : ℕ) (key : List ℕ) (version : ℕ) : Type 0 where
+pub record IsMost (v : MachineState Entry) (node k : ℕ) (key : List ℕ) (version : ℕ) : Type 0 where
   pub most : (c : ℕ) → v.acknowledged node ≤ c → version_after (v.history node) key c ≤ clean_at v node key + k → version_after (v.history node) key c ≤ version
 
-below_bounded : (b : Account) (v : World Entry) → Known b v → (object : ObjectId) (k version node : ℕ) → IsMost v node k object.key version → (ask : Ask) (answer : Answer) → LowBy b v node ask answer → BelowBy b (bounded_within k) object version ask answer
+below_bounded : (b : Account) (v : MachineState Entry) → Known b v → (object : ObjectId) (k version node : ℕ) → IsMost v node k object.key version → (ask : Ask) (answer : Answer) → LowBy b v node ask answer → BelowBy b (bounded_within k) object version ask answer
 below_bounded b v n object k version node m (asks.Update u) (answers.Update reply) l =
-    λ told w. let i : LowWrite b v node u told = l told w in
+    λ reported w. let i : LowWrite b v node u reported = l reported w in
     record { update = i.update; found = i.found; below = λ o single same. let e : clean_at v node o.key ≡ clean_at v node object.key = ap (clean_at v node) same in omega (arith, i.low o single, e, m.most (v.acknowledged node) (omega arith) (omega arith)) }
-below_bounded b v n object k version node m (asks.Read Strong o) (answers.Read told value) l = λ c same. absurd (cc)
-below_bounded b v n object k version node m (asks.Read Eventual o) (answers.Read told value) l = λ c same. absurd (cc)
-below_bounded b v n object k version node m (asks.Read (Bounded j) o) (answers.Read told value) l =
+below_bounded b v n object k version node m (asks.Read Strong o) (answers.Read reported value) l = λ c same. absurd (cc)
+below_bounded b v n object k version node m (asks.Read Eventual o) (answers.Read reported value) l = λ c same. absurd (cc)
+below_bounded b v n object k version node m (asks.Read (Bounded j) o) (answers.Read reported value) l =
     λ c same.
     let less : j ≤ k = leb-true j k c in
-    let i : IsNear v node j o.key told = l.near j refl in
+    let i : IsNear v node j o.key reported = l.near j refl in
     let h : List Entry = v.history node in
     let at : version_after h o.key i.count ≡ version_after h object.key i.count = ap (λ key. version_after h key i.count) same in
     let e : clean_at v node o.key ≡ clean_at v node object.key = ap (clean_at v node) same in
@@ -213,9 +213,9 @@ below_bounded b v n object k version node m (asks.Read (Bounded j) o) (answers.R
     either : (i j : ℕ) → (i ≤ j) ⊎ (j ≤ i)
     either i j = grind arith
 below_bounded b v n object k version node m (asks.Read mode o) (answers.Update reply) l = tt
-below_bounded b v n object k version node m (asks.Update u) (answers.Read told value) l = tt
+below_bounded b v n object k version node m (asks.Update u) (answers.Read reported value) l = tt
 
-belows : (b : Account) (v : World Entry) (node : ℕ) (counts : ReadMode → Bool) (object : ObjectId) (version : ℕ) (ys : List Answered) → ((ask : Ask) (answer : Answer) → LowBy b v node ask answer → BelowBy b counts object version ask answer)
+belows : (b : Account) (v : MachineState Entry) (node : ℕ) (counts : ReadMode → Bool) (object : ObjectId) (version : ℕ) (ys : List Answered) → ((ask : Ask) (answer : Answer) → LowBy b v node ask answer → BelowBy b counts object version ask answer)
     → AllByRecursion (Low b v) ys → AllByRecursion (BelowAt b node counts object version) ys
 belows b v node counts object version ys f h =
     all_like (Low b v) (BelowAt b node counts object version) ys
@@ -226,20 +226,20 @@ unfolding ask_with
 asked_by asked node ticket ask n below h = find_all (λ (y : Asked). y.move ≤ n) (λ (y : Asked). (y.node == node) && _) asked ask below h
 
 -- the node's history is a line
-history_line : (b : Account) (v : World Entry) (x : Answered) → Known b v → x.move ≤ length b.lens → after_move b x.move ≡ length v.log → AllByRecursion (λ (y : Asked). y.move ≤ x.move) b.asks → (id : ℕ) → IsPrefix v.log (v.history id) → LineAt b x (v.history id)
+history_line : (b : Account) (v : MachineState Entry) (x : Answered) → Known b v → x.move ≤ length b.lens → after_move b x.move ≡ length v.log → AllByRecursion (λ (y : Asked). y.move ≤ x.move) b.asks → (id : ℕ) → IsPrefix v.log (v.history id) → LineAt b x (v.history id)
 history_line b v x n moved last below id l =
     let held : _ = n.held in
     let P : List Entry → Type 0 = λ es. IsPrefix es (v.history id) in
     let all : take (after_move b x.move) b.committed ≡ v.log = (λ i. take (last i) (n.committed i)) ∙ take-length v.log in
-    record { genuine = held.histories id; in_time = numbered (v.history id) opening_state (held.histories id); begins = subst P (sym all) l; moved = moved }
+    record { valid_entry = held.histories id; in_time = numbered (v.history id) opening_state (held.histories id); begins = subst P (sym all) l; moved = moved }
   where
-    numbered : (es : List Entry) (s : State) → AllGenuine b.asks s es → AllByRecursion (λ k. k ≤ x.move) (numbers_of b.asks es)
+    numbered : (es : List Entry) (s : State) → AllValid b.asks s es → AllByRecursion (λ k. k ≤ x.move) (numbers_of b.asks es)
     numbered [] s g = tt
     numbered (e ∷ es) s g =
         let one : g.0.by.ask.move ≤ x.move = asked_by b.asks e.origin_node e.origin_ticket g.0.by.ask x.move below g.0.by.is_ask in
         (omega (arith, number_is b.asks s e g.0, one), numbered es (after_entry s e) g.1)
 
-look_owed : (b : Account) (v : World Entry) (position : List ℕ → ℕ) (number id ticket : ℕ) (answer : Answer) (earlier : List Answered) (ask : Asked) (kind : Ask) → Known b v → number ≤ length b.lens → after_move b number ≡ length v.log
+look_owed : (b : Account) (v : MachineState Entry) (position : List ℕ → ℕ) (number id ticket : ℕ) (answer : Answer) (earlier : List Answered) (ask : Asked) (kind : Ask) → Known b v → number ≤ length b.lens → after_move b number ≡ length v.log
     → AllByRecursion (λ (y : Asked). y.move ≤ number) b.asks → AllByRecursion (Low b v) earlier → Owed b v position id ticket ask kind answer
     → LookBy b (record { move = number; node = id; ticket = ticket; answer = answer }) earlier kind answer
 look_owed b v position number id ticket (answers.Read version value) earlier ask (asks.Read Eventual object) n moved last below lows o =
@@ -269,12 +269,12 @@ look_owed b v position number id ticket (answers.Update reply) earlier ask (asks
 look_owed b v position number id ticket (answers.Update reply) earlier ask (asks.Update u) n moved last below lows o = tt
 look_owed b v position number id ticket (answers.Read version value) earlier ask (asks.Update u) n moved last below lows o = tt
 
-pub record NewLooks (b : Account) (v : World Entry) (earlier xs : List Answered) : Type 0 where
+pub record NewLooks (b : Account) (v : MachineState Entry) (earlier xs : List Answered) : Type 0 where
   pub lows : AllByRecursion (Low b v) xs
   pub facts : Facts b earlier xs
 
-pub new_looks : (b : Account) (v : World Entry) (position : List ℕ → ℕ) (number id : ℕ) (earlier : List Answered) (os : List Out) → Known b v → number ≤ length b.lens → after_move b number ≡ length v.log
-    → AllByRecursion (λ (y : Asked). y.move ≤ number) b.asks → AllByRecursion (Low b v) earlier → AllTold (IsAnswered b v position id) (Questions b) (Versions b v) os → NewLooks b v earlier (answers_in number id os)
+pub new_looks : (b : Account) (v : MachineState Entry) (position : List ℕ → ℕ) (number id : ℕ) (earlier : List Answered) (os : List Out) → Known b v → number ≤ length b.lens → after_move b number ≡ length v.log
+    → AllByRecursion (λ (y : Asked). y.move ≤ number) b.asks → AllByRecursion (Low b v) earlier → AllReported (IsAnswered b v position id) (Questions b) (Versions b v) os → NewLooks b v earlier (answers_in number id os)
 unfolding answers_in
 new_looks b v position number id earlier [] n moved last below lows t = record { lows = tt; facts = tt }
 new_looks b v position number id earlier (outs.Send to m ∷ os) n moved last below lows t = new_looks b v position number id earlier os n moved last below lows t.1

@@ -26,9 +26,9 @@ use Rattle.craq_runs.specs.Seen.{Asked}
 use Rattle.craq_runs.specs.Valid.{same_request, single_object}
 use Rattle.craq_laws.proofs.Writes.{found_here}
 use Rattle.craq_laws.proofs.Histories.{HasRisingWindows}
-use Rattle.craq_updates.specs.Genuine.{IsGenuine, AllGenuine}
+use Rattle.craq_updates.specs.ValidEntries.{IsValidEntry, AllValid}
 use Rattle.craq_updates.proofs.Found.{IsNumbered, find_all, find_true}
-use Rattle.craq_updates.proofs.Updates.{updates_of, updates_cons, genuine_rises, all_new, other_request}
+use Rattle.craq_updates.proofs.Updates.{updates_of, updates_cons, valid_rises, all_new, other_request}
 use Rattle.craq_strong_answers.proofs.Versions.{no_older_entries, version_rises}
 use Rattle.craq_strong_answers.proofs.Kept.{window_here, kept_by_others}
 
@@ -87,7 +87,7 @@ pub record IsReplyOf (asked : List Asked) (s : State) (es : List Entry) (u : Upd
   pub found : find (same_request u) (updates_of asked es) ≡ Some update
   pub low : (o : ObjectId) (version : ℕ) → single_object update.command ≡ Some o → reply ≡ Written version → version ≤ version_of (after_entries s es).objects o.key
 
-applied_objects : (s : State) (e : Entry) (asked : List Asked) → (g : IsGenuine asked s e) → (after_entry s e).objects ≡ all_written s.objects (eval s.objects g.update.command).0
+applied_objects : (s : State) (e : Entry) (asked : List Asked) → (g : IsValidEntry asked s e) → (after_entry s e).objects ≡ all_written s.objects (eval s.objects g.update.command).0
 unfolding apply
 applied_objects s e asked g = ap (λ (t : State). t.objects) g.applied ∙ rw g.new refl
 
@@ -127,7 +127,7 @@ has_found (k ∷ ks) n r h =
     same_number : (x y : ℕ) → eq_by_cmp nat_cmp y x ≡ true → x ≡ y
     same_number x y e = grind (arith, nat_tests, e)
 
-pub reply_of : (asked : List Asked) (s : State) (es : List Entry) (u : Update) (reply : Reply) → HasRisingWindows s → IsNumbered asked → AllGenuine asked s es → Has (u.number, reply) (window_of (after_entries s es) u.client)
+pub reply_of : (asked : List Asked) (s : State) (es : List Entry) (u : Update) (reply : Reply) → HasRisingWindows s → IsNumbered asked → AllValid asked s es → Has (u.number, reply) (window_of (after_entries s es) u.client)
     → Has (u.number, reply) (window_of s u.client) ⊎ IsReplyOf asked s es u reply
 reply_of asked s [] u reply rises n g h = inl h
 reply_of asked s (e ∷ es) u reply rises n g h =
@@ -135,7 +135,7 @@ reply_of asked s (e ∷ es) u reply rises n g h =
     let gu : Update = g.0.update in
     let x : Kept = (u.number, reply) in
     let cons : updates_of asked (e ∷ es) ≡ gu ∷ updates_of asked es = updates_cons asked s e es n g.0 in
-    let rises_on : HasRisingWindows t = genuine_rises asked s e rises g.0 in
+    let rises_on : HasRisingWindows t = valid_rises asked s e rises g.0 in
     let by_entry : u.client ≡ e.client → (e.number, e.reply) ≡ x → IsReplyOf asked s (e ∷ es) u reply = λ mine pair.
     let same : (e.number ≡ u.number) × (e.reply ≡ reply) = (ap (λ (p : Kept). p.0) pair, ap (λ (p : Kept). p.1) pair) in
     let client : (u.client == gu.client) ≡ true = eq-eqb u.client gu.client (mine ∙ g.0.by.client) in

@@ -9,7 +9,7 @@
 #![tactic(auto)]
 
 ghost use Rattle.std.specs.Prelude.{◌++◌, ◌∷◌, ℕ, List, []};
-ghost use Rattle.craq_updates.specs.Genuine.{IsBeginning};
+ghost use Rattle.craq_updates.specs.ValidEntries.{IsBeginning};
 ghost use Rattle.craq_runs.specs.Typed.{IsTypedRunOf};
 ghost use Rattle.craq_promise.specs.Fixed.{HasFixedMembership};
 ghost use Rattle.craq_runs.specs.Explain.{explain};

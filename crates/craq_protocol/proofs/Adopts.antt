@@ -1,23 +1,23 @@
 -- A node adopts a later membership, gets a floor, and stops.
 use Rattle.std.proofs.Common.{Option, Some, None, ◌≡◌, ◌≢◌, ◌⊎◌, inl, inr, ⊎_elim, ℕ, zero, suc, ◌<◌, ◌≤◌, Bool, true, false, List, [], length, refl, sym, subst, ◌∙◌, arith}
 use Rattle.craq_protocol.specs.Members.{is_member, membership_of, with_value}
-use Rattle.craq_protocol.specs.Machine.{Body, World, Entry, Ack, Copy, Floor}
+use Rattle.craq_protocol.specs.Machine.{MachineBody, MachineState, Entry, Ack, Copy, Floor}
 use Rattle.craq_protocol.specs.Promises.{IsPrefix, Sent}
 use Rattle.craq_protocol.proofs.Lists.{put_each, membership_past}
 use Rattle.craq_protocol.proofs.Prefix.{prefix_nil}
 use Rattle.craq_protocol.proofs.Invariant.{Ages, Clauses, Truth}
 
-later : {A : Type 0} → (w : World A) (n e : ℕ) → w.epoch n < e → (m : ℕ) → w.epoch m ≤ with_value w.epoch n e m
+later : {A : Type 0} → (w : MachineState A) (n e : ℕ) → w.epoch n < e → (m : ℕ) → w.epoch m ≤ with_value w.epoch n e m
 later {A} w n e lt = put_each w.epoch n e (λ m x. w.epoch m ≤ x) (omega arith) (λ m ne. omega arith)
 
-truth_adopts : {A : Type 0} → (w : World A) (g : Ages) (n e : ℕ) → w.epoch n < e → (floor : ℕ → Option ℕ) → (x s t : ℕ) (b : Body A)
+truth_adopts : {A : Type 0} → (w : MachineState A) (g : Ages) (n e : ℕ) → w.epoch n < e → (floor : ℕ → Option ℕ) → (x s t : ℕ) (b : MachineBody A)
     → Truth w g x s t b → Truth (record w { epoch = with_value w.epoch n e; floor = floor }) g x s t b
 truth_adopts {A} w g n e lt floor y s t (Entry i x) a = a
 truth_adopts {A} w g n e lt floor y s t (Ack k) a = a
 truth_adopts {A} w g n e lt floor y s t (Copy xs) a = a
 truth_adopts {A} w g n e lt floor y s t (Floor k) a = let le : _ = later w n e lt s in (a.0, omega (arith, a.1), a.2, a.3)
 
-behind_adopts : {A : Type 0} → {w : World A} {g : Ages} → Clauses w g → (n e : ℕ) → w.epoch n < e → is_member (membership_of w.memberships e) n ≡ true
+behind_adopts : {A : Type 0} → {w : MachineState A} {g : Ages} → Clauses w g → (n e : ℕ) → w.epoch n < e → is_member (membership_of w.memberships e) n ≡ true
     → (q : ℕ) → is_member (membership_of w.memberships e) q ≡ true → g.rank q < g.rank n → IsPrefix (w.history n) (w.history q)
 behind_adopts {A} {w} {g} c n e lt hn q hq less =
     ⊎_elim
@@ -32,7 +32,7 @@ behind_adopts {A} {w} {g} c n e lt hn q hq less =
     zero_or zero = inl refl
     zero_or (suc k) = inr (omega arith)
 
-pub clauses_adopts : {A : Type 0} → {w : World A} {g : Ages} → Clauses w g → (n e : ℕ) → w.epoch n < e → is_member (membership_of w.memberships e) n ≡ true
+pub clauses_adopts : {A : Type 0} → {w : MachineState A} {g : Ages} → Clauses w g → (n e : ℕ) → w.epoch n < e → is_member (membership_of w.memberships e) n ≡ true
     → Clauses (record w { epoch = with_value w.epoch n e; floor = with_value w.floor n None }) g
 clauses_adopts {A} {w} {g} c n e lt hn = record {
   shape = c.shape;
@@ -61,13 +61,13 @@ clauses_adopts {A} {w} {g} c n e lt hn = record {
   never_last_before = λ s q x r hq less ge below l. let le : _ = later w n e lt q in c.never_last_before s q x r hq less (omega arith) below l;
 }
 
-truth_stops : {A : Type 0} → (w : World A) (g : Ages) (running : ℕ → Bool) (e s t : ℕ) (b : Body A) → Truth w g e s t b → Truth (record w { running = running }) g e s t b
+truth_stops : {A : Type 0} → (w : MachineState A) (g : Ages) (running : ℕ → Bool) (e s t : ℕ) (b : MachineBody A) → Truth w g e s t b → Truth (record w { running = running }) g e s t b
 truth_stops {A} w g running e s t (Entry i x) a = a
 truth_stops {A} w g running e s t (Ack k) a = a
 truth_stops {A} w g running e s t (Copy xs) a = a
 truth_stops {A} w g running e s t (Floor k) a = a
 
-pub clauses_stops : {A : Type 0} → {w : World A} {g : Ages} → Clauses w g → (n : ℕ) → Clauses (record w { running = with_value w.running n false }) g
+pub clauses_stops : {A : Type 0} → {w : MachineState A} {g : Ages} → Clauses w g → (n : ℕ) → Clauses (record w { running = with_value w.running n false }) g
 clauses_stops {A} {w} {g} c n = record {
   shape = c.shape;
   epoch_made = c.epoch_made;
@@ -86,13 +86,13 @@ clauses_stops {A} {w} {g} c n = record {
   never_last_before = c.never_last_before;
 }
 
-truth_floors : {A : Type 0} → (w : World A) (g : Ages) (floor : ℕ → Option ℕ) (e s t : ℕ) (b : Body A) → Truth w g e s t b → Truth (record w { floor = floor }) g e s t b
+truth_floors : {A : Type 0} → (w : MachineState A) (g : Ages) (floor : ℕ → Option ℕ) (e s t : ℕ) (b : MachineBody A) → Truth w g e s t b → Truth (record w { floor = floor }) g e s t b
 truth_floors {A} w g floor e s t (Entry i x) a = a
 truth_floors {A} w g floor e s t (Ack k) a = a
 truth_floors {A} w g floor e s t (Copy xs) a = a
 truth_floors {A} w g floor e s t (Floor k) a = a
 
-pub clauses_floors : {A : Type 0} → {w : World A} {g : Ages} → Clauses w g → (n s k : ℕ) → Sent w.messages (record { epoch = w.epoch n; from = s; to = n; body = Floor k })
+pub clauses_floors : {A : Type 0} → {w : MachineState A} {g : Ages} → Clauses w g → (n s k : ℕ) → Sent w.messages (record { epoch = w.epoch n; from = s; to = n; body = Floor k })
     → Clauses (record w { floor = with_value w.floor n (Some k) }) g
 clauses_floors {A} {w} {g} c n s k sent = record {
   shape = c.shape;

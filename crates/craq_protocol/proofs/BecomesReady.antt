@@ -2,7 +2,7 @@
 use Rattle.std.proofs.Common.{Some, ◌≡◌, ⊎_elim, ℕ, ◌<◌, ◌≤◌, true, false, length, refl, ap, sym, subst, arith}
 use Rattle.std.proofs.lemmas.Bool.{cases_order, cases_lt, both_ways, false_from_ne_true}
 use Rattle.craq_protocol.specs.Members.{is_member, is_last, is_next, membership_of, with_value}
-use Rattle.craq_protocol.specs.Machine.{Body, World, Entry, Ack, Copy, Floor}
+use Rattle.craq_protocol.specs.Machine.{MachineBody, MachineState, Entry, Ack, Copy, Floor}
 use Rattle.craq_protocol.specs.Promises.{IsPrefix, Sent}
 use Rattle.craq_protocol.proofs.Lists.{put_each, next_left, next_right, next_rank, membership_past}
 use Rattle.craq_protocol.proofs.Prefix.{prefix_reached}
@@ -10,20 +10,20 @@ use Rattle.craq_protocol.proofs.Invariant.{Ages, Clauses, Truth}
 use Rattle.craq_protocol.proofs.Places.{before_next, not_last, some_epoch}
 
 -- a ready node stays ready
-stays : {A : Type 0} → (w : World A) (n m : ℕ) → w.ready m ≡ true → with_value w.ready n true m ≡ true
+stays : {A : Type 0} → (w : MachineState A) (n m : ℕ) → w.ready m ≡ true → with_value w.ready n true m ≡ true
 stays {A} w n m = put_each w.ready n true (λ k x. w.ready k ≡ true → x ≡ true) (λ r. refl) (λ k ne r. r) m
 
-was_not : {A : Type 0} → (w : World A) (n m : ℕ) → with_value w.ready n true m ≡ false → w.ready m ≡ false
+was_not : {A : Type 0} → (w : MachineState A) (n m : ℕ) → with_value w.ready n true m ≡ false → w.ready m ≡ false
 was_not {A} w n m u = false_from_ne_true (w.ready m) (λ r. both_ways (with_value w.ready n true m) u (stays w n m r))
 
-truth_becomes_ready : {A : Type 0} → (w : World A) (g : Ages) (n : ℕ) (e s t : ℕ) (b : Body A) → Truth w g e s t b → Truth (record w { ready = with_value w.ready n true }) g e s t b
+truth_becomes_ready : {A : Type 0} → (w : MachineState A) (g : Ages) (n : ℕ) (e s t : ℕ) (b : MachineBody A) → Truth w g e s t b → Truth (record w { ready = with_value w.ready n true }) g e s t b
 truth_becomes_ready {A} w g n e s t (Entry i x) a = a
 truth_becomes_ready {A} w g n e s t (Ack k) a = a
 truth_becomes_ready {A} w g n e s t (Copy xs) a = a
 truth_becomes_ready {A} w g n e s t (Floor k) a = (stays w n s a.0, a.1, a.2, λ u i. a.3 (was_not w n t u) i)
 
 -- the members before a new ready one
-front_becomes_ready : {A : Type 0} → {w : World A} {g : Ages} → Clauses w g → (n e s : ℕ) → w.ready s ≡ true → is_next (membership_of w.memberships e) s n ≡ true
+front_becomes_ready : {A : Type 0} → {w : MachineState A} {g : Ages} → Clauses w g → (n e s : ℕ) → w.ready s ≡ true → is_next (membership_of w.memberships e) s n ≡ true
     → (q : ℕ) → is_member (membership_of w.memberships (length w.memberships)) q ≡ true → g.rank q < g.rank n → w.ready q ≡ true
 front_becomes_ready {A} {w} {g} c n e s rs nx q hq lt =
     let hs : is_member (membership_of w.memberships e) s ≡ true = next_left (membership_of w.memberships e) s n nx in
@@ -33,7 +33,7 @@ front_becomes_ready {A} {w} {g} c n e s rs nx q hq lt =
     (λ o. ⊎_elim (λ less. c.elders_ready s q rs hq less) (λ more. absurd (omega arith)) o)
     (cases_order (g.rank q) (g.rank s))
 
-early_becomes_ready : {A : Type 0} → {w : World A} {g : Ages} → Clauses w g → (n e s : ℕ) → w.ready s ≡ true → e ≤ w.epoch s → is_next (membership_of w.memberships e) s n ≡ true
+early_becomes_ready : {A : Type 0} → {w : MachineState A} {g : Ages} → Clauses w g → (n e s : ℕ) → w.ready s ≡ true → e ≤ w.epoch s → is_next (membership_of w.memberships e) s n ≡ true
     → (q x : ℕ) → is_member (membership_of w.memberships (length w.memberships)) q ≡ true → g.rank q < g.rank n → w.epoch q ≤ x → x < g.born n
     → is_last (membership_of w.memberships x) q ≡ true → ⊥
 early_becomes_ready {A} {w} {g} c n e s rs es nx q x hq lt ge below l =
@@ -52,7 +52,7 @@ early_becomes_ready {A} {w} {g} c n e s rs es nx q x hq lt ge below l =
     o)
     (cases_order (g.rank q) (g.rank s))
 
-pub clauses_becomes_ready : {A : Type 0} → {w : World A} {g : Ages} → Clauses w g → (n k : ℕ) → w.running n ≡ true → w.ready n ≡ false → w.floor n ≡ Some k → k ≤ length (w.history n)
+pub clauses_becomes_ready : {A : Type 0} → {w : MachineState A} {g : Ages} → Clauses w g → (n k : ℕ) → w.running n ≡ true → w.ready n ≡ false → w.floor n ≡ Some k → k ≤ length (w.history n)
     → Clauses (record w { ready = with_value w.ready n true }) g
 clauses_becomes_ready {A} {w} {g} c n k un rn fl le =
     let sent : (s : ℕ) × Sent w.messages (record { epoch = w.epoch n; from = s; to = n; body = Floor k }) = c.floor_was_sent n k fl in

@@ -1,23 +1,23 @@
 -- A history grows, and so does its committed length.
 use Rattle.std.proofs.Common.{◌≡◌, ℕ, ◌<◌, ◌≤◌, true, List, [], length, take, arith}
 use Rattle.craq_protocol.specs.Members.{is_member, membership_of, with_value}
-use Rattle.craq_protocol.specs.Machine.{Body, World, Entry, Ack, Copy, Floor}
+use Rattle.craq_protocol.specs.Machine.{MachineBody, MachineState, Entry, Ack, Copy, Floor}
 use Rattle.craq_protocol.specs.Promises.{IsPrefix}
 use Rattle.craq_protocol.proofs.Lists.{put_each}
 use Rattle.craq_protocol.proofs.Prefix.{prefix_self, prefix_trans, prefix_length, entry_at_grows, take_grows, prefix_taken}
 use Rattle.craq_protocol.proofs.Invariant.{Ages, Clauses, Truth}
 
-grows : {A : Type 0} → (w : World A) (n : ℕ) (h : List A) → IsPrefix (w.history n) h → (m : ℕ) → IsPrefix (w.history m) (with_value w.history n h m)
+grows : {A : Type 0} → (w : MachineState A) (n : ℕ) (h : List A) → IsPrefix (w.history n) h → (m : ℕ) → IsPrefix (w.history m) (with_value w.history n h m)
 grows {A} w n h p = put_each w.history n h (λ m x. IsPrefix (w.history m) x) p (λ m ne. prefix_self (w.history m))
 
-truth_grows : {A : Type 0} → (w : World A) (g : Ages) (n : ℕ) (h : List A) → IsPrefix (w.history n) h → (e s t : ℕ) (b : Body A)
+truth_grows : {A : Type 0} → (w : MachineState A) (g : Ages) (n : ℕ) (h : List A) → IsPrefix (w.history n) h → (e s t : ℕ) (b : MachineBody A)
     → Truth w g e s t b → Truth (record w { history = with_value w.history n h }) g e s t b
 truth_grows {A} w g n h p e s t (Entry i x) a = λ q hq le. entry_at_grows (grows w n h p q) i x (a q hq le)
 truth_grows {A} w g n h p e s t (Ack k) a = a
 truth_grows {A} w g n h p e s t (Copy xs) a = (a.0, λ q hq le. prefix_trans (a.1 q hq le) (grows w n h p q))
 truth_grows {A} w g n h p e s t (Floor k) a = (a.0, a.1, a.2, λ u i. prefix_trans (a.3 u i) (take_grows k (grows w n h p s)))
 
-pub clauses_grows : {A : Type 0} → {w : World A} {g : Ages} → Clauses w g → (n : ℕ) (h : List A) → IsPrefix (w.history n) h → 0 < w.epoch n
+pub clauses_grows : {A : Type 0} → {w : MachineState A} {g : Ages} → Clauses w g → (n : ℕ) (h : List A) → IsPrefix (w.history n) h → 0 < w.epoch n
     → ((q : ℕ) → is_member (membership_of w.memberships (w.epoch n)) q ≡ true → g.rank q < g.rank n → IsPrefix h (w.history q))
     → Clauses (record w { history = with_value w.history n h }) g
 clauses_grows {A} {w} {g} c n h p ep f = record {
@@ -40,13 +40,13 @@ clauses_grows {A} {w} {g} c n h p ep f = record {
   never_last_before = c.never_last_before;
 }
 
-truth_same : {A : Type 0} → (w : World A) (g : Ages) (acknowledged : ℕ → ℕ) (e s t : ℕ) (b : Body A) → Truth w g e s t b → Truth (record w { acknowledged = acknowledged }) g e s t b
+truth_same : {A : Type 0} → (w : MachineState A) (g : Ages) (acknowledged : ℕ → ℕ) (e s t : ℕ) (b : MachineBody A) → Truth w g e s t b → Truth (record w { acknowledged = acknowledged }) g e s t b
 truth_same {A} w g acknowledged e s t (Entry i x) a = a
 truth_same {A} w g acknowledged e s t (Ack k) a = a
 truth_same {A} w g acknowledged e s t (Copy xs) a = a
 truth_same {A} w g acknowledged e s t (Floor k) a = a
 
-pub clauses_marks : {A : Type 0} → {w : World A} {g : Ages} → Clauses w g → (n p : ℕ) → p ≤ length (w.history n) → IsPrefix (take p (w.history n)) w.log
+pub clauses_marks : {A : Type 0} → {w : MachineState A} {g : Ages} → Clauses w g → (n p : ℕ) → p ≤ length (w.history n) → IsPrefix (take p (w.history n)) w.log
     → Clauses (record w { acknowledged = with_value w.acknowledged n p }) g
 clauses_marks {A} {w} {g} c n p le l = record {
   shape = c.shape;

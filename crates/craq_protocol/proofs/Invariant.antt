@@ -1,7 +1,7 @@
 -- The invariant of every move. docs/proof/PROTOCOL.md explains it.
 use Rattle.std.proofs.Common.{Some, ◌≡◌, ℕ, ◌<◌, ◌≤◌, true, false, List, [], length, take}
 use Rattle.craq_protocol.specs.Members.{is_member, is_last, is_next, membership_of}
-use Rattle.craq_protocol.specs.Machine.{Body, Message, World, entry_at, Entry, Ack, Copy, Floor}
+use Rattle.craq_protocol.specs.Machine.{MachineBody, Message, MachineState, entry_at, Entry, Ack, Copy, Floor}
 use Rattle.craq_protocol.specs.Promises.{IsPrefix, Sent}
 use Rattle.craq_protocol.proofs.Lists.{Sorted}
 
@@ -28,7 +28,7 @@ pub record Shape (memberships : List (List ℕ)) (joined : List ℕ) (g : Ages) 
   pub below_top : (epoch id : ℕ) → is_member (membership_of memberships epoch) id ≡ true → g.rank id < g.top
 
 -- The claim of a message, which stays true from its sending on.
-abbrev pub Truth : {A : Type 0} → World A → Ages → ℕ → ℕ → ℕ → Body A → Type 0
+abbrev pub Truth : {A : Type 0} → MachineState A → Ages → ℕ → ℕ → ℕ → MachineBody A → Type 0
 -- the entry is at its place in the sender's history, and in that of each elder
 Truth {A} w g epoch from to (Entry place entry) =
     (other : ℕ) → is_member (membership_of w.memberships epoch) other ≡ true → g.rank other ≤ g.rank from → entry_at (w.history other) place ≡ Some entry
@@ -44,7 +44,7 @@ Truth {A} w g epoch from to (Floor count) =
     (w.ready from ≡ true) × (epoch ≤ w.epoch from) × (is_next (membership_of w.memberships epoch) from to ≡ true)
     × (w.ready to ≡ false → is_member (membership_of w.memberships (length w.memberships)) to ≡ true → IsPrefix w.log (take count (w.history from)))
 
-pub record Clauses {A : Type 0} (w : World A) (g : Ages) : Type 0 where
+pub record Clauses {A : Type 0} (w : MachineState A) (g : Ages) : Type 0 where
   pub shape : Shape w.memberships w.joined g
   -- a node knows only memberships that were made and contain it; a running node is a member now
   pub epoch_made : (node : ℕ) → w.epoch node ≤ length w.memberships
@@ -72,10 +72,10 @@ pub record Clauses {A : Type 0} (w : World A) (g : Ages) : Type 0 where
   pub never_last_before : (node elder epoch : ℕ) → w.ready node ≡ true → is_member (membership_of w.memberships (length w.memberships)) elder ≡ true → g.rank elder < g.rank node → w.epoch elder ≤ epoch → epoch < g.born node → is_last (membership_of w.memberships epoch) elder ≡ true → ⊥
 
 -- the node holds exactly the log, and knows that all of it is committed
-abbrev pub HoldsLog : {A : Type 0} → World A → ℕ → Type 0
+abbrev pub HoldsLog : {A : Type 0} → MachineState A → ℕ → Type 0
 HoldsLog w node = (w.history node ≡ w.log) × (length (w.history node) ≤ w.acknowledged node)
 
-pub record Invariant {A : Type 0} (w : World A) : Type 0 where
+pub record Invariant {A : Type 0} (w : MachineState A) : Type 0 where
   pub ages : Ages
   pub clauses : Clauses w ages
   pub tails : (node : ℕ) → w.running node ≡ true → w.ready node ≡ true → is_last (membership_of w.memberships (w.epoch node)) node ≡ true → HoldsLog w node

@@ -2,15 +2,15 @@
 use Rattle.std.proofs.Common.{Option, Some, None, ◌≡◌, inl, inr, ⊎_elim, ℕ, zero, suc, ◌<◌, Bool, true, false, List, [], ◌∷◌, ◌++◌, length, refl, ap, sym, subst, arith}
 use Rattle.std.proofs.lemmas.Bool.{false_from_ne_true}
 use Rattle.craq_protocol.specs.Members.{is_member, membership_of, with_value}
-use Rattle.craq_protocol.specs.Machine.{Body, World, Entry, Ack, Copy, Floor}
+use Rattle.craq_protocol.specs.Machine.{MachineBody, MachineState, Entry, Ack, Copy, Floor}
 use Rattle.craq_protocol.proofs.Lists.{put_each, put_same, put_other, put_id, push_parts, push_keeps, push_new}
 use Rattle.craq_protocol.proofs.Invariant.{Ages, Shape, Clauses, Truth}
 use Rattle.craq_protocol.proofs.Places.{some_epoch}
 use Rattle.craq_protocol.proofs.Shapes.{aged, other, shape_ages, shape_joins}
 use Rattle.craq_protocol.proofs.NextMembership.{Fresh, clauses_next_membership, with_membership}
 
-truth_ages : {A : Type 0} → (w : World A) (g : Ages) → Shape w.memberships w.joined g → (n : ℕ) → is_member w.joined n ≡ false
-    → (e s t : ℕ) (b : Body A) → is_member (membership_of w.memberships e) s ≡ true → Truth w g e s t b → Truth w (aged w.memberships g n) e s t b
+truth_ages : {A : Type 0} → (w : MachineState A) (g : Ages) → Shape w.memberships w.joined g → (n : ℕ) → is_member w.joined n ≡ false
+    → (e s t : ℕ) (b : MachineBody A) → is_member (membership_of w.memberships e) s ≡ true → Truth w g e s t b → Truth w (aged w.memberships g n) e s t b
 truth_ages {A} w g p n out e s t (Entry i x) h a = λ q hq le.
     a q hq (omega (arith, put_other g.rank n g.top q (other p n out e q hq), put_other g.rank n g.top s (other p n out e s h)))
 truth_ages {A} w g p n out e s t (Ack k) h a = a
@@ -22,7 +22,7 @@ truth_ages {A} w g p n out e s t (Copy xs) h a = (
 truth_ages {A} w g p n out e s t (Floor k) h a = a
 
 -- the node that joins gets its place
-clauses_ages : {A : Type 0} → {w : World A} {g : Ages} → Clauses w g → (n : ℕ) → is_member w.joined n ≡ false → Clauses w (aged w.memberships g n)
+clauses_ages : {A : Type 0} → {w : MachineState A} {g : Ages} → Clauses w g → (n : ℕ) → is_member w.joined n ≡ false → Clauses w (aged w.memberships g n)
 clauses_ages {A} {w} {g} k n out =
     let rank : (x m : ℕ) → is_member (membership_of w.memberships x) m ≡ true → with_value g.rank n g.top m ≡ g.rank m = λ x m h. put_other g.rank n g.top m (other k.shape n out x m h) in
     let here : (m : ℕ) → w.ready m ≡ true → is_member (membership_of w.memberships (w.epoch m)) m ≡ true = λ m r. k.is_member_there m (k.ready_has_epoch m r) in
@@ -49,7 +49,7 @@ clauses_ages {A} {w} {g} k n out =
     }
 
 -- a node that never was a member
-pub record Blank {A : Type 0} (w : World A) (n : ℕ) : Type 0 where
+pub record Blank {A : Type 0} (w : MachineState A) (n : ℕ) : Type 0 where
   pub epoch : w.epoch n ≡ 0
   pub ready : w.ready n ≡ false
   pub history : w.history n ≡ []
@@ -60,7 +60,7 @@ none_from : (o : Option ℕ) → ((k : ℕ) → o ≡ Some k → ⊥) → o ≡ 
 none_from None f = refl
 none_from (Some k) f = absurd (f k refl)
 
-pub blank_yet : {A : Type 0} → {w : World A} {g : Ages} → Clauses w g → (n : ℕ) → is_member w.joined n ≡ false → Blank w n
+pub blank_yet : {A : Type 0} → {w : MachineState A} {g : Ages} → Clauses w g → (n : ℕ) → is_member w.joined n ≡ false → Blank w n
 blank_yet {A} {w} {g} k n out =
     let e : w.epoch n ≡ 0 = zero_from (w.epoch n) (λ p. other k.shape n out (w.epoch n) n (k.is_member_there n p) refl) in
     let h : w.history n ≡ [] = k.empty_at_first n e in
@@ -80,7 +80,7 @@ blank_yet {A} {w} {g} k n out =
     zero_from (suc x) f = absurd (f (omega arith))
 
 -- the next world, without the fields that stay as they were
-joins_bare : {A : Type 0} → {w : World A} {g : Ages} → Clauses w g → (n : ℕ) → is_member w.joined n ≡ false → Blank w n
+joins_bare : {A : Type 0} → {w : MachineState A} {g : Ages} → Clauses w g → (n : ℕ) → is_member w.joined n ≡ false → Blank w n
     → Clauses (with_membership w (membership_of w.memberships (length w.memberships) ++ n ∷ []) (w.joined ++ n ∷ []) (with_value w.running n true)) (aged w.memberships g n)
 joins_bare {A} {w} {g} k n out b =
     let c : List ℕ = membership_of w.memberships (length w.memberships) in
@@ -95,7 +95,7 @@ joins_bare {A} {w} {g} k n out b =
     (put_each w.running n true (λ m x. x ≡ true → is_member (c ++ n ∷ []) m ≡ true) (λ r. push_new c n) (λ m ne r. push_keeps c n m (k.running_is_member m r)))
     (λ m h. ⊎_elim (λ old. inl old) (λ e. let P : ℕ → Type 0 = λ j. Fresh w (aged w.memberships g n) j in inr (subst P e new)) (push_parts c n m h))
 
-pub clauses_joins : {A : Type 0} → {w : World A} {g : Ages} → Clauses w g → (n : ℕ) → is_member w.joined n ≡ false
+pub clauses_joins : {A : Type 0} → {w : MachineState A} {g : Ages} → Clauses w g → (n : ℕ) → is_member w.joined n ≡ false
     → Clauses (record w {
       memberships = w.memberships ++ (membership_of w.memberships (length w.memberships) ++ n ∷ []) ∷ [];
       joined = w.joined ++ n ∷ [];
@@ -108,7 +108,7 @@ pub clauses_joins : {A : Type 0} → {w : World A} {g : Ages} → Clauses w g �
     }) (aged w.memberships g n)
 clauses_joins {A} {w} {g} k n out =
     let b : Blank w n = blank_yet k n out in
-    let v : World A = with_membership w (membership_of w.memberships (length w.memberships) ++ n ∷ []) (w.joined ++ n ∷ []) (with_value w.running n true) in
+    let v : MachineState A = with_membership w (membership_of w.memberships (length w.memberships) ++ n ∷ []) (w.joined ++ n ∷ []) (with_value w.running n true) in
     let p0 : Clauses v (aged w.memberships g n) = joins_bare k n out b in
     let p1 : Clauses (record v { epoch = with_value w.epoch n 0 }) (aged w.memberships g n) =
     let P : (ℕ → ℕ) → Type 0 = λ f. Clauses (record v { epoch = f }) (aged w.memberships g n) in subst P (sym (put_id w.epoch n 0 b.epoch)) p0 in

@@ -2,7 +2,7 @@
 use Rattle.std.proofs.Common.{◌≡◌, ◌≢◌, ⊎_elim, ℕ, ◌<◌, ◌≤◌, Bool, true, cond, ◌&&◌, List, length, ap, sym, subst, ◌∙◌, arith}
 use Rattle.std.proofs.lemmas.Bool.{cond_both, and_parts, and_from, both_ways, cases_eq}
 use Rattle.craq_protocol.specs.Members.{is_member, is_last, membership_of, with_value}
-use Rattle.craq_protocol.specs.Machine.{World, is_tail, after_commit}
+use Rattle.craq_protocol.specs.Machine.{MachineState, is_tail, after_commit}
 use Rattle.craq_protocol.specs.Promises.{IsPrefix, Later}
 use Rattle.craq_protocol.proofs.Lists.{put_other, put_same}
 use Rattle.craq_protocol.proofs.Stays.{later_self, later_trans, later_marks, later_logs, later_grows}
@@ -12,21 +12,21 @@ use Rattle.craq_protocol.proofs.Grows.{clauses_grows}
 use Rattle.craq_protocol.proofs.Commits.{clauses_commits}
 
 -- from w to v
-pub record LeadsTo {A : Type 0} (w v : World A) : Type 0 where
+pub record LeadsTo {A : Type 0} (w v : MachineState A) : Type 0 where
   pub invariant : Invariant v
   pub later : Later w v
 
-pub goes_nowhere : {A : Type 0} → {w : World A} → Invariant w → LeadsTo w w
+pub goes_nowhere : {A : Type 0} → {w : MachineState A} → Invariant w → LeadsTo w w
 goes_nowhere {A} {w} i = record { invariant = i; later = later_self w }
 
-pub goes_on : {A : Type 0} → {u v w : World A} → LeadsTo u v → LeadsTo v w → LeadsTo u w
+pub goes_on : {A : Type 0} → {u v w : MachineState A} → LeadsTo u v → LeadsTo v w → LeadsTo u w
 goes_on {A} a b = record { invariant = b.invariant; later = later_trans a.later b.later }
 
 -- a move whose condition fails does nothing
-pub goes_if : {A : Type 0} → (w : World A) (b : Bool) (v : World A) → Invariant w → (b ≡ true → LeadsTo w v) → LeadsTo w (cond b v w)
+pub goes_if : {A : Type 0} → (w : MachineState A) (b : Bool) (v : MachineState A) → Invariant w → (b ≡ true → LeadsTo w v) → LeadsTo w (cond b v w)
 goes_if {A} w b v i f = cond_both b v w (λ x. LeadsTo w x) f (λ e. goes_nowhere i)
 
-pub commit_goes : {A : Type 0} → (w : World A) (g : Ages) → Clauses w g → (n : ℕ)
+pub commit_goes : {A : Type 0} → (w : MachineState A) (g : Ages) → Clauses w g → (n : ℕ)
     → ((m : ℕ) → m ≢ n → w.running m ≡ true → w.ready m ≡ true → is_last (membership_of w.memberships (w.epoch m)) m ≡ true → HoldsLog w m)
     → LeadsTo w (after_commit w n)
 commit_goes {A} w g c n others =
@@ -56,11 +56,11 @@ commit_goes {A} w g c n others =
           (cases_eq m n);
     }))
 
-pub grow_goes : {A : Type 0} → {w : World A} → (i : Invariant w) → (n : ℕ) (h : List A) → IsPrefix (w.history n) h → 0 < w.epoch n
+pub grow_goes : {A : Type 0} → {w : MachineState A} → (i : Invariant w) → (n : ℕ) (h : List A) → IsPrefix (w.history n) h → 0 < w.epoch n
     → ((q : ℕ) → is_member (membership_of w.memberships (w.epoch n)) q ≡ true → i.ages.rank q < i.ages.rank n → IsPrefix h (w.history q))
     → LeadsTo w (after_commit (record w { history = with_value w.history n h }) n)
 grow_goes {A} {w} i n h p ep f =
-    let v : World A = record w { history = with_value w.history n h } in
+    let v : MachineState A = record w { history = with_value w.history n h } in
     let c : Clauses v i.ages = clauses_grows i.clauses n h p ep f in
     let a : LeadsTo v (after_commit v n) = commit_goes v i.ages c n (λ m ne u r l.
     let t : HoldsLog w m = i.tails m u r l in

@@ -2,24 +2,24 @@
 use Rattle.std.proofs.Common.{◌≡◌, ◌⊎◌, inl, ⊎_elim, ℕ, ◌<◌, ◌≤◌, Bool, true, false, List, [], ◌∷◌, ◌++◌, length, sym, subst, arith}
 use Rattle.std.proofs.lemmas.Bool.{both_ways}
 use Rattle.craq_protocol.specs.Members.{is_member, is_last, is_next, membership_of, without}
-use Rattle.craq_protocol.specs.Machine.{Body, World, Entry, Ack, Copy, Floor}
+use Rattle.craq_protocol.specs.Machine.{MachineBody, MachineState, Entry, Ack, Copy, Floor}
 use Rattle.craq_protocol.proofs.Lists.{membership_old, membership_past, membership_present, length_push, next_right, without_parts, without_keeps}
 use Rattle.craq_protocol.proofs.Invariant.{Ages, Shape, Clauses, Truth}
 use Rattle.craq_protocol.proofs.Shapes.{shape_removes}
 
 -- m is no member yet
-pub record Fresh {A : Type 0} (w : World A) (g : Ages) (m : ℕ) : Type 0 where
+pub record Fresh {A : Type 0} (w : MachineState A) (g : Ages) (m : ℕ) : Type 0 where
   pub unready : w.ready m ≡ false
   pub absent : (x : ℕ) → is_member (membership_of w.memberships x) m ≡ true → ⊥
   pub above : (s : ℕ) → w.ready s ≡ true → g.rank m < g.rank s → ⊥
 
 -- the next world
-abbrev pub with_membership : {A : Type 0} → World A → List ℕ → List ℕ → (ℕ → Bool) → World A
+abbrev pub with_membership : {A : Type 0} → MachineState A → List ℕ → List ℕ → (ℕ → Bool) → MachineState A
 with_membership {A} w c joined running = record w { memberships = w.memberships ++ c ∷ []; joined = joined; running = running }
 
-truth_next_membership : {A : Type 0} → (w : World A) (g : Ages) (c joined : List ℕ) (running : ℕ → Bool)
+truth_next_membership : {A : Type 0} → (w : MachineState A) (g : Ages) (c joined : List ℕ) (running : ℕ → Bool)
     → ((m : ℕ) → is_member c m ≡ true → (is_member (membership_of w.memberships (length w.memberships)) m ≡ true) ⊎ Fresh w g m)
-    → (e s t : ℕ) (b : Body A) → e ≤ length w.memberships → Truth w g e s t b → Truth (with_membership w c joined running) g e s t b
+    → (e s t : ℕ) (b : MachineBody A) → e ≤ length w.memberships → Truth w g e s t b → Truth (with_membership w c joined running) g e s t b
 truth_next_membership {A} w g c joined running f e s t (Entry i x) le a = λ q hq. let P : List ℕ → Type 0 = λ l. is_member l q ≡ true in a q (subst P (membership_old w.memberships c e le) hq)
 truth_next_membership {A} w g c joined running f e s t (Ack k) le a = a
 truth_next_membership {A} w g c joined running f e s t (Copy xs) le a = (a.0, λ q hq. let P : List ℕ → Type 0 = λ l. is_member l q ≡ true in a.1 q (subst P (membership_old w.memberships c e le) hq))
@@ -32,7 +32,7 @@ truth_next_membership {A} w g c joined running f e s t (Floor k) le a = (
       ⊎_elim (λ old. a.3 u old) (λ new. absurd (new.absent e (next_right (membership_of w.memberships e) s t a.2))) (f t (subst P (membership_present w.memberships c) i)),
 )
 
-pub clauses_next_membership : {A : Type 0} → {w : World A} {g : Ages} → Clauses w g → (c joined : List ℕ) (running : ℕ → Bool)
+pub clauses_next_membership : {A : Type 0} → {w : MachineState A} {g : Ages} → Clauses w g → (c joined : List ℕ) (running : ℕ → Bool)
     → Shape (w.memberships ++ c ∷ []) joined g
     → ((m : ℕ) → running m ≡ true → is_member c m ≡ true)
     → ((m : ℕ) → is_member c m ≡ true → (is_member (membership_of w.memberships (length w.memberships)) m ≡ true) ⊎ Fresh w g m)
@@ -68,7 +68,7 @@ clauses_next_membership {A} {w} {g} k c joined running shape up f =
           (new n h);
     }
 
-pub clauses_removes : {A : Type 0} → {w : World A} {g : Ages} → Clauses w g → (n : ℕ) → w.running n ≡ false
+pub clauses_removes : {A : Type 0} → {w : MachineState A} {g : Ages} → Clauses w g → (n : ℕ) → w.running n ≡ false
     → Clauses (record w { memberships = w.memberships ++ without (membership_of w.memberships (length w.memberships)) n ∷ [] }) g
 clauses_removes {A} {w} {g} k n down =
     clauses_next_membership k (without (membership_of w.memberships (length w.memberships)) n) w.joined w.running (shape_removes k.shape n)

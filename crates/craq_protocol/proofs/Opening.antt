@@ -2,7 +2,7 @@
 use Rattle.std.proofs.Common.{◌≡◌, ◌≢◌, ⊎_elim, ℕ, zero, suc, ◌<◌, ◌≤◌, ◌==◌, true, false, cond, List, [], ◌∷◌, length, refl, sym, subst, arith}
 use Rattle.std.proofs.lemmas.Bool.{both_ways, cond_both, cond-true, cond-false, eq-eqb, ne_eqb}
 use Rattle.craq_protocol.specs.Members.{is_member, membership_of, IsDistinct}
-use Rattle.craq_protocol.specs.Machine.{opening}
+use Rattle.craq_protocol.specs.Machine.{initial_state}
 use Rattle.craq_protocol.proofs.Lists.{Sorted, is_member_none, is_member_cases, last_has, sorted_like, sorted_same}
 use Rattle.craq_protocol.proofs.Prefix.{prefix_nil}
 use Rattle.craq_protocol.proofs.Invariant.{Ages, Shape, Clauses, Invariant}
@@ -76,7 +76,7 @@ shape_opens ms d = record {
   below_top = λ x n h. place_under ms n (in_one ms x n h).1;
 }
 
-clauses_opens : (A : Type 0) (ms : List ℕ) → IsDistinct ms → Clauses (opening {A = A} ms) (ages ms)
+clauses_opens : (A : Type 0) (ms : List ℕ) → IsDistinct ms → Clauses (initial_state {A = A} ms) (ages ms)
 unfolding ages
 clauses_opens A ms d = record {
   shape = shape_opens ms d;
@@ -96,5 +96,5 @@ clauses_opens A ms d = record {
   never_last_before = λ s n x r h lt ge below l. let p : _ = in_one ms x n (last_has (membership_of (ms ∷ []) x) n l) in absurd (omega (arith, p.0));
 }
 
-pub opening_holds : (A : Type 0) (ms : List ℕ) → IsDistinct ms → Invariant (opening {A = A} ms)
+pub opening_holds : (A : Type 0) (ms : List ℕ) → IsDistinct ms → Invariant (initial_state {A = A} ms)
 opening_holds A ms d = record { ages = ages ms; clauses = clauses_opens A ms d; tails = λ n u r l. (refl, omega arith) }

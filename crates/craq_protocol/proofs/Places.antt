@@ -2,7 +2,7 @@
 use Rattle.std.proofs.Common.{◌≡◌, ⊎_elim, ℕ, zero, suc, ◌<◌, ◌≤◌, true, false, List, length, sym, subst, arith}
 use Rattle.std.proofs.lemmas.Bool.{cases_lt, cases_order, both_ways}
 use Rattle.craq_protocol.specs.Members.{is_member, is_last, is_next, membership_of}
-use Rattle.craq_protocol.specs.Machine.{World}
+use Rattle.craq_protocol.specs.Machine.{MachineState}
 use Rattle.craq_protocol.proofs.Lists.{last_highest, next_gap, next_left, next_right, next_rank, membership_none, membership_past}
 use Rattle.craq_protocol.proofs.Invariant.{Ages, Shape, Clauses}
 
@@ -29,7 +29,7 @@ some_epoch cs zero n h = absurd (membership_none cs n h)
 some_epoch cs (suc x) n h = omega arith
 
 -- a tail has no ready node after it
-pub tail_last : {A : Type 0} → {w : World A} {g : Ages} → Clauses w g → (n m : ℕ)
+pub tail_last : {A : Type 0} → {w : MachineState A} {g : Ages} → Clauses w g → (n m : ℕ)
     → is_last (membership_of w.memberships (w.epoch n)) n ≡ true → is_member (membership_of w.memberships (length w.memberships)) n ≡ true
     → w.ready m ≡ true → is_member (membership_of w.memberships (length w.memberships)) m ≡ true → g.rank n < g.rank m → ⊥
 tail_last {A} {w} {g} c n m l hn r hm lt =
@@ -39,7 +39,7 @@ tail_last {A} {w} {g} c n m l hn r hm lt =
     (cases_lt (w.epoch n) (g.born m))
 
 -- there is at most one tail
-pub one_tail : {A : Type 0} → {w : World A} {g : Ages} → Clauses w g → (n m : ℕ)
+pub one_tail : {A : Type 0} → {w : MachineState A} {g : Ages} → Clauses w g → (n m : ℕ)
     → w.running n ≡ true → w.ready n ≡ true → is_last (membership_of w.memberships (w.epoch n)) n ≡ true
     → w.running m ≡ true → w.ready m ≡ true → is_last (membership_of w.memberships (w.epoch m)) m ≡ true → n ≡ m
 one_tail {A} {w} {g} c n m un rn ln um rm lm =
@@ -51,7 +51,7 @@ one_tail {A} {w} {g} c n m un rn ln um rm lm =
     (cases_order (g.rank n) (g.rank m))
 
 -- while a member to which a floor was sent is not ready, there is no tail
-pub no_tail : {A : Type 0} → {w : World A} {g : Ages} → Clauses w g → (e s t n : ℕ)
+pub no_tail : {A : Type 0} → {w : MachineState A} {g : Ages} → Clauses w g → (e s t n : ℕ)
     → w.ready s ≡ true → e ≤ w.epoch s → is_next (membership_of w.memberships e) s t ≡ true
     → w.ready t ≡ false → is_member (membership_of w.memberships (length w.memberships)) t ≡ true
     → w.running n ≡ true → w.ready n ≡ true → is_last (membership_of w.memberships (w.epoch n)) n ≡ true → ⊥

@@ -1,16 +1,16 @@
 -- A true message is sent.
 use Rattle.std.proofs.Common.{◌≡◌, inr, ⊎_elim, ℕ, true, List, ◌∷◌, subst}
 use Rattle.craq_protocol.specs.Members.{is_member, membership_of}
-use Rattle.craq_protocol.specs.Machine.{Body, Message, World, Entry, Ack, Copy, Floor}
+use Rattle.craq_protocol.specs.Machine.{MachineBody, Message, MachineState, Entry, Ack, Copy, Floor}
 use Rattle.craq_protocol.proofs.Invariant.{Ages, Clauses, Truth}
 
-truth_sends : {A : Type 0} → (w : World A) (g : Ages) (messages : List (Message A)) (e s t : ℕ) (b : Body A) → Truth w g e s t b → Truth (record w { messages = messages }) g e s t b
+truth_sends : {A : Type 0} → (w : MachineState A) (g : Ages) (messages : List (Message A)) (e s t : ℕ) (b : MachineBody A) → Truth w g e s t b → Truth (record w { messages = messages }) g e s t b
 truth_sends {A} w g messages e s t (Entry i x) a = a
 truth_sends {A} w g messages e s t (Ack k) a = a
 truth_sends {A} w g messages e s t (Copy xs) a = a
 truth_sends {A} w g messages e s t (Floor k) a = a
 
-pub clauses_sends : {A : Type 0} → {w : World A} {g : Ages} → Clauses w g → (m : Message A) → is_member (membership_of w.memberships m.epoch) m.from ≡ true → Truth w g m.epoch m.from m.to m.body → Clauses (record w { messages = m ∷ w.messages }) g
+pub clauses_sends : {A : Type 0} → {w : MachineState A} {g : Ages} → Clauses w g → (m : Message A) → is_member (membership_of w.memberships m.epoch) m.from ≡ true → Truth w g m.epoch m.from m.to m.body → Clauses (record w { messages = m ∷ w.messages }) g
 clauses_sends {A} {w} {g} c m h a = record {
   shape = c.shape;
   epoch_made = c.epoch_made;

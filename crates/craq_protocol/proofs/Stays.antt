@@ -2,13 +2,13 @@
 use Rattle.std.proofs.Common.{Option, None, ◌≡◌, inr, ℕ, ◌<◌, ◌≤◌, true, false, List, [], ◌∷◌, ◌++◌, refl, sym, subst, ◌∙◌, arith}
 use Rattle.std.proofs.lemmas.Bool.{both_ways}
 use Rattle.craq_protocol.specs.Members.{is_member, with_value}
-use Rattle.craq_protocol.specs.Machine.{Message, World}
+use Rattle.craq_protocol.specs.Machine.{Message, MachineState}
 use Rattle.craq_protocol.specs.Promises.{IsPrefix, Later}
 use Rattle.craq_protocol.proofs.Lists.{put_each, membership_old, length_push, push_keeps}
 use Rattle.craq_protocol.proofs.Prefix.{prefix_self, prefix_nil, prefix_trans}
 use Rattle.craq_protocol.proofs.Joins.{Blank}
 
-pub later_self : {A : Type 0} → (w : World A) → Later w w
+pub later_self : {A : Type 0} → (w : MachineState A) → Later w w
 later_self {A} w = record {
   log = prefix_self w.log;
   history = λ n. prefix_self (w.history n);
@@ -22,7 +22,7 @@ later_self {A} w = record {
   members = λ e le. refl;
 }
 
-pub later_trans : {A : Type 0} {u v w : World A} → Later u v → Later v w → Later u w
+pub later_trans : {A : Type 0} {u v w : MachineState A} → Later u v → Later v w → Later u w
 later_trans {A} {u} {v} {w} a b = record {
   log = prefix_trans a.log b.log;
   history = λ n. prefix_trans (a.history n) (b.history n);
@@ -36,7 +36,7 @@ later_trans {A} {u} {v} {w} a b = record {
   members = λ e le. b.members e (omega (arith, a.epochs)) ∙ a.members e le;
 }
 
-pub later_grows : {A : Type 0} → (w : World A) (n : ℕ) (h : List A) → IsPrefix (w.history n) h → Later w (record w { history = with_value w.history n h })
+pub later_grows : {A : Type 0} → (w : MachineState A) (n : ℕ) (h : List A) → IsPrefix (w.history n) h → Later w (record w { history = with_value w.history n h })
 later_grows {A} w n h p = let s : Later w w = later_self w in record {
   log = s.log;
   history = put_each w.history n h (λ m x. IsPrefix (w.history m) x) p (λ m ne. prefix_self (w.history m));
@@ -50,7 +50,7 @@ later_grows {A} w n h p = let s : Later w w = later_self w in record {
   members = s.members;
 }
 
-pub later_marks : {A : Type 0} → (w : World A) (n p : ℕ) → w.acknowledged n ≤ p → Later w (record w { acknowledged = with_value w.acknowledged n p })
+pub later_marks : {A : Type 0} → (w : MachineState A) (n p : ℕ) → w.acknowledged n ≤ p → Later w (record w { acknowledged = with_value w.acknowledged n p })
 later_marks {A} w n p le = let s : Later w w = later_self w in record {
   log = s.log;
   history = s.history;
@@ -64,7 +64,7 @@ later_marks {A} w n p le = let s : Later w w = later_self w in record {
   members = s.members;
 }
 
-pub later_logs : {A : Type 0} → (w : World A) (log : List A) → IsPrefix w.log log → Later w (record w { log = log })
+pub later_logs : {A : Type 0} → (w : MachineState A) (log : List A) → IsPrefix w.log log → Later w (record w { log = log })
 later_logs {A} w log p = let s : Later w w = later_self w in record {
   log = p;
   history = s.history;
@@ -78,7 +78,7 @@ later_logs {A} w log p = let s : Later w w = later_self w in record {
   members = s.members;
 }
 
-pub later_becomes_ready : {A : Type 0} → (w : World A) (n : ℕ) → Later w (record w { ready = with_value w.ready n true })
+pub later_becomes_ready : {A : Type 0} → (w : MachineState A) (n : ℕ) → Later w (record w { ready = with_value w.ready n true })
 later_becomes_ready {A} w n = let s : Later w w = later_self w in record {
   log = s.log;
   history = s.history;
@@ -92,7 +92,7 @@ later_becomes_ready {A} w n = let s : Later w w = later_self w in record {
   members = s.members;
 }
 
-pub later_adopts : {A : Type 0} → (w : World A) (n e : ℕ) (floor : ℕ → Option ℕ) → w.epoch n < e → Later w (record w { epoch = with_value w.epoch n e; floor = floor })
+pub later_adopts : {A : Type 0} → (w : MachineState A) (n e : ℕ) (floor : ℕ → Option ℕ) → w.epoch n < e → Later w (record w { epoch = with_value w.epoch n e; floor = floor })
 later_adopts {A} w n e floor lt = let s : Later w w = later_self w in record {
   log = s.log;
   history = s.history;
@@ -106,7 +106,7 @@ later_adopts {A} w n e floor lt = let s : Later w w = later_self w in record {
   members = s.members;
 }
 
-pub later_floors : {A : Type 0} → (w : World A) (floor : ℕ → Option ℕ) → Later w (record w { floor = floor })
+pub later_floors : {A : Type 0} → (w : MachineState A) (floor : ℕ → Option ℕ) → Later w (record w { floor = floor })
 later_floors {A} w floor = let s : Later w w = later_self w in record {
   log = s.log;
   history = s.history;
@@ -120,7 +120,7 @@ later_floors {A} w floor = let s : Later w w = later_self w in record {
   members = s.members;
 }
 
-pub later_stops : {A : Type 0} → (w : World A) (n : ℕ) → Later w (record w { running = with_value w.running n false })
+pub later_stops : {A : Type 0} → (w : MachineState A) (n : ℕ) → Later w (record w { running = with_value w.running n false })
 later_stops {A} w n = let s : Later w w = later_self w in record {
   log = s.log;
   history = s.history;
@@ -134,7 +134,7 @@ later_stops {A} w n = let s : Later w w = later_self w in record {
   members = s.members;
 }
 
-pub later_sends : {A : Type 0} → (w : World A) (m : Message A) → Later w (record w { messages = m ∷ w.messages })
+pub later_sends : {A : Type 0} → (w : MachineState A) (m : Message A) → Later w (record w { messages = m ∷ w.messages })
 later_sends {A} w m = let s : Later w w = later_self w in record {
   log = s.log;
   history = s.history;
@@ -148,7 +148,7 @@ later_sends {A} w m = let s : Later w w = later_self w in record {
   members = s.members;
 }
 
-pub later_next_membership : {A : Type 0} → (w : World A) (c : List ℕ) → Later w (record w { memberships = w.memberships ++ c ∷ [] })
+pub later_next_membership : {A : Type 0} → (w : MachineState A) (c : List ℕ) → Later w (record w { memberships = w.memberships ++ c ∷ [] })
 later_next_membership {A} w c = let s : Later w w = later_self w in record {
   log = s.log;
   history = s.history;
@@ -162,7 +162,7 @@ later_next_membership {A} w c = let s : Later w w = later_self w in record {
   members = λ e le. membership_old w.memberships c e le;
 }
 
-pub later_joins : {A : Type 0} → (w : World A) (n : ℕ) (c : List ℕ) → is_member w.joined n ≡ false → Blank w n
+pub later_joins : {A : Type 0} → (w : MachineState A) (n : ℕ) (c : List ℕ) → is_member w.joined n ≡ false → Blank w n
     → Later w (record w {
       memberships = w.memberships ++ c ∷ [];
       joined = w.joined ++ n ∷ [];

@@ -1,7 +1,7 @@
 -- The claims of the theorem about a machine that started at an opening.
 use Rattle.std.specs.Prelude.{◌≡◌, ◌⊎◌, ℕ, ◌<◌, ◌≤◌, true, false, List, [], ◌∷◌, ◌++◌, length, take, get_or}
 use Rattle.craq_protocol.specs.Members.{is_member, membership_of, IsDistinct}
-use Rattle.craq_protocol.specs.Machine.{Message, World, Move, opening, after_moves, Ack, Copy, known_membership, current_membership, is_tail}
+use Rattle.craq_protocol.specs.Machine.{Message, MachineState, MachineMove, initial_state, after_moves, Ack, Copy, known_membership, current_membership, is_tail}
 
 -- the first list is a prefix of the second
 pub record IsPrefix {A : Type 0} (xs ys : List A) : Type 0 where
@@ -23,14 +23,14 @@ pub record Before (members : List ℕ) (first second : ℕ) : Type 0 where
   pub at_back : get_or members back 0 ≡ second
 
 -- some moves from some opening lead to the world
-pub record IsReached {A : Type 0} (w : World A) : Type 0 where
+pub record IsReached {A : Type 0} (w : MachineState A) : Type 0 where
   pub members : List ℕ
   pub distinct : IsDistinct members
-  pub moves : List (Move A)
-  pub is : after_moves (opening members) moves ≡ w
+  pub moves : List (MachineMove A)
+  pub is : after_moves (initial_state members) moves ≡ w
 
 -- Nothing is taken back: the properties of a world that hold in each later one.
-pub record Later {A : Type 0} (w v : World A) : Type 0 where
+pub record Later {A : Type 0} (w v : MachineState A) : Type 0 where
   pub log : IsPrefix w.log v.log
   pub history : (node : ℕ) → IsPrefix (w.history node) (v.history node)
   pub acknowledged : (node : ℕ) → w.acknowledged node ≤ v.acknowledged node
@@ -43,7 +43,7 @@ pub record Later {A : Type 0} (w v : World A) : Type 0 where
   pub members : (epoch : ℕ) → epoch ≤ length w.memberships → membership_of v.memberships epoch ≡ membership_of w.memberships epoch
 
 -- The properties of the machine at all times.
-pub record IsSafe {A : Type 0} (w : World A) : Type 0 where
+pub record IsSafe {A : Type 0} (w : MachineState A) : Type 0 where
   -- the log is a prefix of each ready member's history
   pub committed : (node : ℕ) → w.ready node ≡ true → is_member (current_membership w) node ≡ true → IsPrefix w.log (w.history node)
   -- the entries that a node knows to be committed are committed, and are in its history

@@ -2,7 +2,7 @@
 //! safe too.
 
 ghost use Rattle.std.specs.Prelude.{◌≡◌, ◌∷◌, ◌++◌, ℕ, List, Some, []};
-ghost use Rattle.craq_protocol.specs.Machine.{Move, after_moves, entry_at};
+ghost use Rattle.craq_protocol.specs.Machine.{MachineMove, after_moves, entry_at};
 ghost use Rattle.craq_protocol.specs.Schedules.{
   commits_at_three,
   fourth_joins,
@@ -26,6 +26,6 @@ pub fn commits_through_a_join_and_a_failure()
 pub fn entries_of_a_lost_head_are_not_committed()
     ensures held { (from_three (commits_at_three ++ head_fails)).history 1 ≡ 7 ∷ 8 ∷ 9 ∷ [] }
     ensures goes_on { (from_three (commits_at_three ++ head_fails ++ next_head_goes_on)).log ≡ 7 ∷ 10 ∷ [] }
-    ensures replaced { (later : List (Move ℕ)) →
+    ensures replaced { (later : List (MachineMove ℕ)) →
         entry_at (after_moves (from_three (commits_at_three ++ head_fails ++ next_head_goes_on)) later).log 2 ≡ Some 10 }
 {}

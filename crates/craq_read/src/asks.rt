@@ -1,11 +1,11 @@
-//! `plan_read`: the rule of a read, eventual, bounded or strong. `craq_node` calls it.
+//! `compute_read`: the rule of a read, eventual, bounded or strong. `craq_node` calls it.
 ghost use Rattle.std.specs.Prelude.{◌≡◌, ◌==◌, ◌<◌, ◌≤◌, ◌+◌, ◌-◌, ◌^◌, [], false, is_some, length, IfOk, IfErr, IfSome};
 ghost use Rattle.craq_commands.specs.Objects.{object_of};
-ghost use Rattle.craq_model.specs.Asks.{read_turn, waiting_read_turn};
+ghost use Rattle.craq_model.specs.Asks.{read_transition, waiting_read_transition};
 ghost use Rattle.craq_model.specs.Past.{clean_in, newest_in, values_after};
 ghost use Rattle.craq_history.specs.Change.{accepted_change};
 ghost use Rattle.craq_history.specs.Nodes.{plain_of};
-ghost use Rattle.craq_history.specs.Plans.{Plans};
+ghost use Rattle.craq_history.specs.Effects.{Computes};
 ghost use Rattle.craq_read.specs.Answers.{read_step};
 
 use craq_commands::ReadMode;
@@ -22,15 +22,15 @@ use std::alloc::Global;
 /// one. Strong: replies at once if the object is clean; if it is dirty, the read waits and the last
 /// member is asked which version is committed (USENIX ATC 2009). Returns `PendingFull` if the read
 /// would have to wait and 1,024 requests wait. Otherwise fails only when out of memory.
-#[tactic(auto, unfolding(craq_model::specs::Asks::read_turn, craq_model::specs::Plain::newest, craq_model::specs::Plain::clean, craq_model::specs::Plain::entries_after))]
-pub fn plan_read<H: History>(
+#[tactic(auto, unfolding(craq_model::specs::Asks::read_transition, craq_model::specs::Plain::newest, craq_model::specs::Plain::clean, craq_model::specs::Plain::entries_after))]
+pub fn compute_read<H: History>(
     alloc: Global,
     node: &Node<H>,
     mode: ReadMode,
     key: &Key,
 ) -> Result<(Change, Step), Refusal>
     requires { node.now.last_ticket < 2 ^ 64 - 1 }
-    ensures { Plans (plain_of H.past node.now) result (read_turn (plain_of H.past node.now) mode key.now) }
+    ensures { Computes (plain_of H.past node.now) result (read_transition (plain_of H.past node.now) mode key.now) }
 {
     match mode {
         ReadMode::Eventual => {
@@ -88,10 +88,10 @@ fn answered(
 }
 
 /// Plans a read that waits for the last member's version.
-#[tactic(auto, unfolding(craq_model::specs::Asks::waiting_read_turn, craq_model::specs::Asks::is_full))]
+#[tactic(auto, unfolding(craq_model::specs::Asks::waiting_read_transition, craq_model::specs::Asks::is_full))]
 fn waits<H: History>(alloc: Global, node: &Node<H>, key: &Key) -> Result<(Change, Step), Refusal>
     requires { node.now.last_ticket < 2 ^ 64 - 1 }
-    ensures { Plans (plain_of H.past node.now) result (waiting_read_turn (plain_of H.past node.now) key.now) }
+    ensures { Computes (plain_of H.past node.now) result (waiting_read_transition (plain_of H.past node.now) key.now) }
 {
     if node.is_full() {
         return Err(Refusal::PendingFull);

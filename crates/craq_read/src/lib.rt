@@ -5,5 +5,5 @@
 mod asks;
 mod words;
 
-pub use asks::plan_read;
-pub use words::{plan_query, plan_version};
+pub use asks::compute_read;
+pub use words::{compute_query, compute_version};

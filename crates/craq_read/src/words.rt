@@ -2,9 +2,9 @@
 //! `craq_node` calls them.
 ghost use Rattle.std.specs.Prelude.{◌≡◌, IfOk, IsOk, IsSome};
 ghost use Rattle.std.specs.Option.{option_copied};
-ghost use Rattle.craq_model.specs.Deliveries.{query_turn, version_turn, told_version_turn, read_with};
+ghost use Rattle.craq_model.specs.Deliveries.{query_transition, version_transition, reported_version_transition, read_with};
 ghost use Rattle.craq_history.specs.Nodes.{plain_of};
-ghost use Rattle.craq_history.specs.Plans.{IsPlanOf};
+ghost use Rattle.craq_history.specs.Effects.{IsEffectOf};
 
 use craq_history::members::{is_member_of, last_member};
 use craq_history::outs::message;
@@ -17,16 +17,16 @@ use std::alloc::{AllocError, Global};
 /// Plans the reply to another member's query which version of an object is committed. The tail
 /// replies with its newest version, which is committed there (USENIX ATC 2009). Ignored if the
 /// sender is no other member (`NotNeighbour`) or this node is not the tail (`NotReadyHere`).
-#[tactic(auto, unfolding(craq_model::specs::Deliveries::query_turn, craq_model::specs::Plain::newest))]
-pub fn plan_query<H: History>(
+#[tactic(auto, unfolding(craq_model::specs::Deliveries::query_transition, craq_model::specs::Plain::newest))]
+pub fn compute_query<H: History>(
     alloc: Global,
     node: &Node<H>,
     sender: NodeId,
     ticket: Ticket,
     key: &Key,
 ) -> Result<(Change, Step), AllocError>
-    ensures turn { IfOk result (λ r. IsPlanOf (plain_of H.past node.now) r (query_turn (plain_of H.past node.now) sender ticket key.now)) }
-    ensures free { IsSome (query_turn (plain_of H.past node.now) sender ticket key.now).1.ignored → IsOk result }
+    ensures transition { IfOk result (λ r. IsEffectOf (plain_of H.past node.now) r (query_transition (plain_of H.past node.now) sender ticket key.now)) }
+    ensures free { IsSome (query_transition (plain_of H.past node.now) sender ticket key.now).1.ignored → IsOk result }
 {
     let own = node.name.node;
     let members = node.members.as_slice();
@@ -60,16 +60,16 @@ fn waiting_read(reads: &[WaitingRead], ticket: Ticket) -> Option<&WaitingRead>
 /// version, or the clean one if that is later. Ignored if the sender is not the last member
 /// (`NotNeighbour`), if no read waits under the ticket (`UnknownTicket`), or if the version is
 /// above the newest held (`TooFar`).
-#[tactic(auto, unfolding(craq_model::specs::Deliveries::version_turn, craq_model::specs::Deliveries::told_version_turn))]
-pub fn plan_version<H: History>(
+#[tactic(auto, unfolding(craq_model::specs::Deliveries::version_transition, craq_model::specs::Deliveries::reported_version_transition))]
+pub fn compute_version<H: History>(
     alloc: Global,
     node: &Node<H>,
     sender: NodeId,
     ticket: Ticket,
     version: Version,
 ) -> Result<(Change, Step), AllocError>
-    ensures turn { IfOk result (λ r. IsPlanOf (plain_of H.past node.now) r (version_turn (plain_of H.past node.now) sender ticket version)) }
-    ensures free { IsSome (version_turn (plain_of H.past node.now) sender ticket version).1.ignored → IsOk result }
+    ensures transition { IfOk result (λ r. IsEffectOf (plain_of H.past node.now) r (version_transition (plain_of H.past node.now) sender ticket version)) }
+    ensures free { IsSome (version_transition (plain_of H.past node.now) sender ticket version).1.ignored → IsOk result }
 {
     if sender != last_member(node.members.as_slice()) {
         return Ok((Change::none(), ignoring(alloc, Why::NotNeighbour)));
@@ -77,19 +77,19 @@ pub fn plan_version<H: History>(
     let Some(read) = waiting_read(node.waiting_reads.as_slice(), ticket) else {
         return Ok((Change::none(), ignoring(alloc, Why::UnknownTicket)));
     };
-    told(alloc, node, version, read)
+    reported(alloc, node, version, read)
 }
 
 /// Plans the reply to a waiting read, given a committed version.
-#[tactic(auto, unfolding(craq_model::specs::Deliveries::told_version_turn, craq_model::specs::Plain::newest, craq_model::specs::Plain::clean, craq_model::specs::Plain::entries_after))]
-fn told<H: History>(
+#[tactic(auto, unfolding(craq_model::specs::Deliveries::reported_version_transition, craq_model::specs::Plain::newest, craq_model::specs::Plain::clean, craq_model::specs::Plain::entries_after))]
+fn reported<H: History>(
     alloc: Global,
     node: &Node<H>,
     version: Version,
     read: &WaitingRead,
 ) -> Result<(Change, Step), AllocError>
-    ensures turn { IfOk result (λ r. IsPlanOf (plain_of H.past node.now) r (told_version_turn (plain_of H.past node.now) version (Some read.now))) }
-    ensures free { IsSome (told_version_turn (plain_of H.past node.now) version (Some read.now)).1.ignored → IsOk result }
+    ensures transition { IfOk result (λ r. IsEffectOf (plain_of H.past node.now) r (reported_version_transition (plain_of H.past node.now) version (Some read.now))) }
+    ensures free { IsSome (reported_version_transition (plain_of H.past node.now) version (Some read.now)).1.ignored → IsOk result }
 {
     let ObjectVersions { newest, clean } = node.history.versions(&read.key);
     if newest.0 < version {

@@ -15,12 +15,12 @@ use Rattle.craq_model.specs.declared.message.LinkMessage.{LinkMessage}
 use Rattle.craq_model.specs.declared.step.Out.{Out}
 use Rattle.craq_model.specs.declared.step.Out.TheVariants as outs
 use Rattle.craq_model.specs.declared.step.Step.{Step}
-use Rattle.craq_model.specs.Deliveries.{delivery_turn}
-use Rattle.craq_model.specs.Node.{event_turn, is_send, node_step, out_fits, outs_fit, within_counts}
+use Rattle.craq_model.specs.Deliveries.{delivery_transition}
+use Rattle.craq_model.specs.Node.{event_transition, is_send, node_step, out_fits, outs_fit, within_counts}
 use Rattle.craq_model.specs.Plain.{Plain, id_of}
 use Rattle.craq_model.specs.Sends.{tick_sends}
-use Rattle.craq_model.specs.Settle.{Turn, turn_with}
-use Rattle.craq_protocol.specs.Machine.{World}
+use Rattle.craq_model.specs.Settle.{Transition, transition_with}
+use Rattle.craq_protocol.specs.Machine.{MachineState}
 use Rattle.craq_protocol.specs.Members.{is_member}
 use Rattle.craq_protocol.proofs.Invariant.{Clauses, Invariant}
 use Rattle.craq_protocol.proofs.Reached.{reached_inv}
@@ -32,19 +32,19 @@ use Rattle.craq_refinement.proofs.Stages.{moved}
 use Rattle.craq_runs.specs.declared.run.Move.{Move}
 use Rattle.craq_runs.specs.declared.run.Move.TheVariants.{Deliver, Tick}
 use Rattle.craq_runs.specs.declared.run.Run.{Run}
-use Rattle.craq_runs.specs.Chain.{Chain, Progress, arrival_progress, chain_step, config_progress, config_to, counted_progress, is_running, message_at, node_at, node_progress, numbers_left, sent_in, set_node, turn_progress}
+use Rattle.craq_runs.specs.Chain.{Chain, Progress, arrival_progress, chain_step, config_progress, config_to, counted_progress, is_running, message_at, node_at, node_progress, numbers_left, sent_in, set_node, transition_progress}
 use Rattle.craq_runs.specs.Runs.{IsRunOf, after_move, progressed}
-use Rattle.craq_recovery.specs.Recovered.{chain_after}
+use Rattle.craq_recovery.specs.Recovered.{chain_after_moves}
 use Rattle.craq_recovery.specs.Room.{HasRoom, largest_state, longest_history, most_reads}
 use Rattle.craq_recovery.specs.Rounds.{after_moves_by, arrivals, arrivals_of, hops, round, ticks_of}
 use Rattle.craq_recovery.specs.Taken.{HaveNumbers, HaveNumbersFor}
-use Rattle.craq_recovery.proofs.Bounds.{AllWithin, by_bool, turn_within, within_at_first}
+use Rattle.craq_recovery.proofs.Bounds.{AllWithin, by_bool, transition_within, within_at_first}
 use Rattle.craq_recovery.proofs.Costs.{Costs, Fits, Within, cost, cost_all, cost_both, length_cost, tick_cost, top}
 use Rattle.craq_recovery.proofs.Gains.{Goes, goes_move}
 use Rattle.craq_recovery.proofs.Arriving.{after_both}
 use Rattle.craq_recovery.proofs.Ids.{NoneIsMaster, none_after, none_is_master, not_master}
 use Rattle.craq_recovery.proofs.Onward.{Onward, onward_move, onward_moves, onward_on, onward_self}
-use Rattle.craq_recovery.proofs.Sound.{Sound, own_chain, sound_after, sound_move, turn_named}
+use Rattle.craq_recovery.proofs.Sound.{Sound, own_chain, sound_after, sound_move, transition_named}
 use Rattle.craq_recovery.proofs.Spending.{Turned, delivery_turned, load}
 use Rattle.craq_recovery.proofs.Taking.{bears, for_it, round_travels, runs_on, sent_before, stands_at}
 
@@ -123,10 +123,10 @@ outs_do_fit s os small most fits =
 
 -- ---- a move is taken
 
-step_goes : (p : Plain) (ev : Event) (t : Turn) → p.running ≡ true → event_turn p ev ≡ Ok t → outs_fit t.1.outs ≡ true → node_step p ev ≡ Ok t
+step_goes : (p : Plain) (ev : Event) (t : Transition) → p.running ≡ true → event_transition p ev ≡ Ok t → outs_fit t.1.outs ≡ true → node_step p ev ≡ Ok t
 unfolding node_step
 step_goes p ev t runs does fit =
-    cond_both p.running (within_counts (event_turn p ev)) (Err refusals.Stopped) (λ (x : Result Turn Refusal). x ≡ Ok t)
+    cond_both p.running (within_counts (event_transition p ev)) (Err refusals.Stopped) (λ (x : Result Transition Refusal). x ≡ Ok t)
     (λ h. ap within_counts does ∙ cond-true (outs_fit t.1.outs) (Ok t) (Err refusals.Exhausted) fit)
     (λ h. absurd (both_ways p.running h runs))
 
@@ -137,11 +137,11 @@ left d step moves messages =
     and_from (not (d.moves == greatest)) (nat_le (length d.messages + length (sent_in step.outs)) greatest)
     (not_from_false (d.moves == greatest) other) (le-leb (length d.messages + length (sent_in step.outs)) greatest messages)
 
-turn_goes : (d : Chain) (id : ℕ) (p : Plain) (ev : Event) (t : Turn) → node_at d.nodes id ≡ Some p → p.running ≡ true → event_turn p ev ≡ Ok t → outs_fit t.1.outs ≡ true
+transition_goes : (d : Chain) (id : ℕ) (p : Plain) (ev : Event) (t : Transition) → node_at d.nodes id ≡ Some p → p.running ≡ true → event_transition p ev ≡ Ok t → outs_fit t.1.outs ≡ true
     → d.moves + 1 ≤ greatest → length d.messages + length (sent_in t.1.outs) ≤ greatest → counted_progress d (node_progress d (node_at d.nodes id) ev) ≡ Ok (moved d t, t.1)
-turn_goes d id p ev t at runs does fit moves messages =
+transition_goes d id p ev t at runs does fit moves messages =
     ap (λ o. counted_progress d (node_progress d o ev)) at
-    ∙ (ap (λ (x : Result Turn Refusal). counted_progress d (turn_progress d x)) (step_goes p ev t runs does fit)
+    ∙ (ap (λ (x : Result Transition Refusal). counted_progress d (transition_progress d x)) (step_goes p ev t runs does fit)
     ∙ cond-true (numbers_left d t.1) (Ok (moved d t, t.1)) (Err refusals.Exhausted) (left d t.1 moves messages))
 
 open_at : (o : Option Plain) → is_running o ≡ true → (p : Plain) × (o ≡ Some p) × (p.running ≡ true)
@@ -212,7 +212,7 @@ module _ (e i r : ℕ) (small : top e i r ≤ greatest_count) where
 
   is_a_member : (d : Chain) (p : Plain) → IsFollowed d → node_at d.nodes (id_of p) ≡ Some p → p.running ≡ true → is_member d.members (id_of p) ≡ true
   is_a_member d p f at runs =
-      let w : World Entry = f.0 in
+      let w : MachineState Entry = f.0 in
       let g : Follows d w = f.2 in
       let inv : Invariant w = reached_inv f.1 in
       let k : Clauses w inv.ages = inv.clauses in
@@ -227,15 +227,15 @@ module _ (e i r : ℕ) (small : top e i r ≤ greatest_count) where
   delivered d number m st there runs room moves =
       let o : (p : Plain) × (node_at d.nodes m.receiver ≡ Some p) × (p.running ≡ true) = open_at (node_at d.nodes m.receiver) runs in
       let p : Plain = o.0 in
-      let t : Turn = delivery_turn p m in
+      let t : Transition = delivery_transition p m in
       let own : id_of p ≡ m.receiver = node_id d.nodes m.receiver p o.1 in
       let N : ℕ → Type 0 = λ k. node_at d.nodes k ≡ Some p in
       let at : node_at d.nodes (id_of p) ≡ Some p = subst N (sym own) o.1 in
       let of : m.chain ≡ p.name.chain = bears d number m st.sound there ∙ sym (own_chain d.chain m.receiver d.nodes p st.sound.nodes o.1) in
-      let does : event_turn p (events.Deliver m) ≡ Ok t = for_it p m of (sym own) in
-      let named : t.0.name ≡ p.name = turn_named p (events.Deliver m) t does in
+      let does : event_transition p (events.Deliver m) ≡ Ok t = for_it p m of (sym own) in
+      let named : t.0.name ≡ p.name = transition_named p (events.Deliver m) t does in
       let k : Turned e i r small (cost (top e i r) m.body) p t = delivery_turned e i r small p m in
-      let w : Within e i r t.0 = turn_within e i r small d st.followed number m p st.within at o.2 there (sym own) named in
+      let w : Within e i r t.0 = transition_within e i r small d st.followed number m p st.within at o.2 there (sym own) named in
       let at_now : node_at d.nodes (id_of t.0) ≡ Some p = subst N (ap (λ (n : NodeName). n.node) (sym named)) at in
       let M : ℕ → Type 0 = λ id. is_member d.members id ≡ true in
       let member : is_member d.members (id_of t.0) ≡ true = subst M (ap (λ (n : NodeName). n.node) (sym named)) (is_a_member d p st.followed at o.2) in
@@ -246,7 +246,7 @@ module _ (e i r : ℕ) (small : top e i r ≤ greatest_count) where
       let fit : outs_fit t.1.outs ≡ true = outs_do_fit (top e i r) t.1.outs small (k.most w) (k.fits w) in
       let ok : chain_step d (Deliver number) ≡ Ok (moved d t, t.1) =
       ap (λ o. counted_progress d (arrival_progress d o)) there
-      ∙ turn_goes d m.receiver p (events.Deliver m) t o.1 o.2 does fit moves (omega (arith, room, pays, length_cost (top e i r) (sent_in t.1.outs))) in
+      ∙ transition_goes d m.receiver p (events.Deliver m) t o.1 o.2 does fit moves (omega (arith, room, pays, length_cost (top e i r) (sent_in t.1.outs))) in
       moves_by d (Deliver number) (cost (top e i r) m.body) (moved d t, t.1) ok
       (record { within = set_within d.nodes p t.0 st.within at_now w; sent = sent_in t.1.outs; is = refl; pays = pays; moves = refl })
 
@@ -256,7 +256,7 @@ module _ (e i r : ℕ) (small : top e i r ≤ greatest_count) where
   ticked d id st runs room moves =
       let o : (p : Plain) × (node_at d.nodes id ≡ Some p) × (p.running ≡ true) = open_at (node_at d.nodes id) runs in
       let p : Plain = o.0 in
-      let t : Turn = turn_with p (tick_sends p) in
+      let t : Transition = transition_with p (tick_sends p) in
       let own : id_of p ≡ id = node_id d.nodes id p o.1 in
       let N : ℕ → Type 0 = λ k. node_at d.nodes k ≡ Some p in
       let at : node_at d.nodes (id_of p) ≡ Some p = subst N (sym own) o.1 in
@@ -269,14 +269,14 @@ module _ (e i r : ℕ) (small : top e i r ≤ greatest_count) where
       let fit : outs_fit t.1.outs ≡ true = outs_do_fit (top e i r) t.1.outs small c.costs c.fits in
       let ok : chain_step d (Tick id) ≡ Ok (moved d t, t.1) =
       ap (counted_progress d) (cond-false (id == 0) (Ok (config_progress d)) (node_progress d (node_at d.nodes id) events.Tick) other)
-      ∙ turn_goes d id p events.Tick t o.1 o.2 refl fit moves (omega (arith, room, c.costs, length_cost (top e i r) (sent_in t.1.outs))) in
+      ∙ transition_goes d id p events.Tick t o.1 o.2 refl fit moves (omega (arith, room, c.costs, length_cost (top e i r) (sent_in t.1.outs))) in
       moves_by d (Tick id) (top e i r + 1) (moved d t, t.1) ok
       (record { within = set_within d.nodes p p st.within at w; sent = sent_in t.1.outs; is = refl; pays = pays; moves = refl })
 
   -- the master ticks
-  told : (d : Chain) → Stands d → length d.messages + length d.members * (top e i r + 1) ≤ greatest → d.moves + 1 ≤ greatest → Moves d (Tick 0) (length d.members * (top e i r + 1))
+  reported : (d : Chain) → Stands d → length d.messages + length d.members * (top e i r + 1) ≤ greatest → d.moves + 1 ≤ greatest → Moves d (Tick 0) (length d.members * (top e i r + 1))
   unfolding chain_step
-  told d st room moves =
+  reported d st room moves =
       let x : Progress = config_progress d in
       let new : List LinkMessage = sent_in x.1.outs in
       let y : Chain = record d { messages = d.messages ++ new; moves = d.moves + 1 } in
@@ -436,7 +436,7 @@ module _ (e i r : ℕ) (small : top e i r ≤ greatest_count) where
       let first : Chain = after_move c (Tick 0) in
       let ids : List Move = ticks_of c.nodes c.members in
       let idle : loads s c.nodes c.members ≤ k = loads_bound s c.nodes c.members in
-      let v : Moves c (Tick 0) k = told c st (omega (arith, room, sum, bound)) (omega (arith, moves, sum)) in
+      let v : Moves c (Tick 0) k = reported c st (omega (arith, room, sum, bound)) (omega (arith, moves, sum)) in
       let p : Pays c first k = v.pays in
       let on : Onward c first = onward_move c (Tick 0) tt in
       let x : Counted c (Tick 0 ∷ ids) (k + k) (suc n) =
@@ -463,9 +463,9 @@ module _ (e i r : ℕ) (small : top e i r ≤ greatest_count) where
       (h.numbers, rounds_all count rounds f next h.stands (subst B (sym on.members) bound) (omega (arith, room, sum, h.messages)) (omega (arith, moves, sum, h.moves)))
 
 -- a chain with room has numbers for its rounds
-pub have_numbers : (chain : ℕ) (run : Run) (count rounds : ℕ) → IsRunOf chain run → HasRoom count rounds (chain_after chain run) → HaveNumbersFor count rounds (chain_after chain run)
+pub have_numbers : (chain : ℕ) (run : Run) (count rounds : ℕ) → IsRunOf chain run → HasRoom count rounds (chain_after_moves chain run) → HaveNumbersFor count rounds (chain_after_moves chain run)
 have_numbers chain run count rounds is room =
-    let c : Chain = chain_after chain run in
+    let c : Chain = chain_after_moves chain run in
     let e : ℕ = longest_history c in
     let i : ℕ = largest_state c in
     let r : ℕ = most_reads c in

@@ -7,13 +7,13 @@ use Rattle.craq_model.specs.declared.message.LinkMessage.{LinkMessage}
 use Rattle.craq_model.specs.declared.step.Out.{Out}
 use Rattle.craq_model.specs.declared.step.Out.TheVariants as outs
 use Rattle.craq_model.specs.declared.step.Why.TheVariants.{NotNeighbour, AlreadyHave, NotReadyHere, TooFar}
-use Rattle.craq_model.specs.Deliveries.{ack_turn, acknowledgement_turn, body_turn, delivery_turn}
+use Rattle.craq_model.specs.Deliveries.{ack_transition, acknowledgement_transition, body_transition, delivery_transition}
 use Rattle.craq_model.specs.Members.{is_id, is_member, predecessor_in, successor_in}
 use Rattle.craq_model.specs.Plain.{Plain, id_of, is_last, length_of, predecessor, successor}
 use Rattle.craq_model.specs.Sends.{catch_up, queries, ready_sends, send, send_all, tick_sends, to_neighbour, unready_sends}
-use Rattle.craq_model.specs.Settle.{Turn, turn_ignoring}
+use Rattle.craq_model.specs.Settle.{Transition, transition_ignoring}
 use Rattle.craq_protocol.specs.Machine as machine
-use Rattle.craq_protocol.specs.Machine.{World}
+use Rattle.craq_protocol.specs.Machine.{MachineState}
 use Rattle.craq_protocol.specs.Promises.{IsPrefix, IsSafe, Sent}
 use Rattle.craq_protocol.proofs.Invariant.{Invariant}
 use Rattle.craq_protocol.proofs.Reached.{reached_inv, reached_safe}
@@ -28,7 +28,7 @@ use Rattle.craq_refinement.proofs.Worlds.{history_length}
 use Rattle.craq_runs.specs.Chain.{Chain, message_at, node_at, sent_in}
 use Rattle.craq_runs.specs.Runs.{IsRunOf, after_move}
 use Rattle.craq_runs.specs.declared.run.Run.{Run}
-use Rattle.craq_recovery.specs.Recovered.{AreNeighbours, Knows, KnowsCommitted, after_round, chain_after}
+use Rattle.craq_recovery.specs.Recovered.{AreNeighbours, Knows, KnowsCommitted, after_round, chain_after_moves}
 use Rattle.craq_recovery.specs.Rounds.{after_moves_by, round}
 use Rattle.craq_recovery.specs.Taken.{HaveNumbers}
 use Rattle.craq_recovery.proofs.Gains.{prefix_length}
@@ -36,7 +36,7 @@ use Rattle.craq_recovery.proofs.Hearing.{Informed}
 use Rattle.craq_recovery.proofs.Ids.{none_is_master, not_master}
 use Rattle.craq_recovery.proofs.Sound.{Sound, sound_after}
 use Rattle.craq_recovery.proofs.Series.{Has}
-use Rattle.craq_recovery.proofs.Travels.{IsKept, Makes, Met, NodeIs, crosses_one, ends, in_turn, met, stands_by}
+use Rattle.craq_recovery.proofs.Travels.{IsKept, Makes, Met, NodeIs, crosses_one, ends, one_by_one, met, stands_by}
 
 -- ---- nodes of the master's epoch
 
@@ -109,7 +109,7 @@ tick_acks Is p to ready late before h =
 -- a ready node is in an epoch
 pub in_epoch : (c : Chain) (id : ℕ) (p : Plain) → IsFollowed c → node_at c.nodes id ≡ Some p → p.ready ≡ true → 0 < p.epoch
 in_epoch c id p f at ready =
-    let w : World Entry = f.0 in
+    let w : MachineState Entry = f.0 in
     let g : Follows c w = f.2 in
     let P : ℕ → Type 0 = λ k. node_at c.nodes k ≡ Some p in
     let n : NodeFollows w (seen_of p) = g.nodes (id_of p) p (subst P (sym (node_id c.nodes id p at)) at) in
@@ -131,21 +131,21 @@ pub is_id_here : (o : Option ℕ) (id : ℕ) → o ≡ Some id → is_id o id �
 is_id_here None id h = absurd (cc)
 is_id_here (Some m) id h = let same : m ≡ id = cc in eq-eqb m id same
 
-acknowledges : (p : Plain) (from position : ℕ) → successor p ≡ Some from → p.ready ≡ true → position ≤ length_of p → position ≤ (ack_turn p from position).0.past.acknowledged
-unfolding ack_turn acknowledgement_turn
+acknowledges : (p : Plain) (from position : ℕ) → successor p ≡ Some from → p.ready ≡ true → position ≤ length_of p → position ≤ (ack_transition p from position).0.past.acknowledged
+unfolding ack_transition acknowledgement_transition
 acknowledges p from position after ready le =
-    let P : Turn → Type 0 = λ t. position ≤ t.0.past.acknowledged in
-    let t4 : Turn = acknowledgement_turn p position in
-    let t3 : Turn = cond (nat_lt (length_of p) position) (turn_ignoring p TooFar) t4 in
-    let t2 : Turn = cond (nat_le position p.past.acknowledged) (turn_ignoring p AlreadyHave) t3 in
-    let t1 : Turn = cond (not p.ready) (turn_ignoring p NotReadyHere) t2 in
-    cond_both (not (is_id (successor p) from)) (turn_ignoring p NotNeighbour) t1 P
+    let P : Transition → Type 0 = λ t. position ≤ t.0.past.acknowledged in
+    let t4 : Transition = acknowledgement_transition p position in
+    let t3 : Transition = cond (nat_lt (length_of p) position) (transition_ignoring p TooFar) t4 in
+    let t2 : Transition = cond (nat_le position p.past.acknowledged) (transition_ignoring p AlreadyHave) t3 in
+    let t1 : Transition = cond (not p.ready) (transition_ignoring p NotReadyHere) t2 in
+    cond_both (not (is_id (successor p) from)) (transition_ignoring p NotNeighbour) t1 P
     (λ e. absurd (both_ways (is_id (successor p) from) (not-true (is_id (successor p) from) e) (is_id_here (successor p) from after)))
-    (λ e. cond_both (not p.ready) (turn_ignoring p NotReadyHere) t2 P
+    (λ e. cond_both (not p.ready) (transition_ignoring p NotReadyHere) t2 P
     (λ e. absurd (both_ways p.ready (not-true p.ready e) ready))
-    (λ e. cond_both (nat_le position p.past.acknowledged) (turn_ignoring p AlreadyHave) t3 P
+    (λ e. cond_both (nat_le position p.past.acknowledged) (transition_ignoring p AlreadyHave) t3 P
     (λ e. leb-true position p.past.acknowledged e)
-    (λ e. cond_both (nat_lt (length_of p) position) (turn_ignoring p TooFar) t4 P
+    (λ e. cond_both (nat_lt (length_of p) position) (transition_ignoring p TooFar) t4 P
     (λ e. let far : length_of p < position = ltb-true (length_of p) position e in absurd (omega (arith, far, le)))
     (λ e. omega arith))))
 
@@ -153,7 +153,7 @@ acknowledges p from position after ready le =
 held_by : (c : Chain) (number : ℕ) (m : LinkMessage) (position id : ℕ) (p : Plain) → IsFollowed c → message_at c.messages number ≡ Some m → m.body ≡ bodies.Ack position
     → node_at c.nodes id ≡ Some p → p.running ≡ true → p.ready ≡ true → position ≤ length_of p
 held_by c number m position id p f there is at runs ready =
-    let w : World Entry = f.0 in
+    let w : MachineState Entry = f.0 in
     let g : Follows c w = f.2 in
     let P : ℕ → Type 0 = λ k. node_at c.nodes k ≡ Some p in
     let n : NodeFollows w (seen_of p) = g.nodes (id_of p) p (subst P (sym (node_id c.nodes id p at)) at) in
@@ -170,9 +170,9 @@ ack_makes c from to least after d number m x s f on g there e is =
     let r : Receiver c.epoch p = k.holds in
     let next : successor p ≡ Some m.sender = stands_by k successor_in after is.comes_from in
     let le : is.position ≤ length_of p = held_by d number m is.position to p f there is.says k.there k.running r.ready in
-    let does : delivery_turn p m ≡ ack_turn p m.sender is.position = ap (body_turn p m) is.says ∙ in_turn k (ack_turn p m.sender is.position) in
-    let got : is.position ≤ (ack_turn p m.sender is.position).0.past.acknowledged = acknowledges p m.sender is.position next r.ready le in
-    ends k (Knowing least) (omega (arith, is.enough, got, ap (λ (t : Turn). t.0.past.acknowledged) does))
+    let does : delivery_transition p m ≡ ack_transition p m.sender is.position = ap (body_transition p m) is.says ∙ one_by_one k (ack_transition p m.sender is.position) in
+    let got : is.position ≤ (ack_transition p m.sender is.position).0.past.acknowledged = acknowledges p m.sender is.position next r.ready le in
+    ends k (Knowing least) (omega (arith, is.enough, got, ap (λ (t : Transition). t.0.past.acknowledged) does))
 
 -- ---- in a round
 
@@ -190,11 +190,11 @@ ack_crosses count c p q s f some at_p at_q kp kq rp rq member after before numbe
     (record { node = p; at = at_p; runs = kp.running; holds = record { ready = rp; late = omega (arith, pe) } })
     numbers
 
-pub acks_flow : (chain : ℕ) (run : Run) (count : ℕ) (p q : Plain) → IsRunOf chain run → AreNeighbours (chain_after chain run) p q → p.ready ≡ true → q.ready ≡ true
-    → HaveNumbers (chain_after chain run) (round after_move (suc count) (chain_after chain run))
-    → KnowsCommitted (after_round (suc count) (chain_after chain run)) (id_of p) q.past.acknowledged
+pub acks_flow : (chain : ℕ) (run : Run) (count : ℕ) (p q : Plain) → IsRunOf chain run → AreNeighbours (chain_after_moves chain run) p q → p.ready ≡ true → q.ready ≡ true
+    → HaveNumbers (chain_after_moves chain run) (round after_move (suc count) (chain_after_moves chain run))
+    → KnowsCommitted (after_round (suc count) (chain_after_moves chain run)) (id_of p) q.past.acknowledged
 acks_flow chain run count p q is n rp rq numbers =
-    let c : Chain = chain_after chain run in
+    let c : Chain = chain_after_moves chain run in
     let some : 1 ≤ id_of q = not_master c.nodes (id_of q) q n.later (none_is_master chain run is) in
     let member : is_member c.members (id_of q) ≡ true = is_member-same c.members (id_of q) ∙ next_right c.members (id_of p) (id_of q) (next_from_predecessor c.members (id_of q) (id_of p) n.before) in
     let i : NodeIs (after_round (suc count) c) (id_of p) (λ r. q.past.acknowledged ≤ r.past.acknowledged) =

@@ -8,10 +8,10 @@ use Rattle.craq_model.specs.declared.ask.Event.TheVariants as events
 use Rattle.craq_model.specs.declared.message.LinkMessage.{LinkMessage}
 use Rattle.craq_model.specs.declared.waiting.WaitingRead.{WaitingRead}
 use Rattle.craq_model.specs.declared.waiting.WaitingUpdate.{WaitingUpdate}
-use Rattle.craq_model.specs.Deliveries.{delivery_turn}
+use Rattle.craq_model.specs.Deliveries.{delivery_transition}
 use Rattle.craq_model.specs.Members.{is_member}
 use Rattle.craq_model.specs.Plain.{Plain, id_of}
-use Rattle.craq_model.specs.Settle.{Turn}
+use Rattle.craq_model.specs.Settle.{Transition}
 use Rattle.craq_laws.proofs.Nodes.{node_elsewhere}
 use Rattle.craq_refinement.proofs.Stages.{Arrived, arrived}
 use Rattle.craq_runs.specs.declared.run.Move.{Move}
@@ -21,14 +21,14 @@ use Rattle.craq_runs.specs.Chain.{Chain, Progress, arrival_progress, chain_step,
 use Rattle.craq_runs.specs.Runs.{after_move, progressed}
 use Rattle.craq_runs.specs.Typed.{IsTypedRunOf}
 use Rattle.craq_recovery.specs.Answers.{AnsweredBy, AnsweredInRounds, AnswersAt, AskWaits, answered_tickets, receiver_of, waiting_tickets}
-use Rattle.craq_recovery.specs.Recovered.{AllRun, HasRecovered, IsServing, ServesAt, SomeReady, chain_after, rounds_to_recover}
+use Rattle.craq_recovery.specs.Recovered.{AllRun, HasRecovered, IsServing, ServesAt, SomeReady, chain_after_moves, rounds_to_recover}
 use Rattle.craq_recovery.specs.Rounds.{after_moves_by, after_rounds, round}
 use Rattle.craq_recovery.specs.Taken.{HaveNumbersFor}
 use Rattle.craq_recovery.proofs.Answered.{onward_rounds}
 use Rattle.craq_recovery.proofs.Fates.{StillWaits, delivery_fate}
 use Rattle.craq_recovery.proofs.Heads.{Good, good_moves, good_run}
 use Rattle.craq_recovery.proofs.Onward.{IsTravel, Onward}
-use Rattle.craq_recovery.proofs.Sound.{Sound, own_chain, sound_move, turn_named}
+use Rattle.craq_recovery.proofs.Sound.{Sound, own_chain, sound_move, transition_named}
 use Rattle.craq_recovery.proofs.Taking.{bears, for_it, round_travels}
 use Rattle.craq_recovery.proofs.Ticking.{tick_keeps}
 use Rattle.craq_recovery.proofs.Travels.{arrived_here}
@@ -45,7 +45,7 @@ arrival_fate c number id k s None is (Ok x) does w = absurd (unknown c number x 
 arrival_fate c number id k s (Some m) is (Ok x) does w =
     let ar : Arrived c m x = arrived c number m x is does in
     let p : Plain = ar.node in
-    let t : Turn = delivery_turn p m in
+    let t : Transition = delivery_transition p m in
     ⊎_elim
     (λ (same : m.receiver ≡ id).
     let N : ℕ → Type 0 = λ i. node_at c.nodes i ≡ Some p in
@@ -60,7 +60,7 @@ arrival_fate c number id k s (Some m) is (Ok x) does w =
     (delivery_fate k p m (subst W it w.waits)))
     (λ (other : m.receiver ≢ id).
     let of : p.name.chain ≡ c.chain = own_chain c.chain (id_of p) c.nodes p s.nodes ar.at in
-    let named : t.0.name ≡ p.name = turn_named p (events.Deliver m) t (for_it p m (bears c number m s is ∙ sym of) ar.own) in
+    let named : t.0.name ≡ p.name = transition_named p (events.Deliver m) t (for_it p m (bears c number m s is ∙ sym of) ar.own) in
     let far : id ≢ id_of t.0 = λ z. other (ar.own ∙ (sym (ap (λ (n : NodeName). n.node) named) ∙ sym z)) in
     let Q : Progress → Type 0 = λ y. node_at y.0.nodes id ≡ Some w.node in
     inl (record { node = w.node; at = subst Q (sym ar.is) (node_elsewhere c.nodes t.0 id far ∙ w.at); waits = w.waits }))
@@ -135,13 +135,13 @@ nothing_waits c (x ∷ ids) id k a m w =
     (λ (ne : x ≢ id). nothing_waits c ids id k a.1 (in_rest x id ids ne m) w)
     (cases_eq x id)
 
-pub asks_answered : (chain : ℕ) (run : Run) (count id ticket : ℕ) → IsTypedRunOf chain run → AllRun (chain_after chain run) → SomeReady (chain_after chain run)
-    → HaveNumbersFor (suc (suc count)) (rounds_to_recover (chain_after chain run)) (chain_after chain run)
-    → is_member (chain_after chain run).members id ≡ true → AskWaits (chain_after chain run) id ticket
-    → AnsweredInRounds (suc (suc count)) (rounds_to_recover (chain_after chain run)) (chain_after chain run) id ticket
+pub asks_answered : (chain : ℕ) (run : Run) (count id ticket : ℕ) → IsTypedRunOf chain run → AllRun (chain_after_moves chain run) → SomeReady (chain_after_moves chain run)
+    → HaveNumbersFor (suc (suc count)) (rounds_to_recover (chain_after_moves chain run)) (chain_after_moves chain run)
+    → is_member (chain_after_moves chain run).members id ≡ true → AskWaits (chain_after_moves chain run) id ticket
+    → AnsweredInRounds (suc (suc count)) (rounds_to_recover (chain_after_moves chain run)) (chain_after_moves chain run) id ticket
 asks_answered chain run count id ticket typed all some numbers member w =
     let h : ℕ = suc (suc count) in
-    let c : Chain = chain_after chain run in
+    let c : Chain = chain_after_moves chain run in
     let n : ℕ = rounds_to_recover c in
     let d : Chain = after_rounds after_move h n c in
     let on : Onward c d = onward_rounds h n c in

@@ -12,7 +12,7 @@ use Rattle.craq_model.specs.declared.waiting.WaitingRead.{WaitingRead}
 use Rattle.craq_model.specs.declared.waiting.WaitingUpdate.{WaitingUpdate}
 use Rattle.craq_model.specs.Members.{first_of, last_of}
 use Rattle.craq_model.specs.Plain.{Plain, id_of, length_of}
-use Rattle.craq_protocol.specs.Machine.{World, known_membership}
+use Rattle.craq_protocol.specs.Machine.{MachineState, known_membership}
 use Rattle.craq_protocol.specs.Members as protocol
 use Rattle.craq_protocol.specs.Members.{is_first, is_last}
 use Rattle.craq_protocol.specs.Promises.{IsPrefix}
@@ -28,7 +28,7 @@ use Rattle.craq_runs.specs.declared.run.Run.{Run}
 use Rattle.craq_runs.specs.Chain.{Chain, node_at}
 use Rattle.craq_runs.specs.Runs.{after_move}
 use Rattle.craq_runs.specs.Typed.{IsTypedRunOf}
-use Rattle.craq_recovery.specs.Recovered.{AllReady, HaveNumbersForAsMany, HearsAt, HoldsEntries, IsReadyAt, Knows, KnowsCommitted, NoUpdateWaits, after_as_many, chain_after}
+use Rattle.craq_recovery.specs.Recovered.{AllReady, HaveNumbersForAsMany, HearsAt, HoldsEntries, IsReadyAt, Knows, KnowsCommitted, NoUpdateWaits, after_as_many, chain_after_moves}
 use Rattle.craq_recovery.specs.Rounds.{after_moves_by, after_rounds, round}
 use Rattle.craq_recovery.specs.Taken.{HaveNumbersFor}
 use Rattle.craq_recovery.proofs.Extending.{IsReachedBy, reached_here}
@@ -79,7 +79,7 @@ le_split (suc a) (suc b) h = ⊎_elim (λ l. inl (omega (arith, l))) (λ e. inr 
 
 pub head_holds_most : (c : Chain) (h p : Plain) → IsFollowed c → node_at c.nodes (id_of h) ≡ Some h → node_at c.nodes (id_of p) ≡ Some p → h.running ≡ true → Knows c p → first_of c.members ≡ id_of h → length_of p ≤ length_of h
 head_holds_most c h p f at_h at_p runs k first =
-    let w : World Entry = f.0 in
+    let w : MachineState Entry = f.0 in
     let g : Follows c w = f.2 in
     let n : NodeFollows w (seen_of h) = g.nodes (id_of h) h at_h in
     let o : NodeFollows w (seen_of p) = g.nodes (id_of p) p at_p in
@@ -113,7 +113,7 @@ tail_knows c least f r h =
     let k : Knows c p = r.knows in
     let own : id_of p ≡ last_of c.members = node_id c.nodes (last_of c.members) p r.at in
     let N : ℕ → Type 0 = λ j. node_at c.nodes j ≡ Some p in
-    let w : World Entry = f.0 in
+    let w : MachineState Entry = f.0 in
     let g : Follows c w = f.2 in
     let n : NodeFollows w (seen_of p) = g.nodes (id_of p) p (subst N (sym own) r.at) in
     let i : Invariant w = reached_inv f.1 in
@@ -144,7 +144,7 @@ acks_there chain count least d r a k numbers =
     → AllByRecursion (λ id. KnowsCommitted (after_rounds after_move (suc count) (length c.members) c) id least) c.members in
     subst P r.leads (λ a k n. acks_reach_all chain r.run count least r.typed.run_of a k n) a k numbers
 
-pub within_held : (chain : ℕ) (run : Run) (p : Plain) → IsTypedRunOf chain run → node_at (chain_after chain run).nodes (id_of p) ≡ Some p → AllByRecursion (λ (u : WaitingUpdate). u.position ≤ length_of p) p.waiting_updates
+pub within_held : (chain : ℕ) (run : Run) (p : Plain) → IsTypedRunOf chain run → node_at (chain_after_moves chain run).nodes (id_of p) ≡ Some p → AllByRecursion (λ (u : WaitingUpdate). u.position ≤ length_of p) p.waiting_updates
 within_held chain run p typed at =
     let owed : WaitingUpdatesAreOwed chain run = waiting_updates_are_owed chain run typed in
     let h : HistoriesAreWhole chain run = histories_are_whole chain run typed in
@@ -157,11 +157,11 @@ Below most u = u.position ≤ most
 abbrev pub Any : WaitingRead → Type 0
 Any r = ⊤
 
-pub begin : (chain : ℕ) (run : Run) (h : Plain) (ids : List ℕ) → IsTypedRunOf chain run → node_at (chain_after chain run).nodes (id_of h) ≡ Some h → h.running ≡ true → first_of (chain_after chain run).members ≡ id_of h
-    → AllByRecursion (HearsAt (chain_after chain run)) ids → AllByRecursion (λ id. NodeIs (chain_after chain run) id (Waiting (Below (length_of h)) Any)) ids
+pub begin : (chain : ℕ) (run : Run) (h : Plain) (ids : List ℕ) → IsTypedRunOf chain run → node_at (chain_after_moves chain run).nodes (id_of h) ≡ Some h → h.running ≡ true → first_of (chain_after_moves chain run).members ≡ id_of h
+    → AllByRecursion (HearsAt (chain_after_moves chain run)) ids → AllByRecursion (λ id. NodeIs (chain_after_moves chain run) id (Waiting (Below (length_of h)) Any)) ids
 begin chain run h [] typed at runs first a = tt
 begin chain run h (id ∷ ids) typed at runs first a =
-    let c : Chain = chain_after chain run in
+    let c : Chain = chain_after_moves chain run in
     let r : HearsAt c id = a.0 in
     let p : Plain = r.0 in
     let k : Knows c p = r.2 in
@@ -193,12 +193,12 @@ unfolding last_of
 all_of_last P m [] a = a.0
 all_of_last P m (k ∷ ms) a = all_of_last P k ms a.1
 
-by_members : (chain : ℕ) (run : Run) (count : ℕ) (l : List ℕ) → IsTypedRunOf chain run → l ≡ (chain_after chain run).members → AllReady (chain_after chain run)
-    → HaveNumbersForAsMany (suc count) (chain_after chain run) → HaveNumbersForAsMany (suc count) (after_as_many (suc count) (chain_after chain run))
-    → AllByRecursion (NoUpdateWaits (after_as_many (suc count) (after_as_many (suc count) (chain_after chain run)))) l
+by_members : (chain : ℕ) (run : Run) (count : ℕ) (l : List ℕ) → IsTypedRunOf chain run → l ≡ (chain_after_moves chain run).members → AllReady (chain_after_moves chain run)
+    → HaveNumbersForAsMany (suc count) (chain_after_moves chain run) → HaveNumbersForAsMany (suc count) (after_as_many (suc count) (chain_after_moves chain run))
+    → AllByRecursion (NoUpdateWaits (after_as_many (suc count) (after_as_many (suc count) (chain_after_moves chain run)))) l
 by_members chain run count [] typed is ready first second = tt
 by_members chain run count (m ∷ ms) typed is ready first second =
-    let c : Chain = chain_after chain run in
+    let c : Chain = chain_after_moves chain run in
     let rounds : ℕ = length c.members in
     let c1 : Chain = after_rounds after_move (suc count) rounds c in
     let again : ℕ = length c1.members in
@@ -236,7 +236,7 @@ by_members chain run count (m ∷ ms) typed is ready first second =
     (all_still chain (Below most) Any (suc count) again c1 (m ∷ ms) reach1 (all_still chain (Below most) Any (suc count) rounds c (m ∷ ms) reach quiet))
     (subst B (sym now) acks)
 
-pub no_update_waits : (chain : ℕ) (run : Run) (count : ℕ) → IsTypedRunOf chain run → AllReady (chain_after chain run)
-    → HaveNumbersForAsMany (suc count) (chain_after chain run) → HaveNumbersForAsMany (suc count) (after_as_many (suc count) (chain_after chain run))
-    → AllByRecursion (NoUpdateWaits (after_as_many (suc count) (after_as_many (suc count) (chain_after chain run)))) (chain_after chain run).members
-no_update_waits chain run count typed ready first second = by_members chain run count (chain_after chain run).members typed refl ready first second
+pub no_update_waits : (chain : ℕ) (run : Run) (count : ℕ) → IsTypedRunOf chain run → AllReady (chain_after_moves chain run)
+    → HaveNumbersForAsMany (suc count) (chain_after_moves chain run) → HaveNumbersForAsMany (suc count) (after_as_many (suc count) (chain_after_moves chain run))
+    → AllByRecursion (NoUpdateWaits (after_as_many (suc count) (after_as_many (suc count) (chain_after_moves chain run)))) (chain_after_moves chain run).members
+no_update_waits chain run count typed ready first second = by_members chain run count (chain_after_moves chain run).members typed refl ready first second

@@ -10,12 +10,12 @@ use Rattle.craq_commands.proofs.Entries.{after_entries-append}
 use Rattle.craq_model.specs.declared.message.Body.{Body}
 use Rattle.craq_model.specs.declared.message.Body.TheVariants as bodies
 use Rattle.craq_model.specs.declared.message.LinkMessage.{LinkMessage}
-use Rattle.craq_model.specs.Deliveries.{ack_turn, blank_turn, body_turn, config_turn, copy_turn, delivery_turn, entries_turn, floor_turn, part_turn, query_turn, turn_in_epoch, version_turn}
+use Rattle.craq_model.specs.Deliveries.{ack_transition, blank_transition, body_transition, config_transition, copy_transition, delivery_transition, entries_transition, floor_transition, part_transition, query_transition, transition_in_epoch, version_transition}
 use Rattle.craq_model.specs.Parts.{item_count}
 use Rattle.craq_model.specs.Plain.{Plain, id_of, length_of, newest, predecessor}
-use Rattle.craq_model.specs.Settle.{Turn}
+use Rattle.craq_model.specs.Settle.{Transition}
 use Rattle.craq_protocol.specs.Machine as machine
-use Rattle.craq_protocol.specs.Machine.{World, known_membership}
+use Rattle.craq_protocol.specs.Machine.{MachineState, known_membership}
 use Rattle.craq_protocol.specs.Members.{is_member, is_next}
 use Rattle.craq_protocol.specs.Promises.{IsPrefix, IsReached}
 use Rattle.craq_protocol.proofs.Invariant.{Ages, Clauses, Invariant}
@@ -33,7 +33,7 @@ use Rattle.craq_refinement.proofs.Here.{Here}
 use Rattle.craq_refinement.proofs.Members.{next_from_predecessor}
 use Rattle.craq_laws.proofs.Nodes.{node_elsewhere, node_here, node_id}
 use Rattle.craq_refinement.proofs.Others.{query_follows, version_follows}
-use Rattle.craq_refinement.proofs.Stages.{TurnFollows, moved}
+use Rattle.craq_refinement.proofs.Stages.{TransitionFollows, moved}
 use Rattle.craq_refinement.proofs.Worlds.{history_length}
 use Rattle.craq_runs.specs.Chain.{Chain, message_at, node_at, sent_in, set_node}
 use Rattle.craq_updates.proofs.Known.{newest_is}
@@ -68,25 +68,25 @@ within_at_first c = λ id p at. record {
 
 -- ---- the chain after a step, even if its messages cannot be numbered
 
-stands : (Own : List (machine.Move Entry) → Type 0) (c : Chain) (w : World Entry) (t : Turn) → TurnFollows Own c w t → CanFollow w (moved c t)
+stands : (Own : List (machine.MachineMove Entry) → Type 0) (c : Chain) (w : MachineState Entry) (t : Transition) → TransitionFollows Own c w t → CanFollow w (moved c t)
 stands Own c w t s = (s.own ++ moves_of_sends (sent_in t.1.outs), s.follows)
 
-by_body : (c : Chain) (w : World Entry) (m : LinkMessage) (b : Body) (p : Plain) → IsReached w → Here c w p → m.receiver ≡ id_of p
-    → BodyFollows w.memberships w.messages m.epoch m.sender m.receiver b → CanFollow w (moved c (body_turn p m b))
-by_body c w m (bodies.Config members) p r h own s = stands (IsAdopting (id_of p) m.epoch) c w (config_turn p m.epoch members) (config_follows p h m.epoch members s.1)
-by_body c w m (bodies.Entry x) p r h own s = stands (IsTaking (id_of p)) c w (turn_in_epoch p m (entries_turn p m.sender (x ∷ []))) (entry_follows p h m x own s)
-by_body c w m (bodies.Batch es) p r h own s = stands (IsTakingAll (id_of p)) c w (turn_in_epoch p m (entries_turn p m.sender es)) (batch_follows p h m es s.0 own s.1 s.2)
-by_body c w m (bodies.Part part) p r h own s = stands (IsTaking (id_of p)) c w (turn_in_epoch p m (part_turn p m.sender part)) (part_follows p h r m part own s)
-by_body c w m (bodies.Ack position) p r h own s = stands (IsHearing (id_of p)) c w (turn_in_epoch p m (ack_turn p m.sender position)) (ack_follows p h m position own s)
-by_body c w m (bodies.Query ticket key) p r h own s = stands IsNothing c w (turn_in_epoch p m (query_turn p m.sender ticket key)) (query_follows p h m ticket key)
-by_body c w m (bodies.VersionIs ticket version) p r h own s = stands IsNothing c w (turn_in_epoch p m (version_turn p m.sender ticket version)) (version_follows p h m ticket version)
-by_body c w m (bodies.Blank count) p r h own s = stands IsNothing c w (turn_in_epoch p m (blank_turn p m.sender count)) (blank_follows p h r m count)
-by_body c w m (bodies.Copy position state) p r h own s = stands (IsTaking (id_of p)) c w (turn_in_epoch p m (copy_turn p m.sender position state)) (copy_follows p h m position state s.0 own s.1 s.2 s.3 s.4)
-by_body c w m (bodies.Floor count) p r h own s = stands (IsTaking (id_of p)) c w (turn_in_epoch p m (floor_turn p m.sender count)) (floor_follows p h m count own s)
+by_body : (c : Chain) (w : MachineState Entry) (m : LinkMessage) (b : Body) (p : Plain) → IsReached w → Here c w p → m.receiver ≡ id_of p
+    → BodyFollows w.memberships w.messages m.epoch m.sender m.receiver b → CanFollow w (moved c (body_transition p m b))
+by_body c w m (bodies.Config members) p r h own s = stands (IsAdopting (id_of p) m.epoch) c w (config_transition p m.epoch members) (config_follows p h m.epoch members s.1)
+by_body c w m (bodies.Entry x) p r h own s = stands (IsTaking (id_of p)) c w (transition_in_epoch p m (entries_transition p m.sender (x ∷ []))) (entry_follows p h m x own s)
+by_body c w m (bodies.Batch es) p r h own s = stands (IsTakingAll (id_of p)) c w (transition_in_epoch p m (entries_transition p m.sender es)) (batch_follows p h m es s.0 own s.1 s.2)
+by_body c w m (bodies.Part part) p r h own s = stands (IsTaking (id_of p)) c w (transition_in_epoch p m (part_transition p m.sender part)) (part_follows p h r m part own s)
+by_body c w m (bodies.Ack position) p r h own s = stands (IsHearing (id_of p)) c w (transition_in_epoch p m (ack_transition p m.sender position)) (ack_follows p h m position own s)
+by_body c w m (bodies.Query ticket key) p r h own s = stands IsNothing c w (transition_in_epoch p m (query_transition p m.sender ticket key)) (query_follows p h m ticket key)
+by_body c w m (bodies.VersionIs ticket version) p r h own s = stands IsNothing c w (transition_in_epoch p m (version_transition p m.sender ticket version)) (version_follows p h m ticket version)
+by_body c w m (bodies.Blank count) p r h own s = stands IsNothing c w (transition_in_epoch p m (blank_transition p m.sender count)) (blank_follows p h r m count)
+by_body c w m (bodies.Copy position state) p r h own s = stands (IsTaking (id_of p)) c w (transition_in_epoch p m (copy_transition p m.sender position state)) (copy_follows p h m position state s.0 own s.1 s.2 s.3 s.4)
+by_body c w m (bodies.Floor count) p r h own s = stands (IsTaking (id_of p)) c w (transition_in_epoch p m (floor_transition p m.sender count)) (floor_follows p h m count own s)
 
-turn_stands : (c : Chain) (f : IsFollowed c) (number : ℕ) (m : LinkMessage) (p : Plain) → node_at c.nodes (id_of p) ≡ Some p → p.running ≡ true → message_at c.messages number ≡ Some m → m.receiver ≡ id_of p
-    → CanFollow f.0 (moved c (delivery_turn p m))
-turn_stands c f number m p at runs there own =
+transition_stands : (c : Chain) (f : IsFollowed c) (number : ℕ) (m : LinkMessage) (p : Plain) → node_at c.nodes (id_of p) ≡ Some p → p.running ≡ true → message_at c.messages number ≡ Some m → m.receiver ≡ id_of p
+    → CanFollow f.0 (moved c (delivery_transition p m))
+transition_stands c f number m p at runs there own =
     let h : Here c f.0 p = record { follows = f.2; at = at; running = runs } in
     by_body c f.0 m m.body p f.1 h own (said_as f.2 number m m.body there refl)
 
@@ -107,13 +107,13 @@ found (q ∷ qs) id h =
     h
 
 -- a node's predecessor is another node of the chain
-record HasPredecessor (d : Chain) (v : World Entry) (q : Plain) (before : ℕ) : Type 0 where
+record HasPredecessor (d : Chain) (v : MachineState Entry) (q : Plain) (before : ℕ) : Type 0 where
   other : before ≢ id_of q
   node : Plain
   at : node_at d.nodes before ≡ Some node
   holds : IsPrefix (v.history (id_of q)) (v.history before)
 
-has_predecessor : (d : Chain) (v : World Entry) (q : Plain) (before : ℕ) → Follows d v → IsReached v → NodeFollows v (seen_of q) → predecessor q ≡ Some before → HasPredecessor d v q before
+has_predecessor : (d : Chain) (v : MachineState Entry) (q : Plain) (before : ℕ) → Follows d v → IsReached v → NodeFollows v (seen_of q) → predecessor q ≡ Some before → HasPredecessor d v q before
 has_predecessor d v q before f r n pred =
     let i : Invariant v = reached_inv r in
     let g : Ages = i.ages in
@@ -143,7 +143,7 @@ prefix_items {xs} {ys} p =
 
 module _ (e i r : ℕ) (small : top e i r ≤ greatest_count) where
   -- a node that takes entries or a state from its predecessor holds no more than the predecessor
-  taken_within : (c d : Chain) (v : World Entry) (p q : Plain) (before : ℕ) → AllWithin e i r c → Follows d v → IsReached v → d.nodes ≡ set_node c.nodes q → node_at c.nodes (id_of q) ≡ Some p
+  taken_within : (c d : Chain) (v : MachineState Entry) (p q : Plain) (before : ℕ) → AllWithin e i r c → Follows d v → IsReached v → d.nodes ≡ set_node c.nodes q → node_at c.nodes (id_of q) ≡ Some p
       → length q.waiting_reads ≤ length p.waiting_reads → predecessor q ≡ Some before → Within e i r q
   taken_within c d v p q before a f reach nodes at reads pred =
       let N : List Plain → Type 0 = λ l. node_at l (id_of q) ≡ Some q in
@@ -166,10 +166,10 @@ module _ (e i r : ℕ) (small : top e i r ≤ greatest_count) where
         reads = omega (arith, reads, own_reads.reads);
       }
 
-  pub turn_within : (c : Chain) (f : IsFollowed c) (number : ℕ) (m : LinkMessage) (p : Plain) → AllWithin e i r c → node_at c.nodes (id_of p) ≡ Some p → p.running ≡ true
-      → message_at c.messages number ≡ Some m → m.receiver ≡ id_of p → (delivery_turn p m).0.name ≡ p.name → Within e i r (delivery_turn p m).0
-  turn_within c f number m p a at runs there own named =
-      let t : Turn = delivery_turn p m in
+  pub transition_within : (c : Chain) (f : IsFollowed c) (number : ℕ) (m : LinkMessage) (p : Plain) → AllWithin e i r c → node_at c.nodes (id_of p) ≡ Some p → p.running ≡ true
+      → message_at c.messages number ≡ Some m → m.receiver ≡ id_of p → (delivery_transition p m).0.name ≡ p.name → Within e i r (delivery_transition p m).0
+  transition_within c f number m p a at runs there own named =
+      let t : Transition = delivery_transition p m in
       let k : Turned e i r small (cost (top e i r) m.body) p t = delivery_turned e i r small p m in
       let w : Within e i r p = a (id_of p) p at in
       ⊎_elim
@@ -179,7 +179,7 @@ module _ (e i r : ℕ) (small : top e i r ≤ greatest_count) where
         reads = omega (arith, k.reads, w.reads);
       })
       (λ (more : (id : ℕ) × (predecessor t.0 ≡ Some id)).
-      let g : CanFollow f.0 (moved c t) = turn_stands c f number m p at runs there own in
+      let g : CanFollow f.0 (moved c t) = transition_stands c f number m p at runs there own in
       let N : ℕ → Type 0 = λ j. node_at c.nodes j ≡ Some p in
       taken_within c (moved c t) (machine.after_moves f.0 g.0) p t.0 more.0 a g.1 (reached_run f.1 g.0) refl (subst N (ap (λ (n : NodeName). n.node) (sym named)) at) k.reads more.1)
       k.grows

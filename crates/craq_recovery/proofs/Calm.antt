@@ -12,13 +12,13 @@ use Rattle.craq_model.specs.declared.ask.Event.{Event}
 use Rattle.craq_model.specs.declared.ask.Event.TheVariants as events
 use Rattle.craq_model.specs.declared.message.LinkMessage.{LinkMessage}
 use Rattle.craq_model.specs.declared.waiting.WaitingRead.{WaitingRead}
-use Rattle.craq_model.specs.Deliveries.{acknowledgement_turn, delivery_turn, reads_without}
+use Rattle.craq_model.specs.Deliveries.{acknowledgement_transition, delivery_transition, reads_without}
 use Rattle.craq_model.specs.Members.{is_member}
-use Rattle.craq_model.specs.Node.{event_turn, is_for}
+use Rattle.craq_model.specs.Node.{event_transition, is_for}
 use Rattle.craq_model.specs.Plain.{Plain, clean, id_of, is_last, is_tail, length_of, newest, newest_object}
-use Rattle.craq_model.specs.Settle.{Turn, settling_turn}
+use Rattle.craq_model.specs.Settle.{Transition, settling_transition}
 use Rattle.craq_commands.specs.Objects.{object_of}
-use Rattle.craq_protocol.specs.Machine.{World}
+use Rattle.craq_protocol.specs.Machine.{MachineState}
 use Rattle.craq_protocol.specs.Members as protocol
 use Rattle.craq_protocol.proofs.Invariant.{Clauses, HoldsLog, Invariant}
 use Rattle.craq_protocol.proofs.Reached.{reached_inv}
@@ -33,7 +33,7 @@ use Rattle.craq_runs.specs.declared.run.Run.{Run}
 use Rattle.craq_runs.specs.declared.run.Taken.{Taken}
 use Rattle.craq_runs.specs.Chain.{Chain, node_at, opening_chain}
 use Rattle.craq_runs.specs.Runs.{IsRunOf, after_move, after_moves}
-use Rattle.craq_recovery.specs.Recovered.{chain_after}
+use Rattle.craq_recovery.specs.Recovered.{chain_after_moves}
 use Rattle.craq_recovery.proofs.Gains.{Goes, goes_move}
 use Rattle.craq_recovery.proofs.Each.{Each, each_at, each_moved, each_opening}
 use Rattle.craq_recovery.proofs.Lines.{ByAsk, ByMessage, IfTaken, by_ask, by_message, by_test}
@@ -42,15 +42,15 @@ use Rattle.craq_recovery.proofs.Lines.{ByAsk, ByMessage, IfTaken, by_ask, by_mes
 abbrev pub Calm : Plain → Type 0
 Calm p = is_tail p ≡ true → p.waiting_reads ≡ []
 
-abbrev After : Turn → Type 0
+abbrev After : Transition → Type 0
 After t = Calm t.0
 
-settling_calm : (p : Plain) → After (settling_turn p)
-unfolding settling_turn
+settling_calm : (p : Plain) → After (settling_transition p)
+unfolding settling_transition
 settling_calm p = cond_both (is_tail p) _ _ After (λ e. λ t. refl) (λ e. λ t. absurd (both_ways (is_tail p) e t))
 
 message_calm : (m : LinkMessage) → ByMessage Calm After m
-unfolding acknowledgement_turn reads_without
+unfolding acknowledgement_transition reads_without
 message_calm m = record {
   silent = λ t none h. h;
   sends = λ p past to bs h. h;
@@ -91,9 +91,9 @@ ask_calm = record {
   asks = λ p r bs dirty h t. absurd (both_ways (is_clean p r.key) dirty (all_clean p r.key (h.0 t)));
 }
 
-event_calm : (p : Plain) (e : Event) → KnownCalm p → IfTaken After (event_turn p e)
+event_calm : (p : Plain) (e : Event) → KnownCalm p → IfTaken After (event_transition p e)
 event_calm p (events.Ask ask) h = by_ask KnownCalm After ask_calm p ask h
-event_calm p (events.Deliver m) h = by_test (is_for p m) (IfTaken After) (Ok (delivery_turn p m)) (Err refusals.WrongNode) (by_message Calm After m (message_calm m) p h.1) tt
+event_calm p (events.Deliver m) h = by_test (is_for p m) (IfTaken After) (Ok (delivery_transition p m)) (Err refusals.WrongNode) (by_message Calm After m (message_calm m) p h.1) tt
 event_calm p events.Tick h = h.1
 event_calm p events.Stop h = h.1
 
@@ -102,7 +102,7 @@ event_calm p events.Stop h = h.1
 -- a running tail knows all its entries to be committed
 tail_known : (c : Chain) (id : ℕ) (p : Plain) → IsFollowed c → node_at c.nodes id ≡ Some p → p.running ≡ true → is_tail p ≡ true → p.past.acknowledged ≡ length_of p
 tail_known c id p f at runs tail =
-    let w : World Entry = f.0 in
+    let w : MachineState Entry = f.0 in
     let g : Follows c w = f.2 in
     let N : ℕ → Type 0 = λ j. node_at c.nodes j ≡ Some p in
     let n : NodeFollows w (seen_of p) = g.nodes (id_of p) p (subst N (sym (node_id c.nodes id p at)) at) in
@@ -121,16 +121,16 @@ tail_known c id p f at runs tail =
 calm_move : (c : Chain) (m : Move) → IsFollowed c → Each Calm c.nodes → Each Calm (after_move c m).nodes
 calm_move c m f all =
     each_moved Calm c m all
-    (λ x a h. let T : Result Turn Refusal → Type 0 = λ r. IfTaken After r in subst T a.does (event_calm a.was a.event (λ t. tail_known c _ a.was f a.at a.running t, h)))
+    (λ x a h. let T : Result Transition Refusal → Type 0 = λ r. IfTaken After r in subst T a.does (event_calm a.was a.event (λ t. tail_known c _ a.was f a.at a.running t, h)))
     (λ name some t. refl)
 
 calm_moves : (ts : List Taken) (c : Chain) → IsFollowed c → Each Calm c.nodes → Each Calm (after_moves c ts).nodes
 calm_moves [] c f a = a
 calm_moves (t ∷ ts) c f a = let g : Goes c (after_move c t.chosen) = goes_move c t.chosen f in calm_moves ts (after_move c t.chosen) g.followed (calm_move c t.chosen f a)
 
-pub calm_after : (chain : ℕ) (run : Run) (id : ℕ) (p : Plain) → IsRunOf chain run → node_at (chain_after chain run).nodes id ≡ Some p → Calm p
+pub calm_after : (chain : ℕ) (run : Run) (id : ℕ) (p : Plain) → IsRunOf chain run → node_at (chain_after_moves chain run).nodes id ≡ Some p → Calm p
 calm_after chain run id p is at =
     let c : Chain = opening_chain chain run.members in
     let none : Run = record { members = run.members; moves = [] } in
     let f : IsFollowed c = every_run chain none (record { members = is.members; moves = tt }) in
-    each_at Calm (chain_after chain run).nodes id p (calm_moves run.moves c f (each_opening Calm chain run.members (λ id t. refl))) at
+    each_at Calm (chain_after_moves chain run).nodes id p (calm_moves run.moves c f (each_opening Calm chain run.members (λ id t. refl))) at

@@ -35,7 +35,7 @@ module _ (P : Plain → Type 0) where
 
   -- the property holds after a move, if it stays true of the move's node and is true of one that
   -- joins
-  pub each_moved : (c : Chain) (m : Move) → Each c.nodes → ((x : Progress) (a : AtNode c m x) → P a.was → P a.turn.0) → ((name : NodeName) → name.node ≢ 0 → P (opening_joined name)) → Each (after_move c m).nodes
+  pub each_moved : (c : Chain) (m : Move) → Each c.nodes → ((x : Progress) (a : AtNode c m x) → P a.was → P a.transition.0) → ((name : NodeName) → name.node ≢ 0 → P (opening_joined name)) → Each (after_move c m).nodes
   each_moved c m all stays joins = moved (chain_step c m) refl
     where
       moved : (r : Result Progress Refusal) → chain_step c m ≡ r → Each (progressed c r).nodes
@@ -44,7 +44,7 @@ module _ (P : Plain → Type 0) where
           let Q : Progress → Type 0 = λ y. Each y.0.nodes in
           let R : List Plain → Type 0 = λ l. Each l in
           ⊎_elim
-          (λ (a : AtNode c m x). subst Q (sym a.is) (each_set c.nodes a.turn.0 all (stays x a (each_at c.nodes _ a.was all a.at))))
+          (λ (a : AtNode c m x). subst Q (sym a.is) (each_set c.nodes a.transition.0 all (stays x a (each_at c.nodes _ a.was all a.at))))
           (λ (a : AtMaster c m x).
           ⊎_elim
           (λ (same : x.0.nodes ≡ c.nodes). subst R (sym same) all)

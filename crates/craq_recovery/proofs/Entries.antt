@@ -11,14 +11,14 @@ use Rattle.craq_model.specs.declared.message.Body.TheVariants as bodies
 use Rattle.craq_model.specs.declared.message.LinkMessage.{LinkMessage}
 use Rattle.craq_model.specs.declared.step.Out.{Out}
 use Rattle.craq_model.specs.declared.step.Why.TheVariants.{NotNeighbour, OutOfOrder, AlreadyHave, TooFar}
-use Rattle.craq_model.specs.Deliveries.{are_applicable, body_turn, delivery_turn, entries_above, entries_turn, final_position, first_position, forwarding_turn, turn_in_epoch}
+use Rattle.craq_model.specs.Deliveries.{are_applicable, body_transition, delivery_transition, entries_above, entries_transition, final_position, first_position, forwarding_transition, transition_in_epoch}
 use Rattle.craq_model.specs.Members.{is_id, is_member, predecessor_in, successor_in}
 use Rattle.craq_model.specs.Plain.{Plain, acknowledging, entries_after, id_of, is_last, is_tail, length_of, newest, predecessor, successor, with_entries}
 use Rattle.craq_model.specs.Sends.{catch_up, entry_bodies, queries, ready_sends, run_body, runs_of, send, send_all, tick_sends, to_neighbour, unready_sends}
 use Rattle.craq_model.specs.Parts.{gathered_position}
-use Rattle.craq_model.specs.Settle.{Turn, all_committed, all_given, answer_outs, is_reached, readiness_turn, settling_turn, turn_ignoring, turn_with, without_reached}
+use Rattle.craq_model.specs.Settle.{Transition, all_committed, all_given, answer_outs, is_reached, readiness_transition, settling_transition, transition_ignoring, transition_with, without_reached}
 use Rattle.craq_protocol.specs.Machine as machine
-use Rattle.craq_protocol.specs.Machine.{World, known_membership}
+use Rattle.craq_protocol.specs.Machine.{MachineState, known_membership}
 use Rattle.craq_protocol.specs.Members.{is_next}
 use Rattle.craq_protocol.specs.Promises.{IsPrefix, IsSafe, Sent}
 use Rattle.craq_protocol.proofs.Invariant.{Ages, Clauses, Invariant}
@@ -35,7 +35,7 @@ use Rattle.craq_runs.specs.declared.run.Run.{Run}
 use Rattle.craq_runs.specs.Chain.{Chain, message_at, node_at, sent_in}
 use Rattle.craq_runs.specs.Runs.{IsRunOf, after_move}
 use Rattle.craq_runs.specs.Typed.{IsTypedRunOf}
-use Rattle.craq_recovery.specs.Recovered.{AreNeighbours, HoldsEntries, Knows, after_round, chain_after}
+use Rattle.craq_recovery.specs.Recovered.{AreNeighbours, HoldsEntries, Knows, after_round, chain_after_moves}
 use Rattle.craq_recovery.specs.Rounds.{after_moves_by, round}
 use Rattle.craq_recovery.specs.Taken.{HaveNumbers}
 use Rattle.craq_recovery.proofs.Acks.{in_epoch, is_id_here}
@@ -46,7 +46,7 @@ use Rattle.craq_recovery.proofs.Ids.{none_is_master, not_master}
 use Rattle.craq_recovery.proofs.Series.{Series, sent_left}
 use Rattle.craq_recovery.proofs.Sound.{Sound, sound_after}
 use Rattle.craq_recovery.proofs.Lines.{by_test}
-use Rattle.craq_recovery.proofs.Travels.{IsKept, Leads, Met, NodeIs, crosses, ends, in_turn, kept_lasts, met, stands_by}
+use Rattle.craq_recovery.proofs.Travels.{IsKept, Leads, Met, NodeIs, crosses, ends, one_by_one, kept_lasts, met, stands_by}
 use Rattle.craq_refinement.proofs.EachStep.{every_run}
 
 -- ---- the messages
@@ -122,7 +122,7 @@ tick_sent p to ready late next placed =
     (λ r. absurd (both_ways p.ready r ready)))
 
 -- the entries after a position, at a node for which one of a world stands
-later_placed : {w : World Entry} (p : Plain) → NodeFollows w (seen_of p) → IsPlaced p.past.acknowledged (entries_after p p.past.acknowledged)
+later_placed : {w : MachineState Entry} (p : Plain) → NodeFollows w (seen_of p) → IsPlaced p.past.acknowledged (entries_after p p.past.acknowledged)
 unfolding entries_after
 later_placed {w} p n =
     let base : ℕ = p.past.base in
@@ -176,61 +176,61 @@ begins n a [] p le = omega arith
 begins n a (e ∷ es) p le = omega (arith, p.0, le)
 
 -- becoming ready changes no history
-pub readiness_length : (q : Plain) → length_of (readiness_turn q).0 ≡ length_of q
-unfolding readiness_turn without_reached settling_turn
+pub readiness_length : (q : Plain) → length_of (readiness_transition q).0 ≡ length_of q
+unfolding readiness_transition without_reached settling_transition
 readiness_length q =
-    let L : Turn → Type 0 = λ t. length_of t.0 ≡ length_of q in
+    let L : Transition → Type 0 = λ t. length_of t.0 ≡ length_of q in
     let r : Plain = record q { ready = true; gathering = None } in
-    by_test (not q.ready && is_reached q.floor (length_of q)) L (settling_turn r) (turn_with (without_reached q) [])
-    (by_test (is_tail r) L (turn_with (all_committed r) (answer_outs (all_given r) ++ tick_sends (all_committed r))) (turn_with r (tick_sends r)) refl refl)
+    by_test (not q.ready && is_reached q.floor (length_of q)) L (settling_transition r) (transition_with (without_reached q) [])
+    (by_test (is_tail r) L (transition_with (all_committed r) (answer_outs (all_given r) ++ tick_sends (all_committed r))) (transition_with r (tick_sends r)) refl refl)
     (by_test (nat_le (gathered_position q.gathering) (length_of q)) (λ (x : Plain). length_of x ≡ length_of q) (record q { gathering = None }) q refl refl)
 
 entries_taken : (q : Plain) (sender a : ℕ) (es : List Entry) → predecessor q ≡ Some sender → IsPlaced a es → a ≤ length_of q
-    → are_applicable (newest q) (entries_above (length_of q) es) ≡ true → a + length es ≤ length_of (entries_turn q sender es).0
-unfolding entries_turn forwarding_turn
+    → are_applicable (newest q) (entries_above (length_of q) es) ≡ true → a + length es ≤ length_of (entries_transition q sender es).0
+unfolding entries_transition forwarding_transition
 entries_taken q sender a es pred placed le fit =
     let n : ℕ = length_of q in
     let new : List Entry = entries_above n es in
     let q2 : Plain = with_entries q new in
-    let acks : Turn = turn_with (acknowledging q2 (length_of q2)) (to_neighbour (predecessor q2) (λ to. send q2 to (bodies.Ack (length_of q2)) ∷ [])) in
-    let passes : Turn = turn_with q2 (to_neighbour (successor q2) (λ to. send_all q2 to (entry_bodies new))) in
-    let t5 : Turn = cond (is_tail q2) acks passes in
-    let t4 : Turn = cond q.ready t5 (readiness_turn q2) in
-    let t3 : Turn = cond (are_applicable (newest q) new) t4 (turn_ignoring q TooFar) in
-    let t2 : Turn = cond (nat_lt (n + 1) (first_position es)) (turn_ignoring q OutOfOrder) t3 in
-    let t1 : Turn = cond (nat_le (final_position es) n) (turn_ignoring q AlreadyHave) t2 in
-    let P : Turn → Type 0 = λ t. a + length es ≤ length_of t.0 in
+    let acks : Transition = transition_with (acknowledging q2 (length_of q2)) (to_neighbour (predecessor q2) (λ to. send q2 to (bodies.Ack (length_of q2)) ∷ [])) in
+    let passes : Transition = transition_with q2 (to_neighbour (successor q2) (λ to. send_all q2 to (entry_bodies new))) in
+    let t5 : Transition = cond (is_tail q2) acks passes in
+    let t4 : Transition = cond q.ready t5 (readiness_transition q2) in
+    let t3 : Transition = cond (are_applicable (newest q) new) t4 (transition_ignoring q TooFar) in
+    let t2 : Transition = cond (nat_lt (n + 1) (first_position es)) (transition_ignoring q OutOfOrder) t3 in
+    let t1 : Transition = cond (nat_le (final_position es) n) (transition_ignoring q AlreadyHave) t2 in
+    let P : Transition → Type 0 = λ t. a + length es ≤ length_of t.0 in
     let few : length es ≤ (n - a) + length new = few_left n a es placed in
     let sum : length (q.past.entries ++ new) ≡ length q.past.entries + length new = length-append q.past.entries new in
     let all : a + length es ≤ q.past.base + length (q.past.entries ++ new) = omega (arith, few, sum, le) in
-    cond_both (not (is_id (predecessor q) sender)) (turn_ignoring q NotNeighbour) t1 P
+    cond_both (not (is_id (predecessor q) sender)) (transition_ignoring q NotNeighbour) t1 P
     (λ e. absurd (both_ways (is_id (predecessor q) sender) (not-true (is_id (predecessor q) sender) e) (is_id_here (predecessor q) sender pred)))
-    (λ e. cond_both (nat_le (final_position es) n) (turn_ignoring q AlreadyHave) t2 P
+    (λ e. cond_both (nat_le (final_position es) n) (transition_ignoring q AlreadyHave) t2 P
     (λ e. reaches n a es placed le (leb-true (final_position es) n e))
-    (λ e. cond_both (nat_lt (n + 1) (first_position es)) (turn_ignoring q OutOfOrder) t3 P
+    (λ e. cond_both (nat_lt (n + 1) (first_position es)) (transition_ignoring q OutOfOrder) t3 P
     (λ e. let far : n + 1 < first_position es = ltb-true (n + 1) (first_position es) e in let near : first_position es ≤ n + 1 = begins n a es placed le in absurd (omega (arith, far, near)))
-    (λ e. cond_both (are_applicable (newest q) new) t4 (turn_ignoring q TooFar) P
-    (λ e. cond_both q.ready t5 (readiness_turn q2) P
+    (λ e. cond_both (are_applicable (newest q) new) t4 (transition_ignoring q TooFar) P
+    (λ e. cond_both q.ready t5 (readiness_transition q2) P
     (λ e. cond_both (is_tail q2) acks passes P (λ e. all) (λ e. all))
     (λ e. omega (arith, all, readiness_length q2)))
     (λ e. absurd (both_ways (are_applicable (newest q) new) e fit)))))
 
-pub run_turn : (p : Plain) (m : LinkMessage) (es : List Entry) → body_turn p m (run_body es) ≡ turn_in_epoch p m (entries_turn p m.sender es)
-run_turn p m [] = refl
-run_turn p m (e ∷ []) = refl
-run_turn p m (e ∷ f ∷ es) = refl
+pub run_transition : (p : Plain) (m : LinkMessage) (es : List Entry) → body_transition p m (run_body es) ≡ transition_in_epoch p m (entries_transition p m.sender es)
+run_transition p m [] = refl
+run_transition p m (e ∷ []) = refl
+run_transition p m (e ∷ f ∷ es) = refl
 
 -- the message contains the entry
-abbrev IsSaid : World Entry → LinkMessage → Entry → Type 0
+abbrev IsSaid : MachineState Entry → LinkMessage → Entry → Type 0
 IsSaid w m e = Sent w.messages (said m.epoch m.sender m.receiver (machine.Entry e.position e))
 
-run_said : (w : World Entry) (m : LinkMessage) (es : List Entry) → BodyFollows w.memberships w.messages m.epoch m.sender m.receiver (run_body es) → AllByRecursion (IsSaid w m) es
+run_said : (w : MachineState Entry) (m : LinkMessage) (es : List Entry) → BodyFollows w.memberships w.messages m.epoch m.sender m.receiver (run_body es) → AllByRecursion (IsSaid w m) es
 run_said w m [] b = tt
 run_said w m (e ∷ []) b = (b, tt)
 run_said w m (e ∷ f ∷ es) b = b.2
 
 -- the entries that were sent are in the sender's history
-stand : (w : World Entry) (m : LinkMessage) (es : List Entry) → Invariant w → AllByRecursion (IsSaid w m) es → StandIn (w.history m.sender) es
+stand : (w : MachineState Entry) (m : LinkMessage) (es : List Entry) → Invariant w → AllByRecursion (IsSaid w m) es → StandIn (w.history m.sender) es
 stand w m es i a =
     let g : Ages = i.ages in
     let k : Clauses w g = i.clauses in
@@ -239,7 +239,7 @@ stand w m es i a =
     a
 
 -- a node's history is a prefix of its predecessor's
-pub prefix_of : (w : World Entry) (p : Plain) (from : ℕ) → Invariant w → NodeFollows w (seen_of p) → predecessor p ≡ Some from → IsPrefix (w.history (id_of p)) (w.history from)
+pub prefix_of : (w : MachineState Entry) (p : Plain) (from : ℕ) → Invariant w → NodeFollows w (seen_of p) → predecessor p ≡ Some from → IsPrefix (w.history (id_of p)) (w.history from)
 prefix_of w p from i n pred =
     let g : Ages = i.ages in
     let k : Clauses w g = i.clauses in
@@ -252,17 +252,17 @@ prefix_of w p from i n pred =
 -- a node takes the entries that its predecessor sent, if it holds those before
 pub takes_them : (chain : ℕ) (d : Chain) (number : ℕ) (m : LinkMessage) (es : List Entry) (a : ℕ) (p : Plain) → IsReachedBy chain d → message_at d.messages number ≡ Some m → m.body ≡ run_body es
     → IsPlaced a es → a ≤ length_of p → node_at d.nodes (id_of p) ≡ Some p → predecessor p ≡ Some m.sender
-    → a + length es ≤ length_of (entries_turn p m.sender es).0
+    → a + length es ≤ length_of (entries_transition p m.sender es).0
 takes_them chain d number m es a p r there is placed le at pred =
     let x : Explained d = explained chain d r in
-    let w : World Entry = x.world in
+    let w : MachineState Entry = x.world in
     let f : Follows d w = x.follows in
     let i : Invariant w = reached_inv x.reached in
     let n : NodeFollows w (seen_of p) = f.nodes (id_of p) p at in
     let here : ℕ = length_of p in
     let stands : StandIn (w.history m.sender) es = stand w m es i (run_said w m es (said_as f number m (run_body es) there is)) in
     let fit : are_applicable (newest p) (entries_above here es) ≡ true =
-    fits x.asked w p (w.history m.sender) (entries_above here es) n (x.genuine m.sender) (prefix_of w p m.sender i n pred)
+    fits x.asked w p (w.history m.sender) (entries_above here es) n (x.valid_entry m.sender) (prefix_of w p m.sender i n pred)
     (placed_above here a es placed (begins here a es placed le))
     (all_of_above (λ (e : Entry). machine.entry_at (w.history m.sender) e.position ≡ Some e) here es stands) in
     entries_taken p m.sender a es pred placed le fit
@@ -273,17 +273,17 @@ entries_lead chain c from to before a b d number m x r s f on g there e is =
     let p : Plain = k.node in
     let h : HoldsSo c.epoch a p = k.holds in
     let pred : predecessor p ≡ Some m.sender = stands_by k predecessor_in before is.comes_from in
-    let got : a + length is.entries ≤ length_of (entries_turn p m.sender is.entries).0 = takes_them chain d number m is.entries a p r there is.says is.placed h.holds k.at pred in
-    let does : delivery_turn p m ≡ entries_turn p m.sender is.entries = ap (body_turn p m) is.says ∙ (run_turn p m is.entries ∙ in_turn k (entries_turn p m.sender is.entries)) in
-    let gains : Gains p (delivery_turn p m).0 = k.gains in
-    ends k (HoldsSo c.epoch b) (record { ready = gains.ready h.ready; late = omega (arith, gains.epoch, h.late); holds = omega (arith, got, is.ends, ap (λ (t : Turn). length_of t.0) does) })
+    let got : a + length is.entries ≤ length_of (entries_transition p m.sender is.entries).0 = takes_them chain d number m is.entries a p r there is.says is.placed h.holds k.at pred in
+    let does : delivery_transition p m ≡ entries_transition p m.sender is.entries = ap (body_transition p m) is.says ∙ (run_transition p m is.entries ∙ one_by_one k (entries_transition p m.sender is.entries)) in
+    let gains : Gains p (delivery_transition p m).0 = k.gains in
+    ends k (HoldsSo c.epoch b) (record { ready = gains.ready h.ready; late = omega (arith, gains.epoch, h.late); holds = omega (arith, got, is.ends, ap (λ (t : Transition). length_of t.0) does) })
 
 -- ---- in a round
 
 -- each ready node holds the entries that a node knows to be committed
 pub held_there : (c : Chain) (p q : Plain) → IsFollowed c → node_at c.nodes (id_of p) ≡ Some p → node_at c.nodes (id_of q) ≡ Some q → q.running ≡ true → q.ready ≡ true → p.past.acknowledged ≤ length_of q
 held_there c p q f at_p at_q runs ready =
-    let w : World Entry = f.0 in
+    let w : MachineState Entry = f.0 in
     let g : Follows c w = f.2 in
     let n : NodeFollows w (seen_of p) = g.nodes (id_of p) p at_p in
     let o : NodeFollows w (seen_of q) = g.nodes (id_of q) q at_q in
@@ -295,7 +295,7 @@ held_there c p q f at_p at_q runs ready =
 sent_by : (c : Chain) (p : Plain) (to : ℕ) → IsFollowed c → node_at c.nodes (id_of p) ≡ Some p → Knows c p → p.ready ≡ true → successor_in c.members (id_of p) ≡ Some to
     → Series (Brings c.epoch (id_of p) to) (sent_in (tick_sends p)) p.past.acknowledged (length_of p)
 sent_by c p to f at k ready after =
-    let w : World Entry = f.0 in
+    let w : MachineState Entry = f.0 in
     let g : Follows c w = f.2 in
     let n : NodeFollows w (seen_of p) = g.nodes (id_of p) p at in
     let s : IsSafe w = reached_safe f.1 in
@@ -319,11 +319,11 @@ entries_cross chain count c p q r s f some at_p at_q kp kq rp rq member after be
     (record { node = q; at = at_q; runs = kq.running; holds = record { ready = rq; late = omega (arith, qe); holds = held_there c p q f at_p at_q kq.running rq } })
     numbers
 
-pub entries_flow_on : (chain : ℕ) (run : Run) (count : ℕ) (p q : Plain) → IsTypedRunOf chain run → AreNeighbours (chain_after chain run) p q → p.ready ≡ true → q.ready ≡ true
-    → HaveNumbers (chain_after chain run) (round after_move (suc count) (chain_after chain run))
-    → HoldsEntries (after_round (suc count) (chain_after chain run)) (id_of q) (length_of p)
+pub entries_flow_on : (chain : ℕ) (run : Run) (count : ℕ) (p q : Plain) → IsTypedRunOf chain run → AreNeighbours (chain_after_moves chain run) p q → p.ready ≡ true → q.ready ≡ true
+    → HaveNumbers (chain_after_moves chain run) (round after_move (suc count) (chain_after_moves chain run))
+    → HoldsEntries (after_round (suc count) (chain_after_moves chain run)) (id_of q) (length_of p)
 entries_flow_on chain run count p q typed n rp rq numbers =
-    let c : Chain = chain_after chain run in
+    let c : Chain = chain_after_moves chain run in
     let is : IsRunOf chain run = typed.run_of in
     let some : 1 ≤ id_of p = not_master c.nodes (id_of p) p n.earlier (none_is_master chain run is) in
     let member : is_member c.members (id_of p) ≡ true = is_member-same c.members (id_of p) ∙ next_left c.members (id_of p) (id_of q) (next_from_predecessor c.members (id_of q) (id_of p) n.before) in

@@ -6,11 +6,11 @@ use Rattle.craq_model.specs.declared.message.LinkMessage.{LinkMessage}
 use Rattle.craq_model.specs.declared.step.Out.{Out}
 use Rattle.craq_model.specs.declared.step.Out.TheVariants as outs
 use Rattle.craq_model.specs.declared.waiting.WaitingRead.{WaitingRead}
-use Rattle.craq_model.specs.Deliveries.{acknowledgement_turn, delivery_turn, reads_without, due_updates, later_updates}
+use Rattle.craq_model.specs.Deliveries.{acknowledgement_transition, delivery_transition, reads_without, pending_updates, later_updates}
 use Rattle.craq_model.specs.Members.{is_member}
 use Rattle.craq_model.specs.Plain.{Plain, is_tail, predecessor}
 use Rattle.craq_model.specs.Sends.{send, tick_sends, to_neighbour}
-use Rattle.craq_model.specs.Settle.{Turn, all_committed, all_given, answer_outs, settling_turn, turn_with, Given, by_ticket, insert_given, read_given, update_given}
+use Rattle.craq_model.specs.Settle.{Transition, all_committed, all_given, answer_outs, settling_transition, transition_with, Given, by_ticket, insert_given, read_given, update_given}
 use Rattle.craq_recovery.proofs.Lines.{ByMessage, by_message, by_test}
 use Rattle.craq_model.specs.declared.ask.Answer.{Answer}
 use Rattle.craq_model.specs.declared.waiting.WaitingUpdate.{WaitingUpdate}
@@ -41,8 +41,8 @@ split false b c d h f = f h
 kept_true : {A : Type 0} (b : Bool) (x y : A) (P : A → Type 0) → b ≡ true → P x → P (cond b x y)
 kept_true {A} b x y P e h = cond_both b x y P (λ t. h) (λ f. absurd (both_ways b f e))
 
-not_due : (a b : ℕ) → nat_le a b ≡ false → nat_lt b a ≡ true
-not_due a b e = let lt : b < a = leb-false a b e in lt-ltb b a lt
+not_pending : (a b : ℕ) → nat_le a b ≡ false → nat_lt b a ≡ true
+not_pending a b e = let lt : b < a = leb-false a b e in lt-ltb b a lt
 
 alone : (a k : ℕ) → a ≡ k → is_member (a ∷ []) k ≡ true
 unfolding is_member
@@ -108,44 +108,44 @@ all_are_given p k h =
     let M : List ℕ → Type 0 = λ l. is_member l k ≡ true in
     sorted_too (map update_given p.waiting_updates ++ map (read_given p) p.waiting_reads) k (subst M (sym (both_given p p.waiting_updates p.waiting_reads)) h)
 
-due_or_later : (position : ℕ) (us : List WaitingUpdate) (k : ℕ) → is_member (map (λ (u : WaitingUpdate). u.ticket) us) k ≡ true
-    → (is_member (map ticket_of (map update_given (due_updates position us))) k ≡ true) ⊎ (is_member (map (λ (u : WaitingUpdate). u.ticket) (later_updates position us)) k ≡ true)
-unfolding is_member due_updates later_updates
-due_or_later position [] k h = absurd (cc)
-due_or_later position (u ∷ us) k h =
+pending_or_later : (position : ℕ) (us : List WaitingUpdate) (k : ℕ) → is_member (map (λ (u : WaitingUpdate). u.ticket) us) k ≡ true
+    → (is_member (map ticket_of (map update_given (pending_updates position us))) k ≡ true) ⊎ (is_member (map (λ (u : WaitingUpdate). u.ticket) (later_updates position us)) k ≡ true)
+unfolding is_member pending_updates later_updates
+pending_or_later position [] k h = absurd (cc)
+pending_or_later position (u ∷ us) k h =
     let D : List WaitingUpdate → Type 0 = λ l. is_member (map ticket_of (map update_given l)) k ≡ true in
     let L : List WaitingUpdate → Type 0 = λ l. is_member (map (λ (u : WaitingUpdate). u.ticket) l) k ≡ true in
-    let due : List WaitingUpdate = due_updates position us in
+    let pending : List WaitingUpdate = pending_updates position us in
     let later : List WaitingUpdate = later_updates position us in
     ⊎_elim
     (λ (i : (u.ticket == k) ≡ true).
-    cond_both (nat_le u.position position) true false (λ (b : Bool). D (due_updates position (u ∷ us)) ⊎ L (later_updates position (u ∷ us)))
-    (λ e. inl (kept_true (nat_le u.position position) (u ∷ due) due D e (first_is (u.ticket == k) (is_member (map ticket_of (map update_given due)) k) i)))
-    (λ e. inr (kept_true (nat_lt position u.position) (u ∷ later) later L (not_due u.position position e) (first_is (u.ticket == k) (is_member (map (λ (u : WaitingUpdate). u.ticket) later) k) i))))
+    cond_both (nat_le u.position position) true false (λ (b : Bool). D (pending_updates position (u ∷ us)) ⊎ L (later_updates position (u ∷ us)))
+    (λ e. inl (kept_true (nat_le u.position position) (u ∷ pending) pending D e (first_is (u.ticket == k) (is_member (map ticket_of (map update_given pending)) k) i)))
+    (λ e. inr (kept_true (nat_lt position u.position) (u ∷ later) later L (not_pending u.position position e) (first_is (u.ticket == k) (is_member (map (λ (u : WaitingUpdate). u.ticket) later) k) i))))
     (λ (i : is_member (map (λ (u : WaitingUpdate). u.ticket) us) k ≡ true).
     ⊎_elim
-    (λ (j : D due). inl (by_test (nat_le u.position position) D (u ∷ due) due (also (u.ticket == k) (is_member (map ticket_of (map update_given due)) k) j) j))
+    (λ (j : D pending). inl (by_test (nat_le u.position position) D (u ∷ pending) pending (also (u.ticket == k) (is_member (map ticket_of (map update_given pending)) k) j) j))
     (λ (j : L later). inr (by_test (nat_lt position u.position) L (u ∷ later) later (also (u.ticket == k) (is_member (map (λ (u : WaitingUpdate). u.ticket) later) k) j) j))
-    (due_or_later position us k i))
+    (pending_or_later position us k i))
     (or_parts (u.ticket == k) (is_member (map (λ (u : WaitingUpdate). u.ticket) us) k) h)
 
-told_or_left : (told : ℕ) (rs : List WaitingRead) (k : ℕ) → is_member (map (λ (r : WaitingRead). r.ticket) rs) k ≡ true
-    → (told ≡ k) ⊎ (is_member (map (λ (r : WaitingRead). r.ticket) (reads_without told rs)) k ≡ true)
+reported_or_left : (reported : ℕ) (rs : List WaitingRead) (k : ℕ) → is_member (map (λ (r : WaitingRead). r.ticket) rs) k ≡ true
+    → (reported ≡ k) ⊎ (is_member (map (λ (r : WaitingRead). r.ticket) (reads_without reported rs)) k ≡ true)
 unfolding is_member reads_without
-told_or_left told [] k h = absurd (cc)
-told_or_left told (r ∷ rs) k h =
+reported_or_left reported [] k h = absurd (cc)
+reported_or_left reported (r ∷ rs) k h =
     let L : List WaitingRead → Type 0 = λ l. is_member (map (λ (r : WaitingRead). r.ticket) l) k ≡ true in
-    let left : List WaitingRead = reads_without told rs in
+    let left : List WaitingRead = reads_without reported rs in
     ⊎_elim
     (λ (i : (r.ticket == k) ≡ true).
-    cond_both (r.ticket == told) true false (λ (b : Bool). (told ≡ k) ⊎ L (reads_without told (r ∷ rs)))
-    (λ e. inl (sym (eqb-true r.ticket told e) ∙ eqb-true r.ticket k i))
-    (λ e. inr (kept_true (not (r.ticket == told)) (r ∷ left) left L (ap not e) (first_is (r.ticket == k) (is_member (map (λ (r : WaitingRead). r.ticket) left) k) i))))
+    cond_both (r.ticket == reported) true false (λ (b : Bool). (reported ≡ k) ⊎ L (reads_without reported (r ∷ rs)))
+    (λ e. inl (sym (eqb-true r.ticket reported e) ∙ eqb-true r.ticket k i))
+    (λ e. inr (kept_true (not (r.ticket == reported)) (r ∷ left) left L (ap not e) (first_is (r.ticket == k) (is_member (map (λ (r : WaitingRead). r.ticket) left) k) i))))
     (λ (i : is_member (map (λ (r : WaitingRead). r.ticket) rs) k ≡ true).
     ⊎_elim
-    (λ (j : told ≡ k). inl j)
-    (λ (j : L left). inr (by_test (not (r.ticket == told)) L (r ∷ left) left (also (r.ticket == k) (is_member (map (λ (r : WaitingRead). r.ticket) left) k) j) j))
-    (told_or_left told rs k i))
+    (λ (j : reported ≡ k). inl j)
+    (λ (j : L left). inr (by_test (not (r.ticket == reported)) L (r ∷ left) left (also (r.ticket == k) (is_member (map (λ (r : WaitingRead). r.ticket) left) k) j) j))
+    (reported_or_left reported rs k i))
     (or_parts (r.ticket == k) (is_member (map (λ (r : WaitingRead). r.ticket) rs) k) h)
 
 -- ---- the fate of the request
@@ -154,17 +154,17 @@ module _ (k : ℕ) where
   abbrev pub StillWaits : Plain → Type 0
   StillWaits p = is_member (waiting_tickets p) k ≡ true
 
-  abbrev pub Fate : Turn → Type 0
+  abbrev pub Fate : Transition → Type 0
   Fate t = StillWaits t.0 ⊎ (is_member (answered_tickets t.1.outs) k ≡ true)
 
-  settling_fate : (p : Plain) → StillWaits p → Fate (settling_turn p)
-  unfolding settling_turn
+  settling_fate : (p : Plain) → StillWaits p → Fate (settling_transition p)
+  unfolding settling_transition
   settling_fate p h =
-      by_test (is_tail p) Fate (turn_with (all_committed p) (answer_outs (all_given p) ++ tick_sends (all_committed p))) (turn_with p (tick_sends p))
+      by_test (is_tail p) Fate (transition_with (all_committed p) (answer_outs (all_given p) ++ tick_sends (all_committed p))) (transition_with p (tick_sends p))
       (inr (answered_first (all_given p) (tick_sends (all_committed p)) k (all_are_given p k h))) (inl h)
 
-  acknowledgement_fate : (p : Plain) (position : ℕ) → StillWaits p → Fate (acknowledgement_turn p position)
-  unfolding acknowledgement_turn
+  acknowledgement_fate : (p : Plain) (position : ℕ) → StillWaits p → Fate (acknowledgement_transition p position)
+  unfolding acknowledgement_transition
   acknowledgement_fate p position h =
       let us : List WaitingUpdate = p.waiting_updates in
       let sends : List Out = to_neighbour (predecessor p) (λ to. send p to (bodies.Ack position) ∷ []) in
@@ -173,13 +173,13 @@ module _ (k : ℕ) where
       ⊎_elim
       (λ (i : is_member (map (λ (u : WaitingUpdate). u.ticket) us) k ≡ true).
       ⊎_elim
-      (λ (j : is_member (map ticket_of (map update_given (due_updates position us))) k ≡ true). inr (answered_first (map update_given (due_updates position us)) sends k j))
+      (λ (j : is_member (map ticket_of (map update_given (pending_updates position us))) k ≡ true). inr (answered_first (map update_given (pending_updates position us)) sends k j))
       (λ (j : is_member later k ≡ true). inl (in_front later reads k j))
-      (due_or_later position us k i))
+      (pending_or_later position us k i))
       (λ (i : is_member reads k ≡ true). inl (in_back later reads k i))
       (in_either (map (λ (u : WaitingUpdate). u.ticket) us) reads k h)
 
-  answer_fate : (p : Plain) (r : WaitingRead) (answer : Answer) → StillWaits p → Fate (turn_with (record p { waiting_reads = reads_without r.ticket p.waiting_reads }) (outs.Answer r.ticket answer ∷ []))
+  answer_fate : (p : Plain) (r : WaitingRead) (answer : Answer) → StillWaits p → Fate (transition_with (record p { waiting_reads = reads_without r.ticket p.waiting_reads }) (outs.Answer r.ticket answer ∷ []))
   answer_fate p r answer h =
       let updates : List ℕ = map (λ (u : WaitingUpdate). u.ticket) p.waiting_updates in
       let left : List ℕ = map (λ (r : WaitingRead). r.ticket) (reads_without r.ticket p.waiting_reads) in
@@ -189,7 +189,7 @@ module _ (k : ℕ) where
       ⊎_elim
       (λ (j : r.ticket ≡ k). inr (alone r.ticket k j))
       (λ (j : is_member left k ≡ true). inl (in_back updates left k j))
-      (told_or_left r.ticket p.waiting_reads k i))
+      (reported_or_left r.ticket p.waiting_reads k i))
       (in_either updates (map (λ (r : WaitingRead). r.ticket) p.waiting_reads) k h)
 
   message_fate : (m : LinkMessage) → ByMessage StillWaits Fate m
@@ -206,5 +206,5 @@ module _ (k : ℕ) where
   }
 
   -- after a message the request waits on or is answered
-  pub delivery_fate : (p : Plain) (m : LinkMessage) → StillWaits p → Fate (delivery_turn p m)
+  pub delivery_fate : (p : Plain) (m : LinkMessage) → StillWaits p → Fate (delivery_transition p m)
   delivery_fate p m h = by_message StillWaits Fate m (message_fate m) p h

@@ -7,12 +7,12 @@ use Rattle.craq_commands.specs.declared.state.State.{State}
 use Rattle.craq_model.specs.declared.gathering.Gathering.{Gathering}
 use Rattle.craq_model.specs.declared.message.StatePart.{StatePart}
 use Rattle.craq_model.specs.declared.step.Why.TheVariants.{NotNeighbour, AlreadyHave, TooFar}
-use Rattle.craq_model.specs.Deliveries.{copy_turn, floor_turn, gathered_turn, gathering_turn, is_outdated, part_turn, with_copy}
+use Rattle.craq_model.specs.Deliveries.{copy_transition, floor_transition, gathered_transition, gathering_transition, is_outdated, part_transition, with_copy}
 use Rattle.craq_model.specs.Members.{is_id}
 use Rattle.craq_model.specs.Parts.{gathered_position, gathering_for, is_in_order, is_whole, joined_state, new_gathering, share, with_part}
 use Rattle.craq_model.specs.Plain.{Plain, is_tail, length_of, predecessor}
 use Rattle.craq_model.specs.Sends.{tick_sends}
-use Rattle.craq_model.specs.Settle.{Turn, all_committed, all_given, answer_outs, is_reached, readiness_turn, settling_turn, turn_ignoring, turn_with, without_reached}
+use Rattle.craq_model.specs.Settle.{Transition, all_committed, all_given, answer_outs, is_reached, readiness_transition, settling_transition, transition_ignoring, transition_with, without_reached}
 use Rattle.craq_refinement.proofs.Gathered.{IsPartOf}
 use Rattle.craq_recovery.proofs.Acks.{is_id_here}
 use Rattle.craq_recovery.proofs.Entries.{readiness_length}
@@ -25,44 +25,44 @@ either_way false b X o f g = g o
 
 -- ---- a state
 
-pub copy_reaches : (p : Plain) (sender position : ℕ) (state : State) → predecessor p ≡ Some sender → (p.ready ≡ true → position ≤ length_of p) → position ≤ length_of (copy_turn p sender position state).0
-unfolding copy_turn
+pub copy_reaches : (p : Plain) (sender position : ℕ) (state : State) → predecessor p ≡ Some sender → (p.ready ≡ true → position ≤ length_of p) → position ≤ length_of (copy_transition p sender position state).0
+unfolding copy_transition
 copy_reaches p sender position state pred ready =
-    let P : Turn → Type 0 = λ t. position ≤ length_of t.0 in
+    let P : Transition → Type 0 = λ t. position ≤ length_of t.0 in
     let q : Plain = with_copy p position state in
-    let t1 : Turn = cond (p.ready || nat_le position (length_of p)) (turn_ignoring p AlreadyHave) (readiness_turn q) in
-    cond_both (not (is_id (predecessor p) sender)) (turn_ignoring p NotNeighbour) t1 P
+    let t1 : Transition = cond (p.ready || nat_le position (length_of p)) (transition_ignoring p AlreadyHave) (readiness_transition q) in
+    cond_both (not (is_id (predecessor p) sender)) (transition_ignoring p NotNeighbour) t1 P
     (λ e. absurd (both_ways (is_id (predecessor p) sender) (not-true (is_id (predecessor p) sender) e) (is_id_here (predecessor p) sender pred)))
-    (λ e. cond_both (p.ready || nat_le position (length_of p)) (turn_ignoring p AlreadyHave) (readiness_turn q) P
+    (λ e. cond_both (p.ready || nat_le position (length_of p)) (transition_ignoring p AlreadyHave) (readiness_transition q) P
     (λ o. either_way p.ready (nat_le position (length_of p)) (position ≤ length_of p) o ready (λ l. leb-true position (length_of p) l))
-    (λ o. let same : length_of (readiness_turn q).0 ≡ length_of q = readiness_length q in omega (arith, same)))
+    (λ o. let same : length_of (readiness_transition q).0 ≡ length_of q = readiness_length q in omega (arith, same)))
 
 -- ---- the floor
 
-settling_ready : (q : Plain) → q.ready ≡ true → (settling_turn q).0.ready ≡ true
-unfolding settling_turn
-settling_ready q r = by_test (is_tail q) (λ (t : Turn). t.0.ready ≡ true) (turn_with (all_committed q) (answer_outs (all_given q) ++ tick_sends (all_committed q))) (turn_with q (tick_sends q)) r r
+settling_ready : (q : Plain) → q.ready ≡ true → (settling_transition q).0.ready ≡ true
+unfolding settling_transition
+settling_ready q r = by_test (is_tail q) (λ (t : Transition). t.0.ready ≡ true) (transition_with (all_committed q) (answer_outs (all_given q) ++ tick_sends (all_committed q))) (transition_with q (tick_sends q)) r r
 
-readies : (q : Plain) → not q.ready ≡ true → is_reached q.floor (length_of q) ≡ true → (readiness_turn q).0.ready ≡ true
-unfolding readiness_turn
+readies : (q : Plain) → not q.ready ≡ true → is_reached q.floor (length_of q) ≡ true → (readiness_transition q).0.ready ≡ true
+unfolding readiness_transition
 readies q r f =
-    let t1 : Turn = settling_turn (record q { ready = true; gathering = None }) in
-    let t2 : Turn = turn_with (without_reached q) [] in
+    let t1 : Transition = settling_transition (record q { ready = true; gathering = None }) in
+    let t2 : Transition = transition_with (without_reached q) [] in
     let both : (not q.ready && is_reached q.floor (length_of q)) ≡ true = ap (λ x. x && is_reached q.floor (length_of q)) r ∙ f in
-    cond_both (not q.ready && is_reached q.floor (length_of q)) t1 t2 (λ (t : Turn). t.0.ready ≡ true)
+    cond_both (not q.ready && is_reached q.floor (length_of q)) t1 t2 (λ (t : Transition). t.0.ready ≡ true)
     (λ e. settling_ready (record q { ready = true; gathering = None }) refl)
     (λ e. absurd (both_ways (not q.ready && is_reached q.floor (length_of q)) e both))
 
 -- a node that holds as many entries as the floor says is then ready
-pub floor_readies : (p : Plain) (sender count : ℕ) → predecessor p ≡ Some sender → count ≤ length_of p → (floor_turn p sender count).0.ready ≡ true
-unfolding floor_turn
+pub floor_readies : (p : Plain) (sender count : ℕ) → predecessor p ≡ Some sender → count ≤ length_of p → (floor_transition p sender count).0.ready ≡ true
+unfolding floor_transition
 floor_readies p sender count pred le =
-    let P : Turn → Type 0 = λ t. t.0.ready ≡ true in
+    let P : Transition → Type 0 = λ t. t.0.ready ≡ true in
     let q : Plain = record p { floor = Some count } in
-    let t1 : Turn = cond p.ready (turn_ignoring p AlreadyHave) (readiness_turn q) in
-    cond_both (not (is_id (predecessor p) sender)) (turn_ignoring p NotNeighbour) t1 P
+    let t1 : Transition = cond p.ready (transition_ignoring p AlreadyHave) (readiness_transition q) in
+    cond_both (not (is_id (predecessor p) sender)) (transition_ignoring p NotNeighbour) t1 P
     (λ e. absurd (both_ways (is_id (predecessor p) sender) (not-true (is_id (predecessor p) sender) e) (is_id_here (predecessor p) sender pred)))
-    (λ e. cond_both p.ready (turn_ignoring p AlreadyHave) (readiness_turn q) P
+    (λ e. cond_both p.ready (transition_ignoring p AlreadyHave) (readiness_transition q) P
     (λ r. r)
     (λ r. readies q (ap not r) (le-leb count (length_of p) le)))
 
@@ -129,22 +129,22 @@ none_later position n (Some g) a =
 part_joins : (p : Plain) (g : Gathering) (part : StatePart) (i : ℕ) (s : State) (k : ℕ) → g.position ≡ part.position → g.count ≡ part.count → part.number ≡ suc i → NoneLater part.position p.gathering
     → Rises s → share s (64 * (part.number - 1)) (64 * part.number) ≡ part.state → AllByRecursion (IsPartOf s 1 k) g.parts
     → ((j : ℕ) → 1 ≤ j → j ≤ i → is_some (at_number g.parts j) ≡ true) → (is_some (at_number g.parts part.number) ≡ true → p.gathering ≡ Some g)
-    → HasTaken part.position part.count (suc i) (gathering_turn p g part).0
+    → HasTaken part.position part.count (suc i) (gathering_transition p g part).0
 part_joins p g part i s k at of number low rises own shares held same =
     let n : Gathering = with_part g part in
-    let Q : Turn → Type 0 = λ t. HasTaken part.position part.count (suc i) t.0 in
-    let t3 : Turn = gathered_turn p n in
-    let t2 : Turn = cond (not (is_in_order g part)) (turn_ignoring p TooFar) t3 in
-    let t1 : Turn = cond (is_some (at_number g.parts part.number)) (turn_ignoring p AlreadyHave) t2 in
+    let Q : Transition → Type 0 = λ t. HasTaken part.position part.count (suc i) t.0 in
+    let t3 : Transition = gathered_transition p n in
+    let t2 : Transition = cond (not (is_in_order g part)) (transition_ignoring p TooFar) t3 in
+    let t1 : Transition = cond (is_some (at_number g.parts part.number)) (transition_ignoring p AlreadyHave) t2 in
     let q : Plain = with_copy p n.position (joined_state n.parts) in
-    cond_both (not (part.count == g.count)) (turn_ignoring p TooFar) t1 Q
+    cond_both (not (part.count == g.count)) (transition_ignoring p TooFar) t1 Q
     (λ e. absurd (both_ways (part.count == g.count) (not-true (part.count == g.count) e) (eq-eqb part.count g.count (sym of))))
-    (λ e. cond_both (is_some (at_number g.parts part.number)) (turn_ignoring p AlreadyHave) t2 Q
+    (λ e. cond_both (is_some (at_number g.parts part.number)) (transition_ignoring p AlreadyHave) t2 Q
     (λ h. inr (low, λ j some most. record { gathering = g; is = same h; at = at; of = of; has = up_to g.parts i part.number number held h j some most }))
-    (λ h. cond_both (not (is_in_order g part)) (turn_ignoring p TooFar) t3 Q
+    (λ h. cond_both (not (is_in_order g part)) (transition_ignoring p TooFar) t3 Q
     (λ o. absurd (both_ways (is_in_order g part) (not-true (is_in_order g part) o) (in_order s k g part rises own shares h)))
-    (λ o. cond_both (is_whole n) (readiness_turn q) (turn_with (record p { gathering = Some n }) []) Q
-    (λ w. inl (let len : length_of (readiness_turn q).0 ≡ length_of q = readiness_length q in omega (arith, len, at)))
+    (λ o. cond_both (is_whole n) (readiness_transition q) (transition_with (record p { gathering = Some n }) []) Q
+    (λ w. inl (let len : length_of (readiness_transition q).0 ≡ length_of q = readiness_length q in omega (arith, len, at)))
     (λ w. inr (
       λ x is. let it : n ≡ x = cc in let P : Gathering → Type 0 = λ y. y.position ≤ part.position in subst P it (omega (arith, at)),
       λ j some most. record { gathering = n; is = refl; at = at; of = of; has = up_to n.parts i part.number number (λ j a b. put_keeps g.parts part.number j part.state (held j a b)) (put_here g.parts part.number part.state) j some most },
@@ -161,18 +161,18 @@ part_joins p g part i s k at of number low rises own shares held same =
 pub part_taken : (p : Plain) (sender i : ℕ) (part : StatePart) (s : State) (k : ℕ) → predecessor p ≡ Some sender → part.number ≡ suc i → (p.ready ≡ true → part.position ≤ length_of p)
     → ((g : Gathering) → p.gathering ≡ Some g → g.position ≡ part.position → g.count ≡ part.count)
     → Rises s → share s (64 * (part.number - 1)) (64 * part.number) ≡ part.state → ((gathering_for part p.gathering).count ≡ part.count → AllByRecursion (IsPartOf s 1 k) (gathering_for part p.gathering).parts)
-    → NoneLater part.position p.gathering → HasParts part.position part.count i p.gathering → HasTaken part.position part.count (suc i) (part_turn p sender part).0
-unfolding part_turn
+    → NoneLater part.position p.gathering → HasParts part.position part.count i p.gathering → HasTaken part.position part.count (suc i) (part_transition p sender part).0
+unfolding part_transition
 part_taken p sender i part s k pred number ready counts rises own shares low parts =
-    let Q : Turn → Type 0 = λ t. HasTaken part.position part.count (suc i) t.0 in
+    let Q : Transition → Type 0 = λ t. HasTaken part.position part.count (suc i) t.0 in
     let g : Gathering = gathering_for part p.gathering in
-    let t2 : Turn = gathering_turn p g part in
-    let t1 : Turn = cond (p.ready || is_outdated p part) (turn_ignoring p AlreadyHave) t2 in
+    let t2 : Transition = gathering_transition p g part in
+    let t1 : Transition = cond (p.ready || is_outdated p part) (transition_ignoring p AlreadyHave) t2 in
     let late : nat_lt part.position (gathered_position p.gathering) ≡ false = none_later part.position 0 p.gathering low in
     let of : g.count ≡ part.count = for_count part p.gathering late counts in
-    cond_both (not (is_id (predecessor p) sender)) (turn_ignoring p NotNeighbour) t1 Q
+    cond_both (not (is_id (predecessor p) sender)) (transition_ignoring p NotNeighbour) t1 Q
     (λ e. absurd (both_ways (is_id (predecessor p) sender) (not-true (is_id (predecessor p) sender) e) (is_id_here (predecessor p) sender pred)))
-    (λ e. cond_both (p.ready || is_outdated p part) (turn_ignoring p AlreadyHave) t2 Q
+    (λ e. cond_both (p.ready || is_outdated p part) (transition_ignoring p AlreadyHave) t2 Q
     (λ o. inl (either_way p.ready (is_outdated p part) (part.position ≤ length_of p) o ready
     (λ out. either_way (nat_le part.position (length_of p)) (nat_lt part.position (gathered_position p.gathering)) (part.position ≤ length_of p) out
     (λ l. leb-true part.position (length_of p) l)

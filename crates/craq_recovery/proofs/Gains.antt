@@ -6,7 +6,7 @@ use Rattle.craq_names.specs.declared.refusal.Refusal.{Refusal}
 use Rattle.craq_commands.specs.declared.entry.Entry.{Entry}
 use Rattle.craq_model.specs.Plain.{Plain, id_of, length_of}
 use Rattle.craq_protocol.specs.Machine as machine
-use Rattle.craq_protocol.specs.Machine.{World}
+use Rattle.craq_protocol.specs.Machine.{MachineState}
 use Rattle.craq_protocol.specs.Promises.{IsPrefix}
 use Rattle.craq_protocol.specs.Promises as promises
 use Rattle.craq_protocol.proofs.Reached.{reached_later, reached_run}
@@ -42,7 +42,7 @@ gains_on a b = record {
 pub prefix_length : {A : Type 0} {xs ys : List A} → IsPrefix xs ys → length xs ≤ length ys
 prefix_length {A} {xs} {ys} p = omega (arith, length-append xs p.rest, ap length p.is)
 
-gains_in : {c d : Chain} {w v : World Entry} → Follows c w → Follows d v → promises.Later w v → (id : ℕ) (p q : Plain) → node_at c.nodes id ≡ Some p → node_at d.nodes id ≡ Some q → Gains p q
+gains_in : {c d : Chain} {w v : MachineState Entry} → Follows c w → Follows d v → promises.Later w v → (id : ℕ) (p q : Plain) → node_at c.nodes id ≡ Some p → node_at d.nodes id ≡ Some q → Gains p q
 gains_in {c} {d} {w} {v} f g l id p q a b =
     let P : ℕ → Type 0 = λ k. node_at c.nodes k ≡ Some p in
     let Q : ℕ → Type 0 = λ k. node_at d.nodes k ≡ Some q in
@@ -73,7 +73,7 @@ same_node o p q a b = let e : p ≡ q = cc in let P : Plain → Type 0 = λ x. G
 
 goes_by : (c : Chain) (m : Move) → IsFollowed c → (r : Result Progress Refusal) → chain_step c m ≡ r → Goes c (progressed c r)
 goes_by c m f (Ok x) is =
-    let w : World Entry = f.0 in
+    let w : MachineState Entry = f.0 in
     let g : CanFollow w x.0 = every_step c w m x f.2 f.1 is in
     record { followed = (machine.after_moves w g.0, reached_run f.1 g.0, g.1); gains = λ id p q a b. gains_in f.2 g.1 (reached_later f.1 g.0) id p q a b }
 goes_by c m f (Err e) is = record { followed = f; gains = λ id p q a b. same_node (node_at c.nodes id) p q a b }

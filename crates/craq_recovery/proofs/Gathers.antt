@@ -11,18 +11,18 @@ use Rattle.craq_model.specs.declared.gathering.Gathering.{Gathering}
 use Rattle.craq_model.specs.declared.message.Body.TheVariants as bodies
 use Rattle.craq_model.specs.declared.message.LinkMessage.{LinkMessage}
 use Rattle.craq_model.specs.declared.message.StatePart.{StatePart}
-use Rattle.craq_model.specs.Deliveries.{acknowledgement_turn, delivery_turn}
-use Rattle.craq_model.specs.Node.{event_turn, is_for}
+use Rattle.craq_model.specs.Deliveries.{acknowledgement_transition, delivery_transition}
+use Rattle.craq_model.specs.Node.{event_transition, is_for}
 use Rattle.craq_model.specs.Parts.{is_whole}
 use Rattle.craq_model.specs.Plain.{Plain, is_tail, opening_joined, opening_member, predecessor}
-use Rattle.craq_model.specs.Settle.{Turn, all_committed, settling_turn}
+use Rattle.craq_model.specs.Settle.{Transition, all_committed, settling_transition}
 use Rattle.craq_runs.specs.declared.run.Move.{Move}
 use Rattle.craq_runs.specs.declared.run.Move.TheVariants as moves
 use Rattle.craq_runs.specs.declared.run.Run.{Run}
 use Rattle.craq_runs.specs.declared.run.Taken.{Taken}
 use Rattle.craq_runs.specs.Chain.{Chain, Progress, chain_step, counted_progress, message_at, move_progress, node_at, numbers_left, opening_chain, sent_in}
 use Rattle.craq_runs.specs.Runs.{after_move, after_moves, progressed}
-use Rattle.craq_recovery.specs.Recovered.{chain_after}
+use Rattle.craq_recovery.specs.Recovered.{chain_after_moves}
 use Rattle.craq_recovery.proofs.Each.{Each, each_at, each_moved, each_opening}
 use Rattle.craq_recovery.proofs.Lines.{ByAsk, ByMessage, IfTaken, by_ask, by_message, by_test}
 use Rattle.craq_updates.proofs.Places.{EventOf}
@@ -34,7 +34,7 @@ module _ (K : Option ℕ → Gathering → Type 0) where
   abbrev pub GathersSo : Plain → Type 0
   GathersSo p = (g : Gathering) → p.gathering ≡ Some g → K (predecessor p) g
 
-  abbrev pub GathersAfter : Turn → Type 0
+  abbrev pub GathersAfter : Transition → Type 0
   GathersAfter t = GathersSo t.0
 
   -- the parts of this message make such a gathering
@@ -44,12 +44,12 @@ module _ (K : Option ℕ → Gathering → Type 0) where
   gathers_none : (p : Plain) → p.gathering ≡ None → GathersSo p
   gathers_none p none g is = absurd (cc)
 
-  settling_so : (p : Plain) → p.gathering ≡ None → GathersAfter (settling_turn p)
-  unfolding settling_turn
+  settling_so : (p : Plain) → p.gathering ≡ None → GathersAfter (settling_transition p)
+  unfolding settling_transition
   settling_so p none = by_test (is_tail p) GathersAfter _ _ (gathers_none (all_committed p) none) (gathers_none p none)
 
   message_so : (m : LinkMessage) → BringsSo m → ByMessage GathersSo GathersAfter m
-  unfolding acknowledgement_turn
+  unfolding acknowledgement_transition
   message_so m brings = record {
     silent = λ t none h. h;
     sends = λ p past to bs h. h;
@@ -66,15 +66,15 @@ module _ (K : Option ℕ → Gathering → Type 0) where
         subst P it (subst Q (sym from) (brings part g says at count lacks));
   }
 
-  pub delivery_so : (p : Plain) (m : LinkMessage) → BringsSo m → GathersSo p → GathersAfter (delivery_turn p m)
+  pub delivery_so : (p : Plain) (m : LinkMessage) → BringsSo m → GathersSo p → GathersAfter (delivery_transition p m)
   delivery_so p m brings h = by_message GathersSo GathersAfter m (message_so m brings) p h
 
   ask_so : ByAsk GathersSo GathersAfter
   ask_so = record { answered = λ p past answer to bs h. h; waits = λ p past us to bs h. h; asks = λ p r bs dirty h. h }
 
-  event_so : (p : Plain) (e : Event) → ((m : LinkMessage) → e ≡ events.Deliver m → BringsSo m) → GathersSo p → IfTaken GathersAfter (event_turn p e)
+  event_so : (p : Plain) (e : Event) → ((m : LinkMessage) → e ≡ events.Deliver m → BringsSo m) → GathersSo p → IfTaken GathersAfter (event_transition p e)
   event_so p (events.Ask ask) brings h = by_ask GathersSo GathersAfter ask_so p ask h
-  event_so p (events.Deliver m) brings h = by_test (is_for p m) (IfTaken GathersAfter) (Ok (delivery_turn p m)) (Err refusals.WrongNode) (delivery_so p m (brings m refl) h) tt
+  event_so p (events.Deliver m) brings h = by_test (is_for p m) (IfTaken GathersAfter) (Ok (delivery_transition p m)) (Err refusals.WrongNode) (delivery_so p m (brings m refl) h) tt
   event_so p events.Tick brings h = h
   event_so p events.Stop brings h = h
 
@@ -84,7 +84,7 @@ module _ (K : Option ℕ → Gathering → Type 0) where
   so_move : (c : Chain) (m : Move) → ((number : ℕ) (m : LinkMessage) → message_at c.messages number ≡ Some m → BringsSo m) → AllGatherSo c.nodes → AllGatherSo (after_move c m).nodes
   so_move c m brings all =
       each_moved GathersSo c m all
-      (λ x a h. let T : Result Turn Refusal → Type 0 = λ r. IfTaken GathersAfter r in subst T a.does (event_so a.was a.event (λ l is. delivered c m a.event l a.by is brings) h))
+      (λ x a h. let T : Result Transition Refusal → Type 0 = λ r. IfTaken GathersAfter r in subst T a.does (event_so a.was a.event (λ l is. delivered c m a.event l a.by is brings) h))
       (λ name some. gathers_none (opening_joined name) refl)
     where
       delivered : (c : Chain) (m : Move) (e : Event) (l : LinkMessage) → EventOf c m e → e ≡ events.Deliver l → ((number : ℕ) (m : LinkMessage) → message_at c.messages number ≡ Some m → BringsSo m) → BringsSo l
@@ -155,7 +155,7 @@ came_moves : (ts : List Taken) (c : Chain) → AllGatherSo (CameFrom c.messages)
 came_moves [] c a = a
 came_moves (t ∷ ts) c a = came_moves ts (after_move c t.chosen) (came_move c t.chosen a)
 
-came_after : (chain : ℕ) (run : Run) → AllGatherSo (CameFrom (chain_after chain run).messages) (chain_after chain run).nodes
+came_after : (chain : ℕ) (run : Run) → AllGatherSo (CameFrom (chain_after_moves chain run).messages) (chain_after_moves chain run).nodes
 came_after chain run = came_moves run.moves (opening_chain chain run.members) (each_opening (GathersSo (CameFrom [])) chain run.members (λ id. gathers_none (CameFrom []) (opening_member (record { chain = chain; node = id }) run.members) refl))
 
 -- a node's gathering lacks parts, and its predecessor sent one of them

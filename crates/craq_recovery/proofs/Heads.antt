@@ -7,7 +7,7 @@ use Rattle.craq_names.proofs.Lists.{all_like}
 use Rattle.craq_commands.specs.declared.entry.Entry.{Entry}
 use Rattle.craq_model.specs.Members.{is_member, last_of, predecessor_in, successor_in}
 use Rattle.craq_model.specs.Plain.{Plain, id_of}
-use Rattle.craq_protocol.specs.Machine.{World}
+use Rattle.craq_protocol.specs.Machine.{MachineState}
 use Rattle.craq_protocol.specs.Members.{IsDistinct}
 use Rattle.craq_protocol.specs.Members as protocol
 use Rattle.craq_protocol.specs.Promises.{IsSafe}
@@ -22,7 +22,7 @@ use Rattle.craq_runs.specs.declared.run.Move.{Move}
 use Rattle.craq_runs.specs.declared.run.Run.{Run}
 use Rattle.craq_runs.specs.Chain.{Chain, node_at}
 use Rattle.craq_runs.specs.Runs.{IsRunOf, after_move}
-use Rattle.craq_recovery.specs.Recovered.{AllReady, AreNeighbours, IsReadyAt, Knows, KnowsCommitted, after_round, chain_after}
+use Rattle.craq_recovery.specs.Recovered.{AllReady, AreNeighbours, IsReadyAt, Knows, KnowsCommitted, after_round, chain_after_moves}
 use Rattle.craq_recovery.specs.Rounds.{after_moves_by, after_rounds, round}
 use Rattle.craq_recovery.specs.Taken.{HaveNumbers, HaveNumbersFor}
 use Rattle.craq_recovery.proofs.Acks.{ack_crosses}
@@ -82,7 +82,7 @@ ids_moves (m ∷ ms) c h = ids_moves ms (after_move c m) (none_after c m h)
 pub good_moves : (ms : List Move) (c : Chain) → Good c → Good (after_moves_by after_move c ms)
 good_moves ms c g = record { sound = sound_moves ms c g.sound; followed = followed_moves ms c g.followed; ids = ids_moves ms c g.ids }
 
-pub good_run : (chain : ℕ) (run : Run) → IsRunOf chain run → Good (chain_after chain run)
+pub good_run : (chain : ℕ) (run : Run) → IsRunOf chain run → Good (chain_after_moves chain run)
 good_run chain run is = record { sound = sound_after chain run.members run.moves; followed = every_run chain run is; ids = none_is_master chain run is }
 
 -- a node that knows the membership knows it a round later, and has only gained
@@ -129,7 +129,7 @@ ready_after count c g r =
 
 pub distinct_members : (c : Chain) → IsFollowed c → IsDistinct c.members
 distinct_members c f =
-    let w : World Entry = f.0 in
+    let w : MachineState Entry = f.0 in
     let g : Follows c w = f.2 in
     let s : IsSafe w = reached_safe f.1 in
     let P : List ℕ → Type 0 = λ l. IsDistinct l in
@@ -229,9 +229,9 @@ by_members count least rounds c (m ∷ ms) g is le r k numbers =
     let P : List ℕ → Type 0 = λ l. KnowAll (after_rounds after_move (suc count) rounds c) least l in
     subst P s.1 (spreads count least rounds s.0 (last_of (m ∷ ms)) [] c g (omega (arith, le, s.2)) (s.1 ∙ is) r (k, tt) numbers)
 
-pub acks_reach_all : (chain : ℕ) (run : Run) (count least : ℕ) → IsRunOf chain run → AllReady (chain_after chain run) → KnowsCommitted (chain_after chain run) (last_of (chain_after chain run).members) least
-    → HaveNumbersFor (suc count) (length (chain_after chain run).members) (chain_after chain run)
-    → AllByRecursion (λ id. KnowsCommitted (after_rounds after_move (suc count) (length (chain_after chain run).members) (chain_after chain run)) id least) (chain_after chain run).members
+pub acks_reach_all : (chain : ℕ) (run : Run) (count least : ℕ) → IsRunOf chain run → AllReady (chain_after_moves chain run) → KnowsCommitted (chain_after_moves chain run) (last_of (chain_after_moves chain run).members) least
+    → HaveNumbersFor (suc count) (length (chain_after_moves chain run).members) (chain_after_moves chain run)
+    → AllByRecursion (λ id. KnowsCommitted (after_rounds after_move (suc count) (length (chain_after_moves chain run).members) (chain_after_moves chain run)) id least) (chain_after_moves chain run).members
 acks_reach_all chain run count least is r k numbers =
-    let c : Chain = chain_after chain run in
+    let c : Chain = chain_after_moves chain run in
     by_members count least (length c.members) c c.members (good_run chain run is) refl (omega arith) r k numbers

@@ -10,11 +10,11 @@ use Rattle.craq_commands.specs.declared.entry.Entry.{Entry}
 use Rattle.craq_model.specs.declared.message.Body.TheVariants as bodies
 use Rattle.craq_model.specs.declared.message.LinkMessage.{LinkMessage}
 use Rattle.craq_model.specs.declared.step.Why.TheVariants.{OtherEpoch, NotNeighbour}
-use Rattle.craq_model.specs.Deliveries.{body_turn, config_turn, delivery_turn}
+use Rattle.craq_model.specs.Deliveries.{body_transition, config_transition, delivery_transition}
 use Rattle.craq_model.specs.Members.{is_member}
 use Rattle.craq_model.specs.Plain.{Plain, id_of}
-use Rattle.craq_model.specs.Settle.{Turn, settling_turn, turn_ignoring}
-use Rattle.craq_protocol.specs.Machine.{World}
+use Rattle.craq_model.specs.Settle.{Transition, settling_transition, transition_ignoring}
+use Rattle.craq_protocol.specs.Machine.{MachineState}
 use Rattle.craq_protocol.specs.Members.{membership_of}
 use Rattle.craq_protocol.specs.Promises.{IsSafe}
 use Rattle.craq_protocol.proofs.Reached.{reached_safe}
@@ -36,7 +36,7 @@ use Rattle.std.specs.Prelude.{⊤}
 use Rattle.craq_recovery.proofs.Series.{Has}
 use Rattle.craq_recovery.proofs.Arriving.{BringAll, Endures, bring_lasts, bring_more, bring_past, news, round_brings, taken_ok, ticked, ticks_onward}
 use Rattle.craq_recovery.proofs.Onward.{Onward, onward_move, onward_moves}
-use Rattle.craq_recovery.proofs.Running.{delivery_turn-runs}
+use Rattle.craq_recovery.proofs.Running.{delivery_transition-runs}
 use Rattle.craq_recovery.proofs.Sound.{Sound, sound_after}
 use Rattle.craq_recovery.proofs.Lines.{by_test}
 use Rattle.craq_recovery.proofs.Taking.{master_taken, round_travels, runs_on, ticks_travel}
@@ -46,26 +46,26 @@ ok_same x y r d e = cc
 
 -- ---- a membership arrives
 
-settled_epoch : (p : Plain) → (settling_turn p).0.epoch ≡ p.epoch
-unfolding settling_turn
+settled_epoch : (p : Plain) → (settling_transition p).0.epoch ≡ p.epoch
+unfolding settling_transition
 settled_epoch p = grind (arith)
 
-settled_name : (p : Plain) → (settling_turn p).0.name ≡ p.name
-unfolding settling_turn
+settled_name : (p : Plain) → (settling_transition p).0.name ≡ p.name
+unfolding settling_transition
 settled_name p = grind (arith)
 
-config_name : (p : Plain) (e : ℕ) (ms : List ℕ) → (config_turn p e ms).0.name ≡ p.name
-unfolding config_turn
+config_name : (p : Plain) (e : ℕ) (ms : List ℕ) → (config_transition p e ms).0.name ≡ p.name
+unfolding config_transition
 config_name p e ms = grind (arith, settled_name (record p { epoch = e; members = ms; floor = None; gathering = None }))
 
-config_epoch : (p : Plain) (e : ℕ) (ms : List ℕ) → is_member ms (id_of p) ≡ true → e ≤ (config_turn p e ms).0.epoch
-unfolding config_turn
+config_epoch : (p : Plain) (e : ℕ) (ms : List ℕ) → is_member ms (id_of p) ≡ true → e ≤ (config_transition p e ms).0.epoch
+unfolding config_transition
 config_epoch p e ms member =
     let q : Plain = record p { epoch = e; members = ms; floor = None; gathering = None } in
-    let t : Turn = cond (not (is_member ms (id_of p))) (turn_ignoring p NotNeighbour) (settling_turn q) in
-    cond_both (nat_le e p.epoch) (turn_ignoring p OtherEpoch) t (λ (t : Turn). e ≤ t.0.epoch)
+    let t : Transition = cond (not (is_member ms (id_of p))) (transition_ignoring p NotNeighbour) (settling_transition q) in
+    cond_both (nat_le e p.epoch) (transition_ignoring p OtherEpoch) t (λ (t : Transition). e ≤ t.0.epoch)
     (λ old. leb-true e p.epoch old)
-    (λ new. cond_both (not (is_member ms (id_of p))) (turn_ignoring p NotNeighbour) (settling_turn q) (λ (t : Turn). e ≤ t.0.epoch)
+    (λ new. cond_both (not (is_member ms (id_of p))) (transition_ignoring p NotNeighbour) (settling_transition q) (λ (t : Transition). e ≤ t.0.epoch)
     (λ out. absurd (both_ways (is_member ms (id_of p)) (not-true (is_member ms (id_of p)) out) member))
     (λ _. omega (arith, settled_epoch q)))
 
@@ -88,12 +88,12 @@ config_informs d number m x epoch members id at k is member =
     let a : Arrived d m x = arrived d number m x at k in
     let p : Plain = a.node in
     let own : id_of p ≡ id = sym a.own ∙ is.goes_to in
-    let t : Turn = delivery_turn p m in
-    let by : t ≡ config_turn p m.epoch members = ap (body_turn p m) is.says in
-    let named : t.0.name ≡ p.name = ap (λ (t : Turn). t.0.name) by ∙ config_name p m.epoch members in
+    let t : Transition = delivery_transition p m in
+    let by : t ≡ config_transition p m.epoch members = ap (body_transition p m) is.says in
+    let named : t.0.name ≡ p.name = ap (λ (t : Transition). t.0.name) by ∙ config_name p m.epoch members in
     let same : id_of t.0 ≡ id_of p = ap (λ (n : NodeName). n.node) named in
     let M : ℕ → Type 0 = λ i. is_member members i ≡ true in
-    let late : m.epoch ≤ (config_turn p m.epoch members).0.epoch = config_epoch p m.epoch members (subst M (sym own) member) in
+    let late : m.epoch ≤ (config_transition p m.epoch members).0.epoch = config_epoch p m.epoch members (subst M (sym own) member) in
     let N : ℕ → Type 0 = λ i. node_at d.nodes i ≡ Some p in
     let R : ℕ → Type 0 = λ i. node_at (set_node d.nodes t.0) i ≡ Some t.0 in
     let here : node_at (set_node d.nodes t.0) id ≡ Some t.0 = subst R (same ∙ own) (node_here d.nodes t.0 p (subst N (sym same) a.at)) in
@@ -101,8 +101,8 @@ config_informs d number m x epoch members id at k is member =
     subst Q (sym a.is) (record {
       node = t.0;
       at = here;
-      runs = delivery_turn-runs p m ∙ a.running;
-      late = omega (arith, late, is.made, ap (λ (t : Turn). t.0.epoch) by);
+      runs = delivery_transition-runs p m ∙ a.running;
+      late = omega (arith, late, is.made, ap (λ (t : Transition). t.0.epoch) by);
     })
 
 -- an informed node stays informed
@@ -143,9 +143,9 @@ unfolding is_member
 has_config c [] rest id h = absurd (cc)
 has_config c (to ∷ tos) rest id h = has_one c to tos rest id (to == id) refl h (λ i. has_config c tos rest id i)
 
-told : (c : Chain) (x : Progress) → chain_step c (Tick 0) ≡ Ok x → x.0.messages ≡ c.messages ++ sent_in (map (config_to c) c.members)
+reported : (c : Chain) (x : Progress) → chain_step c (Tick 0) ≡ Ok x → x.0.messages ≡ c.messages ++ sent_in (map (config_to c) c.members)
 unfolding chain_step
-told c x =
+reported c x =
     let y : Progress = config_progress c in
     let z : Progress = (record y.0 { messages = c.messages ++ sent_in y.1.outs; moves = c.moves + 1 }, y.1) in
     by_test (numbers_left c y.1) (λ (r : Result Progress Refusal). r ≡ Ok x → x.0.messages ≡ c.messages ++ sent_in (map (config_to c) c.members)) (Ok z) (Err refusals.Exhausted)
@@ -167,8 +167,8 @@ informed_by_round count c id s f runs member numbers =
         let on : Onward t (ticked c) = onward_moves (ticks_of c.nodes c.members) t (ticks_travel c.nodes c.members) in
         let configs : List LinkMessage = sent_in (map (config_to c) c.members) in
         let T : Result Progress Refusal → Type 0 = λ r. (progressed c r).messages ≡ c.messages ++ configs in
-        let told_here : t.messages ≡ c.messages ++ configs = subst T (sym ok.1) (told c ok.0 ok.1) in
-        let all : c.messages ++ (configs ++ on.sent) ≡ (ticked c).messages = sym (append_assoc c.messages configs on.sent) ∙ (ap (λ l. l ++ on.sent) (sym told_here) ∙ on.messages) in
+        let reported_here : t.messages ≡ c.messages ++ configs = subst T (sym ok.1) (reported c ok.0 ok.1) in
+        let all : c.messages ++ (configs ++ on.sent) ≡ (ticked c).messages = sym (append_assoc c.messages configs on.sent) ∙ (ap (λ l. l ++ on.sent) (sym reported_here) ∙ on.messages) in
         let new : news c (ticked c) ≡ configs ++ on.sent = sym (ap (drop (length c.messages)) all) ∙ drop-append_seam c.messages (configs ++ on.sent) in
         let H : List LinkMessage → Type 0 = λ l. Has (IsConfigTo c.epoch c.members id) l in
         subst H (sym new) (has_config c c.members on.sent id member)
@@ -176,7 +176,7 @@ informed_by_round count c id s f runs member numbers =
 -- a node that knows at least the master's epoch knows its membership
 pub knows_at : (c d : Chain) (id : ℕ) → Onward c d → IsFollowed d → (i : Informed d id c.epoch) → Knows d i.node
 knows_at c d id on f i =
-    let w : World Entry = f.0 in
+    let w : MachineState Entry = f.0 in
     let g : Follows d w = f.2 in
     let p : Plain = i.node in
     let P : ℕ → Type 0 = λ k. node_at d.nodes k ≡ Some p in

@@ -22,7 +22,7 @@ use Rattle.craq_runs.specs.Chain.{Chain, sent_in}
 use Rattle.craq_recovery.proofs.Blocks.{Conveys, conveys_both, conveys_more, conveys_none}
 use Rattle.craq_recovery.proofs.Entries.{HoldsSo, placed_front}
 use Rattle.craq_recovery.proofs.Extending.{IsReachedBy, reached_move}
-use Rattle.craq_recovery.proofs.Meeting.{Begins, Holds, IsFrom, Takes, all_taken, none_taken, turn_copy, turn_entries, turn_floor, turn_part}
+use Rattle.craq_recovery.proofs.Meeting.{Begins, Holds, IsFrom, Takes, all_taken, none_taken, transition_copy, transition_entries, transition_floor, transition_part}
 use Rattle.craq_recovery.proofs.Series.{sent_both}
 use Rattle.craq_recovery.proofs.Arriving.{Stays}
 
@@ -63,7 +63,7 @@ module _ (chain : ℕ) (c : Chain) (p : Plain) (to : ℕ) (before : predecessor_
       let m : LinkMessage = record { chain = p.name.chain; sender = id_of p; receiver = to; stamp = 1; index = 0; epoch = p.epoch; body = run_body r } in
       subst P ends
       (conveys_more (IsReachedBy chain) c to m (sent_in (send_all p to (map run_body rs))) (Holds c.epoch a) (Holds c.epoch (a + length r)) (Holds c.epoch ((a + length r) + length rest)) (reach_stays chain) refl
-      (turn_entries chain c (id_of p) to a r m before (from_it (run_body r)) refl (placed_front a r rest placed))
+      (transition_entries chain c (id_of p) to a r m before (from_it (run_body r)) refl (placed_front a r rest placed))
       (runs_brought (a + length r) rs (placed_back a r rest placed)))
 
   floor_brought : (count : ℕ) → Brought (Holds c.epoch count) (HoldsSo c.epoch count) (bodies.Floor count ∷ [])
@@ -71,7 +71,7 @@ module _ (chain : ℕ) (c : Chain) (p : Plain) (to : ℕ) (before : predecessor_
   floor_brought count =
       let m : LinkMessage = record { chain = p.name.chain; sender = id_of p; receiver = to; stamp = 1; index = 0; epoch = p.epoch; body = bodies.Floor count } in
       conveys_more (IsReachedBy chain) c to m [] (Holds c.epoch count) (HoldsSo c.epoch count) (HoldsSo c.epoch count) (reach_stays chain) refl
-      (turn_floor chain c (id_of p) to count m before (from_it (bodies.Floor count)) refl)
+      (transition_floor chain c (id_of p) to count m before (from_it (bodies.Floor count)) refl)
       (conveys_none (IsReachedBy chain) c to (HoldsSo c.epoch count) (HoldsSo c.epoch count) (λ d r f on i. i))
 
   -- if no state is sent
@@ -109,7 +109,7 @@ module _ (chain : ℕ) (c : Chain) (p : Plain) (to : ℕ) (before : predecessor_
       let P : ℕ → Type 0 = λ j. Conveys (IsReachedBy chain) c to (T i) (T j) (m ∷ rest) in
       subst P same
       (conveys_more (IsReachedBy chain) c to m rest (T i) (T (suc i)) (T (suc i + n)) (reach_stays chain) refl
-      (turn_part chain c (id_of p) to i part m before (from_it (bodies.Part part)) refl at)
+      (transition_part chain c (id_of p) to i part m before (from_it (bodies.Part part)) refl at)
       (parts_brought position s (suc i) (a + 1) n (omega (arith, at))))
 
   -- the state after a position, as a copy or in parts
@@ -123,7 +123,7 @@ module _ (chain : ℕ) (c : Chain) (p : Plain) (to : ℕ) (before : predecessor_
       let parts : List Body = map bodies.Part (map (part_of position s) (range_with_len 1 (part_count s))) in
       cond_both (nat_le (item_count s) 64) (bodies.Copy position s ∷ []) parts (Brought E F)
       (λ e. conveys_more (IsReachedBy chain) c to m [] E F F (reach_stays chain) refl
-      (turn_copy chain c (id_of p) to least position s m before (from_it (bodies.Copy position s)) refl)
+      (transition_copy chain c (id_of p) to least position s m before (from_it (bodies.Copy position s)) refl)
       (conveys_none (IsReachedBy chain) c to F F (λ d r f on i. i)))
       (λ e.
       let many : 64 < item_count s = leb-false (item_count s) 64 e in

@@ -9,18 +9,18 @@ use Rattle.craq_names.specs.declared.name.NodeName.{NodeName}
 use Rattle.craq_model.specs.declared.ask.Event.{Event}
 use Rattle.craq_model.specs.declared.ask.Event.TheVariants as events
 use Rattle.craq_model.specs.declared.message.LinkMessage.{LinkMessage}
-use Rattle.craq_model.specs.Deliveries.{delivery_turn}
-use Rattle.craq_model.specs.Node.{event_turn, is_for, node_step}
+use Rattle.craq_model.specs.Deliveries.{delivery_transition}
+use Rattle.craq_model.specs.Node.{event_transition, is_for, node_step}
 use Rattle.craq_model.specs.Plain.{Plain, id_of}
-use Rattle.craq_model.specs.Settle.{Turn}
+use Rattle.craq_model.specs.Settle.{Transition}
 use Rattle.craq_laws.proofs.Nodes.{node_here, node_elsewhere, node_id}
 use Rattle.craq_runs.specs.declared.run.Move.{Move}
 use Rattle.craq_runs.specs.declared.run.Move.TheVariants as moves
-use Rattle.craq_runs.specs.Chain.{Chain, Progress, arrival_progress, chain_step, config_progress, counted_progress, is_running, message_at, node_at, node_progress, numbers_left, sent_in, set_node, tick_progress, turn_progress}
+use Rattle.craq_runs.specs.Chain.{Chain, Progress, arrival_progress, chain_step, config_progress, counted_progress, is_running, message_at, node_at, node_progress, numbers_left, sent_in, set_node, tick_progress, transition_progress}
 use Rattle.craq_runs.specs.Runs.{after_move, progressed}
 use Rattle.craq_recovery.specs.Rounds.{after_moves_by}
-use Rattle.craq_recovery.proofs.Running.{delivery_turn-runs}
-use Rattle.craq_recovery.proofs.Sound.{Sound, sound_move, turn_named}
+use Rattle.craq_recovery.proofs.Running.{delivery_transition-runs}
+use Rattle.craq_recovery.proofs.Sound.{Sound, sound_move, transition_named}
 use Rattle.craq_recovery.proofs.Lines.{IfTaken, by_test, in_step}
 
 -- the same master, the messages that were sent stay, and the same nodes run
@@ -64,14 +64,14 @@ IsQuiet events.Tick = ⊤
 IsQuiet events.Stop = ⊥
 
 -- a node keeps its name, and runs as before
-abbrev Stays : Plain → Turn → Type 0
+abbrev Stays : Plain → Transition → Type 0
 Stays p t = (t.0.name ≡ p.name) × (t.0.running ≡ p.running)
 
-event_stays : (p : Plain) (e : Event) → IsQuiet e → IfTaken (Stays p) (event_turn p e)
+event_stays : (p : Plain) (e : Event) → IsQuiet e → IfTaken (Stays p) (event_transition p e)
 event_stays p (events.Ask ask) q = absurd q
 event_stays p (events.Deliver m) q =
-    cond_both (is_for p m) (Ok (delivery_turn p m)) (Err refusals.WrongNode) (IfTaken (Stays p))
-    (λ is. (turn_named p (events.Deliver m) (delivery_turn p m) (cond-true (is_for p m) (Ok (delivery_turn p m)) (Err refusals.WrongNode) is), delivery_turn-runs p m))
+    cond_both (is_for p m) (Ok (delivery_transition p m)) (Err refusals.WrongNode) (IfTaken (Stays p))
+    (λ is. (transition_named p (events.Deliver m) (delivery_transition p m) (cond-true (is_for p m) (Ok (delivery_transition p m)) (Err refusals.WrongNode) is), delivery_transition-runs p m))
     (λ e. tt)
 event_stays p events.Tick q = (refl, refl)
 event_stays p events.Stop q = absurd q
@@ -93,15 +93,15 @@ runs_alike nodes p q at named runs id =
     (λ ne. ap is_running (node_elsewhere nodes q id ne))
     (cases_eq id (id_of q))
 
-turn_leaves : (c : Chain) (p : Plain) (r : Result Turn Refusal) → node_at c.nodes (id_of p) ≡ Some p → IfTaken (Stays p) r → LeavesIfAny c (turn_progress c r)
-turn_leaves c p (Ok t) at s = record { chain = refl; epoch = refl; members = refl; running = runs_alike c.nodes p t.0 at s.0 s.1 }
-turn_leaves c p (Err e) at s = tt
+transition_leaves : (c : Chain) (p : Plain) (r : Result Transition Refusal) → node_at c.nodes (id_of p) ≡ Some p → IfTaken (Stays p) r → LeavesIfAny c (transition_progress c r)
+transition_leaves c p (Ok t) at s = record { chain = refl; epoch = refl; members = refl; running = runs_alike c.nodes p t.0 at s.0 s.1 }
+transition_leaves c p (Err e) at s = tt
 
 node_leaves : (c : Chain) (id : ℕ) (o : Option Plain) (e : Event) → node_at c.nodes id ≡ o → IsQuiet e → LeavesIfAny c (node_progress c o e)
 node_leaves c id None e at q = tt
 node_leaves c id (Some p) e at q =
     let P : ℕ → Type 0 = λ k. node_at c.nodes k ≡ Some p in
-    turn_leaves c p (node_step p e) (subst P (sym (node_id c.nodes id p at)) at) (step_stays p e q)
+    transition_leaves c p (node_step p e) (subst P (sym (node_id c.nodes id p at)) at) (step_stays p e q)
 
 arrival_leaves : (c : Chain) (o : Option LinkMessage) → LeavesIfAny c (arrival_progress c o)
 arrival_leaves c None = tt

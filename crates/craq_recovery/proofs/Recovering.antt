@@ -11,7 +11,7 @@ use Rattle.craq_runs.specs.declared.run.Run.{Run}
 use Rattle.craq_runs.specs.Chain.{Chain, is_running, node_at}
 use Rattle.craq_runs.specs.Runs.{after_move}
 use Rattle.craq_runs.specs.Typed.{IsTypedRunOf}
-use Rattle.craq_recovery.specs.Recovered.{AllReady, AllRunReady, HasRecovered, HaveNumbersForAll, HearsAt, IsReadyAt, Knows, NoReadWaits, NoUpdateWaits, RunsReady, ServesAt, after_all_rounds, after_round, chain_after}
+use Rattle.craq_recovery.specs.Recovered.{AllReady, AllRunReady, HasRecovered, HaveNumbersForAll, HearsAt, IsReadyAt, Knows, NoReadWaits, NoUpdateWaits, RunsReady, ServesAt, after_all_rounds, after_round, chain_after_moves}
 use Rattle.craq_recovery.specs.Rounds.{after_moves_by, after_rounds, round}
 use Rattle.craq_recovery.specs.Taken.{HaveNumbers}
 use Rattle.craq_recovery.proofs.Answered.{all_of_last, no_update_waits, onward_rounds, reached_rounds, ready_rounds}
@@ -97,12 +97,12 @@ serve_all chain count c (id ∷ ids) r last a u b numbers =
     (cases_eq id (last_of c.members)) in
     (serving d id b.0 (still_none (suc (suc count)) c id (good_there chain c r) a.0 u.0) quiet, serve_all chain count c ids r last a.1 u.1 b.1 numbers)
 
-by_members : (chain : ℕ) (run : Run) (count : ℕ) (l : List ℕ) → IsTypedRunOf chain run → l ≡ (chain_after chain run).members → AllReady (chain_after chain run)
-    → HaveNumbersForAll (suc (suc count)) (chain_after chain run) → AllByRecursion (ServesAt (after_all_rounds (suc (suc count)) (chain_after chain run))) l
+by_members : (chain : ℕ) (run : Run) (count : ℕ) (l : List ℕ) → IsTypedRunOf chain run → l ≡ (chain_after_moves chain run).members → AllReady (chain_after_moves chain run)
+    → HaveNumbersForAll (suc (suc count)) (chain_after_moves chain run) → AllByRecursion (ServesAt (after_all_rounds (suc (suc count)) (chain_after_moves chain run))) l
 by_members chain run count [] typed is ready numbers = tt
 by_members chain run count (m ∷ ms) typed is ready numbers =
     let h : ℕ = suc (suc count) in
-    let c : Chain = chain_after chain run in
+    let c : Chain = chain_after_moves chain run in
     let rounds : ℕ = length c.members in
     let c1 : Chain = after_rounds after_move h rounds c in
     let again : ℕ = length c1.members in
@@ -126,11 +126,11 @@ by_members chain run count (m ∷ ms) typed is ready numbers =
     (subst U (sym is) (no_update_waits chain run (suc count) typed ready numbers.first numbers.second))
     (subst Later (sym (now ∙ sym on3.members)) ready3) numbers.last
 
-pub ready_recover : (chain : ℕ) (run : Run) (count : ℕ) → IsTypedRunOf chain run → AllReady (chain_after chain run) → HaveNumbersForAll (suc (suc count)) (chain_after chain run)
-    → HasRecovered (after_all_rounds (suc (suc count)) (chain_after chain run))
+pub ready_recover : (chain : ℕ) (run : Run) (count : ℕ) → IsTypedRunOf chain run → AllReady (chain_after_moves chain run) → HaveNumbersForAll (suc (suc count)) (chain_after_moves chain run)
+    → HasRecovered (after_all_rounds (suc (suc count)) (chain_after_moves chain run))
 ready_recover chain run count typed ready numbers =
     let h : ℕ = suc (suc count) in
-    let c : Chain = chain_after chain run in
+    let c : Chain = chain_after_moves chain run in
     let rounds : ℕ = length c.members in
     let c1 : Chain = after_rounds after_move h rounds c in
     let again : ℕ = length c1.members in
@@ -162,13 +162,13 @@ still_ready count c (id ∷ ids) g a b =
     let P : Plain → Type 0 = λ p. p.ready ≡ true in
     (record { node = h.0; at = h.1; knows = h.2; ready = subst P same (gains.ready r.ready) }, still_ready count c ids g a.1 b.1)
 
-pub running_recover : (chain : ℕ) (run : Run) (count : ℕ) → IsTypedRunOf chain run → AllRunReady (chain_after chain run)
-    → HaveNumbers (chain_after chain run) (round after_move (suc (suc count)) (chain_after chain run))
-    → HaveNumbersForAll (suc (suc count)) (after_round (suc (suc count)) (chain_after chain run))
-    → HasRecovered (after_all_rounds (suc (suc count)) (after_round (suc (suc count)) (chain_after chain run)))
+pub running_recover : (chain : ℕ) (run : Run) (count : ℕ) → IsTypedRunOf chain run → AllRunReady (chain_after_moves chain run)
+    → HaveNumbers (chain_after_moves chain run) (round after_move (suc (suc count)) (chain_after_moves chain run))
+    → HaveNumbersForAll (suc (suc count)) (after_round (suc (suc count)) (chain_after_moves chain run))
+    → HasRecovered (after_all_rounds (suc (suc count)) (after_round (suc (suc count)) (chain_after_moves chain run)))
 running_recover chain run count typed all first rest =
     let h : ℕ = suc (suc count) in
-    let c : Chain = chain_after chain run in
+    let c : Chain = chain_after_moves chain run in
     let d : Chain = after_round h c in
     let r : IsReachedBy chain d = reached_round chain h c (reached_here chain run typed) in
     let on : Onward c d = onward_moves (round after_move h c) c (round_travels h c) in

@@ -14,12 +14,12 @@ use Rattle.craq_model.specs.declared.message.LinkMessage.{LinkMessage}
 use Rattle.craq_model.specs.declared.message.StatePart.{StatePart}
 use Rattle.craq_model.specs.declared.step.Out.{Out}
 use Rattle.craq_model.specs.declared.step.Why.TheVariants.{NotNeighbour, NotReadyHere}
-use Rattle.craq_model.specs.Deliveries.{blank_turn, body_turn, delivery_turn, fill_bodies}
+use Rattle.craq_model.specs.Deliveries.{blank_transition, body_transition, delivery_transition, fill_bodies}
 use Rattle.craq_model.specs.Members.{is_id, is_member, predecessor_in, successor_in}
 use Rattle.craq_model.specs.Plain.{Plain, entries_after, id_of, length_of, predecessor, successor}
 use Rattle.craq_model.specs.Sends.{ready_sends, send, send_all, tick_sends, to_neighbour, unready_sends}
-use Rattle.craq_model.specs.Settle.{Turn, turn_ignoring, turn_with}
-use Rattle.craq_protocol.specs.Machine.{World}
+use Rattle.craq_model.specs.Settle.{Transition, transition_ignoring, transition_with}
+use Rattle.craq_protocol.specs.Machine.{MachineState}
 use Rattle.craq_protocol.specs.Promises.{IsPrefix, IsSafe}
 use Rattle.craq_protocol.proofs.Reached.{reached_inv, reached_safe}
 use Rattle.craq_refinement.specs.Follows.{IsPlaced, NodeFollows, seen_of}
@@ -44,12 +44,12 @@ use Rattle.craq_recovery.proofs.Gathers.{CameFrom, IsPartFor, came_there}
 use Rattle.craq_recovery.proofs.Arriving.{BringAll, Endures, bring_hop, bring_lasts, bring_past, endures_all, hopped, news, taken_ok, ticked, ticks_onward, two_hops_bring}
 use Rattle.craq_recovery.proofs.Hearing.{knows_at}
 use Rattle.craq_recovery.proofs.Joining.{fill_brought, reach_stays}
-use Rattle.craq_recovery.proofs.Meeting.{Begins, Holds, IsMild, turn_mild, with_has}
+use Rattle.craq_recovery.proofs.Meeting.{Begins, Holds, IsMild, transition_mild, with_has}
 use Rattle.craq_recovery.proofs.Onward.{IsTravel, Onward, onward_moves}
 use Rattle.craq_recovery.proofs.Series.{Has, One, one_series, series_one}
 use Rattle.craq_recovery.proofs.Sound.{Sound}
 use Rattle.craq_recovery.proofs.Taking.{arrivals_travel, bears, deliver_taken, no_fewer, stands_at, ticks_travel}
-use Rattle.craq_recovery.proofs.Travels.{IsKept, Met, NodeIs, in_turn, kept_move, met, runs_there, stands_by, tick_sent}
+use Rattle.craq_recovery.proofs.Travels.{IsKept, Met, NodeIs, one_by_one, kept_move, met, runs_there, stands_by, tick_sent}
 
 -- ---- the message that asks
 
@@ -78,15 +78,15 @@ tick_blank q to unready late before =
 
 -- ---- the reply
 
-blank_fills : (p : Plain) (sender count : ℕ) → successor p ≡ Some sender → p.ready ≡ true → blank_turn p sender count ≡ turn_with p (send_all p sender (fill_bodies p count))
-unfolding blank_turn
+blank_fills : (p : Plain) (sender count : ℕ) → successor p ≡ Some sender → p.ready ≡ true → blank_transition p sender count ≡ transition_with p (send_all p sender (fill_bodies p count))
+unfolding blank_transition
 blank_fills p sender count after ready =
-    let t2 : Turn = turn_with p (send_all p sender (fill_bodies p count)) in
-    let t1 : Turn = cond (not p.ready) (turn_ignoring p NotReadyHere) t2 in
-    let P : Turn → Type 0 = λ t. t ≡ t2 in
-    cond_both (not (is_id (successor p) sender)) (turn_ignoring p NotNeighbour) t1 P
+    let t2 : Transition = transition_with p (send_all p sender (fill_bodies p count)) in
+    let t1 : Transition = cond (not p.ready) (transition_ignoring p NotReadyHere) t2 in
+    let P : Transition → Type 0 = λ t. t ≡ t2 in
+    cond_both (not (is_id (successor p) sender)) (transition_ignoring p NotNeighbour) t1 P
     (λ e. absurd (both_ways (is_id (successor p) sender) (not-true (is_id (successor p) sender) e) (is_id_here (successor p) sender after)))
-    (λ e. cond_both (not p.ready) (turn_ignoring p NotReadyHere) t2 P
+    (λ e. cond_both (not p.ready) (transition_ignoring p NotReadyHere) t2 P
     (λ r. absurd (both_ways p.ready (not-true p.ready r) ready))
     (λ r. refl))
 
@@ -98,11 +98,11 @@ replies c d from to count least number m x after s f on g there e is =
     let p : Plain = k.node in
     let h : HoldsSo c.epoch least p = k.holds in
     let next : successor p ≡ Some m.sender = stands_by k successor_in after is.comes in
-    let does : delivery_turn p m ≡ turn_with p (send_all p m.sender (fill_bodies p count)) = ap (body_turn p m) is.says ∙ (in_turn k (blank_turn p m.sender count) ∙ blank_fills p m.sender count next h.ready) in
+    let does : delivery_transition p m ≡ transition_with p (send_all p m.sender (fill_bodies p count)) = ap (body_transition p m) is.says ∙ (one_by_one k (blank_transition p m.sender count) ∙ blank_fills p m.sender count next h.ready) in
     let same : p ≡ g.node = let a : node_at d.nodes from ≡ Some p = k.there in let b : node_at d.nodes from ≡ Some g.node = g.at in cc in
     let T : Plain → Type 0 = λ y. x.0.messages ≡ d.messages ++ sent_in (send_all y to (fill_bodies y count)) in
     let U : ℕ → Type 0 = λ i. x.0.messages ≡ d.messages ++ sent_in (send_all p i (fill_bodies p count)) in
-    subst T same (subst U is.comes (k.sends ∙ ap (λ (t : Turn). d.messages ++ sent_in t.1.outs) does))
+    subst T same (subst U is.comes (k.sends ∙ ap (λ (t : Transition). d.messages ++ sent_in t.1.outs) does))
 
 -- ---- earlier messages are harmless
 
@@ -158,7 +158,7 @@ begins chain d epoch from to least p r at i =
 
 -- ---- the messages that the predecessor must send
 
-sent_placed : {w : World Entry} (p : Plain) (a : ℕ) → NodeFollows w (seen_of p) → p.past.base ≤ a → IsPlaced a (entries_after p a)
+sent_placed : {w : MachineState Entry} (p : Plain) (a : ℕ) → NodeFollows w (seen_of p) → p.past.base ≤ a → IsPlaced a (entries_after p a)
 unfolding entries_after
 sent_placed {w} p a n le =
     let base : ℕ = p.past.base in
@@ -226,7 +226,7 @@ asked chain c from to count least b back after le blank = λ before others numbe
     let first : A c.messages = all_front Mild c.messages on.sent (subst A (sym on.messages) mild) in
     let quiet : A (b ∷ back) = all_front Mild (b ∷ back) others (all_back Mild before ((b ∷ back) ++ others) (subst A (sym is) first)) in
     let conv : Conveys (IsReachedBy chain) c to (Begins c.epoch from count p.past.acknowledged) (Begins c.epoch from count p.past.acknowledged) (b ∷ back) =
-    conveys_mild (IsReachedBy chain) c to (IsMild from p.past.acknowledged) (Begins c.epoch from count p.past.acknowledged) (b ∷ back) (reach_stays chain) (λ m k. turn_mild chain c from to count p.past.acknowledged m k) quiet in
+    conveys_mild (IsReachedBy chain) c to (IsMild from p.past.acknowledged) (Begins c.epoch from count p.past.acknowledged) (b ∷ back) (reach_stays chain) (λ m k. transition_mild chain c from to count p.past.acknowledged m k) quiet in
     let block : List LinkMessage = sent_in (send_all p to (fill_bodies p count)) in
     let rest : List Move = arrivals_of c.nodes (number + 1) back in
     let next : Chain = after_move d (Deliver number) in
@@ -295,7 +295,7 @@ filled chain c e from to count least on prior r s f h has =
     let mild : AllByRecursion (IsMild from p.past.acknowledged) (drop sent h.front) = all_drop (IsMild from p.past.acknowledged) sent h.front h.mild in
     let conv : Conveys (IsReachedBy chain) e to E F (drop sent h.front ++ (block ++ h.more)) =
     conveys_both (IsReachedBy chain) e to (drop sent h.front) (block ++ h.more) E E F (reach_stays chain)
-    (conveys_mild (IsReachedBy chain) e to (IsMild from p.past.acknowledged) E (drop sent h.front) (reach_stays chain) (λ m k. turn_mild chain e from to count p.past.acknowledged m k) mild)
+    (conveys_mild (IsReachedBy chain) e to (IsMild from p.past.acknowledged) E (drop sent h.front) (reach_stays chain) (λ m k. transition_mild chain e from to count p.past.acknowledged m k) mild)
     (conveys_both (IsReachedBy chain) e to block h.more E F F (reach_stays chain) fills (bring_lasts (IsReachedBy chain) (reach_stays chain) e (λ d. NodeIs d to F) h.more (λ m d t f i. kept_move F (holds_kept e.epoch (length_of p)) m d to t f i))) in
     let L : List LinkMessage → Type 0 = λ l. Conveys (IsReachedBy chain) e to E F l in
     let i : NodeIs (hopped c e) to F = bring_hop (IsReachedBy chain) (reach_stays chain) e sent (λ d. NodeIs d to E) (λ d. NodeIs d to F) (subst L cut conv) r s f (no_fewer on) waits has in

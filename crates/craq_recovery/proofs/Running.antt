@@ -2,24 +2,24 @@
 use Rattle.std.proofs.Common.{◌≡◌, true, None, refl}
 use Rattle.std.specs.Prelude.{Bool}
 use Rattle.craq_model.specs.declared.message.LinkMessage.{LinkMessage}
-use Rattle.craq_model.specs.Deliveries.{acknowledgement_turn, delivery_turn}
+use Rattle.craq_model.specs.Deliveries.{acknowledgement_transition, delivery_transition}
 use Rattle.craq_model.specs.Plain.{Plain, is_tail}
-use Rattle.craq_model.specs.Settle.{Turn, settling_turn}
+use Rattle.craq_model.specs.Settle.{Transition, settling_transition}
 use Rattle.craq_recovery.proofs.Lines.{ByMessage, by_message, by_test}
 
 module _ (running : Bool) where
   abbrev Runs : Plain → Type 0
   Runs p = p.running ≡ running
 
-  abbrev Leaves : Turn → Type 0
+  abbrev Leaves : Transition → Type 0
   Leaves t = Runs t.0
 
-  settling_runs : (p : Plain) → Runs p → Leaves (settling_turn p)
-  unfolding settling_turn
+  settling_runs : (p : Plain) → Runs p → Leaves (settling_transition p)
+  unfolding settling_transition
   settling_runs p h = by_test (is_tail p) Leaves _ _ h h
 
   message_runs : (m : LinkMessage) → ByMessage Runs Leaves m
-  unfolding acknowledgement_turn
+  unfolding acknowledgement_transition
   message_runs m = record {
     silent = λ t none h. h;
     sends = λ p past to bs h. h;
@@ -32,5 +32,5 @@ module _ (running : Bool) where
     gathers = λ p part g says from at count lacks h. h;
   }
 
-pub delivery_turn-runs : (p : Plain) (m : LinkMessage) → (delivery_turn p m).0.running ≡ p.running
-delivery_turn-runs p m = by_message (Runs p.running) (Leaves p.running) m (message_runs p.running m) p refl
+pub delivery_transition-runs : (p : Plain) (m : LinkMessage) → (delivery_transition p m).0.running ≡ p.running
+delivery_transition-runs p m = by_message (Runs p.running) (Leaves p.running) m (message_runs p.running m) p refl

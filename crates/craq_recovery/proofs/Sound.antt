@@ -10,14 +10,14 @@ use Rattle.craq_model.specs.declared.ask.Event.{Event}
 use Rattle.craq_model.specs.declared.ask.Event.TheVariants as events
 use Rattle.craq_model.specs.declared.message.LinkMessage.{LinkMessage}
 use Rattle.craq_model.specs.Members.{is_member, without}
-use Rattle.craq_model.specs.Node.{event_turn, node_step}
+use Rattle.craq_model.specs.Node.{event_transition, node_step}
 use Rattle.craq_model.specs.Plain.{Plain, opening_joined}
-use Rattle.craq_model.specs.Settle.{Turn}
-use Rattle.craq_laws.proofs.Names.{Gives, event_turn-name}
+use Rattle.craq_model.specs.Settle.{Transition}
+use Rattle.craq_laws.proofs.Names.{Gives, event_transition-name}
 use Rattle.craq_runs.specs.declared.run.Move.{Move}
 use Rattle.craq_runs.specs.declared.run.Move.TheVariants as moves
 use Rattle.craq_runs.specs.declared.run.Taken.{Taken}
-use Rattle.craq_runs.specs.Chain.{Chain, Progress, chain_step, config_progress, config_to, counted_progress, is_running, join_progress, message_at, move_progress, next_epoch, node_at, node_progress, arrival_progress, numbers_left, opening_chain, removal_progress, sent_in, turn_progress, with_node}
+use Rattle.craq_runs.specs.Chain.{Chain, Progress, chain_step, config_progress, config_to, counted_progress, is_running, join_progress, message_at, move_progress, next_epoch, node_at, node_progress, arrival_progress, numbers_left, opening_chain, removal_progress, sent_in, transition_progress, with_node}
 use Rattle.craq_runs.specs.Runs.{after_move, after_moves, progressed}
 use Rattle.craq_recovery.proofs.Speaking.{AreOfChain, Speak, Speaks, event_speaks}
 use Rattle.craq_recovery.proofs.Each.{Each, each_at, each_opening, each_pushed, each_set}
@@ -50,39 +50,39 @@ pub own_chain : (chain id : ℕ) (ps : List Plain) (q : Plain) → NodesAreOf ch
 own_chain chain id ps q h e = each_at (IsOf chain) ps id q h e
 
 -- a node and its messages also have the chain's id after a step
-abbrev Bears : ℕ → Turn → Type 0
+abbrev Bears : ℕ → Transition → Type 0
 Bears chain t = IsOf chain t.0 × Speaks chain t
 
-pub turn_named : (p : Plain) (e : Event) (t : Turn) → event_turn p e ≡ Ok t → t.0.name ≡ p.name
-turn_named p e t is = subst (Gives p.name) is (event_turn-name p e)
+pub transition_named : (p : Plain) (e : Event) (t : Transition) → event_transition p e ≡ Ok t → t.0.name ≡ p.name
+transition_named p e t is = subst (Gives p.name) is (event_transition-name p e)
 
 step_bears : (p : Plain) (e : Event) → IfTaken (Bears p.name.chain) (node_step p e)
-step_bears p e = in_step (Bears p.name.chain) p e (turn_bears (event_turn p e) refl)
+step_bears p e = in_step (Bears p.name.chain) p e (transition_bears (event_transition p e) refl)
   where
-    turn_bears : (r : Result Turn Refusal) → event_turn p e ≡ r → IfTaken (Bears p.name.chain) r
-    turn_bears (Ok t) is =
-        let S : Result Turn Refusal → Type 0 = λ r. IfTaken (Speaks p.name.chain) r in
-        (ap (λ (n : NodeName). n.chain) (turn_named p e t is), subst S is (event_speaks p.name.chain p e refl))
-    turn_bears (Err err) is = tt
+    transition_bears : (r : Result Transition Refusal) → event_transition p e ≡ r → IfTaken (Bears p.name.chain) r
+    transition_bears (Ok t) is =
+        let S : Result Transition Refusal → Type 0 = λ r. IfTaken (Speaks p.name.chain) r in
+        (ap (λ (n : NodeName). n.chain) (transition_named p e t is), subst S is (event_speaks p.name.chain p e refl))
+    transition_bears (Err err) is = tt
 
-turn_does : (c : Chain) (r : Result Turn Refusal) → NodesAreOf c.chain c.nodes → IfTaken (Bears c.chain) r → DoesIfAny c (turn_progress c r)
-turn_does c (Ok t) h n = record { same = refl; nodes = each_set (IsOf c.chain) c.nodes t.0 h n.0; sends = n.1 }
-turn_does c (Err e) h n = tt
+transition_does : (c : Chain) (r : Result Transition Refusal) → NodesAreOf c.chain c.nodes → IfTaken (Bears c.chain) r → DoesIfAny c (transition_progress c r)
+transition_does c (Ok t) h n = record { same = refl; nodes = each_set (IsOf c.chain) c.nodes t.0 h n.0; sends = n.1 }
+transition_does c (Err e) h n = tt
 
 node_does : (c : Chain) (id : ℕ) (o : Option Plain) (e : Event) → node_at c.nodes id ≡ o → Sound c → DoesIfAny c (node_progress c o e)
 node_does c id None e at s = tt
 node_does c id (Some p) e at s =
     let P : ℕ → Type 0 = λ n. IfTaken (Bears n) (node_step p e) in
-    turn_does c (node_step p e) s.nodes (subst P (own_chain c.chain id c.nodes p s.nodes at) (step_bears p e))
+    transition_does c (node_step p e) s.nodes (subst P (own_chain c.chain id c.nodes p s.nodes at) (step_bears p e))
 
 arrival_does : (c : Chain) (o : Option LinkMessage) → Sound c → DoesIfAny c (arrival_progress c o)
 arrival_does c None s = tt
 arrival_does c (Some m) s = node_does c m.receiver (node_at c.nodes m.receiver) (events.Deliver m) refl s
 
-told : (c : Chain) (tos : List ℕ) → Speak c.chain (map (config_to c) tos)
+reported : (c : Chain) (tos : List ℕ) → Speak c.chain (map (config_to c) tos)
 unfolding sent_in
-told c [] = tt
-told c (to ∷ tos) = (refl, told c tos)
+reported c [] = tt
+reported c (to ∷ tos) = (refl, reported c tos)
 
 unless : (c : Chain) (b : Bool) (e : Refusal) (r : Result Progress Refusal) → DoesIfAny c r → DoesIfAny c (cond b (Err e) r)
 unless c b e r h = by_test b (DoesIfAny c) (Err e) r tt h
@@ -98,7 +98,7 @@ removal_does c id s =
     unless c (not (is_member c.members id)) refusals.NotMember r1
     (unless c (is_running (node_at c.nodes id)) refusals.NotStopped r2
     (unless c (length c.members == 1) refusals.LastNode r3
-    (unless c (c.epoch == greatest) refusals.Exhausted r4 (record { same = refl; nodes = s.nodes; sends = told d d.members }))))
+    (unless c (c.epoch == greatest) refusals.Exhausted r4 (record { same = refl; nodes = s.nodes; sends = reported d d.members }))))
 
 join_does : (c : Chain) (id : ℕ) → Sound c → DoesIfAny c (join_progress c id)
 unfolding join_progress
@@ -110,14 +110,14 @@ join_does c id s =
     unless c ((id == 0) || is_some (node_at c.nodes id)) refusals.UsedId r1
     (unless c (nat_le member_limit (length c.members)) refusals.ChainFull r2
     (unless c (c.epoch == greatest) refusals.Exhausted r3
-    (record { same = refl; nodes = each_pushed (IsOf c.chain) c.nodes (opening_joined (record { chain = c.chain; node = id })) s.nodes refl; sends = told d d.members })))
+    (record { same = refl; nodes = each_pushed (IsOf c.chain) c.nodes (opening_joined (record { chain = c.chain; node = id })) s.nodes refl; sends = reported d d.members })))
 
 move_does : (c : Chain) (m : Move) → Sound c → DoesIfAny c (move_progress c m)
 move_does c (moves.Ask node ask) s = node_does c node (node_at c.nodes node) (events.Ask ask) refl s
 move_does c (moves.Deliver number) s = arrival_does c (message_at c.messages number) s
 move_does c (moves.Tick node) s =
     by_test (node == 0) (DoesIfAny c) (Ok (config_progress c)) (node_progress c (node_at c.nodes node) events.Tick)
-    (record { same = refl; nodes = s.nodes; sends = told c c.members })
+    (record { same = refl; nodes = s.nodes; sends = reported c c.members })
     (node_does c node (node_at c.nodes node) events.Tick refl s)
 move_does c (moves.Stop node) s = node_does c node (node_at c.nodes node) events.Stop refl s
 move_does c (moves.Remove node) s = removal_does c node s

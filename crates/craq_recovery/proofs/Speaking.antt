@@ -10,12 +10,12 @@ use Rattle.craq_model.specs.declared.message.LinkMessage.{LinkMessage}
 use Rattle.craq_model.specs.declared.step.Out.{Out}
 use Rattle.craq_model.specs.declared.step.Out.TheVariants as outs
 use Rattle.craq_model.specs.declared.waiting.WaitingRead.{WaitingRead}
-use Rattle.craq_model.specs.Deliveries.{acknowledgement_turn, delivery_turn, due_updates}
+use Rattle.craq_model.specs.Deliveries.{acknowledgement_transition, delivery_transition, pending_updates}
 use Rattle.craq_model.specs.Members.{last_of}
-use Rattle.craq_model.specs.Node.{event_turn, is_for}
+use Rattle.craq_model.specs.Node.{event_transition, is_for}
 use Rattle.craq_model.specs.Plain.{Plain, is_last, is_tail, predecessor, successor}
 use Rattle.craq_model.specs.Sends.{catch_up, queries, ready_sends, send, send_all, tick_sends, to_neighbour, unready_sends}
-use Rattle.craq_model.specs.Settle.{Given, Turn, all_committed, all_given, answer_outs, settling_turn, turn_with, update_given}
+use Rattle.craq_model.specs.Settle.{Given, Transition, all_committed, all_given, answer_outs, settling_transition, transition_with, update_given}
 use Rattle.craq_runs.specs.Chain.{sent_in}
 use Rattle.craq_recovery.proofs.Lines.{ByAsk, ByMessage, IfTaken, by_ask, by_message, by_test}
 
@@ -27,7 +27,7 @@ module _ (chain : ℕ) where
   abbrev pub Speak : List Out → Type 0
   Speak os = AreOfChain (sent_in os)
 
-  abbrev pub Speaks : Turn → Type 0
+  abbrev pub Speaks : Transition → Type 0
   Speaks t = Speak t.1.outs
 
   abbrev IsOf : Plain → Type 0
@@ -78,19 +78,19 @@ module _ (chain : ℕ) where
       by_test (p.epoch == 0) Speak [] (cond p.ready (ready_sends p) (unready_sends p)) (nothing [] refl)
       (by_test p.ready Speak (ready_sends p) (unready_sends p) (ready_speaks p is) (neighbour p (predecessor p) (_ ∷ []) is))
 
-  settling_speaks : (p : Plain) → IsOf p → Speaks (settling_turn p)
-  unfolding settling_turn
+  settling_speaks : (p : Plain) → IsOf p → Speaks (settling_transition p)
+  unfolding settling_transition
   settling_speaks p is =
       let answers : List Out = answer_outs (all_given p) in
       let sends : List Out = tick_sends (all_committed p) in
-      by_test (is_tail p) Speaks (turn_with (all_committed p) (answers ++ sends)) (turn_with p (tick_sends p))
+      by_test (is_tail p) Speaks (transition_with (all_committed p) (answers ++ sends)) (transition_with p (tick_sends p))
       (both answers sends (given (all_given p)) (tick_speaks (all_committed p) is)) (tick_speaks p is)
 
-  acknowledgement_speaks : (p : Plain) (position : ℕ) → IsOf p → Speaks (acknowledgement_turn p position)
-  unfolding acknowledgement_turn
+  acknowledgement_speaks : (p : Plain) (position : ℕ) → IsOf p → Speaks (acknowledgement_transition p position)
+  unfolding acknowledgement_transition
   acknowledgement_speaks p position is =
-      let due : List Given = map update_given (due_updates position p.waiting_updates) in
-      both (answer_outs due) (to_neighbour (predecessor p) (λ to. send p to (bodies.Ack position) ∷ [])) (given due) (neighbour p (predecessor p) (bodies.Ack position ∷ []) is)
+      let pending : List Given = map update_given (pending_updates position p.waiting_updates) in
+      both (answer_outs pending) (to_neighbour (predecessor p) (λ to. send p to (bodies.Ack position) ∷ [])) (given pending) (neighbour p (predecessor p) (bodies.Ack position ∷ []) is)
 
   message_speaks : (m : LinkMessage) → ByMessage IsOf Speaks m
   unfolding sent_in
@@ -114,8 +114,8 @@ module _ (chain : ℕ) where
     asks = λ p r bs dirty is. all_sends p (last_of p.members) bs is;
   }
 
-  pub event_speaks : (p : Plain) (e : Event) → IsOf p → IfTaken Speaks (event_turn p e)
+  pub event_speaks : (p : Plain) (e : Event) → IsOf p → IfTaken Speaks (event_transition p e)
   event_speaks p (events.Ask ask) is = by_ask IsOf Speaks ask_speaks p ask is
-  event_speaks p (events.Deliver m) is = by_test (is_for p m) (IfTaken Speaks) (Ok (delivery_turn p m)) (Err refusals.WrongNode) (by_message IsOf Speaks m (message_speaks m) p is) tt
+  event_speaks p (events.Deliver m) is = by_test (is_for p m) (IfTaken Speaks) (Ok (delivery_transition p m)) (Err refusals.WrongNode) (by_message IsOf Speaks m (message_speaks m) p is) tt
   event_speaks p events.Tick is = tick_speaks p is
   event_speaks p events.Stop is = nothing [] refl

@@ -8,7 +8,7 @@ use Rattle.craq_model.specs.Plain.{Plain}
 use Rattle.craq_runs.specs.declared.run.Run.{Run}
 use Rattle.craq_runs.specs.Chain.{Chain, node_at}
 use Rattle.craq_runs.specs.Runs.{IsRunOf, after_move}
-use Rattle.craq_recovery.specs.Recovered.{HasRecovered, IsReadyAt, IsServing, Knows, ServesAt, after_round, chain_after}
+use Rattle.craq_recovery.specs.Recovered.{HasRecovered, IsReadyAt, IsServing, Knows, ServesAt, after_round, chain_after_moves}
 use Rattle.craq_recovery.specs.Rounds.{round}
 use Rattle.craq_recovery.proofs.Heads.{Good, good_run, ready_later}
 use Rattle.craq_recovery.proofs.Onward.{Onward, onward_moves}
@@ -60,9 +60,9 @@ ready_at c id s =
     let v : IsServing c s.0 = s.2 in
     record { node = s.0; at = s.1; knows = record { running = v.running; epoch = v.epoch; members = v.members }; ready = v.ready }
 
-pub recovered_stays : (chain : ℕ) (run : Run) (count : ℕ) → IsRunOf chain run → HasRecovered (chain_after chain run) → HasRecovered (after_round count (chain_after chain run))
+pub recovered_stays : (chain : ℕ) (run : Run) (count : ℕ) → IsRunOf chain run → HasRecovered (chain_after_moves chain run) → HasRecovered (after_round count (chain_after_moves chain run))
 recovered_stays chain run count is a =
-    let c : Chain = chain_after chain run in
+    let c : Chain = chain_after_moves chain run in
     let d : Chain = after_round count c in
     let g : Good c = good_run chain run is in
     let on : Onward c d = onward_moves (round after_move count c) c (round_travels count c) in

@@ -9,7 +9,7 @@ use Rattle.craq_runs.specs.declared.run.Run.{Run}
 use Rattle.craq_runs.specs.Chain.{Chain, node_at}
 use Rattle.craq_runs.specs.Runs.{after_move}
 use Rattle.craq_runs.specs.Typed.{IsTypedRunOf}
-use Rattle.craq_recovery.specs.Recovered.{AllReady, AreNeighbours, HoldsEntries, IsReadyAt, after_round, chain_after}
+use Rattle.craq_recovery.specs.Recovered.{AllReady, AreNeighbours, HoldsEntries, IsReadyAt, after_round, chain_after_moves}
 use Rattle.craq_recovery.specs.Rounds.{after_moves_by, after_rounds, round}
 use Rattle.craq_recovery.specs.Taken.{HaveNumbers, HaveNumbersFor}
 use Rattle.craq_recovery.proofs.Entries.{entries_flow_on}
@@ -80,9 +80,9 @@ by_members chain count least rounds c (m ∷ ms) r is le all h numbers =
     all_like (ReadyHolds least e) (λ id. HoldsEntries e id least) (m ∷ ms) (λ id h. h.1)
     (reaches_all (suc count) (IsReachedBy chain) IsReadyAt (ReadyHolds least) (held_on chain count least) rounds c m ms r is le ready.1 (ready.0, h) numbers)
 
-pub entries_reach_all : (chain : ℕ) (run : Run) (count least : ℕ) → IsTypedRunOf chain run → AllReady (chain_after chain run) → HoldsEntries (chain_after chain run) (first_of (chain_after chain run).members) least
-    → HaveNumbersFor (suc count) (length (chain_after chain run).members) (chain_after chain run)
-    → AllByRecursion (λ id. HoldsEntries (after_rounds after_move (suc count) (length (chain_after chain run).members) (chain_after chain run)) id least) (chain_after chain run).members
+pub entries_reach_all : (chain : ℕ) (run : Run) (count least : ℕ) → IsTypedRunOf chain run → AllReady (chain_after_moves chain run) → HoldsEntries (chain_after_moves chain run) (first_of (chain_after_moves chain run).members) least
+    → HaveNumbersFor (suc count) (length (chain_after_moves chain run).members) (chain_after_moves chain run)
+    → AllByRecursion (λ id. HoldsEntries (after_rounds after_move (suc count) (length (chain_after_moves chain run).members) (chain_after_moves chain run)) id least) (chain_after_moves chain run).members
 entries_reach_all chain run count least typed all h numbers =
-    let c : Chain = chain_after chain run in
+    let c : Chain = chain_after_moves chain run in
     by_members chain count least (length c.members) c c.members (reached_here chain run typed) refl (omega arith) all h numbers

@@ -8,9 +8,9 @@ use Rattle.craq_model.specs.declared.ask.Event.TheVariants as events
 use Rattle.craq_model.specs.Node.{node_step, outs_fit, within_counts}
 use Rattle.craq_model.specs.Plain.{Plain, id_of}
 use Rattle.craq_model.specs.Sends.{tick_sends}
-use Rattle.craq_model.specs.Settle.{Turn, turn_with}
+use Rattle.craq_model.specs.Settle.{Transition, transition_with}
 use Rattle.craq_runs.specs.declared.run.Move.TheVariants.{Tick}
-use Rattle.craq_runs.specs.Chain.{Chain, Progress, chain_step, config_progress, counted_progress, node_at, node_progress, numbers_left, set_node, tick_progress, turn_progress}
+use Rattle.craq_runs.specs.Chain.{Chain, Progress, chain_step, config_progress, counted_progress, node_at, node_progress, numbers_left, set_node, tick_progress, transition_progress}
 use Rattle.craq_runs.specs.Runs.{after_move, progressed}
 use Rattle.craq_laws.proofs.Nodes.{node_here, node_elsewhere, node_id}
 use Rattle.craq_recovery.proofs.Lines.{by_test}
@@ -32,10 +32,10 @@ node_keeps : (c : Chain) (k : ℕ) (o : Option Plain) → node_at c.nodes k ≡ 
 unfolding node_step
 node_keeps c k None at = tt
 node_keeps c k (Some p) at =
-    let t : Turn = turn_with p (tick_sends p) in
+    let t : Transition = transition_with p (tick_sends p) in
     let N : ℕ → Type 0 = λ i. node_at c.nodes i ≡ Some p in
     let there : node_at c.nodes (id_of p) ≡ Some p = subst N (sym (node_id c.nodes k p at)) at in
-    let Q : Result Turn Refusal → Type 0 = λ r. KeepsNodes c (turn_progress c r) in
+    let Q : Result Transition Refusal → Type 0 = λ r. KeepsNodes c (transition_progress c r) in
     by_test p.running Q (within_counts (Ok t)) (Err refusals.Stopped) (by_test (outs_fit (tick_sends p)) Q (Ok t) (Err refusals.Exhausted) (λ id. same_again c p id there) tt) tt
 
 counted_keeps : (c : Chain) (r : Result Progress Refusal) → KeepsNodes c r → (id : ℕ) → node_at (progressed c (counted_progress c r)).nodes id ≡ node_at c.nodes id

@@ -8,11 +8,11 @@ use Rattle.craq_names.specs.declared.name.NodeName.{NodeName}
 use Rattle.craq_names.specs.declared.refusal.Refusal.{Refusal}
 use Rattle.craq_model.specs.declared.ask.Event.TheVariants as events
 use Rattle.craq_model.specs.declared.message.LinkMessage.{LinkMessage}
-use Rattle.craq_model.specs.Deliveries.{delivery_turn, turn_in_epoch}
+use Rattle.craq_model.specs.Deliveries.{delivery_transition, transition_in_epoch}
 use Rattle.craq_model.specs.Members.{is_member}
 use Rattle.craq_model.specs.Plain.{Plain, id_of, opening_joined}
 use Rattle.craq_model.specs.Sends.{tick_sends}
-use Rattle.craq_model.specs.Settle.{Turn, turn_with, turn_ignoring}
+use Rattle.craq_model.specs.Settle.{Transition, transition_with, transition_ignoring}
 use Rattle.craq_refinement.specs.Lines.{IsFollowed}
 use Rattle.craq_laws.proofs.Nodes.{node_here, still_there}
 use Rattle.craq_refinement.proofs.Stages.{Arrived, Took, arrived, took}
@@ -25,10 +25,10 @@ use Rattle.craq_recovery.specs.Taken.{HaveNumbers}
 use Rattle.craq_model.specs.declared.step.Why.TheVariants.{OtherEpoch}
 use Rattle.craq_recovery.specs.Recovered.{Knows}
 use Rattle.craq_recovery.proofs.Hearing.{knows_at}
-use Rattle.craq_recovery.proofs.Running.{delivery_turn-runs}
+use Rattle.craq_recovery.proofs.Running.{delivery_transition-runs}
 use Rattle.craq_names.specs.declared.refusal.Refusal.TheVariants as refusals
 use Rattle.craq_model.specs.declared.ask.Event.{Event}
-use Rattle.craq_model.specs.Node.{event_turn, is_for}
+use Rattle.craq_model.specs.Node.{event_transition, is_for}
 use Rattle.craq_runs.specs.declared.run.Move.TheVariants as moves
 use Rattle.craq_updates.proofs.AtNodes.{now_at, others_stay}
 use Rattle.craq_updates.proofs.EachMove.{place_of}
@@ -39,7 +39,7 @@ use Rattle.craq_recovery.proofs.Arriving.{BringAll, Stays, bring_more, bring_pas
 use Rattle.craq_recovery.proofs.Onward.{IsTravel, Onward, onward_move, onward_moves, onward_on}
 use Rattle.craq_recovery.proofs.Series.{Has, One, Series, one_series, series_left, series_right}
 use Rattle.craq_recovery.proofs.Ticking.{tick_keeps}
-use Rattle.craq_recovery.proofs.Sound.{Sound, own_chain, turn_named}
+use Rattle.craq_recovery.proofs.Sound.{Sound, own_chain, transition_named}
 use Rattle.craq_recovery.proofs.Taking.{bears, for_it, no_fewer, tick_taken, ticks_travel}
 
 -- ---- a property of a node that runs and goes on running
@@ -72,12 +72,12 @@ not_stopped d id m F to i stopped =
 
 -- the node after a message
 pub arrived_here : (d : Chain) (number : ℕ) (m : LinkMessage) (x : Progress) → Sound d → message_at d.messages number ≡ Some m → (a : Arrived d m x) → (id : ℕ) → m.receiver ≡ id
-    → node_at x.0.nodes id ≡ Some (delivery_turn a.node m).0
+    → node_at x.0.nodes id ≡ Some (delivery_transition a.node m).0
 arrived_here d number m x s at a id to =
     let p : Plain = a.node in
-    let t : Turn = delivery_turn p m in
+    let t : Transition = delivery_transition p m in
     let of : p.name.chain ≡ d.chain = own_chain d.chain (id_of p) d.nodes p s.nodes a.at in
-    let named : t.0.name ≡ p.name = turn_named p (events.Deliver m) t (for_it p m (bears d number m s at ∙ sym of) a.own) in
+    let named : t.0.name ≡ p.name = transition_named p (events.Deliver m) t (for_it p m (bears d number m s at ∙ sym of) a.own) in
     let same : id_of t.0 ≡ id_of p = ap (λ (n : NodeName). n.node) named in
     let N : ℕ → Type 0 = λ i. node_at d.nodes i ≡ Some p in
     let R : ℕ → Type 0 = λ i. node_at (set_node d.nodes t.0) i ≡ Some t.0 in
@@ -95,9 +95,9 @@ pub record Met (c d : Chain) (x : Progress) (m : LinkMessage) (to : ℕ) (E : Pl
   pub knows : Knows d node
   pub members : node.members ≡ c.members
   pub made : m.epoch ≡ node.epoch
-  pub sends : x.0.messages ≡ d.messages ++ sent_in (delivery_turn node m).1.outs
-  pub after : node_at x.0.nodes to ≡ Some (delivery_turn node m).0
-  pub gains : Gains node (delivery_turn node m).0
+  pub sends : x.0.messages ≡ d.messages ++ sent_in (delivery_transition node m).1.outs
+  pub after : node_at x.0.nodes to ≡ Some (delivery_transition node m).0
+  pub gains : Gains node (delivery_transition node m).0
 
 pub met : (c d : Chain) (to number : ℕ) (m : LinkMessage) (x : Progress) (E : Plain → Type 0) → ((p : Plain) → E p → c.epoch ≤ p.epoch) → Sound d → IsFollowed d → Onward c d → NodeIs d to E
     → message_at d.messages number ≡ Some m → chain_step d (Deliver number) ≡ Ok x → m.receiver ≡ to → m.epoch ≡ c.epoch → Met c d x m to E
@@ -110,7 +110,7 @@ met c d to number m x E lates s f on g is e goes made =
     let same : g.node ≡ p = let mine : node_at d.nodes to ≡ Some g.node = g.at in cc in
     let h : E p = subst E same g.holds in
     let kn : Knows d p = knows_at c d to on f (record { node = p; at = there; runs = ar.running; late = lates p h }) in
-    let after : node_at x.0.nodes to ≡ Some (delivery_turn p m).0 = arrived_here d number m x s is ar to goes in
+    let after : node_at x.0.nodes to ≡ Some (delivery_transition p m).0 = arrived_here d number m x s is ar to goes in
     let G : Result Progress Refusal → Type 0 = λ r. Goes d (progressed d r) in
     let step : Goes d x.0 = subst G e (goes_move d (Deliver number) f) in
     record {
@@ -125,7 +125,7 @@ met c d to number m x E lates s f on g is e goes made =
       made = made ∙ sym (kn.epoch ∙ on.epoch);
       sends = ap (λ (y : Progress). y.0.messages) ar.is;
       after = after;
-      gains = step.gains to p (delivery_turn p m).0 there after;
+      gains = step.gains to p (delivery_transition p m).0 there after;
     }
 
 module _ {c d : Chain} {x : Progress} {m : LinkMessage} {to : ℕ} {E : Plain → Type 0} (k : Met c d x m to E) where
@@ -137,12 +137,12 @@ module _ {c d : Chain} {x : Progress} {m : LinkMessage} {to : ℕ} {E : Plain �
       subst Q (sym k.own) (subst P (sym k.members) beside) ∙ ap Some (sym comes)
 
   -- the message is of its epoch
-  pub in_turn : (t : Turn) → turn_in_epoch k.node m t ≡ t
-  in_turn t = cond-true (m.epoch == k.node.epoch) t (turn_ignoring k.node OtherEpoch) (eq-eqb m.epoch k.node.epoch k.made)
+  pub one_by_one : (t : Transition) → transition_in_epoch k.node m t ≡ t
+  one_by_one t = cond-true (m.epoch == k.node.epoch) t (transition_ignoring k.node OtherEpoch) (eq-eqb m.epoch k.node.epoch k.made)
 
   -- the effect of the message
-  pub ends : (F : Plain → Type 0) → F (delivery_turn k.node m).0 → NodeIs x.0 to F
-  ends F h = record { node = (delivery_turn k.node m).0; at = k.after; runs = delivery_turn-runs k.node m ∙ k.running; holds = h }
+  pub ends : (F : Plain → Type 0) → F (delivery_transition k.node m).0 → NodeIs x.0 to F
+  ends F h = record { node = (delivery_transition k.node m).0; at = k.after; runs = delivery_transition-runs k.node m ∙ k.running; holds = h }
 
 -- a property of a node that ticks and arrivals preserve
 abbrev pub Lasts : (Plain → Type 0) → Type 0
@@ -152,19 +152,19 @@ pub kept_lasts : (F : Plain → Type 0) → IsKept F → Lasts F
 kept_lasts F kept = λ m c id t f i. kept_move F kept m c id t f i
 
 -- an arrival or a tick preserves the property, if no message changes it
-lasts_at : (F : Plain → Type 0) → ((p : Plain) (l : LinkMessage) → F p → F (delivery_turn p l).0) → (c : Chain) (m : Move) (e : Event) → IsTravel m → EventOf c m e → (p : Plain) → F p → IfTaken (λ t. F t.0) (event_turn p e)
+lasts_at : (F : Plain → Type 0) → ((p : Plain) (l : LinkMessage) → F p → F (delivery_transition p l).0) → (c : Chain) (m : Move) (e : Event) → IsTravel m → EventOf c m e → (p : Plain) → F p → IfTaken (λ t. F t.0) (event_transition p e)
 lasts_at F keeps c (moves.Ask node ask) e t by p h = absurd t
 lasts_at F keeps c (moves.Deliver number) e t by p h =
     let l : LinkMessage = by.0 in
-    let K : Event → Type 0 = λ e. IfTaken (λ t. F t.0) (event_turn p e) in
-    subst K (sym by.2) (by_test (is_for p l) (IfTaken (λ t. F t.0)) (Ok (delivery_turn p l)) (Err refusals.WrongNode) (keeps p l h) tt)
-lasts_at F keeps c (moves.Tick node) e t by p h = let K : Event → Type 0 = λ e. IfTaken (λ t. F t.0) (event_turn p e) in subst K (sym by) h
+    let K : Event → Type 0 = λ e. IfTaken (λ t. F t.0) (event_transition p e) in
+    subst K (sym by.2) (by_test (is_for p l) (IfTaken (λ t. F t.0)) (Ok (delivery_transition p l)) (Err refusals.WrongNode) (keeps p l h) tt)
+lasts_at F keeps c (moves.Tick node) e t by p h = let K : Event → Type 0 = λ e. IfTaken (λ t. F t.0) (event_transition p e) in subst K (sym by) h
 lasts_at F keeps c (moves.Stop node) e t by p h = absurd t
 lasts_at F keeps c (moves.Remove node) e t by p h = absurd t
 lasts_at F keeps c (moves.Join node) e t by p h = absurd t
 
 -- a property that no message changes is preserved
-pub lasts_by : (F : Plain → Type 0) → ((p : Plain) (l : LinkMessage) → F p → F (delivery_turn p l).0) → Lasts F
+pub lasts_by : (F : Plain → Type 0) → ((p : Plain) (l : LinkMessage) → F p → F (delivery_transition p l).0) → Lasts F
 lasts_by F keeps m c id t f i =
     let on : Onward c (after_move c m) = onward_move c m t in
     let there : (n : Plain) × (node_at (after_move c m).nodes id ≡ Some n) × F n = by_move (chain_step c m) refl in
@@ -178,10 +178,10 @@ lasts_by F keeps m c id t f i =
         ⊎_elim
         (λ (here : id ≡ place_of c m).
         let N : ℕ → Type 0 = λ j. node_at c.nodes j ≡ Some a.was in
-        let L : ℕ → Type 0 = λ j. node_at x.0.nodes j ≡ Some a.turn.0 in
+        let L : ℕ → Type 0 = λ j. node_at x.0.nodes j ≡ Some a.transition.0 in
         let same : i.node ≡ a.was = let mine : node_at c.nodes id ≡ Some i.node = i.at in let was : node_at c.nodes id ≡ Some a.was = subst N (sym here) a.at in cc in
-        let T : Result Turn Refusal → Type 0 = λ r. IfTaken (λ t. F t.0) r in
-        (a.turn.0, subst L (sym here) (now_at a), subst T a.does (lasts_at F keeps c m a.event t a.by a.was (subst F same i.holds))))
+        let T : Result Transition Refusal → Type 0 = λ r. IfTaken (λ t. F t.0) r in
+        (a.transition.0, subst L (sym here) (now_at a), subst T a.does (lasts_at F keeps c m a.event t a.by a.was (subst F same i.holds))))
         (λ other. (i.node, others_stay a id other ∙ i.at, i.holds))
         (cases_eq id (place_of c m)))
         (λ (a : AtMaster c m x).
@@ -225,9 +225,9 @@ tick_messages e id p x some at k =
     (λ z h.
     let t : Took e (node_at e.nodes id) events.Tick x = took e (node_at e.nodes id) events.Tick x h in
     let same : t.node ≡ p = let there : node_at e.nodes id ≡ Some t.node = t.there in cc in
-    let does : turn_with t.node (tick_sends t.node) ≡ t.turn = let d : Ok (turn_with t.node (tick_sends t.node)) ≡ Ok t.turn = t.does in cc in
-    let turn : turn_with p (tick_sends p) ≡ t.turn = sym (ap (λ (q : Plain). turn_with q (tick_sends q)) same) ∙ does in
-    ap (λ (y : Progress). y.0.messages) t.is ∙ sym (ap (λ (t : Turn). e.messages ++ sent_in t.1.outs) turn))
+    let does : transition_with t.node (tick_sends t.node) ≡ t.transition = let d : Ok (transition_with t.node (tick_sends t.node)) ≡ Ok t.transition = t.does in cc in
+    let transition : transition_with p (tick_sends p) ≡ t.transition = sym (ap (λ (q : Plain). transition_with q (tick_sends q)) same) ∙ does in
+    ap (λ (y : Progress). y.0.messages) t.is ∙ sym (ap (λ (t : Transition). e.messages ++ sent_in t.1.outs) transition))
     k
 
 in_rest : (a b : Bool) → a ≡ false → (a || b) ≡ true → b ≡ true
@@ -257,9 +257,9 @@ ticks_send c id since p Step a b some runs sends (k ∷ ids) d member on le at n
     let N : ℕ → Type 0 = λ i. node_at d.nodes i ≡ Some p in
     let apart : k ≢ 0 = λ z. some (sym same ∙ z) in
     let news : List LinkMessage = sent_in (tick_sends p) in
-    let told : ok.0.0.messages ≡ d.messages ++ news = tick_messages d k p ok.0 apart (subst N (sym same) at) ok.1 in
+    let reported : ok.0.0.messages ≡ d.messages ++ news = tick_messages d k p ok.0 apart (subst N (sym same) at) ok.1 in
     let R : Result Progress Refusal → Type 0 = λ r. (progressed d r).messages ≡ d.messages ++ news in
-    let here : next.messages ≡ d.messages ++ news = subst R (sym ok.1) told in
+    let here : next.messages ≡ d.messages ++ news = subst R (sym ok.1) reported in
     let on2 : Onward next (after_moves_by after_move next rest) = onward_moves rest next (ticks_travel c.nodes ids) in
     let all : d.messages ++ (news ++ on2.sent) ≡ (after_moves_by after_move next rest).messages = sym (append_assoc d.messages news on2.sent) ∙ (ap (λ l. l ++ on2.sent) (sym here) ∙ on2.messages) in
     let new : drop since d.messages ++ (news ++ on2.sent) ≡ drop since (after_moves_by after_move next rest).messages = sym (drop-append-le since d.messages (news ++ on2.sent) le) ∙ ap (drop since) all in

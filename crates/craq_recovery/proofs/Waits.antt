@@ -5,9 +5,9 @@ use Rattle.craq_names.proofs.Lists.{all_filter}
 use Rattle.craq_model.specs.declared.message.LinkMessage.{LinkMessage}
 use Rattle.craq_model.specs.declared.waiting.WaitingRead.{WaitingRead}
 use Rattle.craq_model.specs.declared.waiting.WaitingUpdate.{WaitingUpdate}
-use Rattle.craq_model.specs.Deliveries.{acknowledgement_turn, later_updates, reads_without}
+use Rattle.craq_model.specs.Deliveries.{acknowledgement_transition, later_updates, reads_without}
 use Rattle.craq_model.specs.Plain.{Plain, is_tail}
-use Rattle.craq_model.specs.Settle.{Turn, settling_turn}
+use Rattle.craq_model.specs.Settle.{Transition, settling_transition}
 use Rattle.craq_recovery.proofs.Travels.{Lasts, lasts_by}
 use Rattle.craq_recovery.proofs.Lines.{ByMessage, by_message, by_test}
 
@@ -16,15 +16,15 @@ abbrev pub Waiting : (WaitingUpdate → Type 0) → (WaitingRead → Type 0) →
 Waiting P R p = AllByRecursion P p.waiting_updates × AllByRecursion R p.waiting_reads
 
 module _ (P : WaitingUpdate → Type 0) (R : WaitingRead → Type 0) where
-  abbrev AfterTurn : Turn → Type 0
-  AfterTurn t = Waiting P R t.0
+  abbrev AfterTransition : Transition → Type 0
+  AfterTransition t = Waiting P R t.0
 
-  settling_waits : (p : Plain) → Waiting P R p → AfterTurn (settling_turn p)
-  unfolding settling_turn
-  settling_waits p w = by_test (is_tail p) AfterTurn _ _ (tt, tt) w
+  settling_waits : (p : Plain) → Waiting P R p → AfterTransition (settling_transition p)
+  unfolding settling_transition
+  settling_waits p w = by_test (is_tail p) AfterTransition _ _ (tt, tt) w
 
-  message_waits : (m : LinkMessage) → ByMessage (Waiting P R) AfterTurn m
-  unfolding acknowledgement_turn later_updates reads_without
+  message_waits : (m : LinkMessage) → ByMessage (Waiting P R) AfterTransition m
+  unfolding acknowledgement_transition later_updates reads_without
   message_waits m = record {
     silent = λ t none w. w;
     sends = λ p past to bs w. w;
@@ -38,4 +38,4 @@ module _ (P : WaitingUpdate → Type 0) (R : WaitingRead → Type 0) where
   }
 
   pub waits_last : Lasts (Waiting P R)
-  waits_last = lasts_by (Waiting P R) (λ p m w. by_message (Waiting P R) AfterTurn m (message_waits m) p w)
+  waits_last = lasts_by (Waiting P R) (λ p m w. by_message (Waiting P R) AfterTransition m (message_waits m) p w)

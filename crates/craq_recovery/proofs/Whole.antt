@@ -15,7 +15,7 @@ use Rattle.craq_runs.specs.declared.run.Run.{Run}
 use Rattle.craq_runs.specs.Chain.{Chain, is_running, node_at}
 use Rattle.craq_runs.specs.Runs.{after_move}
 use Rattle.craq_runs.specs.Typed.{IsTypedRunOf}
-use Rattle.craq_recovery.specs.Recovered.{AllReady, AllRun, AreNeighbours, HasRecovered, HaveHeard, HaveNumbersForAll, HaveNumbersForAsMany, HearsAt, HoldsEntries, IsReadyAt, Knows, KnowsCommitted, NoUpdateWaits, RunsReady, ServesAt, SomeReady, after_all_rounds, after_as_many, after_round, chain_after, rounds_to_recover}
+use Rattle.craq_recovery.specs.Recovered.{AllReady, AllRun, AreNeighbours, HasRecovered, HaveHeard, HaveNumbersForAll, HaveNumbersForAsMany, HearsAt, HoldsEntries, IsReadyAt, Knows, KnowsCommitted, NoUpdateWaits, RunsReady, ServesAt, SomeReady, after_all_rounds, after_as_many, after_round, chain_after_moves, rounds_to_recover}
 use Rattle.craq_recovery.specs.Rounds.{after_moves_by, after_rounds, round}
 use Rattle.craq_recovery.specs.Taken.{HaveNumbers, HaveNumbersFor}
 use Rattle.craq_recovery.proofs.Answered.{Any, Below, acks_there, all_of_last, all_still, begin, finish, onward_rounds, reached_rounds, ready_rounds, tail_knows}
@@ -111,25 +111,25 @@ place_of (m ∷ ms) id h =
     (λ e. let later : (k : ℕ) × (k < length ms) × (get_or ms k 0 ≡ id) = place_of ms id (in_rest (m == id) (is_member ms id) e h) in (suc later.0, omega (arith, later.1), later.2))
 
 -- the first member is ready if the member at a place is
-by_place : (chain : ℕ) (run : Run) (m id : ℕ) (ms : List ℕ) → IsTypedRunOf chain run → m ∷ ms ≡ (chain_after chain run).members → (k : ℕ) → k < length (m ∷ ms) → get_or (m ∷ ms) k 0 ≡ id → (p q : Plain) → id_of p ≡ m → id_of q ≡ id
-    → node_at (chain_after chain run).nodes m ≡ Some p → node_at (chain_after chain run).nodes id ≡ Some q → q.ready ≡ true → p.ready ≡ true
+by_place : (chain : ℕ) (run : Run) (m id : ℕ) (ms : List ℕ) → IsTypedRunOf chain run → m ∷ ms ≡ (chain_after_moves chain run).members → (k : ℕ) → k < length (m ∷ ms) → get_or (m ∷ ms) k 0 ≡ id → (p q : Plain) → id_of p ≡ m → id_of q ≡ id
+    → node_at (chain_after_moves chain run).nodes m ≡ Some p → node_at (chain_after_moves chain run).nodes id ≡ Some q → q.ready ≡ true → p.ready ≡ true
 by_place chain run m id ms typed is zero lt e p q own_p own_q at_p at_q ready =
-    let N : ℕ → Type 0 = λ j. node_at (chain_after chain run).nodes j ≡ Some q in
-    let there : node_at (chain_after chain run).nodes m ≡ Some q = subst N (sym e) at_q in
+    let N : ℕ → Type 0 = λ j. node_at (chain_after_moves chain run).nodes j ≡ Some q in
+    let there : node_at (chain_after_moves chain run).nodes m ≡ Some q = subst N (sym e) at_q in
     let same : q ≡ p = cc in
     let P : Plain → Type 0 = λ x. x.ready ≡ true in subst P same ready
 by_place chain run m id ms typed is (suc k) lt e p q own_p own_q at_p at_q ready =
-    let NP : ℕ → Type 0 = λ j. node_at (chain_after chain run).nodes j ≡ Some p in
-    let NQ : ℕ → Type 0 = λ j. node_at (chain_after chain run).nodes j ≡ Some q in
+    let NP : ℕ → Type 0 = λ j. node_at (chain_after_moves chain run).nodes j ≡ Some p in
+    let NQ : ℕ → Type 0 = λ j. node_at (chain_after_moves chain run).nodes j ≡ Some q in
     let B : List ℕ → Type 0 = λ l. Before l (id_of p) (id_of q) in
     let before : Before (m ∷ ms) (id_of p) (id_of q) = record { front = 0; back = suc k; order = omega arith; within = lt; at_front = sym own_p; at_back = e ∙ sym own_q } in
     let all : PredecessorsAreReady chain run = predecessors_are_ready chain run typed in
     all p q (subst NP (sym own_p) at_p) (subst NQ (sym own_q) at_q) (subst B is before) ready
 
-first_ready : (chain : ℕ) (run : Run) (m : ℕ) (ms : List ℕ) → IsTypedRunOf chain run → m ∷ ms ≡ (chain_after chain run).members → (p : Plain) → node_at (chain_after chain run).nodes m ≡ Some p
-    → SomeReady (chain_after chain run) → p.ready ≡ true
+first_ready : (chain : ℕ) (run : Run) (m : ℕ) (ms : List ℕ) → IsTypedRunOf chain run → m ∷ ms ≡ (chain_after_moves chain run).members → (p : Plain) → node_at (chain_after_moves chain run).nodes m ≡ Some p
+    → SomeReady (chain_after_moves chain run) → p.ready ≡ true
 first_ready chain run m ms typed is p at some =
-    let c : Chain = chain_after chain run in
+    let c : Chain = chain_after_moves chain run in
     let r : RunsReady c some.member = some.runs_ready in
     let q : Plain = r.node in
     let own_p : id_of p ≡ m = node_id c.nodes m p at in
@@ -139,13 +139,13 @@ first_ready chain run m ms typed is p at some =
     let place : (k : ℕ) × (k < length (m ∷ ms)) × (get_or (m ∷ ms) k 0 ≡ some.member) = place_of (m ∷ ms) some.member here in
     by_place chain run m some.member ms typed is place.0 place.1 place.2 p q own_p own_q at r.at r.ready
 
-pub chains_recover_on : (chain : ℕ) (run : Run) (count : ℕ) → IsTypedRunOf chain run → AllRun (chain_after chain run) → SomeReady (chain_after chain run)
-    → HaveNumbers (chain_after chain run) (round after_move (suc (suc count)) (chain_after chain run))
-    → HaveNumbersForAll (suc (suc count)) (after_round (suc (suc count)) (chain_after chain run))
-    → HasRecovered (after_all_rounds (suc (suc count)) (after_round (suc (suc count)) (chain_after chain run)))
+pub chains_recover_on : (chain : ℕ) (run : Run) (count : ℕ) → IsTypedRunOf chain run → AllRun (chain_after_moves chain run) → SomeReady (chain_after_moves chain run)
+    → HaveNumbers (chain_after_moves chain run) (round after_move (suc (suc count)) (chain_after_moves chain run))
+    → HaveNumbersForAll (suc (suc count)) (after_round (suc (suc count)) (chain_after_moves chain run))
+    → HasRecovered (after_all_rounds (suc (suc count)) (after_round (suc (suc count)) (chain_after_moves chain run)))
 chains_recover_on chain run count typed all some first rest =
     let h : ℕ = suc (suc count) in
-    let c : Chain = chain_after chain run in
+    let c : Chain = chain_after_moves chain run in
     let d : Chain = after_round h c in
     let reach : IsReachedBy chain c = reached_here chain run typed in
     let r : IsReachedBy chain d = reached_round chain h c reach in
@@ -170,13 +170,13 @@ chains_recover_on chain run count typed all some first rest =
         let on3 : Onward c2 (after_round h c2) = onward_moves (round after_move h c2) c2 (round_travels h c2) in
         sym on1.members ∙ (sym on2.members ∙ sym on3.members)
 
-    by_list : (chain : ℕ) (run : Run) (count : ℕ) → IsTypedRunOf chain run → SomeReady (chain_after chain run) → HaveNumbersForAll (suc (suc count)) (after_round (suc (suc count)) (chain_after chain run))
-        → (l : List ℕ) → l ≡ (chain_after chain run).members → AllByRecursion (λ id. is_running (node_at (chain_after chain run).nodes id) ≡ true) l
-        → AllByRecursion (HearsAt (after_round (suc (suc count)) (chain_after chain run))) l → AllByRecursion (ServesAt (after_all_rounds (suc (suc count)) (after_round (suc (suc count)) (chain_after chain run)))) l
+    by_list : (chain : ℕ) (run : Run) (count : ℕ) → IsTypedRunOf chain run → SomeReady (chain_after_moves chain run) → HaveNumbersForAll (suc (suc count)) (after_round (suc (suc count)) (chain_after_moves chain run))
+        → (l : List ℕ) → l ≡ (chain_after_moves chain run).members → AllByRecursion (λ id. is_running (node_at (chain_after_moves chain run).nodes id) ≡ true) l
+        → AllByRecursion (HearsAt (after_round (suc (suc count)) (chain_after_moves chain run))) l → AllByRecursion (ServesAt (after_all_rounds (suc (suc count)) (after_round (suc (suc count)) (chain_after_moves chain run)))) l
     by_list chain run count typed some rest [] is all hear = tt
     by_list chain run count typed some rest (m ∷ ms) is all hear =
         let h : ℕ = suc (suc count) in
-        let c : Chain = chain_after chain run in
+        let c : Chain = chain_after_moves chain run in
         let d : Chain = after_round h c in
         let reach : IsReachedBy chain c = reached_here chain run typed in
         let r : IsReachedBy chain d = reached_round chain h c reach in
@@ -229,12 +229,12 @@ all_numbers h k d many again first second last =
     let M : Chain → Type 0 = λ e. HaveNumbers (after_as_many h e) (round after_move h (after_as_many h e)) in
     record { first = subst F (sym many) first; second = subst T same (subst S (sym again) second); last = subst M same (subst L (sym again) last) }
 
-pub recover_in_rounds : (chain : ℕ) (run : Run) (count : ℕ) → IsTypedRunOf chain run → AllRun (chain_after chain run) → SomeReady (chain_after chain run)
-    → HaveNumbersFor (suc (suc count)) (rounds_to_recover (chain_after chain run)) (chain_after chain run)
-    → HasRecovered (after_rounds after_move (suc (suc count)) (rounds_to_recover (chain_after chain run)) (chain_after chain run))
+pub recover_in_rounds : (chain : ℕ) (run : Run) (count : ℕ) → IsTypedRunOf chain run → AllRun (chain_after_moves chain run) → SomeReady (chain_after_moves chain run)
+    → HaveNumbersFor (suc (suc count)) (rounds_to_recover (chain_after_moves chain run)) (chain_after_moves chain run)
+    → HasRecovered (after_rounds after_move (suc (suc count)) (rounds_to_recover (chain_after_moves chain run)) (chain_after_moves chain run))
 recover_in_rounds chain run count typed all some numbers =
     let h : ℕ = suc (suc count) in
-    let c : Chain = chain_after chain run in
+    let c : Chain = chain_after_moves chain run in
     let k : ℕ = length c.members in
     let d : Chain = after_round h c in
     let c1 : Chain = after_rounds after_move h k d in
@@ -256,12 +256,12 @@ recover_in_rounds chain run count typed all some numbers =
 
 -- ---- the parts, as separate laws
 
-pub joined_ready : (chain : ℕ) (run : Run) (count : ℕ) (p q : Plain) → IsTypedRunOf chain run → AreNeighbours (chain_after chain run) p q → p.ready ≡ true
-    → HaveNumbers (chain_after chain run) (round after_move (suc (suc count)) (chain_after chain run))
-    → IsReadyAt (after_round (suc (suc count)) (chain_after chain run)) (id_of q) × HoldsEntries (after_round (suc (suc count)) (chain_after chain run)) (id_of q) (length_of p)
+pub joined_ready : (chain : ℕ) (run : Run) (count : ℕ) (p q : Plain) → IsTypedRunOf chain run → AreNeighbours (chain_after_moves chain run) p q → p.ready ≡ true
+    → HaveNumbers (chain_after_moves chain run) (round after_move (suc (suc count)) (chain_after_moves chain run))
+    → IsReadyAt (after_round (suc (suc count)) (chain_after_moves chain run)) (id_of q) × HoldsEntries (after_round (suc (suc count)) (chain_after_moves chain run)) (id_of q) (length_of p)
 joined_ready chain run count p q typed n ready numbers =
     let h : ℕ = suc (suc count) in
-    let c : Chain = chain_after chain run in
+    let c : Chain = chain_after_moves chain run in
     let d : Chain = after_round h c in
     let reach : IsReachedBy chain c = reached_here chain run typed in
     let g : Good c = good_there chain c reach in
@@ -274,21 +274,21 @@ joined_ready chain run count p q typed n ready numbers =
       record { node = i.node; at = i.at; holds = s.holds },
     )
 
-pub all_ready : (chain : ℕ) (run : Run) (count : ℕ) → IsTypedRunOf chain run → HaveHeard (chain_after chain run) → IsReadyAt (chain_after chain run) (first_of (chain_after chain run).members)
-    → HaveNumbersForAsMany (suc (suc count)) (chain_after chain run) → AllReady (after_as_many (suc (suc count)) (chain_after chain run))
+pub all_ready : (chain : ℕ) (run : Run) (count : ℕ) → IsTypedRunOf chain run → HaveHeard (chain_after_moves chain run) → IsReadyAt (chain_after_moves chain run) (first_of (chain_after_moves chain run).members)
+    → HaveNumbersForAsMany (suc (suc count)) (chain_after_moves chain run) → AllReady (after_as_many (suc (suc count)) (chain_after_moves chain run))
 all_ready chain run count typed hear first numbers =
     let h : ℕ = suc (suc count) in
-    let c : Chain = chain_after chain run in
+    let c : Chain = chain_after_moves chain run in
     let d : Chain = after_as_many h c in
     let on : Onward c d = onward_rounds h (length c.members) c in
     let R : List ℕ → Type 0 = λ l. AllByRecursion (IsReadyAt d) l in
     subst R (sym on.members) (by_list chain run count c.members typed refl hear first numbers)
   where
-    by_list : (chain : ℕ) (run : Run) (count : ℕ) (l : List ℕ) → IsTypedRunOf chain run → l ≡ (chain_after chain run).members → AllByRecursion (HearsAt (chain_after chain run)) l → IsReadyAt (chain_after chain run) (first_of l)
-        → HaveNumbersForAsMany (suc (suc count)) (chain_after chain run) → AllByRecursion (IsReadyAt (after_as_many (suc (suc count)) (chain_after chain run))) l
+    by_list : (chain : ℕ) (run : Run) (count : ℕ) (l : List ℕ) → IsTypedRunOf chain run → l ≡ (chain_after_moves chain run).members → AllByRecursion (HearsAt (chain_after_moves chain run)) l → IsReadyAt (chain_after_moves chain run) (first_of l)
+        → HaveNumbersForAsMany (suc (suc count)) (chain_after_moves chain run) → AllByRecursion (IsReadyAt (after_as_many (suc (suc count)) (chain_after_moves chain run))) l
     by_list chain run count [] typed is hear first numbers = tt
     by_list chain run count (m ∷ ms) typed is hear first numbers =
-        let c : Chain = chain_after chain run in
+        let c : Chain = chain_after_moves chain run in
         let e : length (m ∷ ms) ≡ length c.members = ap length is in
         are_ready (after_as_many (suc (suc count)) c) 0 (m ∷ ms)
         (all_stand chain count 0 (length c.members) c m ms (reached_here chain run typed) is (omega (arith, e)) hear (record { node = first.node; at = first.at; knows = first.knows; ready = first.ready; holds = omega arith }) numbers)

@@ -58,8 +58,8 @@ has_recovered c = serve_all c c.members
 -- ---- after a run
 
 -- the chain after a run
-abbrev pub chain_after : ℕ → Run → Chain
-chain_after chain run = after_moves (opening_chain chain run.members) run.moves
+abbrev pub chain_after_moves : ℕ → Run → Chain
+chain_after_moves chain run = after_moves (opening_chain chain run.members) run.moves
 
 -- the chain after a round of count hops
 abbrev pub after_round : ℕ → Chain → Chain

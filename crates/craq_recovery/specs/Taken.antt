@@ -14,9 +14,9 @@ IsTaken (Err e) = e ≡ Exhausted
 
 -- each of these moves, one after the other, is taken, or refused only because counters are
 -- exhausted
-abbrev pub AreTakenInTurn : Chain → List Move → Type 0
-AreTakenInTurn c [] = ⊤
-AreTakenInTurn c (m ∷ ms) = IsTaken (chain_step c m) × AreTakenInTurn (after_move c m) ms
+abbrev pub AreTakenInOrder : Chain → List Move → Type 0
+AreTakenInOrder c [] = ⊤
+AreTakenInOrder c (m ∷ ms) = IsTaken (chain_step c m) × AreTakenInOrder (after_move c m) ms
 
 -- none of these moves is refused because counters are exhausted
 abbrev pub HaveNumbers : Chain → List Move → Type 0

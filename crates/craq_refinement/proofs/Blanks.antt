@@ -17,10 +17,10 @@ use Rattle.craq_model.specs.Members.{is_id}
 use Rattle.craq_model.specs.Parts.{item_count, part_count, part_of, parts_of}
 use Rattle.craq_model.specs.Plain.{Plain, id_of, successor, clean}
 use Rattle.craq_model.specs.Sends.{send_all, copy_bodies, catch_up}
-use Rattle.craq_model.specs.Settle.{Turn, turn_ignoring, turn_with}
-use Rattle.craq_model.specs.Deliveries.{fill_bodies, blank_turn, turn_in_epoch}
+use Rattle.craq_model.specs.Settle.{Transition, transition_ignoring, transition_with}
+use Rattle.craq_model.specs.Deliveries.{fill_bodies, blank_transition, transition_in_epoch}
 use Rattle.craq_protocol.specs.Members.{is_next}
-use Rattle.craq_protocol.specs.Machine.{World, known_membership}
+use Rattle.craq_protocol.specs.Machine.{MachineState, known_membership}
 use Rattle.craq_protocol.specs.Promises.{IsReached, IsSafe}
 use Rattle.craq_protocol.proofs.Reached.{reached_safe}
 use Rattle.craq_runs.specs.Chain.{Chain}
@@ -29,7 +29,7 @@ use Rattle.craq_refinement.specs.Lines.{IsNothing}
 use Rattle.craq_refinement.proofs.Members.{is_id-some}
 use Rattle.craq_refinement.proofs.Lists.{placed_take}
 use Rattle.craq_refinement.proofs.Sends.{IsPartAfter, BodySendable}
-use Rattle.craq_refinement.proofs.Stages.{TurnFollows, stage_turn, stage_before}
+use Rattle.craq_refinement.proofs.Stages.{TransitionFollows, stage_transition, stage_before}
 use Rattle.craq_refinement.proofs.Ticks.{sendable_all, catch_up_sendable}
 use Rattle.craq_refinement.proofs.Here.{Here, here_node, guard, in_epoch, next_is_succ}
 
@@ -41,7 +41,7 @@ take_past (x ∷ front) es (suc k) le =
     ap (λ l. x ∷ l) (take_past front es k (omega arith) ∙ ap (λ j. front ++ take j es) same)
 
 -- the state that a node sends is that after the entries that it knows to be committed
-clean_is : {w : World Entry} (p : Plain) → NodeFollows w (seen_of p) → after_entries opening_state (take (w.acknowledged (id_of p)) (w.history (id_of p))) ≡ clean p
+clean_is : {w : MachineState Entry} (p : Plain) → NodeFollows w (seen_of p) → after_entries opening_state (take (w.acknowledged (id_of p)) (w.history (id_of p))) ≡ clean p
 unfolding clean
 clean_is {w} p n =
     let h : IsHistory p.past.base p.past.base_state p.past.entries (w.history (id_of p)) = n.history in
@@ -55,7 +55,7 @@ clean_is {w} p n =
     ∙ (ap (λ s. after_entries s (take (k - length h.front) p.past.entries)) h.after ∙ ap (λ j. after_entries p.past.base_state (take j p.past.entries)) three))
 
 -- each part of the state
-part_is : {w : World Entry} (p : Plain) → NodeFollows w (seen_of p) → IsReached w → (i : ℕ) → 1 ≤ i → i ≤ part_count (clean p)
+part_is : {w : MachineState Entry} (p : Plain) → NodeFollows w (seen_of p) → IsReached w → (i : ℕ) → 1 ≤ i → i ≤ part_count (clean p)
     → IsPartAfter (take (w.acknowledged (id_of p)) (w.history (id_of p))) (part_of p.past.acknowledged (clean p) i)
 part_is {w} p n r i first last =
     let s : IsSafe w = reached_safe r in
@@ -68,13 +68,13 @@ part_is {w} p n r i first last =
       share = ap (λ (state : State). part_of p.past.acknowledged state i) (clean_is p n);
     }
 
-parts_between : {w : World Entry} (p : Plain) → NodeFollows w (seen_of p) → IsReached w → (to : ℕ) → is_next (known_membership w (id_of p)) (id_of p) to ≡ true
+parts_between : {w : MachineState Entry} (p : Plain) → NodeFollows w (seen_of p) → IsReached w → (to : ℕ) → is_next (known_membership w (id_of p)) (id_of p) to ≡ true
     → (a n : ℕ) → 1 ≤ a → a + n ≤ part_count (clean p) + 1 → AllByRecursion (BodySendable w (id_of p) to) (map bodies.Part (map (part_of p.past.acknowledged (clean p)) (range_with_len a n)))
 parts_between p f r to nx a zero first last = tt
 parts_between p f r to nx a (suc n) first last =
     ((nx, part_is p f r a first (omega (arith, last))), parts_between p f r to nx (a + 1) n (omega (arith, first)) (omega (arith, last)))
 
-copy_sendable : {w : World Entry} (p : Plain) → NodeFollows w (seen_of p) → IsReached w → (to : ℕ) → is_next (known_membership w (id_of p)) (id_of p) to ≡ true
+copy_sendable : {w : MachineState Entry} (p : Plain) → NodeFollows w (seen_of p) → IsReached w → (to : ℕ) → is_next (known_membership w (id_of p)) (id_of p) to ≡ true
     → AllByRecursion (BodySendable w (id_of p) to) (copy_bodies p.past.acknowledged (clean p))
 unfolding copy_bodies parts_of
 copy_sendable {w} p n r to nx =
@@ -85,7 +85,7 @@ copy_sendable {w} p n r to nx =
     (λ e. ((nx, length-take-le (w.acknowledged id) (w.history id) (s.acknowledged id).0 ∙ n.acknowledged, clean_is p n, placed_take 0 (w.acknowledged id) (w.history id) n.placed), tt))
     (λ e. parts_between p n r to nx 1 (part_count (clean p)) (omega arith) (omega arith))
 
-fill_sendable : {w : World Entry} (p : Plain) → NodeFollows w (seen_of p) → IsReached w → p.ready ≡ true → (to count : ℕ) → is_next (known_membership w (id_of p)) (id_of p) to ≡ true
+fill_sendable : {w : MachineState Entry} (p : Plain) → NodeFollows w (seen_of p) → IsReached w → p.ready ≡ true → (to count : ℕ) → is_next (known_membership w (id_of p)) (id_of p) to ≡ true
     → AllByRecursion (BodySendable w (id_of p) to) (fill_bodies p count)
 unfolding fill_bodies
 fill_sendable {w} p n r ready to count nx =
@@ -96,17 +96,17 @@ fill_sendable {w} p n r ready to count nx =
     (cond_both (nat_lt count p.past.acknowledged) (copy_bodies p.past.acknowledged (clean p)) [] (λ (bs : List Body). AllByRecursion B bs) (λ e. copy_sendable p n r to nx) (λ e. tt))
     (catch_up_sendable p n ready (max count p.past.acknowledged) to nx)
 
-pub blank_follows : {c : Chain} {w : World Entry} (p : Plain) → Here c w p → IsReached w → (m : LinkMessage) (count : ℕ)
-    → TurnFollows IsNothing c w (turn_in_epoch p m (blank_turn p m.sender count))
-unfolding blank_turn
+pub blank_follows : {c : Chain} {w : MachineState Entry} (p : Plain) → Here c w p → IsReached w → (m : LinkMessage) (count : ℕ)
+    → TransitionFollows IsNothing c w (transition_in_epoch p m (blank_transition p m.sender count))
+unfolding blank_transition
 blank_follows {c} {w} p h r m count =
     let none : IsNothing [] = refl in
-    let last : Turn = turn_with p (send_all p m.sender (fill_bodies p count)) in
-    let first : Turn = cond (not p.ready) (turn_ignoring p NotReadyHere) last in
-    in_epoch p h none m (blank_turn p m.sender count)
+    let last : Transition = transition_with p (send_all p m.sender (fill_bodies p count)) in
+    let first : Transition = cond (not p.ready) (transition_ignoring p NotReadyHere) last in
+    in_epoch p h none m (blank_transition p m.sender count)
     (λ ep. guard p h none (not (is_id (successor p) m.sender)) NotNeighbour first
     (λ a. guard p h none (not p.ready) NotReadyHere last
     (λ b.
     let su : successor p ≡ Some m.sender = is_id-some (successor p) m.sender (not-false (is_id (successor p) m.sender) a) in
-    stage_turn h.follows (stage_before h.follows p h.at h.running) none (record { ticket = None; outs = send_all p m.sender (fill_bodies p count); ignored = None })
+    stage_transition h.follows (stage_before h.follows p h.at h.running) none (record { ticket = None; outs = send_all p m.sender (fill_bodies p count); ignored = None })
     (sendable_all p (here_node p h) m.sender (fill_bodies p count) (fill_sendable p (here_node p h) r (not-false p.ready b) m.sender count (next_is_succ p h m.sender su))))))

@@ -12,11 +12,11 @@ use Rattle.craq_model.specs.declared.step.Why.TheVariants.{NotNeighbour, Already
 use Rattle.craq_model.specs.Members.{is_id}
 use Rattle.craq_model.specs.Parts.{part_count, part_of, gathered_position, gathering_for, is_in_order, with_part, is_whole, joined_state}
 use Rattle.craq_model.specs.Plain.{Plain, id_of, predecessor, length_of}
-use Rattle.craq_model.specs.Settle.{Turn, turn_ignoring, turn_with, readiness_turn}
-use Rattle.craq_model.specs.Deliveries.{with_copy, copy_turn, gathered_turn, gathering_turn, is_outdated, part_turn, floor_turn, turn_in_epoch}
+use Rattle.craq_model.specs.Settle.{Transition, transition_ignoring, transition_with, readiness_transition}
+use Rattle.craq_model.specs.Deliveries.{with_copy, copy_transition, gathered_transition, gathering_transition, is_outdated, part_transition, floor_transition, transition_in_epoch}
 use Rattle.craq_protocol.specs.Members.{with_value}
 use Rattle.craq_protocol.specs.Machine as machine
-use Rattle.craq_protocol.specs.Machine.{World, Move, Take, Become_ready, after_move, after_receipt}
+use Rattle.craq_protocol.specs.Machine.{MachineState, MachineMove, Take, Become_ready, after_move, after_receipt}
 use Rattle.craq_protocol.specs.Promises.{Sent, IsReached}
 use Rattle.craq_protocol.proofs.Lists.{put_same, put_other}
 use Rattle.craq_protocol.proofs.Effects.{copy_does, floor_does}
@@ -26,12 +26,12 @@ use Rattle.craq_refinement.specs.Lines.{IsTaking}
 use Rattle.craq_refinement.proofs.Members.{is_id-some}
 use Rattle.craq_refinement.proofs.Gathered.{copied_entries, part_is, gathered_state, whole_state, gathers, gathered_at, belongs}
 use Rattle.craq_refinement.proofs.Worlds.{only_self, history_length, history_like, placed_like}
-use Rattle.craq_refinement.proofs.Stages.{TurnFollows, Stage, stage_turn}
+use Rattle.craq_refinement.proofs.Stages.{TransitionFollows, Stage, stage_transition}
 use Rattle.craq_refinement.proofs.Ticks.{none_sendable}
 use Rattle.craq_refinement.proofs.Settling.{readiness_follows}
 use Rattle.craq_refinement.proofs.Here.{Here, here_node, guard, in_epoch, takes, pred_is_next, with_pred_member}
 
-took_copy : {c : Chain} {w : World Entry} (p : Plain) → Here c w p → (m : LinkMessage) (position : ℕ) (state : State) (entries : List Entry) → m.receiver ≡ id_of p → m.epoch ≡ p.epoch
+took_copy : {c : Chain} {w : MachineState Entry} (p : Plain) → Here c w p → (m : LinkMessage) (position : ℕ) (state : State) (entries : List Entry) → m.receiver ≡ id_of p → m.epoch ≡ p.epoch
     → length entries ≡ position → after_entries opening_state entries ≡ state → IsPlaced 0 entries → Sent w.messages (said m.epoch m.sender m.receiver (machine.Copy entries))
     → predecessor p ≡ Some m.sender → p.ready ≡ false → length_of p < position
     → (k : ℕ) × Stage c w (Take (id_of p) k ∷ []) (record w { history = with_value w.history (id_of p) entries; acknowledged = with_value w.acknowledged (id_of p) (length entries) }) (with_copy p position state)
@@ -74,11 +74,11 @@ took_copy {c} {w} p h m position state entries to ep len after placed s pr r lt 
     )
 
 -- a node that took a state may become ready by it
-copied : {c : Chain} {w : World Entry} (p : Plain) → Here c w p → (m : LinkMessage) (position : ℕ) (state : State) (entries : List Entry) → m.receiver ≡ id_of p → m.epoch ≡ p.epoch
+copied : {c : Chain} {w : MachineState Entry} (p : Plain) → Here c w p → (m : LinkMessage) (position : ℕ) (state : State) (entries : List Entry) → m.receiver ≡ id_of p → m.epoch ≡ p.epoch
     → length entries ≡ position → after_entries opening_state entries ≡ state → IsPlaced 0 entries → Sent w.messages (said m.epoch m.sender m.receiver (machine.Copy entries))
-    → predecessor p ≡ Some m.sender → p.ready ≡ false → length_of p < position → TurnFollows (IsTaking (id_of p)) c w (readiness_turn (with_copy p position state))
+    → predecessor p ≡ Some m.sender → p.ready ≡ false → length_of p < position → TransitionFollows (IsTaking (id_of p)) c w (readiness_transition (with_copy p position state))
 copied {c} {w} p h m position state entries to ep len after placed s pr r lt =
-    let Own : List (Move Entry) → Type 0 = IsTaking (id_of p) in
+    let Own : List (MachineMove Entry) → Type 0 = IsTaking (id_of p) in
     let t : (k : ℕ) × Stage c w (Take (id_of p) k ∷ []) (record w { history = with_value w.history (id_of p) entries; acknowledged = with_value w.acknowledged (id_of p) (length entries) }) (with_copy p position state) =
     took_copy p h m position state entries to ep len after placed s pr r lt
     in
@@ -86,16 +86,16 @@ copied {c} {w} p h m position state entries to ep len after placed s pr r lt =
     let ready : Own (Take (id_of p) t.0 ∷ Become_ready (id_of p) ∷ []) = inr (t.0, inr refl) in
     readiness_follows h.follows t.1 line ready (with_pred_member p m.sender pr)
 
-pub copy_follows : {c : Chain} {w : World Entry} (p : Plain) → Here c w p → (m : LinkMessage) (position : ℕ) (state : State) (entries : List Entry) → m.receiver ≡ id_of p
+pub copy_follows : {c : Chain} {w : MachineState Entry} (p : Plain) → Here c w p → (m : LinkMessage) (position : ℕ) (state : State) (entries : List Entry) → m.receiver ≡ id_of p
     → length entries ≡ position → after_entries opening_state entries ≡ state → IsPlaced 0 entries → Sent w.messages (said m.epoch m.sender m.receiver (machine.Copy entries))
-    → TurnFollows (IsTaking (id_of p)) c w (turn_in_epoch p m (copy_turn p m.sender position state))
-unfolding copy_turn
+    → TransitionFollows (IsTaking (id_of p)) c w (transition_in_epoch p m (copy_transition p m.sender position state))
+unfolding copy_transition
 copy_follows {c} {w} p h m position state entries to len after placed s =
-    let Own : List (Move Entry) → Type 0 = IsTaking (id_of p) in
+    let Own : List (MachineMove Entry) → Type 0 = IsTaking (id_of p) in
     let none : Own [] = inl refl in
-    let last : Turn = readiness_turn (with_copy p position state) in
-    let first : Turn = cond (p.ready || nat_le position (length_of p)) (turn_ignoring p AlreadyHave) last in
-    in_epoch p h none m (copy_turn p m.sender position state)
+    let last : Transition = readiness_transition (with_copy p position state) in
+    let first : Transition = cond (p.ready || nat_le position (length_of p)) (transition_ignoring p AlreadyHave) last in
+    in_epoch p h none m (copy_transition p m.sender position state)
     (λ ep. guard p h none (not (is_id (predecessor p) m.sender)) NotNeighbour first
     (λ a. guard p h none (p.ready || nat_le position (length_of p)) AlreadyHave last
     (λ b.
@@ -106,7 +106,7 @@ copy_follows {c} {w} p h m position state entries to len after placed s =
 -- ---- parts of a state
 
 -- a part is kept
-gathering_follows : {c : Chain} {w : World Entry} (p : Plain) → Here c w p → (g : Gathering) → IsGathered w.messages g → TurnFollows (IsTaking (id_of p)) c w (turn_with (record p { gathering = Some g }) [])
+gathering_follows : {c : Chain} {w : MachineState Entry} (p : Plain) → Here c w p → (g : Gathering) → IsGathered w.messages g → TransitionFollows (IsTaking (id_of p)) c w (transition_with (record p { gathering = Some g }) [])
 gathering_follows {c} {w} p h g i =
     let n : NodeFollows w (seen_of p) = here_node p h in
     let s : Stage c w [] w (record p { gathering = Some g }) = record {
@@ -128,14 +128,14 @@ gathering_follows {c} {w} p h g i =
       };
       running = h.running;
     } in
-    stage_turn h.follows s (inl refl) (record { ticket = None; outs = []; ignored = None }) (none_sendable w (id_of p))
+    stage_transition h.follows s (inl refl) (record { ticket = None; outs = []; ignored = None }) (none_sendable w (id_of p))
 
 -- a part is the last missing one, or is kept
-gathered_follows : {c : Chain} {w : World Entry} (p : Plain) → Here c w p → IsReached w → (m : LinkMessage) (part : StatePart) (g : Gathering) → m.receiver ≡ id_of p → m.epoch ≡ p.epoch
+gathered_follows : {c : Chain} {w : MachineState Entry} (p : Plain) → Here c w p → IsReached w → (m : LinkMessage) (part : StatePart) (g : Gathering) → m.receiver ≡ id_of p → m.epoch ≡ p.epoch
     → IsGathered w.messages g → part.position ≡ g.position → part.count ≡ g.count → PartFollows w.messages m.epoch m.sender m.receiver part
-    → predecessor p ≡ Some m.sender → p.ready ≡ false → length_of p < part.position → TurnFollows (IsTaking (id_of p)) c w (gathered_turn p g)
+    → predecessor p ≡ Some m.sender → p.ready ≡ false → length_of p < part.position → TransitionFollows (IsTaking (id_of p)) c w (gathered_transition p g)
 gathered_follows {c} {w} p h r m part g to ep i position count f pr ready lt =
-    cond_both (is_whole g) (readiness_turn (with_copy p g.position (joined_state g.parts))) (turn_with (record p { gathering = Some g }) []) (λ (t : Turn). TurnFollows (IsTaking (id_of p)) c w t)
+    cond_both (is_whole g) (readiness_transition (with_copy p g.position (joined_state g.parts))) (transition_with (record p { gathering = Some g }) []) (λ (t : Transition). TransitionFollows (IsTaking (id_of p)) c w t)
     (λ e.
     let own : part_of part.position (after_entries opening_state (take part.position w.log)) part.number ≡ part = part_is r m.epoch m.sender m.receiver part f in
     let S : ℕ → State = λ k. after_entries opening_state (take k w.log) in
@@ -145,19 +145,19 @@ gathered_follows {c} {w} p h r m part g to ep i position count f pr ready lt =
     copied p h m g.position (joined_state g.parts) f.entries to ep (f.count ∙ position) mine f.placed f.sent pr ready (omega (arith, lt, position)))
     (λ e. gathering_follows p h g i)
 
-pub part_follows : {c : Chain} {w : World Entry} (p : Plain) → Here c w p → IsReached w → (m : LinkMessage) (part : StatePart) → m.receiver ≡ id_of p → PartFollows w.messages m.epoch m.sender m.receiver part
-    → TurnFollows (IsTaking (id_of p)) c w (turn_in_epoch p m (part_turn p m.sender part))
-unfolding part_turn
+pub part_follows : {c : Chain} {w : MachineState Entry} (p : Plain) → Here c w p → IsReached w → (m : LinkMessage) (part : StatePart) → m.receiver ≡ id_of p → PartFollows w.messages m.epoch m.sender m.receiver part
+    → TransitionFollows (IsTaking (id_of p)) c w (transition_in_epoch p m (part_transition p m.sender part))
+unfolding part_transition
 part_follows {c} {w} p h r m part to f =
-    let Own : List (Move Entry) → Type 0 = IsTaking (id_of p) in
+    let Own : List (MachineMove Entry) → Type 0 = IsTaking (id_of p) in
     let none : Own [] = inl refl in
     let g : Gathering = gathering_for part p.gathering in
-    let last : Turn = gathered_turn p (with_part g part) in
-    let fifth : Turn = cond (not (is_in_order g part)) (turn_ignoring p TooFar) last in
-    let fourth : Turn = cond (is_some (at_number g.parts part.number)) (turn_ignoring p AlreadyHave) fifth in
-    let third : Turn = gathering_turn p g part in
-    let first : Turn = cond (p.ready || is_outdated p part) (turn_ignoring p AlreadyHave) third in
-    in_epoch p h none m (part_turn p m.sender part)
+    let last : Transition = gathered_transition p (with_part g part) in
+    let fifth : Transition = cond (not (is_in_order g part)) (transition_ignoring p TooFar) last in
+    let fourth : Transition = cond (is_some (at_number g.parts part.number)) (transition_ignoring p AlreadyHave) fifth in
+    let third : Transition = gathering_transition p g part in
+    let first : Transition = cond (p.ready || is_outdated p part) (transition_ignoring p AlreadyHave) third in
+    in_epoch p h none m (part_transition p m.sender part)
     (λ ep. guard p h none (not (is_id (predecessor p) m.sender)) NotNeighbour first
     (λ a. guard p h none (p.ready || is_outdated p part) AlreadyHave third
     (λ b. guard p h none (not (part.count == g.count)) TooFar fourth
@@ -173,7 +173,7 @@ part_follows {c} {w} p h r m part to f =
     let count : part.count ≡ g.count = eqb-true part.count g.count (not-false (part.count == g.count) d) in
     gathered_follows p h r m part (with_part g part) to ep (gathers g part i at count (m.epoch, m.sender, m.receiver, f)) at count f pr x.0 (leb-false part.position (length_of p) y.0)))))))
 
-took_floor : {c : Chain} {w : World Entry} (p : Plain) → Here c w p → (m : LinkMessage) (count : ℕ) → m.receiver ≡ id_of p → m.epoch ≡ p.epoch
+took_floor : {c : Chain} {w : MachineState Entry} (p : Plain) → Here c w p → (m : LinkMessage) (count : ℕ) → m.receiver ≡ id_of p → m.epoch ≡ p.epoch
     → Sent w.messages (said m.epoch m.sender m.receiver (machine.Floor count)) → predecessor p ≡ Some m.sender → p.ready ≡ false
     → (k : ℕ) × Stage c w (Take (id_of p) k ∷ []) (record w { floor = with_value w.floor (id_of p) (Some count) }) (record p { floor = Some count })
 took_floor {c} {w} p h m count to ep s pr r =
@@ -212,15 +212,15 @@ took_floor {c} {w} p h m count to ep s pr r =
       },
     )
 
-pub floor_follows : {c : Chain} {w : World Entry} (p : Plain) → Here c w p → (m : LinkMessage) (count : ℕ) → m.receiver ≡ id_of p
-    → Sent w.messages (said m.epoch m.sender m.receiver (machine.Floor count)) → TurnFollows (IsTaking (id_of p)) c w (turn_in_epoch p m (floor_turn p m.sender count))
-unfolding floor_turn
+pub floor_follows : {c : Chain} {w : MachineState Entry} (p : Plain) → Here c w p → (m : LinkMessage) (count : ℕ) → m.receiver ≡ id_of p
+    → Sent w.messages (said m.epoch m.sender m.receiver (machine.Floor count)) → TransitionFollows (IsTaking (id_of p)) c w (transition_in_epoch p m (floor_transition p m.sender count))
+unfolding floor_transition
 floor_follows {c} {w} p h m count to s =
-    let Own : List (Move Entry) → Type 0 = IsTaking (id_of p) in
+    let Own : List (MachineMove Entry) → Type 0 = IsTaking (id_of p) in
     let none : Own [] = inl refl in
-    let last : Turn = readiness_turn (record p { floor = Some count }) in
-    let first : Turn = cond p.ready (turn_ignoring p AlreadyHave) last in
-    in_epoch p h none m (floor_turn p m.sender count)
+    let last : Transition = readiness_transition (record p { floor = Some count }) in
+    let first : Transition = cond p.ready (transition_ignoring p AlreadyHave) last in
+    in_epoch p h none m (floor_transition p m.sender count)
     (λ ep. guard p h none (not (is_id (predecessor p) m.sender)) NotNeighbour first
     (λ a. guard p h none p.ready AlreadyHave last
     (λ b.

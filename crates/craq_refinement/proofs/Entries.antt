@@ -9,12 +9,12 @@ use Rattle.craq_model.specs.declared.step.Why.TheVariants.{NotNeighbour, OutOfOr
 use Rattle.craq_model.specs.Members.{is_id}
 use Rattle.craq_model.specs.Plain.{Plain, id_of, successor, predecessor, is_tail, is_last, length_of, newest, with_entries, acknowledging}
 use Rattle.craq_model.specs.Sends.{send, send_all, to_neighbour, entry_bodies}
-use Rattle.craq_model.specs.Settle.{Turn, turn_with, turn_ignoring, readiness_turn}
+use Rattle.craq_model.specs.Settle.{Transition, transition_with, transition_ignoring, readiness_transition}
 use Rattle.craq_model.specs.Asks.{with_entry}
-use Rattle.craq_model.specs.Deliveries.{are_applicable, forwarding_turn, taken_entries_turn, first_position, final_position, entries_above, entries_turn, turn_in_epoch}
+use Rattle.craq_model.specs.Deliveries.{are_applicable, forwarding_transition, taken_entries_transition, first_position, final_position, entries_above, entries_transition, transition_in_epoch}
 use Rattle.craq_protocol.specs.Members.{with_value}
 use Rattle.craq_protocol.specs.Machine as machine
-use Rattle.craq_protocol.specs.Machine.{World, Message, Move, Take, Become_ready, after_commit, after_move, after_receipt}
+use Rattle.craq_protocol.specs.Machine.{MachineState, Message, MachineMove, Take, Become_ready, after_commit, after_move, after_receipt}
 use Rattle.craq_protocol.specs.Promises.{Sent}
 use Rattle.craq_protocol.proofs.Lists.{put_same, put_other}
 use Rattle.craq_protocol.proofs.Effects.{entry_does}
@@ -26,17 +26,17 @@ use Rattle.craq_refinement.proofs.Members.{is_id-some}
 use Rattle.craq_refinement.proofs.Lists.{all_back, placed_push}
 use Rattle.craq_refinement.proofs.Rows.{placed_above, all_of_above, few_above, some_above}
 use Rattle.craq_refinement.proofs.Worlds.{OnlyAt, only_trans, history_length}
-use Rattle.craq_refinement.proofs.Stages.{TurnFollows, Stage, stage_turn, stage_before, ignored_follows}
+use Rattle.craq_refinement.proofs.Stages.{TransitionFollows, Stage, stage_transition, stage_before, ignored_follows}
 use Rattle.craq_refinement.proofs.Sends.{IsAt}
 use Rattle.craq_refinement.proofs.Ticks.{AllSendable, sendable_neighbour, sendable_one, sendable_all, next_after, next_before, entries_at, runs_sendable}
 use Rattle.craq_refinement.proofs.Settling.{Uncommitted, committed_stage, other_stage, readiness_follows}
 use Rattle.craq_refinement.proofs.Here.{Here, guard, in_epoch, takes, with_pred_member}
 
 -- the world with one more entry at a node
-abbrev pub grown : World Entry → ℕ → Entry → World Entry
+abbrev pub grown : MachineState Entry → ℕ → Entry → MachineState Entry
 grown w id e = record w { history = with_value w.history id (w.history id ++ e ∷ []) }
 
-pub grown_only : (w : World Entry) (id : ℕ) (e : Entry) → OnlyAt id w (grown w id e)
+pub grown_only : (w : MachineState Entry) (id : ℕ) (e : Entry) → OnlyAt id w (grown w id e)
 grown_only w id e = record {
   memberships = refl;
   joined = refl;
@@ -49,7 +49,7 @@ grown_only w id e = record {
   floor = λ n ne. refl;
 }
 
-pub grown_node : (w : World Entry) (p : Plain) (e : Entry) → NodeFollows w (seen_of p) → e.position ≡ suc (length_of p) → NodeFollows (grown w (id_of p) e) (seen_of (with_entry p e))
+pub grown_node : (w : MachineState Entry) (p : Plain) (e : Entry) → NodeFollows w (seen_of p) → e.position ≡ suc (length_of p) → NodeFollows (grown w (id_of p) e) (seen_of (with_entry p e))
 grown_node w p e n at =
     let id : ℕ = id_of p in
     let h : List Entry = w.history id in
@@ -70,7 +70,7 @@ grown_node w p e n at =
     }
 
 -- the newest entries may be sent on, whatever the node knows to be committed
-pub newest_sendable : {v : World Entry} (p : Plain) (es : List Entry) (before known : ℕ) → IsPlaced before es → NodeFollows v (seen_of (acknowledging (with_entries p es) known))
+pub newest_sendable : {v : MachineState Entry} (p : Plain) (es : List Entry) (before known : ℕ) → IsPlaced before es → NodeFollows v (seen_of (acknowledging (with_entries p es) known))
     → AllSendable v (id_of p) (to_neighbour (successor p) (λ to. send_all p to (entry_bodies es)))
 newest_sendable {v} p es before known placed n =
     let q : Plain = acknowledging (with_entries p es) known in
@@ -79,16 +79,16 @@ newest_sendable {v} p es before known placed n =
     (runs_sendable v (id_of p) to (next_after q n to h) before es placed (all_back (IsAt (v.history (id_of p))) p.past.entries es (entries_at q n))))
 
 -- the entries were sent to the node
-abbrev pub WereSent : World Entry → LinkMessage → List Entry → Type 0
+abbrev pub WereSent : MachineState Entry → LinkMessage → List Entry → Type 0
 WereSent w m es = AllByRecursion (λ (e : Entry). Sent w.messages (said m.epoch m.sender m.receiver (machine.Entry e.position e))) es
 
 -- the next entry is taken
-took_entry : {c : Chain} {w : World Entry} {own : List (Move Entry)} {v : World Entry} (q : Plain) → Stage c w own v q → (m : LinkMessage) → m.receiver ≡ id_of q → m.epoch ≡ q.epoch → predecessor q ≡ Some m.sender
+took_entry : {c : Chain} {w : MachineState Entry} {own : List (MachineMove Entry)} {v : MachineState Entry} (q : Plain) → Stage c w own v q → (m : LinkMessage) → m.receiver ≡ id_of q → m.epoch ≡ q.epoch → predecessor q ≡ Some m.sender
     → (e : Entry) → e.position ≡ suc (length_of q) → Sent w.messages (said m.epoch m.sender m.receiver (machine.Entry e.position e))
     → (k : ℕ) × Uncommitted c w (own ++ Take (id_of q) k ∷ []) (grown v (id_of q) e) (with_entry q e)
 took_entry {c} {w} {own} {v} q s m to ep pr e at sent =
     let id : ℕ = id_of q in
-    let b : machine.Body Entry = machine.Entry e.position e in
+    let b : machine.MachineBody Entry = machine.Entry e.position e in
     let S : List (Message Entry) → Type 0 = λ l. Sent l (said m.epoch m.sender m.receiver b) in
     let t : (k : ℕ) × (after_move v (Take id k) ≡ after_receipt v id m.sender b) = takes q s.node s.running m b to ep (subst S (sym s.only.messages) sent) in
     let does : after_receipt v id m.sender b ≡ after_commit (grown v id e) id =
@@ -97,7 +97,7 @@ took_entry {c} {w} {own} {v} q s m to ep pr e at sent =
       record {
         was = s.was;
         at = s.at;
-        is = after_moves-append own (Take id t.0 ∷ []) w ∙ (ap (λ (x : World Entry). after_move x (Take id t.0)) s.is ∙ (t.1 ∙ does));
+        is = after_moves-append own (Take id t.0 ∷ []) w ∙ (ap (λ (x : MachineState Entry). after_move x (Take id t.0)) s.is ∙ (t.1 ∙ does));
         only = only_trans s.only (grown_only v id e);
         node = grown_node v q e s.node at;
         running = s.running;
@@ -106,17 +106,17 @@ took_entry {c} {w} {own} {v} q s m to ep pr e at sent =
     )
 
 -- this number of messages was taken, and the node is then this one
-record TookAll (c : Chain) (w : World Entry) (own : List (Move Entry)) (id count : ℕ) (q : Plain) : Type 0 where
+record TookAll (c : Chain) (w : MachineState Entry) (own : List (MachineMove Entry)) (id count : ℕ) (q : Plain) : Type 0 where
   which : List ℕ
   many : length which ≡ count
-  world : World Entry
+  world : MachineState Entry
   stage : Stage c w (own ++ map (Take id) which) world q
 
 one_longer : (q : Plain) (e : Entry) → suc (length_of q) ≡ length_of (with_entry q e)
 one_longer q e = omega (arith, length-append q.past.entries (e ∷ []))
 
 -- a tail takes entries, and commits each
-tail_takes : {c : Chain} {w : World Entry} (q : Plain) {own : List (Move Entry)} {v : World Entry} → Stage c w own v q → is_tail q ≡ true
+tail_takes : {c : Chain} {w : MachineState Entry} (q : Plain) {own : List (MachineMove Entry)} {v : MachineState Entry} → Stage c w own v q → is_tail q ≡ true
     → (m : LinkMessage) → m.receiver ≡ id_of q → m.epoch ≡ q.epoch → predecessor q ≡ Some m.sender → (e : Entry) (es : List Entry) → IsPlaced (length_of q) (e ∷ es) → WereSent w m (e ∷ es)
     → TookAll c w own (id_of q) (suc (length es)) (acknowledging (with_entries q (e ∷ es)) (length_of (with_entries q (e ∷ es))))
 tail_takes {c} {w} q {own} {v} s t m to ep pr e [] placed sent =
@@ -132,7 +132,7 @@ tail_takes {c} {w} q {own} {v} s t m to ep pr e (f ∷ es) placed sent =
     in
     let with_all : List Entry → Plain = λ l. record q { past = record q.past { entries = l; acknowledged = q.past.base + length l } } in
     let X : List Entry → Type 0 = λ l. Stage c w ((own ++ Take id u.0 ∷ []) ++ map (Take id) rest.which) rest.world (with_all l) in
-    let Y : List (Move Entry) → Type 0 = λ o. Stage c w o rest.world (with_all (q.past.entries ++ e ∷ f ∷ es)) in
+    let Y : List (MachineMove Entry) → Type 0 = λ o. Stage c w o rest.world (with_all (q.past.entries ++ e ∷ f ∷ es)) in
     record {
       which = u.0 ∷ rest.which;
       many = ap suc rest.many;
@@ -141,7 +141,7 @@ tail_takes {c} {w} q {own} {v} s t m to ep pr e (f ∷ es) placed sent =
     }
 
 -- another node takes entries
-other_takes : {c : Chain} {w : World Entry} (q : Plain) {own : List (Move Entry)} {v : World Entry} → Stage c w own v q → is_tail q ≡ false
+other_takes : {c : Chain} {w : MachineState Entry} (q : Plain) {own : List (MachineMove Entry)} {v : MachineState Entry} → Stage c w own v q → is_tail q ≡ false
     → (m : LinkMessage) → m.receiver ≡ id_of q → m.epoch ≡ q.epoch → predecessor q ≡ Some m.sender → (e : Entry) (es : List Entry) → IsPlaced (length_of q) (e ∷ es) → WereSent w m (e ∷ es)
     → TookAll c w own (id_of q) (suc (length es)) (with_entries q (e ∷ es))
 other_takes {c} {w} q {own} {v} s t m to ep pr e [] placed sent =
@@ -156,7 +156,7 @@ other_takes {c} {w} q {own} {v} s t m to ep pr e (f ∷ es) placed sent =
     in
     let with_all : List Entry → Plain = λ l. record q { past = record q.past { entries = l } } in
     let X : List Entry → Type 0 = λ l. Stage c w ((own ++ Take id u.0 ∷ []) ++ map (Take id) rest.which) rest.world (with_all l) in
-    let Y : List (Move Entry) → Type 0 = λ o. Stage c w o rest.world (with_all (q.past.entries ++ e ∷ f ∷ es)) in
+    let Y : List (MachineMove Entry) → Type 0 = λ o. Stage c w o rest.world (with_all (q.past.entries ++ e ∷ f ∷ es)) in
     record {
       which = u.0 ∷ rest.which;
       many = ap suc rest.many;
@@ -165,13 +165,13 @@ other_takes {c} {w} q {own} {v} s t m to ep pr e (f ∷ es) placed sent =
     }
 
 -- the moves of a node that takes these messages
-abbrev pub Lines : (List (Move Entry) → Type 0) → ℕ → List ℕ → Type 0
+abbrev pub Lines : (List (MachineMove Entry) → Type 0) → ℕ → List ℕ → Type 0
 Lines Own id which = Own (map (Take id) which) × Own (map (Take id) which ++ Become_ready id ∷ [])
 
-taken : {Own : List (Move Entry) → Type 0} {c : Chain} {w : World Entry} (p : Plain) → Here c w p → (m : LinkMessage) → m.receiver ≡ id_of p → m.epoch ≡ p.epoch → predecessor p ≡ Some m.sender
+taken : {Own : List (MachineMove Entry) → Type 0} {c : Chain} {w : MachineState Entry} (p : Plain) → Here c w p → (m : LinkMessage) → m.receiver ≡ id_of p → m.epoch ≡ p.epoch → predecessor p ≡ Some m.sender
     → (es : List Entry) → 1 ≤ length es → IsPlaced (length_of p) es → WereSent w m es → ((which : List ℕ) → length which ≡ length es → Lines Own (id_of p) which)
-    → TurnFollows Own c w (taken_entries_turn (with_entries p es) es)
-unfolding forwarding_turn
+    → TransitionFollows Own c w (taken_entries_transition (with_entries p es) es)
+unfolding forwarding_transition
 taken p h m to ep pr [] some placed sent line = absurd (omega (arith, some))
 taken {Own} {c} {w} p h m to ep pr (e ∷ es) some placed sent line =
     let id : ℕ = id_of p in
@@ -180,17 +180,17 @@ taken {Own} {c} {w} p h m to ep pr (e ∷ es) some placed sent line =
     let before : Stage c w [] w p = stage_before h.follows p h.at h.running in
     let acks : ℕ → _ = λ to. send q to (bodies.Ack (length_of q)) ∷ [] in
     let entries : ℕ → _ = λ to. send_all q to (entry_bodies (e ∷ es)) in
-    let tail : Turn = turn_with last (to_neighbour (predecessor q) acks) in
-    let other : Turn = turn_with q (to_neighbour (successor q) entries) in
-    cond_both p.ready (cond (is_tail q) tail other) (readiness_turn q) (λ (t : Turn). TurnFollows Own c w t)
-    (λ r. cond_both (is_tail q) tail other (λ (t : Turn). TurnFollows Own c w t)
+    let tail : Transition = transition_with last (to_neighbour (predecessor q) acks) in
+    let other : Transition = transition_with q (to_neighbour (successor q) entries) in
+    cond_both p.ready (cond (is_tail q) tail other) (readiness_transition q) (λ (t : Transition). TransitionFollows Own c w t)
+    (λ r. cond_both (is_tail q) tail other (λ (t : Transition). TransitionFollows Own c w t)
     (λ t.
     let a : TookAll c w [] id (suc (length es)) last = tail_takes p before t m to ep pr e es placed sent in
-    stage_turn h.follows a.stage (line a.which a.many).0 (record { ticket = None; outs = to_neighbour (predecessor q) acks; ignored = None })
+    stage_transition h.follows a.stage (line a.which a.many).0 (record { ticket = None; outs = to_neighbour (predecessor q) acks; ignored = None })
     (sendable_neighbour a.world id (predecessor q) acks (λ to h. sendable_one last a.stage.node to (bodies.Ack (length_of q)) (next_before last a.stage.node to h, a.stage.node.acknowledged))))
     (λ t.
     let a : TookAll c w [] id (suc (length es)) q = other_takes p before t m to ep pr e es placed sent in
-    stage_turn h.follows a.stage (line a.which a.many).0 (record { ticket = None; outs = to_neighbour (successor q) entries; ignored = None })
+    stage_transition h.follows a.stage (line a.which a.many).0 (record { ticket = None; outs = to_neighbour (successor q) entries; ignored = None })
     (newest_sendable p (e ∷ es) (length_of p) p.past.acknowledged placed a.stage.node)))
     (λ r.
     let a : TookAll c w [] id (suc (length es)) q = other_takes p before (ap (λ b. b && is_last q) r) m to ep pr e es placed sent in
@@ -198,22 +198,22 @@ taken {Own} {c} {w} p h m to ep pr (e ∷ es) some placed sent line =
     readiness_follows h.follows a.stage lines.0 lines.1 (with_pred_member p m.sender pr))
 
 -- consecutive entries arrive
-pub entries_follow : {Own : List (Move Entry) → Type 0} {c : Chain} {w : World Entry} (p : Plain) → Here c w p → (m : LinkMessage) (es : List Entry) → m.receiver ≡ id_of p
+pub entries_follow : {Own : List (MachineMove Entry) → Type 0} {c : Chain} {w : MachineState Entry} (p : Plain) → Here c w p → (m : LinkMessage) (es : List Entry) → m.receiver ≡ id_of p
     → (length_of p < final_position es → first_position es ≤ length_of p + 1 → IsPlaced (length_of p) (entries_above (length_of p) es)) → WereSent w m es
-    → Own [] → ((which : List ℕ) → 1 ≤ length which → length which ≤ length es → Lines Own (id_of p) which) → TurnFollows Own c w (turn_in_epoch p m (entries_turn p m.sender es))
-unfolding entries_turn
+    → Own [] → ((which : List ℕ) → 1 ≤ length which → length which ≤ length es → Lines Own (id_of p) which) → TransitionFollows Own c w (transition_in_epoch p m (entries_transition p m.sender es))
+unfolding entries_transition
 entries_follow {Own} {c} {w} p h m es to placed sent none line =
     let n : ℕ = length_of p in
     let new : List Entry = entries_above n es in
-    let last : Turn = taken_entries_turn (with_entries p new) new in
-    let third : Turn = cond (are_applicable (newest p) new) last (turn_ignoring p TooFar) in
-    let second : Turn = cond (nat_lt (n + 1) (first_position es)) (turn_ignoring p OutOfOrder) third in
-    let first : Turn = cond (nat_le (final_position es) n) (turn_ignoring p AlreadyHave) second in
-    in_epoch p h none m (entries_turn p m.sender es)
+    let last : Transition = taken_entries_transition (with_entries p new) new in
+    let third : Transition = cond (are_applicable (newest p) new) last (transition_ignoring p TooFar) in
+    let second : Transition = cond (nat_lt (n + 1) (first_position es)) (transition_ignoring p OutOfOrder) third in
+    let first : Transition = cond (nat_le (final_position es) n) (transition_ignoring p AlreadyHave) second in
+    in_epoch p h none m (entries_transition p m.sender es)
     (λ ep. guard p h none (not (is_id (predecessor p) m.sender)) NotNeighbour first
     (λ a. guard p h none (nat_le (final_position es) n) AlreadyHave second
     (λ b. guard p h none (nat_lt (n + 1) (first_position es)) OutOfOrder third
-    (λ d. cond_both (are_applicable (newest p) new) last (turn_ignoring p TooFar) (λ (t : Turn). TurnFollows Own c w t)
+    (λ d. cond_both (are_applicable (newest p) new) last (transition_ignoring p TooFar) (λ (t : Transition). TransitionFollows Own c w t)
     (λ g.
     let pr : predecessor p ≡ Some m.sender = is_id-some (predecessor p) m.sender (not-false (is_id (predecessor p) m.sender) a) in
     let above : n < final_position es = leb-false (final_position es) n b in
@@ -224,8 +224,8 @@ entries_follow {Own} {c} {w} p h m es to placed sent none line =
     (λ which many. line which (omega (arith, some, many)) (omega (arith, few, many))))
     (λ g. ignored_follows h.follows p h.at h.running none TooFar)))))
 
-pub entry_follows : {c : Chain} {w : World Entry} (p : Plain) → Here c w p → (m : LinkMessage) (e : Entry) → m.receiver ≡ id_of p
-    → Sent w.messages (said m.epoch m.sender m.receiver (machine.Entry e.position e)) → TurnFollows (IsTaking (id_of p)) c w (turn_in_epoch p m (entries_turn p m.sender (e ∷ [])))
+pub entry_follows : {c : Chain} {w : MachineState Entry} (p : Plain) → Here c w p → (m : LinkMessage) (e : Entry) → m.receiver ≡ id_of p
+    → Sent w.messages (said m.epoch m.sender m.receiver (machine.Entry e.position e)) → TransitionFollows (IsTaking (id_of p)) c w (transition_in_epoch p m (entries_transition p m.sender (e ∷ [])))
 entry_follows {c} {w} p h m e to s =
     let n : ℕ = length_of p in
     let one : (which : List ℕ) → 1 ≤ length which → length which ≤ 1 → Lines (IsTaking (id_of p)) (id_of p) which = elim [
@@ -237,8 +237,8 @@ entry_follows {c} {w} p h m e to s =
     ] in
     entries_follow p h m (e ∷ []) to (λ above below. placed_above n n (e ∷ []) (omega (arith, above, below), tt) below) (s, tt) (inl refl) one
 
-pub batch_follows : {c : Chain} {w : World Entry} (p : Plain) → Here c w p → (m : LinkMessage) (es : List Entry) (before : ℕ) → m.receiver ≡ id_of p → IsPlaced before es → WereSent w m es
-    → TurnFollows (IsTakingAll (id_of p)) c w (turn_in_epoch p m (entries_turn p m.sender es))
+pub batch_follows : {c : Chain} {w : MachineState Entry} (p : Plain) → Here c w p → (m : LinkMessage) (es : List Entry) (before : ℕ) → m.receiver ≡ id_of p → IsPlaced before es → WereSent w m es
+    → TransitionFollows (IsTakingAll (id_of p)) c w (transition_in_epoch p m (entries_transition p m.sender es))
 batch_follows {c} {w} p h m es before to placed s =
     let some : (which : List ℕ) → 1 ≤ length which → length which ≤ length es → Lines (IsTakingAll (id_of p)) (id_of p) which = elim [
       | [] ↦ λ some few. absurd (omega (arith, some))

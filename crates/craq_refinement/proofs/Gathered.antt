@@ -16,7 +16,7 @@ use Rattle.craq_model.specs.declared.gathering.Gathering.{Gathering}
 use Rattle.craq_model.specs.declared.message.StatePart.{StatePart}
 use Rattle.craq_model.specs.Parts.{share, part_count, part_of, parts_of, gathered_position, new_gathering, gathering_for, with_part, joined_state}
 use Rattle.craq_protocol.specs.Machine as machine
-use Rattle.craq_protocol.specs.Machine.{World, Message}
+use Rattle.craq_protocol.specs.Machine.{MachineState, Message}
 use Rattle.craq_protocol.specs.Promises.{IsPrefix, IsReached, IsSafe}
 use Rattle.craq_protocol.proofs.Prefix.{prefix_is_take}
 use Rattle.craq_protocol.proofs.Reached.{reached_safe}
@@ -86,22 +86,22 @@ parts_are_state position s hs len is rises =
 -- ---- sent messages
 
 -- the entries of a copy are the first that are committed
-pub copied_entries : {w : World Entry} → IsReached w → (epoch from to : ℕ) (part : StatePart) (f : PartFollows w.messages epoch from to part) → f.entries ≡ take part.position w.log
+pub copied_entries : {w : MachineState Entry} → IsReached w → (epoch from to : ℕ) (part : StatePart) (f : PartFollows w.messages epoch from to part) → f.entries ≡ take part.position w.log
 copied_entries {w} r epoch from to part f =
     let s : IsSafe w = reached_safe r in
     let p : IsPrefix f.entries w.log = s.copy (said epoch from to (machine.Copy f.entries)) f.entries f.sent refl in
     sym (prefix_is_take p) ∙ ap (λ n. take n w.log) f.count
 
 -- so a part that was sent is a part of the state after the first committed entries
-pub part_is : {w : World Entry} → IsReached w → (epoch from to : ℕ) (part : StatePart) → PartFollows w.messages epoch from to part
+pub part_is : {w : MachineState Entry} → IsReached w → (epoch from to : ℕ) (part : StatePart) → PartFollows w.messages epoch from to part
     → part_of part.position (after_entries opening_state (take part.position w.log)) part.number ≡ part
 part_is {w} r epoch from to part f = ap (λ es. part_of part.position (after_entries opening_state es) part.number) (sym (copied_entries r epoch from to part f)) ∙ f.share
 
 -- the state that is gathered
-abbrev pub gathered_state : World Entry → Gathering → State
+abbrev pub gathered_state : MachineState Entry → Gathering → State
 gathered_state w g = after_entries opening_state (take g.position w.log)
 
-held_is : {w : World Entry} → IsReached w → (g : Gathering) → g.count ≡ part_count (gathered_state w g) → (h : ℕ × State) → PartWasSent w.messages (held_part g h)
+held_is : {w : MachineState Entry} → IsReached w → (g : Gathering) → g.count ≡ part_count (gathered_state w g) → (h : ℕ × State) → PartWasSent w.messages (held_part g h)
     → IsPartOf (gathered_state w g) 1 (1 + part_count (gathered_state w g)) h
 held_is {w} r g count h f = record {
   low = f.3.first;
@@ -110,7 +110,7 @@ held_is {w} r g count h f = record {
 }
 
 -- a complete gathering is the state
-pub whole_state : {w : World Entry} → IsReached w → (g : Gathering) → IsGathered w.messages g → g.count ≡ part_count (gathered_state w g) → length g.parts ≡ g.count → joined_state g.parts ≡ gathered_state w g
+pub whole_state : {w : MachineState Entry} → IsReached w → (g : Gathering) → IsGathered w.messages g → g.count ≡ part_count (gathered_state w g) → length g.parts ≡ g.count → joined_state g.parts ≡ gathered_state w g
 whole_state {w} r g i count all =
     parts_are_state g.position (gathered_state w g) g.parts (all ∙ count)
     (all_like (λ (h : ℕ × State). PartWasSent w.messages (held_part g h)) (IsPartOf (gathered_state w g) 1 (1 + part_count (gathered_state w g))) g.parts (held_is r g count) i.parts)

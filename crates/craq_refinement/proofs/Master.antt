@@ -16,7 +16,7 @@ use Rattle.craq_model.specs.Members as model
 use Rattle.craq_model.specs.Plain.{Plain, id_of, opening_joined}
 use Rattle.craq_protocol.specs.Members as protocol
 use Rattle.craq_protocol.specs.Members.{membership_of, with_value}
-use Rattle.craq_protocol.specs.Machine.{World, Message, Move, Remove, Join, current_membership, after_moves}
+use Rattle.craq_protocol.specs.Machine.{MachineState, Message, MachineMove, Remove, Join, current_membership, after_moves}
 use Rattle.craq_protocol.specs.Promises.{IsReached, IsSafe}
 use Rattle.craq_protocol.proofs.Lists.{is_member_cases, is_member_none, put_same, put_other, membership_old, membership_present, length_push}
 use Rattle.craq_protocol.proofs.Invariant.{Invariant}
@@ -24,7 +24,7 @@ use Rattle.craq_protocol.proofs.Effects.{remove_does, join_does}
 use Rattle.craq_protocol.proofs.Reached.{reached_inv, reached_safe}
 use Rattle.craq_runs.specs.Chain.{Chain, Progress, node_at, sent_in, config_to, config_progress, next_epoch, is_running, removal_progress, with_node, join_progress, numbers_left, counted_progress}
 use Rattle.craq_laws.proofs.Nodes.{node_id}
-use Rattle.craq_refinement.specs.Follows.{IsHistory, Seen, seen_of, NodeFollows, BodyFollows, MessageFollows, Follows}
+use Rattle.craq_refinement.specs.Follows.{IsHistory, ProtocolView, seen_of, NodeFollows, BodyFollows, MessageFollows, Follows}
 use Rattle.craq_refinement.specs.Lines.{moves_of_sends, StandsFor}
 use Rattle.craq_refinement.proofs.Members.{is_member-same}
 use Rattle.craq_refinement.proofs.Worlds.{history_like, placed_like}
@@ -48,11 +48,11 @@ configs_said c cs messages [] le is = tt
 configs_said c cs messages (to ∷ tos) le is = ((le, is), configs_said c cs messages tos le is)
 
 -- the chain once the master announced its membership
-abbrev pub told : Chain → ℕ → Chain
-told c count = record c { messages = c.messages ++ sent_in (map (config_to c) c.members); moves = count }
+abbrev pub reported : Chain → ℕ → Chain
+reported c count = record c { messages = c.messages ++ sent_in (map (config_to c) c.members); moves = count }
 
-told_follows : {c : Chain} {v : World Entry} → Follows c v → (count : ℕ) → Follows (told c count) v
-told_follows {c} {v} f count =
+reported_follows : {c : Chain} {v : MachineState Entry} → Follows c v → (count : ℕ) → Follows (reported c count) v
+reported_follows {c} {v} f count =
     let P : ℕ → Type 0 = λ e. membership_of v.memberships e ≡ c.members in
     record {
       epoch = f.epoch;
@@ -64,15 +64,15 @@ told_follows {c} {v} f count =
     }
 
 -- after its own moves the world stands for the chain, and the master announces its membership
-pub master_stands : {w v : World Entry} (own : List (Move Entry)) (c : Chain) (step : Step) (count : ℕ) → after_moves w own ≡ v → Follows c v → step.outs ≡ map (config_to c) c.members
-    → StandsFor (λ l. l ≡ own) w (told c count, step)
+pub master_stands : {w v : MachineState Entry} (own : List (MachineMove Entry)) (c : Chain) (step : Step) (count : ℕ) → after_moves w own ≡ v → Follows c v → step.outs ≡ map (config_to c) c.members
+    → StandsFor (λ l. l ≡ own) w (reported c count, step)
 master_stands {w} {v} own c step count is f outs =
     let none : moves_of_sends (sent_in step.outs) ≡ [] = ap (λ os. moves_of_sends (sent_in os)) outs ∙ nothing_sent c c.members in
-    let P : World Entry → Type 0 = λ x. Follows (told c count) x in
+    let P : MachineState Entry → Type 0 = λ x. Follows (reported c count) x in
     record {
       own = own;
       line = refl;
-      follows = subst P (sym (ap (λ l. after_moves w (own ++ l)) none ∙ (ap (after_moves w) (append-nil own) ∙ is))) (told_follows f count);
+      follows = subst P (sym (ap (λ l. after_moves w (own ++ l)) none ∙ (ap (after_moves w) (append-nil own) ∙ is))) (reported_follows f count);
     }
 
 -- a move that was counted
@@ -111,12 +111,12 @@ grown_body cs c messages epoch from to (bodies.Query ticket key) a = a
 grown_body cs c messages epoch from to (bodies.VersionIs ticket version) a = a
 grown_body cs c messages epoch from to (bodies.Blank count) a = a
 
-grown_messages : (w : World Entry) (c : List ℕ) (ms : List LinkMessage) → AllByRecursion (MessageFollows w.memberships w.messages) ms → AllByRecursion (MessageFollows (w.memberships ++ c ∷ []) w.messages) ms
+grown_messages : (w : MachineState Entry) (c : List ℕ) (ms : List LinkMessage) → AllByRecursion (MessageFollows w.memberships w.messages) ms → AllByRecursion (MessageFollows (w.memberships ++ c ∷ []) w.messages) ms
 grown_messages w c ms a =
     all_like (MessageFollows w.memberships w.messages) (MessageFollows (w.memberships ++ c ∷ []) w.messages) ms
     (λ m b. grown_body w.memberships c w.messages m.epoch m.sender m.receiver m.body b) a
 
-grown_known : (w : World Entry) (c : List ℕ) (s : Seen) → NodeFollows w s → w.epoch s.id ≤ length w.memberships → membership_of (w.memberships ++ c ∷ []) (w.epoch s.id) ≡ s.members
+grown_known : (w : MachineState Entry) (c : List ℕ) (s : ProtocolView) → NodeFollows w s → w.epoch s.id ≤ length w.memberships → membership_of (w.memberships ++ c ∷ []) (w.epoch s.id) ≡ s.members
 grown_known w c s n le = membership_old w.memberships c (w.epoch s.id) le ∙ n.members
 
 -- ---- nodes that exist
@@ -129,7 +129,7 @@ found (n ∷ nodes) id h =
     (λ e. (n, refl))
     (λ e. found nodes id (⊎_elim (λ s. absurd (eqb-false (id_of n) id e s)) (λ i. i) (is_member_cases (id_of n) (map id_of nodes) id h)))
 
-pub removal_follows : {c : Chain} {w : World Entry} → Follows c w → IsReached w → (id : ℕ) (x : Progress) → counted_progress c (removal_progress c id) ≡ Ok x → StandsFor (λ l. l ≡ Remove id ∷ []) w x
+pub removal_follows : {c : Chain} {w : MachineState Entry} → Follows c w → IsReached w → (id : ℕ) (x : Progress) → counted_progress c (removal_progress c id) ≡ Ok x → StandsFor (λ l. l ≡ Remove id ∷ []) w x
 unfolding removal_progress
 removal_follows {c} {w} f r id x k =
     let t : Counted c (removal_progress c id) x = counted c (removal_progress c id) x k in
@@ -153,7 +153,7 @@ removal_follows {c} {w} f r id x k =
     let stopped : w.running id ≡ false = ap w.running (sym own) ∙ (n.running ∙ (sym (ap is_running there.1) ∙ a2.0)) in
     let many : 1 < length (current_membership w) = more (current_membership w) id m (λ e. eqb-false (length c.members) 1 a3.0 (sym (ap length f.members) ∙ e)) in
     let c2 : List ℕ = protocol.without (current_membership w) id in
-    let v : World Entry = record w { memberships = w.memberships ++ c2 ∷ [] } in
+    let v : MachineState Entry = record w { memberships = w.memberships ++ c2 ∷ [] } in
     let next : Follows d v = record {
       epoch = omega (arith, length_push w.memberships c2, f.epoch);
       members = membership_present w.memberships c2 ∙ (ap (λ l. protocol.without l id) f.members ∙ sym (without-same c.members id));
@@ -199,7 +199,7 @@ ids_pushed : (nodes : List Plain) (q : Plain) → map id_of nodes ++ id_of q ∷
 ids_pushed [] q = refl
 ids_pushed (n ∷ nodes) q = ap (λ l. id_of n ∷ l) (ids_pushed nodes q)
 
-pub join_follows : {c : Chain} {w : World Entry} → Follows c w → IsReached w → (id : ℕ) (x : Progress) → counted_progress c (join_progress c id) ≡ Ok x → StandsFor (λ l. l ≡ Join id ∷ []) w x
+pub join_follows : {c : Chain} {w : MachineState Entry} → Follows c w → IsReached w → (id : ℕ) (x : Progress) → counted_progress c (join_progress c id) ≡ Ok x → StandsFor (λ l. l ≡ Join id ∷ []) w x
 unfolding join_progress membership_of
 join_follows {c} {w} f r id x k =
     let t : Counted c (join_progress c id) x = counted c (join_progress c id) x k in
@@ -220,7 +220,7 @@ join_follows {c} {w} f r id x k =
     both_ways (is_some (node_at c.nodes id)) fresh (ap is_some there.1))
     in
     let c2 : List ℕ = current_membership w ++ id ∷ [] in
-    let v : World Entry = record w {
+    let v : MachineState Entry = record w {
       memberships = w.memberships ++ c2 ∷ [];
       joined = w.joined ++ id ∷ [];
       running = with_value w.running id true;

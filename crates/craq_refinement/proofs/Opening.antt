@@ -5,7 +5,7 @@ use Rattle.std.specs.List.{AllByRecursion, IsDistinct}
 use Rattle.craq_model.specs.Plain.{Plain, id_of, opening_member}
 use Rattle.craq_protocol.specs.Members as protocol
 use Rattle.craq_protocol.specs.Members.{is_member, membership_of}
-use Rattle.craq_protocol.specs.Machine.{opening}
+use Rattle.craq_protocol.specs.Machine.{initial_state}
 use Rattle.craq_protocol.proofs.Lists.{is_member_cases, is_member_here, is_member_there, is_member_none}
 use Rattle.craq_runs.specs.Chain.{node_at, opening_chain}
 use Rattle.craq_refinement.specs.Follows.{seen_of, NodeFollows, Follows}
@@ -30,7 +30,7 @@ ids_opened : (chain : ℕ) (members ids : List ℕ) → ids ≡ map id_of (map (
 ids_opened chain members [] = refl
 ids_opened chain members (m ∷ ids) = ap (λ l. m ∷ l) (ids_opened chain members ids)
 
-member_follows : (chain : ℕ) (members : List ℕ) (id : ℕ) → is_member members id ≡ true → NodeFollows (opening members) (seen_of (opening_member (record { chain = chain; node = id }) members))
+member_follows : (chain : ℕ) (members : List ℕ) (id : ℕ) → is_member members id ≡ true → NodeFollows (initial_state members) (seen_of (opening_member (record { chain = chain; node = id }) members))
 unfolding membership_of
 member_follows chain members id m =
     let one : cond (is_member members id) 1 0 ≡ 1 = cond-true (is_member members id) 1 0 m in
@@ -47,7 +47,7 @@ member_follows chain members id m =
       gathering = tt;
     }
 
-pub opening_follows : (chain : ℕ) (members : List ℕ) → Follows (opening_chain chain members) (opening members)
+pub opening_follows : (chain : ℕ) (members : List ℕ) → Follows (opening_chain chain members) (initial_state members)
 unfolding membership_of
 opening_follows chain members = record {
   epoch = refl;
@@ -55,7 +55,7 @@ opening_follows chain members = record {
   joined = ids_opened chain members members;
   nodes = λ id p h.
       let a : (opening_member (record { chain = chain; node = id }) members ≡ p) × (is_member members id ≡ true) = opened chain members members id p h in
-      let P : Plain → Type 0 = λ p. NodeFollows (opening members) (seen_of p) in
+      let P : Plain → Type 0 = λ p. NodeFollows (initial_state members) (seen_of p) in
       subst P a.0 (member_follows chain members id a.1);
   messages = tt;
 }

@@ -11,7 +11,7 @@ use Rattle.craq_model.specs.declared.message.StatePart.{StatePart}
 use Rattle.craq_model.specs.Parts.{part_of}
 use Rattle.craq_protocol.specs.Members.{is_next}
 use Rattle.craq_protocol.specs.Machine as machine
-use Rattle.craq_protocol.specs.Machine.{World, Message, Move, known_membership, entry_at, after_send, after_move, after_moves, Send_entry, Send_ack, Send_copy, Send_floor}
+use Rattle.craq_protocol.specs.Machine.{MachineState, Message, MachineMove, known_membership, entry_at, after_send, after_move, after_moves, Send_entry, Send_ack, Send_copy, Send_floor}
 use Rattle.craq_protocol.specs.Promises.{Sent}
 use Rattle.craq_protocol.proofs.Effects.{send_entry_does, send_ack_does, send_copy_does, send_floor_does}
 use Rattle.craq_protocol.proofs.Reached.{after_moves-append}
@@ -32,7 +32,7 @@ pub record IsPartAfter (committed : List Entry) (part : StatePart) : Type 0 wher
   pub share : part_of part.position (after_entries opening_state committed) part.number ≡ part
 
 -- the node may send this body to that node
-abbrev pub BodySendable : World Entry → ℕ → ℕ → Body → Type 0
+abbrev pub BodySendable : MachineState Entry → ℕ → ℕ → Body → Type 0
 BodySendable w id to (bodies.Config members) = ⊥
 BodySendable w id to (bodies.Entry e) = (is_next (known_membership w id) id to ≡ true) × IsAt (w.history id) e
 BodySendable w id to (bodies.Batch es) = (is_next (known_membership w id) id to ≡ true) × ((before : ℕ) × IsPlaced before es) × AllByRecursion (IsAt (w.history id)) es
@@ -44,21 +44,21 @@ BodySendable w id to (bodies.Part part) = (is_next (known_membership w id) id to
 BodySendable w id to (bodies.Floor count) = (is_next (known_membership w id) id to ≡ true) × (w.ready id ≡ true) × (length (w.history id) ≡ count)
 BodySendable w id to body = Unit {0}
 
-abbrev pub Sendable : World Entry → ℕ → LinkMessage → Type 0
+abbrev pub Sendable : MachineState Entry → ℕ → LinkMessage → Type 0
 Sendable w id m = (m.sender ≡ id) × (m.epoch ≡ w.epoch id) × BodySendable w id m.receiver m.body
 
 -- messages were sent, and nothing else happened
-pub record AfterSends (w : World Entry) (moves : List (Move Entry)) (ms : List LinkMessage) : Type 0 where
+pub record AfterSends (w : MachineState Entry) (moves : List (MachineMove Entry)) (ms : List LinkMessage) : Type 0 where
   pub messages : List (Message Entry)
   pub is : after_moves w moves ≡ record w { messages = messages }
   pub kept : (m : Message Entry) → Sent w.messages m → Sent messages m
   pub said : AllByRecursion (MessageFollows w.memberships messages) ms
 
 -- one message that does not stand for one of the protocol
-nothing_sent : (w : World Entry) (m : LinkMessage) → BodyFollows w.memberships w.messages m.epoch m.sender m.receiver m.body → AfterSends w [] (m ∷ [])
+nothing_sent : (w : MachineState Entry) (m : LinkMessage) → BodyFollows w.memberships w.messages m.epoch m.sender m.receiver m.body → AfterSends w [] (m ∷ [])
 nothing_sent w m b = record { messages = w.messages; is = refl; kept = λ k s. s; said = (b, tt) }
 
-one_sent : (w : World Entry) (id to : ℕ) (b : machine.Body Entry) (move : Move Entry) (m : LinkMessage)
+one_sent : (w : MachineState Entry) (id to : ℕ) (b : machine.MachineBody Entry) (move : MachineMove Entry) (m : LinkMessage)
     → after_move w move ≡ after_send w id to b
     → (Sent (said (w.epoch id) id to b ∷ w.messages) (said (w.epoch id) id to b) → BodyFollows w.memberships (said (w.epoch id) id to b ∷ w.messages) m.epoch m.sender m.receiver m.body)
     → AfterSends w (move ∷ []) (m ∷ [])
@@ -70,26 +70,26 @@ one_sent w id to b move m e f = record {
 }
 
 -- entries are sent one after the other
-record EntriesSent (w : World Entry) (id to : ℕ) (es : List Entry) : Type 0 where
+record EntriesSent (w : MachineState Entry) (id to : ℕ) (es : List Entry) : Type 0 where
   messages : List (Message Entry)
   is : after_moves w (map (λ (e : Entry). Send_entry id to e.position) es) ≡ record w { messages = messages }
   kept : (m : Message Entry) → Sent w.messages m → Sent messages m
   all : AllByRecursion (λ (e : Entry). Sent messages (said (w.epoch id) id to (machine.Entry e.position e))) es
 
-entries_sent : (es : List Entry) (w : World Entry) (id to : ℕ) → w.running id ≡ true → is_next (known_membership w id) id to ≡ true → AllByRecursion (IsAt (w.history id)) es → EntriesSent w id to es
+entries_sent : (es : List Entry) (w : MachineState Entry) (id to : ℕ) → w.running id ≡ true → is_next (known_membership w id) id to ≡ true → AllByRecursion (IsAt (w.history id)) es → EntriesSent w id to es
 entries_sent [] w id to u nx a = record { messages = w.messages; is = refl; kept = λ m s. s; all = tt }
 entries_sent (e ∷ es) w id to u nx a =
     let first : Message Entry = said (w.epoch id) id to (machine.Entry e.position e) in
-    let v : World Entry = record w { messages = first ∷ w.messages } in
+    let v : MachineState Entry = record w { messages = first ∷ w.messages } in
     let rest : EntriesSent v id to es = entries_sent es v id to u nx a.1 in
     record {
       messages = rest.messages;
-      is = ap (λ (x : World Entry). after_moves x (map (λ (e : Entry). Send_entry id to e.position) es)) (send_entry_does w id to e.position e a.0 u nx) ∙ rest.is;
+      is = ap (λ (x : MachineState Entry). after_moves x (map (λ (e : Entry). Send_entry id to e.position) es)) (send_entry_does w id to e.position e a.0 u nx) ∙ rest.is;
       kept = λ m s. rest.kept m (inr s);
       all = (rest.kept first (inl refl), rest.all);
     }
 
-sends_one : (w : World Entry) (id : ℕ) → w.running id ≡ true → (m : LinkMessage) → Sendable w id m → AfterSends w (moves_of_send m.sender m.receiver m.body) (m ∷ [])
+sends_one : (w : MachineState Entry) (id : ℕ) → w.running id ≡ true → (m : LinkMessage) → Sendable w id m → AfterSends w (moves_of_send m.sender m.receiver m.body) (m ∷ [])
 sends_one w id u m s =
     let P : ℕ → ℕ → Type 0 = λ e from. AfterSends w (moves_of_send from m.receiver m.body) (record m { epoch = e; sender = from } ∷ []) in
     let Q : ℕ → Type 0 = λ e. P e m.sender in
@@ -101,7 +101,7 @@ sends_one w id u m s =
     by_body m (bodies.Entry e) s = one_sent w id m.receiver (machine.Entry e.position e) (Send_entry id m.receiver e.position) (record m { epoch = w.epoch id; sender = id; body = bodies.Entry e })
         (send_entry_does w id m.receiver e.position e s.1 u s.0) (λ i. i)
     by_body m (bodies.Ack position) s =
-        let b : machine.Body Entry = machine.Ack (w.acknowledged id) in
+        let b : machine.MachineBody Entry = machine.Ack (w.acknowledged id) in
         one_sent w id m.receiver b (Send_ack id m.receiver) (record m { epoch = w.epoch id; sender = id; body = bodies.Ack position })
         (send_ack_does w id m.receiver u s.0)
         (λ i. let P : ℕ → Type 0 = λ k. Sent (said (w.epoch id) id m.receiver b ∷ w.messages) (said (w.epoch id) id m.receiver (machine.Ack k)) in subst P s.1 i)
@@ -117,7 +117,7 @@ sends_one w id u m s =
         (send_copy_does w id m.receiver u s.0)
         (λ i. (take (w.acknowledged id) (w.history id), s.1, s.2, s.3, i))
     by_body m (bodies.Floor count) s =
-        let b : machine.Body Entry = machine.Floor (length (w.history id)) in
+        let b : machine.MachineBody Entry = machine.Floor (length (w.history id)) in
         one_sent w id m.receiver b (Send_floor id m.receiver) (record m { epoch = w.epoch id; sender = id; body = bodies.Floor count })
         (send_floor_does w id m.receiver u s.1 s.0)
         (λ i. let P : ℕ → Type 0 = λ k. Sent (said (w.epoch id) id m.receiver b ∷ w.messages) (said (w.epoch id) id m.receiver (machine.Floor k)) in subst P s.2 i)
@@ -140,16 +140,16 @@ body_stays cs old new f epoch from to (bodies.Query ticket key) a = a
 body_stays cs old new f epoch from to (bodies.VersionIs ticket version) a = a
 body_stays cs old new f epoch from to (bodies.Blank count) a = a
 
-pub sends_all : (ms : List LinkMessage) (w : World Entry) (id : ℕ) → w.running id ≡ true → AllByRecursion (Sendable w id) ms → AfterSends w (moves_of_sends ms) ms
+pub sends_all : (ms : List LinkMessage) (w : MachineState Entry) (id : ℕ) → w.running id ≡ true → AllByRecursion (Sendable w id) ms → AfterSends w (moves_of_sends ms) ms
 sends_all [] w id u a = record { messages = w.messages; is = refl; kept = λ m s. s; said = tt }
 sends_all (m ∷ ms) w id u a =
     let first : AfterSends w (moves_of_send m.sender m.receiver m.body) (m ∷ []) = sends_one w id u m a.0 in
-    let v : World Entry = record w { messages = first.messages } in
+    let v : MachineState Entry = record w { messages = first.messages } in
     let rest : AfterSends v (moves_of_sends ms) ms = sends_all ms v id u a.1 in
     record {
       messages = rest.messages;
       is = after_moves-append (moves_of_send m.sender m.receiver m.body) (moves_of_sends ms) w
-          ∙ (ap (λ (x : World Entry). after_moves x (moves_of_sends ms)) first.is ∙ rest.is);
+          ∙ (ap (λ (x : MachineState Entry). after_moves x (moves_of_sends ms)) first.is ∙ rest.is);
       kept = λ k s. rest.kept k (first.kept k s);
       said = (body_stays w.memberships first.messages rest.messages rest.kept m.epoch m.sender m.receiver m.body first.said.0, rest.said);
     }

@@ -11,13 +11,13 @@ use Rattle.craq_model.specs.Past.{acknowledged_in, length_in}
 use Rattle.craq_protocol.specs.Members.{is_member, is_last, membership_of, with_value}
 use Rattle.craq_protocol.specs.Machine as machine
 use Rattle.craq_protocol.specs.Promises.{Sent}
-use Rattle.craq_protocol.specs.Machine.{World, Message, known_membership, is_tail, after_commit}
+use Rattle.craq_protocol.specs.Machine.{MachineState, Message, known_membership, is_tail, after_commit}
 use Rattle.craq_protocol.proofs.Lists.{put_same, put_other}
 use Rattle.craq_protocol.proofs.Effects.{commit_tail, commit_other}
-use Rattle.craq_refinement.specs.Follows.{IsHistory, IsPlaced, PartFollows, PartWasSent, held_part, AreGathered, said, Seen, NodeFollows}
+use Rattle.craq_refinement.specs.Follows.{IsHistory, IsPlaced, PartFollows, PartWasSent, held_part, AreGathered, said, ProtocolView, NodeFollows}
 use Rattle.craq_refinement.proofs.Members.{last_of-same}
 
-pub record OnlyAt (id : ℕ) (w v : World Entry) : Type 0 where
+pub record OnlyAt (id : ℕ) (w v : MachineState Entry) : Type 0 where
   pub memberships : v.memberships ≡ w.memberships
   pub joined : v.joined ≡ w.joined
   pub messages : v.messages ≡ w.messages
@@ -28,7 +28,7 @@ pub record OnlyAt (id : ℕ) (w v : World Entry) : Type 0 where
   pub acknowledged : (n : ℕ) → n ≢ id → v.acknowledged n ≡ w.acknowledged n
   pub floor : (n : ℕ) → n ≢ id → v.floor n ≡ w.floor n
 
-pub only_self : (id : ℕ) (w : World Entry) → OnlyAt id w w
+pub only_self : (id : ℕ) (w : MachineState Entry) → OnlyAt id w w
 only_self id w = record {
   memberships = refl;
   joined = refl;
@@ -41,7 +41,7 @@ only_self id w = record {
   floor = λ n ne. refl;
 }
 
-pub only_trans : {id : ℕ} {u v w : World Entry} → OnlyAt id u v → OnlyAt id v w → OnlyAt id u w
+pub only_trans : {id : ℕ} {u v w : MachineState Entry} → OnlyAt id u v → OnlyAt id v w → OnlyAt id u w
 only_trans a b = record {
   memberships = b.memberships ∙ a.memberships;
   joined = b.joined ∙ a.joined;
@@ -83,7 +83,7 @@ pub gathered_like : {old new : List (Message Entry)} (o : Option Gathering) → 
 gathered_like {old} {new} o a e = let P : List (Message Entry) → Type 0 = λ l. AreGathered l o in subst P (sym e) a
 
 -- the other nodes stay
-pub others_follow : {id : ℕ} {w v : World Entry} → OnlyAt id w v → (s : Seen) → s.id ≢ id → NodeFollows w s → NodeFollows v s
+pub others_follow : {id : ℕ} {w v : MachineState Entry} → OnlyAt id w v → (s : ProtocolView) → s.id ≢ id → NodeFollows w s → NodeFollows v s
 others_follow {id} {w} {v} o s ne n = record {
   running = o.running s.id ne ∙ n.running;
   epoch = o.epoch s.id ne ∙ n.epoch;
@@ -99,9 +99,9 @@ others_follow {id} {w} {v} o s ne n = record {
 
 -- ---- a tail commits
 
-pub only_commit : (w : World Entry) (id : ℕ) → OnlyAt id w (after_commit w id)
+pub only_commit : (w : MachineState Entry) (id : ℕ) → OnlyAt id w (after_commit w id)
 only_commit w id =
-    cond_both (is_tail w id) (record w { acknowledged = with_value w.acknowledged id (length (w.history id)); log = w.history id }) w (λ (v : World Entry). OnlyAt id w v)
+    cond_both (is_tail w id) (record w { acknowledged = with_value w.acknowledged id (length (w.history id)); log = w.history id }) w (λ (v : MachineState Entry). OnlyAt id w v)
     (λ e. record {
       memberships = refl;
       joined = refl;
@@ -120,7 +120,7 @@ and_like true b c f = f refl
 and_like false b c f = refl
 
 -- the node is a tail exactly if it is one in the world
-pub is_tail-seen : (w : World Entry) (s : Seen) → NodeFollows w s → s.running ≡ true → (s.ready ≡ true → is_member s.members s.id ≡ true)
+pub is_tail-seen : (w : MachineState Entry) (s : ProtocolView) → NodeFollows w s → s.running ≡ true → (s.ready ≡ true → is_member s.members s.id ≡ true)
     → is_tail w s.id ≡ (s.ready && (last_of s.members == s.id))
 is_tail-seen w s n u h =
     ap (λ b. (b && w.ready s.id) && is_last (known_membership w s.id) s.id) (n.running ∙ u)
@@ -129,13 +129,13 @@ is_tail-seen w s n u h =
     ∙ and_like s.ready (is_last s.members s.id) (last_of s.members == s.id) (λ r. sym (last_of-same s.members s.id (h r)))))
 
 -- the node once a tail committed
-abbrev pub committed_seen : Seen → Seen
+abbrev pub committed_seen : ProtocolView → ProtocolView
 committed_seen s = record s { past = acknowledged_in s.past (length_in s.past) }
 
-pub tail_follows : (w : World Entry) (s : Seen) → NodeFollows w s → is_tail w s.id ≡ true → NodeFollows (after_commit w s.id) (committed_seen s)
+pub tail_follows : (w : MachineState Entry) (s : ProtocolView) → NodeFollows w s → is_tail w s.id ≡ true → NodeFollows (after_commit w s.id) (committed_seen s)
 tail_follows w s n e =
-    let v : World Entry = record w { acknowledged = with_value w.acknowledged s.id (length (w.history s.id)); log = w.history s.id } in
-    let P : World Entry → Type 0 = λ v. NodeFollows v (committed_seen s) in
+    let v : MachineState Entry = record w { acknowledged = with_value w.acknowledged s.id (length (w.history s.id)); log = w.history s.id } in
+    let P : MachineState Entry → Type 0 = λ v. NodeFollows v (committed_seen s) in
     subst P (sym (commit_tail w s.id e)) (record {
       running = n.running;
       epoch = n.epoch;
@@ -149,5 +149,5 @@ tail_follows w s n e =
       gathering = n.gathering;
     })
 
-pub other_follows : (w : World Entry) (s : Seen) → NodeFollows w s → is_tail w s.id ≡ false → NodeFollows (after_commit w s.id) s
-other_follows w s n e = let P : World Entry → Type 0 = λ v. NodeFollows v s in subst P (sym (commit_other w s.id e)) n
+pub other_follows : (w : MachineState Entry) (s : ProtocolView) → NodeFollows w s → is_tail w s.id ≡ false → NodeFollows (after_commit w s.id) s
+other_follows w s n e = let P : MachineState Entry → Type 0 = λ v. NodeFollows v s in subst P (sym (commit_other w s.id e)) n

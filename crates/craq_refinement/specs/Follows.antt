@@ -15,7 +15,7 @@ use Rattle.craq_model.specs.Past.{Past}
 use Rattle.craq_model.specs.Parts.{part_of}
 use Rattle.craq_model.specs.Plain.{Plain, id_of}
 use Rattle.craq_protocol.specs.Machine as machine
-use Rattle.craq_protocol.specs.Machine.{World, Message, known_membership, current_membership}
+use Rattle.craq_protocol.specs.Machine.{MachineState, Message, known_membership, current_membership}
 use Rattle.craq_protocol.specs.Members.{membership_of}
 use Rattle.craq_protocol.specs.Promises.{Sent}
 use Rattle.craq_runs.specs.Chain.{Chain, node_at}
@@ -33,7 +33,7 @@ pub record IsHistory (base : ℕ) (state : State) (entries history : List Entry)
   pub after : after_entries opening_state front ≡ state
 
 -- a message of the world
-abbrev pub said : ℕ → ℕ → ℕ → machine.Body Entry → Message Entry
+abbrev pub said : ℕ → ℕ → ℕ → machine.MachineBody Entry → Message Entry
 said epoch from to body = record { epoch = epoch; from = from; to = to; body = body }
 
 -- a part stands for a copy that was sent: it is the share of its number of the state after the
@@ -66,7 +66,7 @@ AreGathered messages None = Unit {0}
 AreGathered messages (Some g) = IsGathered messages g
 
 -- the fields of a node that the protocol sees, and its gathering
-pub record Seen : Type 0 where
+pub record ProtocolView : Type 0 where
   pub id : ℕ
   pub running : Bool
   pub epoch : ℕ
@@ -77,7 +77,7 @@ pub record Seen : Type 0 where
   pub gathering : Option Gathering
 
 -- the fields of this node that the protocol sees, and its gathering
-abbrev pub seen_of : Plain → Seen
+abbrev pub seen_of : Plain → ProtocolView
 seen_of p =
     record {
       id = id_of p;
@@ -92,7 +92,7 @@ seen_of p =
 
 -- the world agrees with the node at its id; the entries that the node knows only by their state it
 -- knows to be committed
-pub record NodeFollows (w : World Entry) (s : Seen) : Type 0 where
+pub record NodeFollows (w : MachineState Entry) (s : ProtocolView) : Type 0 where
   pub running : w.running s.id ≡ s.running
   pub epoch : w.epoch s.id ≡ s.epoch
   pub members : known_membership w s.id ≡ s.members
@@ -123,7 +123,7 @@ abbrev pub MessageFollows : List (List ℕ) → List (Message Entry) → LinkMes
 MessageFollows memberships messages m = BodyFollows memberships messages m.epoch m.sender m.receiver m.body
 
 -- the world stands for the chain: the same master, the same nodes, and each message was sent
-pub record Follows (c : Chain) (w : World Entry) : Type 0 where
+pub record Follows (c : Chain) (w : MachineState Entry) : Type 0 where
   pub epoch : length w.memberships ≡ c.epoch
   pub members : current_membership w ≡ c.members
   pub joined : w.joined ≡ map id_of c.nodes

@@ -100,8 +100,8 @@ room_written es gs client held at q =
     let split : (b : Bool) → room_in (cond b (Some held) (place_of es q)) ≡ cond b held.room (room_in (place_of es q)) = elim [ true ↦ refl | false ↦ refl ] in
     room_found gs q ∙ ap room_in (at q) ∙ split (is_at (nat_cmp client) q) ∙ ap (cond (is_at (nat_cmp client) q) held.room) (sym (room_found es q))
 
-told_equal : (client q : ℕ) → is_at (nat_cmp client) q ≡ true → client ≡ q
-told_equal client q h =
+reported_equal : (client q : ℕ) → is_at (nat_cmp client) q ≡ true → client ≡ q
+reported_equal client q h =
     let split : (r : Ordering) → nat_cmp client q ≡ r → is_eq r ≡ true → client ≡ q = elim [ Less ↦ λ e h. cc | Equal ↦ λ e h. nat_cmp-IsAntisymmetric client q e | Greater ↦ λ e h. cc ] in
     split (nat_cmp client q) refl h
 
@@ -120,7 +120,7 @@ pub rooms_kept : (es gs : Entries) (client : ℕ) (held : Held) → room_at (tab
 rooms_kept es gs client held more at q =
     let P : ℕ → Type 0 = λ n. room_at (table_of es) q ≤ n in
     let split : (b : Bool) → is_at (nat_cmp client) q ≡ b → room_at (table_of es) q ≤ cond b held.room (room_at (table_of es) q) = elim [
-      | true ↦ λ h. let Q : ℕ → Type 0 = λ k. room_at (table_of es) k ≤ held.room in subst Q (told_equal client q h) more
+      | true ↦ λ h. let Q : ℕ → Type 0 = λ k. room_at (table_of es) k ≤ held.room in subst Q (reported_equal client q h) more
       | false ↦ λ h. omega arith
     ] in
     subst P (sym (room_written es gs client held at q)) (split (is_at (nat_cmp client) q) refl)

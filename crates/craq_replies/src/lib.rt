@@ -1,4 +1,4 @@
-//! A node's kept replies: a map from client to request numbers with replies, for `craq_settled`.
+//! A node's kept replies: a map from client to request numbers with replies, for `craq_compact_state`.
 //! Runs in the program.
 #![tactic(auto)]
 

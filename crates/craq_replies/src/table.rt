@@ -4,13 +4,13 @@ ghost use Rattle.std.specs.List.Sorted.{IsStrictlySortedBy};
 ghost use Rattle.std.specs.Ordering.{nat_cmp};
 ghost use Rattle.craq_names.specs.Maps.{put_number};
 ghost use Rattle.craq_commands.specs.Kept.{keep, said_of};
-ghost use Rattle.craq_commands.specs.Told.{told};
+ghost use Rattle.craq_commands.specs.Reported.{given_reply};
 ghost use Rattle.craq_commands.specs.Known.{known_by, known_of};
 ghost use Rattle.craq_replies.specs.Replies.{window_of, room_at, KeepsRoom, KeepsOthersRoom};
 
 use crate::KeptReplies;
 use crate::places::{Places, copies, keep_in_place, put_place, reserve_in};
-use craq_commands::{Kept, Reply, Said, Window, look_in};
+use craq_commands::{Kept, Reply, RequestStatus, Window, look_in};
 use craq_names::{ClientId, Items, RequestNo};
 use std::alloc::{AllocError, Global};
 use std::collections::BTreeMap;
@@ -51,13 +51,13 @@ impl ReplyTable {
 
     /// Looks up a client's request number: its kept reply, `Stale` if it is below all of a full
     /// window, or `New`. A number whose kept reply is itself `Stale` is `Kept`. Allocates nothing.
-    pub fn look(&self, client: ClientId, number: RequestNo) -> Said<'_>
-        ensures reply { told result ≡ said_of (window_of self.now client) number }
+    pub fn look(&self, client: ClientId, number: RequestNo) -> RequestStatus<'_>
+        ensures reply { given_reply result ≡ said_of (window_of self.now client) number }
         ensures known { known_by result ≡ known_of (window_of self.now client) number }
     {
         match self.places.get(&client.get()) {
             Some(held) => look_in(held.as_slice(), number),
-            None => Said::New,
+            None => RequestStatus::New,
         }
     }
 

@@ -12,7 +12,7 @@ use Rattle.craq_model.specs.declared.step.Out.TheVariants as outs
 use Rattle.craq_model.specs.declared.step.Step.{Step}
 use Rattle.craq_model.specs.Members.{is_member, without}
 use Rattle.craq_model.specs.Plain.{Plain, id_of, opening_member, opening_joined}
-use Rattle.craq_model.specs.Settle.{Turn}
+use Rattle.craq_model.specs.Settle.{Transition}
 use Rattle.craq_model.specs.Node.{node_step}
 use Rattle.craq_runs.specs.declared.run.Move.{Move}
 use Rattle.craq_runs.specs.declared.run.Move.TheVariants.{Ask, Deliver, Tick, Stop, Remove, Join}
@@ -74,14 +74,14 @@ abbrev pub next_epoch : Chain → List ℕ → Chain
 next_epoch c members = record c { epoch = c.epoch + 1; members = members }
 
 -- a node's step within its chain
-abbrev pub turn_progress : Chain → Result Turn Refusal → Result Progress Refusal
-turn_progress c (Ok t) = Ok (record c { nodes = set_node c.nodes t.0 }, t.1)
-turn_progress c (Err e) = Err e
+abbrev pub transition_progress : Chain → Result Transition Refusal → Result Progress Refusal
+transition_progress c (Ok t) = Ok (record c { nodes = set_node c.nodes t.0 }, t.1)
+transition_progress c (Err e) = Err e
 
 -- an event at a node
 abbrev pub node_progress : Chain → Option Plain → Event → Result Progress Refusal
 node_progress c None e = Err refusals.WrongNode
-node_progress c (Some p) e = turn_progress c (node_step p e)
+node_progress c (Some p) e = transition_progress c (node_step p e)
 
 -- a message arrives at its receiver
 abbrev pub arrival_progress : Chain → Option LinkMessage → Result Progress Refusal

@@ -29,12 +29,12 @@ pub record Account : Type 0 where
   pub committed : List Entry
   pub lens : List ℕ
   pub sent_at : List ℕ  -- for each message, the commit index after the step that sent it
-  pub due : List Place  -- for each requested update, the linearization point of its reply
+  pub pending : List Place  -- for each requested update, the linearization point of its reply
   pub places : List Place
 
 abbrev pub opening_account : ℕ → List ℕ → Account
 opening_account chain members =
-    record { chain = opening_chain chain members; asks = []; committed = []; lens = []; sent_at = []; due = []; places = [] }
+    record { chain = opening_chain chain members; asks = []; committed = []; lens = []; sent_at = []; pending = []; places = [] }
 
 -- the committed entries after a step of this node: a tail commits all its entries
 abbrev pub committed_by : List Entry → Option Plain → List Entry
@@ -43,13 +43,13 @@ committed_by entries (Some p) = if is_tail p then entries ++ entries_after p (le
 
 -- the linearization point of an update's reply: its client's newest entry, or after all that was
 -- committed before
-abbrev pub due_at : ℕ → ℕ → Option ℕ → Option Plain → Ask → List Place
-due_at before node (Some ticket) (Some p) (asks.Update u) = record { node = node; ticket = ticket; position = max (position_of p u.client) before } ∷ []
-due_at before node ticket p ask = []
+abbrev pub pending_at : ℕ → ℕ → Option ℕ → Option Plain → Ask → List Place
+pending_at before node (Some ticket) (Some p) (asks.Update u) = record { node = node; ticket = ticket; position = max (position_of p u.client) before } ∷ []
+pending_at before node ticket p ask = []
 
-abbrev pub due_in : ℕ → Option ℕ → Option Plain → Move → List Place
-due_in before ticket p (moves.Ask node ask) = due_at before node ticket p ask
-due_in before ticket p move = []
+abbrev pub pending_in : ℕ → Option ℕ → Option Plain → Move → List Place
+pending_in before ticket p (moves.Ask node ask) = pending_at before node ticket p ask
+pending_in before ticket p move = []
 
 -- the committed version in a message from the tail, with the commit index after the step that sent
 -- it
@@ -87,29 +87,29 @@ read_place committed p (Some word) key =
     if nat_le (clean_at p key) word.0 then word.1 else written_at committed key (clean_at p key)
 
 -- the linearization point of an update's reply
-unfoldable pub due_place : List Place → ℕ → ℕ → ℕ
-due_place due node ticket =
-    unwrap_or (option_map (λ (p : Place). p.position) (find (λ (p : Place). (p.node == node) && (p.ticket == ticket)) due)) 0
+unfoldable pub pending_place : List Place → ℕ → ℕ → ℕ
+pending_place pending node ticket =
+    unwrap_or (option_map (λ (p : Place). p.position) (find (λ (p : Place). (p.node == node) && (p.ticket == ticket)) pending)) 0
 
 abbrev pub place_at : Answered → ℕ → List Place
 place_at a position = record { node = a.node; ticket = a.ticket; position = position } ∷ []
 
 -- the linearization point of a reply, if its request is strong
 abbrev pub place_by : List Place → List Entry → Option Plain → Option (ℕ × ℕ) → Answered → Ask → List Place
-place_by due committed p word a (asks.Update u) = place_at a (due_place due a.node a.ticket)
-place_by due committed p word a (asks.Read Strong object) = place_at a (read_place committed p word object.key)
-place_by due committed p word a (asks.Read Eventual object) = []
-place_by due committed p word a (asks.Read (Bounded k) object) = []
+place_by pending committed p word a (asks.Update u) = place_at a (pending_place pending a.node a.ticket)
+place_by pending committed p word a (asks.Read Strong object) = place_at a (read_place committed p word object.key)
+place_by pending committed p word a (asks.Read Eventual object) = []
+place_by pending committed p word a (asks.Read (Bounded k) object) = []
 
 abbrev pub place_if_asked : List Place → List Entry → Option Plain → Option (ℕ × ℕ) → Answered → Option Asked → List Place
-place_if_asked due committed p word a None = []
-place_if_asked due committed p word a (Some ask) = place_by due committed p word a ask.ask
+place_if_asked pending committed p word a None = []
+place_if_asked pending committed p word a (Some ask) = place_by pending committed p word a ask.ask
 
 -- the linearization points of replies
 unfoldable pub places_of : List Asked → List Place → List Entry → Option Plain → Option (ℕ × ℕ) → List Answered → List Place
-places_of asks due committed p word [] = []
-places_of asks due committed p word (a ∷ later) =
-    place_if_asked due committed p word a (ask_with asks a.node a.ticket) ++ places_of asks due committed p word later
+places_of asks pending committed p word [] = []
+places_of asks pending committed p word (a ∷ later) =
+    place_if_asked pending committed p word a (ask_with asks a.node a.ticket) ++ places_of asks pending committed p word later
 
 -- the bookkeeping after one more move, which leads to this chain and this node
 unfoldable pub account_with : Account → Taken → ℕ → Chain → Option Plain → Option Plain → Account
@@ -117,15 +117,15 @@ account_with w t node next old new =
     let number = w.chain.moves + 1 in
     let asks = w.asks ++ ask_in number t.step.ticket t.chosen in
     let entries = committed_by w.committed new in
-    let due = w.due ++ due_in (length w.committed) t.step.ticket new t.chosen in
+    let pending = w.pending ++ pending_in (length w.committed) t.step.ticket new t.chosen in
     record {
       chain = next;
       asks = asks;
       committed = entries;
       lens = w.lens ++ length entries ∷ [];
       sent_at = w.sent_at ++ map (λ (m : LinkMessage). length entries) (sent_in t.step.outs);
-      due = due;
-      places = w.places ++ places_of asks due entries old (tail_word w t.chosen) (answers_in number node t.step.outs);
+      pending = pending;
+      places = w.places ++ places_of asks pending entries old (tail_word w t.chosen) (answers_in number node t.step.outs);
     }
 
 abbrev pub account_after : Account → Taken → Account

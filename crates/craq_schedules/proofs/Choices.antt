@@ -6,19 +6,19 @@ use Rattle.std.proofs.lemmas.List.FromFn.{length-range_with_len}
 use Rattle.std.proofs.lemmas.Bool.Decides.{leb_tells}
 use Rattle.std.proofs.lemmas.Option.{slice_get-map}
 use Rattle.craq_runs.specs.Chain.{Chain}
-use Rattle.craq_script.specs.declared.line.Line.{Line}
-use Rattle.craq_script.specs.declared.line.Line.TheVariants as lines
+use Rattle.craq_script.specs.declared.line.ScriptLine.{ScriptLine}
+use Rattle.craq_script.specs.declared.line.ScriptLine.TheVariants as lines
 use Rattle.craq_schedules.specs.Drawn.{events, next_of, offers, picked, running_ids}
 
 -- the arrivals come first, then the ticks
-arrival_at : (first sent place : ℕ) (others : List Line) → place < sent → slice_get (map lines.Deliver (range_with_len first sent) ++ others) place ≡ Some (lines.Deliver (first + place))
+arrival_at : (first sent place : ℕ) (others : List ScriptLine) → place < sent → slice_get (map lines.Deliver (range_with_len first sent) ++ others) place ≡ Some (lines.Deliver (first + place))
 arrival_at first zero place others h = absurd (omega (arith, h))
 arrival_at first (suc sent) zero others h = let e : first ≡ first + 0 = omega arith in ap (λ n. Some (lines.Deliver n)) e
 arrival_at first (suc sent) (suc place) others h =
     let e : first + 1 + place ≡ first + suc place = omega arith in
     arrival_at (first + 1) sent place others (omega (arith, h)) ∙ ap (λ n. Some (lines.Deliver n)) e
 
-after_arrivals : (first sent place : ℕ) (others : List Line) → slice_get (map lines.Deliver (range_with_len first sent) ++ others) (sent + place) ≡ slice_get others place
+after_arrivals : (first sent place : ℕ) (others : List ScriptLine) → slice_get (map lines.Deliver (range_with_len first sent) ++ others) (sent + place) ≡ slice_get others place
 after_arrivals first zero place others = let e : 0 + place ≡ place = omega arith in ap (λ n. slice_get others n) e
 after_arrivals first (suc sent) place others =
     let e : suc sent + place ≡ suc (sent + place) = omega arith in
@@ -49,21 +49,21 @@ same_place choice count counted h e =
     ]
 
 -- an event, with the lines left after it
-abbrev pub beside : List Line → Line → Line × List Line
+abbrev pub beside : List ScriptLine → ScriptLine → ScriptLine × List ScriptLine
 beside left event = (event, left)
 
 -- the element that a choice selects if no line is left
-pub alone : (happening : List Line) (choice : ℕ) → picked (offers [] happening) choice ≡ option_map (λ event. (event, [])) (slice_get happening (choice % length happening))
+pub alone : (happening : List ScriptLine) (choice : ℕ) → picked (offers [] happening) choice ≡ option_map (λ event. (event, [])) (slice_get happening (choice % length happening))
 alone happening choice =
     ap (λ n. slice_get (offers [] happening) (choice % n)) (length-map happening (beside [])) ∙ slice_get-map (beside []) happening (choice % length happening)
 
 -- the element that a choice selects if a line is left
-pub line_first : (line : Line) (left happening : List Line) (choice : ℕ) → choice % (length happening + 1) ≡ 0 → picked (offers (line ∷ left) happening) choice ≡ Some (line, left)
+pub line_first : (line : ScriptLine) (left happening : List ScriptLine) (choice : ℕ) → choice % (length happening + 1) ≡ 0 → picked (offers (line ∷ left) happening) choice ≡ Some (line, left)
 line_first line left happening choice h =
     let count : length (offers (line ∷ left) happening) ≡ length happening + 1 = omega (arith, length-map happening (beside (line ∷ left))) in
     ap (λ n. slice_get (offers (line ∷ left) happening) n) (ap (λ n. choice % n) count ∙ h)
 
-pub event_later : (line : Line) (left happening : List Line) (choice place : ℕ) → choice % (length happening + 1) ≡ place → 0 < place → picked (offers (line ∷ left) happening) choice ≡ option_map (λ event. (event, line ∷ left)) (slice_get happening (place - 1))
+pub event_later : (line : ScriptLine) (left happening : List ScriptLine) (choice place : ℕ) → choice % (length happening + 1) ≡ place → 0 < place → picked (offers (line ∷ left) happening) choice ≡ option_map (λ event. (event, line ∷ left)) (slice_get happening (place - 1))
 event_later line left happening choice place h p =
     let count : length (offers (line ∷ left) happening) ≡ length happening + 1 = omega (arith, length-map happening (beside (line ∷ left))) in
     let at : place ≡ suc (place - 1) = omega (arith, p) in
@@ -78,7 +78,7 @@ pub record IsCounted (c : Chain) (choice wide sent counted : ℕ) (running : Lis
   pub is_counted : counted ≡ min (sent + length running) (2 ^ 64 - 1)
 
 -- the element that a choice selects, by these counts
-pub none_left : (c : Chain) (lines : List Line) (choice wide sent counted : ℕ) (running : List ℕ) (event : Option Line) → IsCounted c choice wide sent counted running → length lines ≡ 0 → event ≡ slice_get (events sent running) (wide % counted) → next_of c lines choice ≡ option_map (beside lines) event
+pub none_left : (c : Chain) (lines : List ScriptLine) (choice wide sent counted : ℕ) (running : List ℕ) (event : Option ScriptLine) → IsCounted c choice wide sent counted running → length lines ≡ 0 → event ≡ slice_get (events sent running) (wide % counted) → next_of c lines choice ≡ option_map (beside lines) event
 none_left c (line ∷ left) choice wide sent counted running event k l e = absurd (omega (arith, l))
 none_left c [] choice wide sent counted running event k l e =
     let place : wide % counted ≡ choice % length (events sent running) = ap (λ n. n % counted) k.is_wide ∙ same_place choice (sent + length running) counted k.is_small k.is_counted ∙ ap (λ n. choice % n) (sym (how_many sent running)) in
@@ -90,12 +90,12 @@ place_of c choice wide sent counted most running k m =
     let whole : most ≡ min (sent + length running + 1) (2 ^ 64 - 1) = omega (arith, k.is_counted, m) in
     ap (λ n. choice % (n + 1)) (how_many sent running) ∙ sym (ap (λ n. n % most) k.is_wide ∙ same_place choice (sent + length running + 1) most k.is_small whole)
 
-pub line_picked : (c : Chain) (lines left : List Line) (line : Line) (choice wide sent counted most : ℕ) (running : List ℕ) → IsCounted c choice wide sent counted running → lines ≡ line ∷ left → most ≡ min (counted + 1) (2 ^ 64 - 1) → wide % most ≡ 0 → next_of c lines choice ≡ Some (line, left)
+pub line_picked : (c : Chain) (lines left : List ScriptLine) (line : ScriptLine) (choice wide sent counted most : ℕ) (running : List ℕ) → IsCounted c choice wide sent counted running → lines ≡ line ∷ left → most ≡ min (counted + 1) (2 ^ 64 - 1) → wide % most ≡ 0 → next_of c lines choice ≡ Some (line, left)
 line_picked c lines left line choice wide sent counted most running k l m z =
     let place = place_of c choice wide sent counted most running k m ∙ z in
     rw (l, ← k.is_sent, ← k.are_running) (line_first line left (events sent running) choice place)
 
-pub event_picked : (c : Chain) (lines left : List Line) (line : Line) (choice wide sent counted most : ℕ) (running : List ℕ) (event : Option Line) → IsCounted c choice wide sent counted running → lines ≡ line ∷ left → most ≡ min (counted + 1) (2 ^ 64 - 1) → 0 < wide % most → event ≡ slice_get (events sent running) (wide % most - 1) → next_of c lines choice ≡ option_map (beside lines) event
+pub event_picked : (c : Chain) (lines left : List ScriptLine) (line : ScriptLine) (choice wide sent counted most : ℕ) (running : List ℕ) (event : Option ScriptLine) → IsCounted c choice wide sent counted running → lines ≡ line ∷ left → most ≡ min (counted + 1) (2 ^ 64 - 1) → 0 < wide % most → event ≡ slice_get (events sent running) (wide % most - 1) → next_of c lines choice ≡ option_map (beside lines) event
 event_picked c lines left line choice wide sent counted most running event k l m z e =
     let place = place_of c choice wide sent counted most running k m in
     rw (l, ← k.is_sent, ← k.are_running, e) (event_later line left (events sent running) choice (wide % most) place z)

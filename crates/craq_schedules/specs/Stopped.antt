@@ -7,11 +7,11 @@ use Rattle.craq_runs.specs.declared.explanation.Explanation.{Explanation}
 use Rattle.craq_runs.specs.declared.run.Move.TheVariants as moves
 use Rattle.craq_runs.specs.declared.run.Run.{Run}
 use Rattle.craq_runs.specs.Explain.{explain}
-use Rattle.craq_chain.specs.Chained.{Chained, after_taking, chain_of}
-use Rattle.craq_script.specs.declared.line.Line.{Line}
+use Rattle.craq_chain.specs.Chained.{Chained, after_taking, chain_of_run}
+use Rattle.craq_script.specs.declared.line.ScriptLine.{ScriptLine}
 use Rattle.craq_script.specs.Texts.{script_of}
 use Rattle.craq_play.specs.Moves.{move_of}
-use Rattle.craq_play.specs.Played.{after_line, after_one, opening}
+use Rattle.craq_play.specs.Played.{after_line, after_one, script_opening}
 use Rattle.craq_schedules.specs.Verdicts.{answer_on, of_lines, verdict_text}
 
 -- the number of moves that were taken
@@ -19,21 +19,21 @@ abbrev pub count_taken : Chained → ℕ
 count_taken w = length w.run.moves
 
 -- the chain after lines
-abbrev pub after_lines : Chained → List Line → Chained
+abbrev pub after_lines : Chained → List ScriptLine → Chained
 after_lines w [] = w
 after_lines w (line ∷ lines) = after_lines (after_line w (move_of line)) lines
 
 -- the chain after the lines of a script, or the number of the first line outside the grammar
-abbrev pub chain_of_lines : ℕ → Result (List Line) ℕ → Result Chained Refusal
-chain_of_lines nodes (Ok lines) = Ok (after_lines (opening nodes) lines)
+abbrev pub chain_of_lines : ℕ → Result (List ScriptLine) ℕ → Result Chained Refusal
+chain_of_lines nodes (Ok lines) = Ok (after_lines (script_opening nodes) lines)
 chain_of_lines nodes (Err line) = Err (refusals.BadScript line)
 
 -- a new chain of `nodes` nodes after a script
-abbrev pub chain_after : ℕ → List ℕ → Result Chained Refusal
-chain_after nodes script = chain_of_lines nodes (script_of script)
+abbrev pub replayed_chain : ℕ → List ℕ → Result Chained Refusal
+replayed_chain nodes script = chain_of_lines nodes (script_of script)
 
 -- the chain after lines, until the run has `cut` moves
-abbrev pub up_to : ℕ → Chained → List Line → Chained
+abbrev pub up_to : ℕ → Chained → List ScriptLine → Chained
 up_to cut w [] = w
 up_to cut w (line ∷ lines) = if count_taken w == cut then w else up_to cut (after_line w (move_of line)) lines
 
@@ -42,7 +42,7 @@ up_to cut w (line ∷ lines) = if count_taken w == cut then w else up_to cut (af
 unfoldable pub delivered : ℕ → ℕ → Chained → Chained
 delivered zero earlier w = w
 delivered (suc most) earlier w =
-    if nat_le (length (chain_of w).messages) earlier then w
+    if nat_le (length (chain_of_run w).messages) earlier then w
     else delivered most (earlier + 1) (after_one w (moves.Deliver (earlier + 1)))
 
 -- the largest number of messages that arrive after a removal
@@ -52,7 +52,7 @@ most_deliveries = 10000
 -- the messages sent from a removal on arrive; none if it was refused
 abbrev pub after_removal : Chained → Result Chained Refusal → Chained
 after_removal w (Err refusal) = w
-after_removal w (Ok next) = delivered most_deliveries (length (chain_of w).messages) next
+after_removal w (Ok next) = delivered most_deliveries (length (chain_of_run w).messages) next
 
 abbrev pub after_removing : Chained → ℕ → Chained
 after_removing w node = after_removal w (after_taking w (moves.Remove node))
@@ -75,17 +75,17 @@ end_line holds cut w = cut_line cut (count_committed w) (answer_on holds w)
 
 -- the text for one cut: the node stops after `cut` moves of the lines, on a new chain of `nodes`
 -- nodes
-abbrev pub cut_text : (Run → Explanation → Bool) → ℕ → ℕ → List Line → ℕ → List ℕ
-cut_text holds nodes node lines cut = end_line holds cut (without_node (up_to cut (opening nodes) lines) node)
+abbrev pub cut_text : (Run → Explanation → Bool) → ℕ → ℕ → List ScriptLine → ℕ → List ℕ
+cut_text holds nodes node lines cut = end_line holds cut (without_node (up_to cut (script_opening nodes) lines) node)
 
 -- the text of the first cuts, beginning with cut 0, before any move
-abbrev pub cuts_text : (Run → Explanation → Bool) → ℕ → ℕ → List Line → ℕ → List ℕ
+abbrev pub cuts_text : (Run → Explanation → Bool) → ℕ → ℕ → List ScriptLine → ℕ → List ℕ
 cuts_text holds nodes node lines zero = []
 cuts_text holds nodes node lines (suc cut) = cuts_text holds nodes node lines cut ++ cut_text holds nodes node lines cut
 
 -- the text of every cut, from before any move to after all moves that are taken
-abbrev pub stops_text : (Run → Explanation → Bool) → ℕ → ℕ → List Line → List ℕ
-stops_text holds nodes node lines = cuts_text holds nodes node lines (count_taken (after_lines (opening nodes) lines) + 1)
+abbrev pub stops_text : (Run → Explanation → Bool) → ℕ → ℕ → List ScriptLine → List ℕ
+stops_text holds nodes node lines = cuts_text holds nodes node lines (count_taken (after_lines (script_opening nodes) lines) + 1)
 
 -- the text of every cut of a script, or the number of the first line outside the grammar
 abbrev pub stopped : (Run → Explanation → Bool) → ℕ → ℕ → List ℕ → Result (List ℕ) Refusal

@@ -8,7 +8,7 @@ use Rattle.craq_runs.specs.Explain.{explain}
 use Rattle.craq_runs.specs.Seen.{seen}
 use Rattle.craq_runs.specs.Valid.{IsChecked}
 use Rattle.craq_chain.specs.Chained.{Chained}
-use Rattle.craq_script.specs.declared.line.Line.{Line}
+use Rattle.craq_script.specs.declared.line.ScriptLine.{ScriptLine}
 
 -- `holds` answers as `check` does: true exactly if every checked property of the witness holds of
 -- the run
@@ -24,6 +24,6 @@ abbrev pub verdict_text : Bool → List ℕ
 verdict_text valid = codes "valid " ++ (if valid then codes "true" else codes "false") ++ codes "\n"
 
 -- the text of the lines of a script, or the number of the first line outside the grammar
-abbrev pub of_lines : (List Line → List ℕ) → Result (List Line) ℕ → Result (List ℕ) Refusal
+abbrev pub of_lines : (List ScriptLine → List ℕ) → Result (List ScriptLine) ℕ → Result (List ℕ) Refusal
 of_lines text (Ok lines) = Ok (text lines)
 of_lines text (Err line) = Err (refusals.BadScript line)

@@ -6,15 +6,15 @@ ghost use Rattle.craq_runs.specs.declared.explanation.Explanation.{Explanation};
 ghost use Rattle.craq_runs.specs.declared.run.Run.{Run};
 ghost use Rattle.craq_play.specs.Moves.{move_of};
 ghost use Rattle.craq_play.specs.Played.{Plays, after_line, line_text};
-ghost use Rattle.craq_chain.specs.Chained.{chain_of};
+ghost use Rattle.craq_chain.specs.Chained.{chain_of_run};
 ghost use Rattle.craq_schedules.specs.Drawn.{IsPlayed, after_choices, choices_text, drawn, drawn_text, events, next_of, running_ids, with_id};
 ghost use Rattle.craq_schedules.specs.Verdicts.{AnswersAsCheck};
 
 use crate::verdict::{print_verdict, verdict_of};
 use craq_names::{NodeId, Refusal};
 use craq_node::Core;
-use craq_play::{PlayedChain, opened, play_line};
-use craq_script::{Line, Script};
+use craq_play::{PlayedChain, opened_core, play_line};
+use craq_script::{Script, ScriptLine};
 use std::alloc::{AllocError, Global};
 
 /// Returns the index at which an id goes into ascending ids: before the first that is greater.
@@ -55,15 +55,15 @@ fn running_of<C: Core>(alloc: Global, cores: &[C]) -> Result<Vec<NodeId>, AllocE
 
 /// Returns the event at this index, counted from 0: the arrival of each sent message, then a tick
 /// of each running node. `None` past the last one.
-fn event_at(sent: u64, running: &[NodeId], place: u64) -> Option<Line>
+fn event_at(sent: u64, running: &[NodeId], place: u64) -> Option<ScriptLine>
     ensures { result ≡ slice_get (events sent running.now) place }
 {
     if place < sent {
-        return Some(Line::Deliver { message: place + 1 });
+        return Some(ScriptLine::Deliver { message: place + 1 });
     }
     match running.get((place - sent) as usize) {
         None => None,
-        Some(id) => Some(Line::Tick { node: *id }),
+        Some(id) => Some(ScriptLine::Tick { node: *id }),
     }
 }
 
@@ -72,7 +72,7 @@ fn play_event<C: Core>(
     alloc: Global,
     chain: &mut PlayedChain<C>,
     text: &mut String,
-    event: Line,
+    event: ScriptLine,
 ) -> Result<(), AllocError>
     ensures chain { OnOk result (chain.new ≡ after_line chain.old (move_of event)) }
     ensures text { OnOk result (string_bytes text.new ≡ string_bytes text.old ++ line_text chain.old (move_of event)) }
@@ -88,10 +88,10 @@ fn play_choice<'a, C: Core>(
     alloc: Global,
     chain: &mut PlayedChain<C>,
     text: &mut String,
-    lines: &'a [Line],
+    lines: &'a [ScriptLine],
     choice: u32,
-) -> Result<Option<&'a [Line]>, AllocError>
-    ensures { IfOk result (λ left. IsPlayed chain.old chain.new (string_bytes text.old) (string_bytes text.new) (next_of (chain_of chain.old) lines.now choice) (option_copied left)) }
+) -> Result<Option<&'a [ScriptLine]>, AllocError>
+    ensures { IfOk result (λ left. IsPlayed chain.old chain.new (string_bytes text.old) (string_bytes text.new) (next_of (chain_of_run chain.old) lines.now choice) (option_copied left)) }
 {
     let running = running_of(alloc, chain.cores())?;
     let running = running.as_slice();
@@ -129,7 +129,7 @@ fn play_choices<C: Core>(
     alloc: Global,
     chain: &mut PlayedChain<C>,
     text: &mut String,
-    lines: &[Line],
+    lines: &[ScriptLine],
     choices: &[u32],
 ) -> Result<(), AllocError>
     ensures chain { OnOk result (chain.new ≡ after_choices choices.now chain.old lines.now) }
@@ -150,13 +150,13 @@ fn play_choices<C: Core>(
 fn draw_lines<C: Core>(
     alloc: Global,
     nodes: u32,
-    lines: &[Line],
+    lines: &[ScriptLine],
     choices: &[u32],
 ) -> Result<String, AllocError>
     requires { (1 ≤ nodes) × (nodes ≤ 8) }
     ensures { IfOk result (λ text. (holds : Run → Explanation → Bool) → AnswersAsCheck holds → string_bytes text ≡ drawn_text holds nodes choices.now lines.now) }
 {
-    let mut chain: PlayedChain<C> = opened(alloc, nodes)?;
+    let mut chain: PlayedChain<C> = opened_core(alloc, nodes)?;
     let mut text = String::new(alloc);
     play_choices(alloc, &mut chain, &mut text, lines, choices)?;
     print_verdict(&mut text, verdict_of(alloc, &chain)?)?;

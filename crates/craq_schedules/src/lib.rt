@@ -8,4 +8,4 @@ mod stopping;
 mod verdict;
 
 pub use drawing::draw;
-pub use stopping::{chain_after, stops};
+pub use stopping::{replayed_chain, stops};

@@ -2,18 +2,18 @@
 ghost use Rattle.std.specs.Prelude.{◌≡◌, ◌≤◌, ◌+◌, ◌++◌, Bool, length, IfOk, OnOk, string_bytes};
 ghost use Rattle.craq_runs.specs.declared.explanation.Explanation.{Explanation};
 ghost use Rattle.craq_runs.specs.declared.run.Run.{Run};
-ghost use Rattle.craq_words.specs.Asked.{Answers};
+ghost use Rattle.craq_text.specs.Asked.{AskedOrRefused};
 ghost use Rattle.craq_play.specs.Moves.{move_of};
 ghost use Rattle.craq_play.specs.Played.{Plays, after_line, after_one};
-ghost use Rattle.craq_schedules.specs.Stopped.{after_lines, chain_after, cut_line, cut_text, delivered, stopped, stops_text, up_to, without_node};
+ghost use Rattle.craq_schedules.specs.Stopped.{after_lines, replayed_chain, cut_line, cut_text, delivered, stopped, stops_text, up_to, without_node};
 ghost use Rattle.craq_schedules.specs.Verdicts.{AnswersAsCheck};
 
 use crate::verdict::{Verdict, print_verdict, verdict_of};
 use craq_names::{NodeId, Refusal};
 use craq_node::Core;
-use craq_play::{PlayedChain, move_of, opened};
+use craq_play::{PlayedChain, move_of, opened_core};
 use craq_runs::Move;
-use craq_script::{Line, Script};
+use craq_script::{Script, ScriptLine};
 use std::alloc::{AllocError, Global};
 
 /// The largest number of messages that arrive after a removal.
@@ -39,7 +39,7 @@ fn take_move<C: Core>(
 fn take_line<C: Core>(
     alloc: Global,
     chain: &mut PlayedChain<C>,
-    line: &Line,
+    line: &ScriptLine,
 ) -> Result<(), AllocError>
     ensures { OnOk result (chain.new ≡ after_line chain.old (move_of line.now)) }
 {
@@ -55,7 +55,7 @@ fn take_line<C: Core>(
 fn take_lines<C: Core>(
     alloc: Global,
     chain: &mut PlayedChain<C>,
-    lines: &[Line],
+    lines: &[ScriptLine],
 ) -> Result<(), AllocError>
     ensures { OnOk result (chain.new ≡ after_lines chain.old lines.now) }
 {
@@ -70,16 +70,16 @@ fn take_lines<C: Core>(
 ///
 /// `BadScript` with the first line outside the grammar; `Memory` when out of memory. (This
 /// project's profile.)
-pub fn chain_after<C: Core>(
+pub fn replayed_chain<C: Core>(
     alloc: Global,
     nodes: u32,
     script: &[u8],
 ) -> Result<PlayedChain<C>, Refusal>
     requires { (1 ≤ nodes) × (nodes ≤ 8) }
-    ensures { Answers (λ w. w) result (chain_after nodes script.now) }
+    ensures { AskedOrRefused (λ w. w) result (replayed_chain nodes script.now) }
 {
     let script = Script::read(alloc, script)?;
-    let mut chain: PlayedChain<C> = opened(alloc, nodes)?;
+    let mut chain: PlayedChain<C> = opened_core(alloc, nodes)?;
     take_lines(alloc, &mut chain, script.lines.as_slice())?;
     Ok(chain)
 }
@@ -89,7 +89,7 @@ pub fn chain_after<C: Core>(
 fn take_up_to<C: Core>(
     alloc: Global,
     chain: &mut PlayedChain<C>,
-    lines: &[Line],
+    lines: &[ScriptLine],
     cut: usize,
 ) -> Result<(), AllocError>
     ensures { OnOk result (chain.new ≡ up_to cut chain.old lines.now) }
@@ -157,14 +157,14 @@ fn print_cut<C: Core>(
     alloc: Global,
     text: &mut String,
     nodes: u32,
-    lines: &[Line],
+    lines: &[ScriptLine],
     cut: usize,
     node: NodeId,
 ) -> Result<(), AllocError>
     requires { (1 ≤ nodes) × (nodes ≤ 8) }
     ensures { (holds : Run → Explanation → Bool) → AnswersAsCheck holds → OnOk result (string_bytes text.new ≡ string_bytes text.old ++ cut_text holds nodes node lines.now cut) }
 {
-    let mut chain: PlayedChain<C> = opened(alloc, nodes)?;
+    let mut chain: PlayedChain<C> = opened_core(alloc, nodes)?;
     take_up_to(alloc, &mut chain, lines, cut)?;
     stop_and_remove(alloc, &mut chain, node)?;
     print_line(text, cut, verdict_of(alloc, &chain)?)
@@ -174,13 +174,13 @@ fn print_cut<C: Core>(
 fn stop_lines<C: Core>(
     alloc: Global,
     nodes: u32,
-    lines: &[Line],
+    lines: &[ScriptLine],
     node: NodeId,
 ) -> Result<String, AllocError>
     requires { (1 ≤ nodes) × (nodes ≤ 8) }
     ensures { IfOk result (λ text. (holds : Run → Explanation → Bool) → AnswersAsCheck holds → string_bytes text ≡ stops_text holds nodes node lines.now) }
 {
-    let mut whole: PlayedChain<C> = opened(alloc, nodes)?;
+    let mut whole: PlayedChain<C> = opened_core(alloc, nodes)?;
     take_lines(alloc, &mut whole, lines)?;
     let mut text = String::new(alloc);
     for cut in 0..whole.run().moves.as_slice().len() + 1 {

@@ -5,12 +5,12 @@ use Rattle.craq_names.specs.Limits.{greatest}
 use Rattle.craq_names.specs.Maps.{same_bytes}
 use Rattle.craq_script.specs.declared.line.ScriptObject.{ScriptObject}
 use Rattle.craq_script.specs.declared.line.MiniItem.{MiniItem}
-use Rattle.craq_script.specs.declared.line.Change.{Change}
-use Rattle.craq_script.specs.declared.line.Change.TheVariants as changes
-use Rattle.craq_script.specs.declared.line.Line.{Line}
-use Rattle.craq_script.specs.declared.line.Line.TheVariants as lines
+use Rattle.craq_script.specs.declared.line.ScriptCommand.{ScriptCommand}
+use Rattle.craq_script.specs.declared.line.ScriptCommand.TheVariants as changes
+use Rattle.craq_script.specs.declared.line.ScriptLine.{ScriptLine}
+use Rattle.craq_script.specs.declared.line.ScriptLine.TheVariants as lines
 use Rattle.craq_script.specs.Reading.{◌>>=◌}
-use Rattle.craq_script.specs.Words.{greatest_node, number_up_to, object_of, value_of, mode_of, item_of}
+use Rattle.craq_script.specs.Words.{greatest_node, number_up_to, script_object, script_value, mode_of, item_of}
 
 -- the first word, and the words after it
 abbrev pub next : List (List ℕ) → Option (List ℕ × List (List ℕ))
@@ -33,14 +33,14 @@ number_at most words = do
 unfoldable pub object_at : List (List ℕ) → Option (ScriptObject × List (List ℕ))
 object_at words = do
   word ← next words
-  object ← object_of word.0
+  object ← script_object word.0
   Some (object, word.1)
 
 -- VALUE, the last word
 unfoldable pub value_last : List (List ℕ) → Option (List ℕ)
 value_last words = do
   word ← next words
-  value ← value_of word.0
+  value ← script_value word.0
   at_the_end value word.1
 
 -- OBJECT VALUE
@@ -58,7 +58,7 @@ object_and_number words = do
   at_the_end (object.0, n.0) n.1
 
 -- OBJECT VERSION VALUE
-unfoldable pub test_and_set_of : List (List ℕ) → Option Change
+unfoldable pub test_and_set_of : List (List ℕ) → Option ScriptCommand
 test_and_set_of words = do
   object ← object_at words
   expect ← number_at greatest object.1
@@ -75,7 +75,7 @@ items_of (word ∷ words) = do
 
 -- a change by its first word; the words after it are OBJECT VALUE, OBJECT BY, OBJECT VERSION VALUE,
 -- or items
-unfoldable pub change_of : List ℕ → List (List ℕ) → Option Change
+unfoldable pub change_of : List ℕ → List (List ℕ) → Option ScriptCommand
 change_of kind words =
     if same_bytes kind (codes "put") then option_map (λ x. changes.Put x.0 x.1) (object_and_value words)
     else (if same_bytes kind (codes "append") then option_map (λ x. changes.Append x.0 x.1) (object_and_value words)
@@ -87,8 +87,8 @@ change_of kind words =
     else None))))))
 
 -- NODE CLIENT NUMBER and a change
-unfoldable pub update_of : List ℕ → List (List ℕ) → Option Line
-update_of kind words = do
+unfoldable pub line_update : List ℕ → List (List ℕ) → Option ScriptLine
+line_update kind words = do
   node ← number_at greatest_node words
   client ← number_at greatest node.1
   number ← number_at greatest client.1
@@ -96,7 +96,7 @@ update_of kind words = do
   Some (lines.Update (record { node = node.0; client = client.0; number = number.0; change = change }))
 
 -- NODE MODE OBJECT
-unfoldable pub read_of : List (List ℕ) → Option Line
+unfoldable pub read_of : List (List ℕ) → Option ScriptLine
 read_of words = do
   node ← number_at greatest_node words
   word ← next node.1
@@ -111,7 +111,7 @@ number_alone most words = do
   at_the_end n.0 n.1
 
 -- a line by its first word and the words after it
-unfoldable pub line_of_kind : List ℕ → List (List ℕ) → Option Line
+unfoldable pub line_of_kind : List ℕ → List (List ℕ) → Option ScriptLine
 line_of_kind kind words =
     if same_bytes kind (codes "read") then read_of words
     else (if same_bytes kind (codes "deliver") then option_map lines.Deliver (number_alone greatest words)
@@ -120,10 +120,10 @@ line_of_kind kind words =
     else (if same_bytes kind (codes "remove") then option_map lines.Remove (number_alone greatest_node words)
     else (if same_bytes kind (codes "join") then option_map lines.Join (number_alone greatest_node words)
     else (if same_bytes kind (codes "explain") then at_the_end lines.Explain words
-    else update_of kind words))))))
+    else line_update kind words))))))
 
 -- a line by its words
-unfoldable pub line_of_words : List (List ℕ) → Option Line
+unfoldable pub line_of_words : List (List ℕ) → Option ScriptLine
 line_of_words words = do
   kind ← next words
   line_of_kind kind.0 kind.1

@@ -57,8 +57,8 @@ object_in word (Some parts) = do
   key ← key_of parts.1
   Some (record { chain = chain; key = key })
 
-unfoldable pub object_of : List ℕ → Option ScriptObject
-object_of word = object_in word (cut_at 47 word)
+unfoldable pub script_object : List ℕ → Option ScriptObject
+script_object word = object_in word (cut_at 47 word)
 
 -- `0` to `9` or `a` to `f`
 abbrev pub hexadecimal : ℕ → Option ℕ
@@ -75,8 +75,8 @@ hexadecimal_bytes (high ∷ low ∷ digits) = do
   Some ((16 * h + l) ∷ bytes)
 
 -- after `0x`, bytes in hexadecimal digits; any other word stands for its own bytes
-unfoldable pub value_of : List ℕ → Option (List ℕ)
-value_of word =
+unfoldable pub script_value : List ℕ → Option (List ℕ)
+script_value word =
     if same_bytes (take 2 word) (codes "0x") then hexadecimal_bytes (drop 2 word)
     else (if length word == 0 then None else Some word)
 
@@ -92,22 +92,22 @@ mode_of word =
 unfoldable pub compare_of : List ℕ → Option MiniItem
 compare_of text = do
   parts ← cut_at 58 text
-  object ← object_of parts.0
+  object ← script_object parts.0
   version ← number_up_to greatest parts.1
   Some (items.Compare object version)
 
 -- `OBJECT`, after `r:`
 unfoldable pub read_of : List ℕ → Option MiniItem
 read_of text = do
-  object ← object_of text
+  object ← script_object text
   Some (items.Read object)
 
 -- `OBJECT:VALUE`, after `w:`
 unfoldable pub write_of : List ℕ → Option MiniItem
 write_of text = do
   parts ← cut_at 58 text
-  object ← object_of parts.0
-  value ← value_of parts.1
+  object ← script_object parts.0
+  value ← script_value parts.1
   Some (items.Write object value)
 
 -- an item, by the text before and after its first colon

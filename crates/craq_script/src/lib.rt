@@ -1,17 +1,17 @@
 //! Parses the language of scripts, for `craq_play` and `craq_schedules`, and words of command
-//! lines, for `craq_line`. It depends on no node and no chain.
+//! lines, for `craq_cli`. It depends on no node and no chain.
 //! Runs in the programs.
 #![tactic(auto)]
 
+mod encoding;
 mod line;
-mod misread;
+mod parse_error;
 mod reading;
 mod script;
-mod spelling;
 mod text;
 mod words;
 
-pub use line::{Change, Line, MiniItem, ScriptObject, UpdateLine};
-pub use misread::Misread;
+pub use encoding::{GREATEST_NODE, item_of, mode_of, number_up_to, script_object, script_value};
+pub use line::{MiniItem, ScriptCommand, ScriptLine, ScriptObject, UpdateLine};
+pub use parse_error::ParseError;
 pub use script::Script;
-pub use spelling::{GREATEST_NODE, item_of, mode_of, number_up_to, object_of, value_of};

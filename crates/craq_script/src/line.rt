@@ -1,4 +1,4 @@
-//! Defines `Line`, a parsed line of a script; made by `reading`, and played by `craq_play` and
+//! Defines `ScriptLine`, a parsed line of a script; made by `reading`, and played by `craq_play` and
 //! `craq_schedules`.
 use craq_commands::ReadMode;
 use craq_names::{ChainId, ClientId, Items, NodeId, Version};
@@ -33,7 +33,7 @@ pub enum MiniItem {
 /// The change that an update makes. A value may be longer than `Value` allows. A transaction may
 /// have too many items, none, or an object twice. Such a line parses and is refused when played.
 #[derive(Debug, Drop)]
-pub enum Change {
+pub enum ScriptCommand {
     /// `put`: the object gets the value.
     Put {
         object: ScriptObject,
@@ -78,12 +78,12 @@ pub struct UpdateLine {
     pub node: NodeId,
     pub client: ClientId,
     pub number: u64,
-    pub change: Change,
+    pub change: ScriptCommand,
 }
 
 /// A line of a script.
 #[derive(Debug, Drop)]
-pub enum Line {
+pub enum ScriptLine {
     /// A client requests an update from the node.
     Update {
         update: UpdateLine,

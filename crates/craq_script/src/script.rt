@@ -1,7 +1,7 @@
 //! Parses a text into lines: `Script::read`, the only call of the crate that programs need.
 ghost use Rattle.craq_script.specs.Texts.{script_of};
 
-use crate::Line;
+use crate::ScriptLine;
 use crate::text::{lines_of, parts_of};
 use craq_names::{Items, Refusal};
 use std::alloc::Global;
@@ -9,7 +9,7 @@ use std::alloc::Global;
 /// A script: its lines in order, without the skipped ones.
 #[derive(Debug, Drop)]
 pub struct Script {
-    pub lines: Items<Line>,
+    pub lines: Items<ScriptLine>,
 }
 
 impl Script {

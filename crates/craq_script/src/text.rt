@@ -1,11 +1,11 @@
 //! Splits a text into lines and words; called by `script`.
 ghost use Rattle.std.specs.Prelude.{◌≡◌, ◌==◌, ◌<◌, not, length, map, IfOk};
 ghost use Rattle.std.specs.List.{filter, slice_split};
-ghost use Rattle.craq_script.specs.Reading.{Gives};
+ghost use Rattle.craq_script.specs.Reading.{ParsesTo};
 ghost use Rattle.craq_script.specs.Texts.{words_in, is_printable, is_skipped, is_trimmed, line_of, line_or_skip, lines_from, Reads};
 
 use crate::reading::line_of_words;
-use crate::{Line, Misread};
+use crate::{ParseError, ScriptLine};
 use craq_names::{Items, Refusal};
 use std::alloc::{AllocError, Global};
 
@@ -61,12 +61,12 @@ fn is_trimmed(line: &[u8]) -> bool
 
 /// Parses the text as a line.
 #[tactic(auto, unfolding(crate::specs::Texts::line_of))]
-fn line_of(alloc: Global, text: &[u8]) -> Result<Line, Misread>
+fn line_of(alloc: Global, text: &[u8]) -> Result<ScriptLine, ParseError>
     requires { 0 < length text.now }
-    ensures { Gives (λ x. x) result (line_of text.now) }
+    ensures { ParsesTo (λ x. x) result (line_of text.now) }
 {
     if !is_trimmed(text) {
-        return Err(Misread::OutsideGrammar);
+        return Err(ParseError::OutsideGrammar);
     }
     let words = words_of(alloc, text)?;
     line_of_words(alloc, words.as_slice())
@@ -74,11 +74,11 @@ fn line_of(alloc: Global, text: &[u8]) -> Result<Line, Misread>
 
 /// Parses the text as a line, or returns `None` if it is skipped.
 #[tactic(auto, unfolding(crate::specs::Texts::line_or_skip))]
-fn line_or_skip(alloc: Global, text: &[u8]) -> Result<Option<Line>, Misread>
-    ensures { Gives (λ x. x) result (line_or_skip text.now) }
+fn line_or_skip(alloc: Global, text: &[u8]) -> Result<Option<ScriptLine>, ParseError>
+    ensures { ParsesTo (λ x. x) result (line_or_skip text.now) }
 {
     if !is_printable(text) {
-        return Err(Misread::OutsideGrammar);
+        return Err(ParseError::OutsideGrammar);
     }
     if is_skipped(text) {
         return Ok(None);
@@ -89,7 +89,7 @@ fn line_or_skip(alloc: Global, text: &[u8]) -> Result<Option<Line>, Misread>
 
 /// Parses the texts as lines, and leaves out the skipped ones. Fails with the first line that does
 /// not parse.
-pub(crate) fn lines_of(alloc: Global, texts: &[&[u8]]) -> Result<Items<Line>, Refusal>
+pub(crate) fn lines_of(alloc: Global, texts: &[&[u8]]) -> Result<Items<ScriptLine>, Refusal>
     ensures { Reads (λ x. x) result (lines_from 1 (map (λ x. x.now) texts.now)) }
 {
     let mut lines = Vec::new(alloc);
@@ -97,8 +97,8 @@ pub(crate) fn lines_of(alloc: Global, texts: &[&[u8]]) -> Result<Items<Line>, Re
         match line_or_skip(alloc, *text) {
             Ok(Some(line)) => lines.push(line)?,
             Ok(None) => {}
-            Err(Misread::Memory) => return Err(Refusal::Memory),
-            Err(Misread::OutsideGrammar) => return Err(Refusal::BadScript(index as u64 + 1)),
+            Err(ParseError::Memory) => return Err(Refusal::Memory),
+            Err(ParseError::OutsideGrammar) => return Err(Refusal::BadScript(index as u64 + 1)),
         }
     }
     Ok(Items::of(lines))

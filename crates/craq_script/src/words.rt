@@ -1,33 +1,33 @@
 //! Parses the next word of a line as what the grammar needs there; called by `reading`.
 ghost use Rattle.std.specs.Prelude.{◌≡◌, ◌≤◌, map, IfOk};
-ghost use Rattle.craq_script.specs.Reading.{Gives};
+ghost use Rattle.craq_script.specs.Reading.{ParsesTo};
 ghost use Rattle.craq_script.specs.Grammar.{next, at_the_end, number_at, number_alone, object_at, value_last, object_and_value, object_and_number};
 
-use crate::spelling::{number_up_to, object_of, value_of};
-use crate::{Misread, ScriptObject};
+use crate::encoding::{number_up_to, script_object, script_value};
+use crate::{ParseError, ScriptObject};
 use craq_names::Items;
 use std::alloc::Global;
 
 /// Returns the first word and the words after it.
 pub(crate) fn next_word<'a, 'b>(
     words: &'b [&'a [u8]],
-) -> Result<(&'a [u8], &'b [&'a [u8]]), Misread>
-    ensures { Gives (λ x. (x.0.now, map (λ w. w.now) x.1.now)) result (next (map (λ w. w.now) words.now)) }
+) -> Result<(&'a [u8], &'b [&'a [u8]]), ParseError>
+    ensures { ParsesTo (λ x. (x.0.now, map (λ w. w.now) x.1.now)) result (next (map (λ w. w.now) words.now)) }
 {
     match words.split_first() {
         Some((word, words)) => Ok((*word, words)),
-        None => Err(Misread::OutsideGrammar),
+        None => Err(ParseError::OutsideGrammar),
     }
 }
 
 /// Returns the value if no word is left.
-pub(crate) fn at_end<T: Drop>(value: T, words: &[&[u8]]) -> Result<T, Misread>
-    ensures { Gives (λ x. x) result (at_the_end value (map (λ w. w.now) words.now)) }
+pub(crate) fn at_end<T: Drop>(value: T, words: &[&[u8]]) -> Result<T, ParseError>
+    ensures { ParsesTo (λ x. x) result (at_the_end value (map (λ w. w.now) words.now)) }
 {
     if words.is_empty() {
         Ok(value)
     } else {
-        Err(Misread::OutsideGrammar)
+        Err(ParseError::OutsideGrammar)
     }
 }
 
@@ -36,8 +36,8 @@ pub(crate) fn at_end<T: Drop>(value: T, words: &[&[u8]]) -> Result<T, Misread>
 pub(crate) fn next_number<'a, 'b>(
     most: u64,
     words: &'b [&'a [u8]],
-) -> Result<(u64, &'b [&'a [u8]]), Misread>
-    ensures value { Gives (λ x. (x.0, map (λ w. w.now) x.1.now)) result (number_at most (map (λ w. w.now) words.now)) }
+) -> Result<(u64, &'b [&'a [u8]]), ParseError>
+    ensures value { ParsesTo (λ x. (x.0, map (λ w. w.now) x.1.now)) result (number_at most (map (λ w. w.now) words.now)) }
     ensures bound { IfOk result (λ x. x.0 ≤ most) }
 {
     let (word, words) = next_word(words)?;
@@ -47,8 +47,8 @@ pub(crate) fn next_number<'a, 'b>(
 
 /// Parses the only word as a number of at most `most`.
 #[tactic(auto, unfolding(crate::specs::Grammar::number_alone))]
-pub(crate) fn last_number(most: u64, words: &[&[u8]]) -> Result<u64, Misread>
-    ensures value { Gives (λ n. n) result (number_alone most (map (λ w. w.now) words.now)) }
+pub(crate) fn last_number(most: u64, words: &[&[u8]]) -> Result<u64, ParseError>
+    ensures value { ParsesTo (λ n. n) result (number_alone most (map (λ w. w.now) words.now)) }
     ensures bound { IfOk result (λ n. n ≤ most) }
 {
     let (number, words) = next_number(most, words)?;
@@ -60,21 +60,21 @@ pub(crate) fn last_number(most: u64, words: &[&[u8]]) -> Result<u64, Misread>
 pub(crate) fn next_object<'a, 'b>(
     alloc: Global,
     words: &'b [&'a [u8]],
-) -> Result<(ScriptObject, &'b [&'a [u8]]), Misread>
-    ensures { Gives (λ x. (x.0, map (λ w. w.now) x.1.now)) result (object_at (map (λ w. w.now) words.now)) }
+) -> Result<(ScriptObject, &'b [&'a [u8]]), ParseError>
+    ensures { ParsesTo (λ x. (x.0, map (λ w. w.now) x.1.now)) result (object_at (map (λ w. w.now) words.now)) }
 {
     let (word, words) = next_word(words)?;
-    let object = object_of(alloc, word)?;
+    let object = script_object(alloc, word)?;
     Ok((object, words))
 }
 
 /// Parses the only word as a VALUE. Returns its bytes.
 #[tactic(auto, unfolding(crate::specs::Grammar::value_last))]
-pub(crate) fn last_value(alloc: Global, words: &[&[u8]]) -> Result<Items<u8>, Misread>
-    ensures { Gives (λ x. x) result (value_last (map (λ w. w.now) words.now)) }
+pub(crate) fn last_value(alloc: Global, words: &[&[u8]]) -> Result<Items<u8>, ParseError>
+    ensures { ParsesTo (λ x. x) result (value_last (map (λ w. w.now) words.now)) }
 {
     let (word, words) = next_word(words)?;
-    let value = value_of(alloc, word)?;
+    let value = script_value(alloc, word)?;
     at_end(value, words)
 }
 
@@ -83,8 +83,8 @@ pub(crate) fn last_value(alloc: Global, words: &[&[u8]]) -> Result<Items<u8>, Mi
 pub(crate) fn object_and_value(
     alloc: Global,
     words: &[&[u8]],
-) -> Result<(ScriptObject, Items<u8>), Misread>
-    ensures { Gives (λ x. x) result (object_and_value (map (λ w. w.now) words.now)) }
+) -> Result<(ScriptObject, Items<u8>), ParseError>
+    ensures { ParsesTo (λ x. x) result (object_and_value (map (λ w. w.now) words.now)) }
 {
     let (object, words) = next_object(alloc, words)?;
     let value = last_value(alloc, words)?;
@@ -96,8 +96,8 @@ pub(crate) fn object_and_value(
 pub(crate) fn object_and_number(
     alloc: Global,
     words: &[&[u8]],
-) -> Result<(ScriptObject, u64), Misread>
-    ensures { Gives (λ x. x) result (object_and_number (map (λ w. w.now) words.now)) }
+) -> Result<(ScriptObject, u64), ParseError>
+    ensures { ParsesTo (λ x. x) result (object_and_number (map (λ w. w.now) words.now)) }
 {
     let (object, words) = next_object(alloc, words)?;
     let (number, words) = next_number(u64::MAX, words)?;

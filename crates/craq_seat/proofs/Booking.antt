@@ -5,7 +5,7 @@ use Rattle.std.specs.Option.{option_map}
 use Rattle.craq_names.specs.declared.name.NodeName.{NodeName}
 use Rattle.craq_names.specs.declared.refusal.Refusal.{Refusal}
 use Rattle.craq_model.specs.declared.step.Step.{Step}
-use Rattle.craq_epochs.specs.Mastered.{IsMastered, Mastered, joined, removed}
+use Rattle.craq_epochs.specs.Mastered.{IsMastered, Mastered, master_after_join, removed}
 use Rattle.craq_chain.proofs.Commands.{join_made, removal_made}
 use Rattle.craq_seat.specs.declared.journal.BookEvent.{BookEvent}
 use Rattle.craq_seat.specs.declared.journal.BookEvent.TheVariants.{Join, Remove, Tick}
@@ -22,7 +22,7 @@ abbrev IsOf : ℕ → Result (Mastered × Step) Refusal → Type 0
 IsOf chain (Ok t) = t.0.chain ≡ chain
 IsOf chain (Err e) = ⊤
 
-joined_of : (m : Mastered) (id : ℕ) (r : Result Mastered Refusal) → joined m id ≡ r → IsOf m.chain (tells r)
+joined_of : (m : Mastered) (id : ℕ) (r : Result Mastered Refusal) → master_after_join m id ≡ r → IsOf m.chain (tells r)
 joined_of m id (Ok n) h = ap (λ (x : Mastered). x.chain) (join_made m n id h)
 joined_of m id (Err e) h = tt
 
@@ -31,7 +31,7 @@ removed_of m stopped (Ok n) h = ap (λ (x : Mastered). x.chain) (removal_made m 
 removed_of m stopped (Err e) h = tt
 
 book_of : (m : Mastered) (event : BookEvent) → IsOf m.chain (book_step m event)
-book_of m (Join id) = joined_of m id (joined m id) refl
+book_of m (Join id) = joined_of m id (master_after_join m id) refl
 book_of m (Remove stopped stop) = removed_of m stopped (removed m stopped) refl
 book_of m Tick = refl
 

@@ -9,7 +9,7 @@ use Rattle.craq_model.specs.Node.{node_step}
 use Rattle.craq_model.specs.Plain.{Plain}
 use Rattle.craq_names.specs.declared.name.NodeName.{NodeName}
 use Rattle.craq_node.specs.Represented.{opening_of}
-use Rattle.craq_node_invariant.specs.Sound.{AreSpelled}
+use Rattle.craq_node_invariant.specs.Sound.{AreEncodable}
 use Rattle.craq_laws.proofs.Names.{name_kept}
 use Rattle.craq_seat.specs.declared.journal.Opening.{Opening}
 use Rattle.craq_seat.specs.declared.journal.Record.{Record}
@@ -35,13 +35,13 @@ still_named : {C : Type 0} (R : C → Plain → Type 0) (c d : C) (name : NodeNa
 still_named R c d name event step k go =
     let s = go k.0 k.1 in (s.0, s.2, name_kept k.0 s.0 event step s.1 ∙ k.2)
 
-can_send : {C : Type 0} (R : C → Plain → Type 0) (c d : C) (name : NodeName) (event : Event) (step : Step) (stamp : ℕ) → IsNamed R c name → Goes R c d event step → 1 ≤ stamp → AreSpelled step.outs → CanBeSent (record { node = name.node; stamp = stamp }) step.outs
+can_send : {C : Type 0} (R : C → Plain → Type 0) (c d : C) (name : NodeName) (event : Event) (step : Step) (stamp : ℕ) → IsNamed R c name → Goes R c d event step → 1 ≤ stamp → AreEncodable step.outs → CanBeSent (record { node = name.node; stamp = stamp }) step.outs
 can_send R c d name event step stamp k go one spelled =
     let s = go k.0 k.1 in
     subst (λ (n : NodeName). CanBeSent (record { node = n.node; stamp = stamp }) step.outs) k.2 (node_can_send k.0 s.0 event step stamp s.1 one spelled)
 
 -- with the step in the journal
-pub keeps_noted : {C : Type 0} (R : C → Plain → Type 0) (o : Opening) (c d : C) (own : ℕ) (rs : List (Record Event)) (last : Option Step) (r : Record Event) → IsKept R (cell_of o c own (Some rs) last) → next_stamp own r.pass (event_stamp r.event) ≡ Ok r.stamp → Goes R c d r.event r.step → AreSpelled r.step.outs → IsKept R (cell_of o d r.stamp (Some (rs ++ r ∷ [])) (option_map (λ r. r.step) (slice_get (rs ++ r ∷ []) (length (rs ++ r ∷ []) - 1))))
+pub keeps_noted : {C : Type 0} (R : C → Plain → Type 0) (o : Opening) (c d : C) (own : ℕ) (rs : List (Record Event)) (last : Option Step) (r : Record Event) → IsKept R (cell_of o c own (Some rs) last) → next_stamp own r.pass (event_stamp r.event) ≡ Ok r.stamp → Goes R c d r.event r.step → AreEncodable r.step.outs → IsKept R (cell_of o d r.stamp (Some (rs ++ r ∷ [])) (option_map (λ r. r.step) (slice_get (rs ++ r ∷ []) (length (rs ++ r ∷ []) - 1))))
 keeps_noted R o c d own rs last r k up go spelled =
     record {
       stands = stands_more R node_step (opening_of o.name o.config) c d rs r k.stands go;
@@ -51,7 +51,7 @@ keeps_noted R o c d own rs last r k up go spelled =
     }
 
 -- with the step alone
-pub keeps_alone : {C : Type 0} (R : C → Plain → Type 0) (o : Opening) (c d : C) (own stamp : ℕ) (last : Option Step) (event : Event) (step : Step) → IsKept R (cell_of o c own None last) → own < stamp → Goes R c d event step → AreSpelled step.outs → IsKept R (cell_of o d stamp None (Some step))
+pub keeps_alone : {C : Type 0} (R : C → Plain → Type 0) (o : Opening) (c d : C) (own stamp : ℕ) (last : Option Step) (event : Event) (step : Step) → IsKept R (cell_of o c own None last) → own < stamp → Goes R c d event step → AreEncodable step.outs → IsKept R (cell_of o d stamp None (Some step))
 keeps_alone R o c d own stamp last event step k up go spelled =
     let s = go k.stands.0 k.stands.1 in
     let from : o.stamp ≤ own = k.stamps in

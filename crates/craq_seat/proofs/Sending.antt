@@ -9,12 +9,12 @@ use Rattle.craq_model.specs.declared.message.LinkMessage.{LinkMessage}
 use Rattle.craq_model.specs.declared.step.Out.{Out}
 use Rattle.craq_model.specs.declared.step.Out.TheVariants as outs
 use Rattle.craq_model.specs.declared.step.Step.{Step}
-use Rattle.craq_model.specs.Node.{event_turn, is_send, node_step, outs_fit, within_counts}
+use Rattle.craq_model.specs.Node.{event_transition, is_send, node_step, outs_fit, within_counts}
 use Rattle.craq_model.specs.Plain.{Plain, id_of}
-use Rattle.craq_model.specs.Settle.{Turn}
-use Rattle.craq_model.specs.Spelled.{IsFromItsSender, IsSpelled}
+use Rattle.craq_model.specs.Settle.{Transition}
+use Rattle.craq_model.specs.Encodable.{IsFromItsSender, IsEncodable}
 use Rattle.craq_runs.specs.Chain.{sent_in}
-use Rattle.craq_node_invariant.specs.Sound.{AreSpelled}
+use Rattle.craq_node_invariant.specs.Sound.{AreEncodable}
 use Rattle.craq_seat.specs.declared.journal.Receipt.{Receipt}
 use Rattle.craq_seat.specs.Numbered.{AreFrom, CanBeSent, named, numbered_from}
 use Rattle.craq_seat.proofs.Senders.{sends_from}
@@ -37,17 +37,17 @@ fitting : (os : List Out) → outs_fit os ≡ true → count_by is_send os ≤ 2
 unfolding outs_fit
 fitting os h = grind arith
 
-within : (r : Result Turn Refusal) (q : Plain) (s : Step) → within_counts r ≡ Ok (q, s) → outs_fit s.outs ≡ true
+within : (r : Result Transition Refusal) (q : Plain) (s : Step) → within_counts r ≡ Ok (q, s) → outs_fit s.outs ≡ true
 within (Ok t) q s h = grind (arith, h)
 within (Err e) q s h = cc
 
 node_fits : (p q : Plain) (e : Event) (s : Step) → node_step p e ≡ Ok (q, s) → outs_fit s.outs ≡ true
 unfolding node_step
-node_fits p q e s h = grind (arith, within (event_turn p e) q s)
+node_fits p q e s h = grind (arith, within (event_transition p e) q s)
 
 -- ---- the outputs of a node's step
 
-pub node_can_send : (p q : Plain) (e : Event) (s : Step) (stamp : ℕ) → node_step p e ≡ Ok (q, s) → 1 ≤ stamp → AreSpelled s.outs → CanBeSent (record { node = id_of p; stamp = stamp }) s.outs
+pub node_can_send : (p q : Plain) (e : Event) (s : Step) (stamp : ℕ) → node_step p e ≡ Ok (q, s) → 1 ≤ stamp → AreEncodable s.outs → CanBeSent (record { node = id_of p; stamp = stamp }) s.outs
 node_can_send p q e s stamp h one spelled =
     record {
       stamp = one;
@@ -58,8 +58,8 @@ node_can_send p q e s stamp h one spelled =
 
 -- ---- numbered messages
 
-one_spelled : (receipt : Receipt) (index : ℕ) (m : LinkMessage) → 1 ≤ receipt.stamp → m.sender ≡ receipt.node → IsSpelled m → IsSpelled (named receipt index m)
-one_spelled receipt index m one own h =
+one_encodable : (receipt : Receipt) (index : ℕ) (m : LinkMessage) → 1 ≤ receipt.stamp → m.sender ≡ receipt.node → IsEncodable m → IsEncodable (named receipt index m)
+one_encodable receipt index m one own h =
     record {
       sender = subst (λ sender. IsFromItsSender sender m.body) own h.sender;
       receiver = h.receiver;
@@ -68,12 +68,12 @@ one_spelled receipt index m one own h =
       body = h.body;
     }
 
-numbers_spelled : (receipt : Receipt) (index : ℕ) (os : List Out) → 1 ≤ receipt.stamp → AreFrom receipt.node os → AreSpelled os → AllByRecursion IsSpelled (numbered_from index receipt (sent_in os))
+numbers_encodable : (receipt : Receipt) (index : ℕ) (os : List Out) → 1 ≤ receipt.stamp → AreFrom receipt.node os → AreEncodable os → AllByRecursion IsEncodable (numbered_from index receipt (sent_in os))
 unfolding sent_in
-numbers_spelled receipt index [] one from spelled = tt
-numbers_spelled receipt index (outs.Send to m ∷ os) one from spelled =
-    (one_spelled receipt index m one from.0 spelled.0.0, numbers_spelled receipt (index + 1) os one from.2 spelled.1)
-numbers_spelled receipt index (outs.Answer ticket answer ∷ os) one from spelled = numbers_spelled receipt index os one from spelled.1
+numbers_encodable receipt index [] one from spelled = tt
+numbers_encodable receipt index (outs.Send to m ∷ os) one from spelled =
+    (one_encodable receipt index m one from.0 spelled.0.0, numbers_encodable receipt (index + 1) os one from.2 spelled.1)
+numbers_encodable receipt index (outs.Answer ticket answer ∷ os) one from spelled = numbers_encodable receipt index os one from spelled.1
 
-pub sent_spelled : (receipt : Receipt) (os : List Out) → CanBeSent receipt os → AllByRecursion IsSpelled (numbered_from 0 receipt (sent_in os))
-sent_spelled receipt os h = numbers_spelled receipt 0 os h.stamp h.senders h.spelled
+pub sent_encodable : (receipt : Receipt) (os : List Out) → CanBeSent receipt os → AllByRecursion IsEncodable (numbered_from 0 receipt (sent_in os))
+sent_encodable receipt os h = numbers_encodable receipt 0 os h.stamp h.senders h.spelled

@@ -17,7 +17,7 @@ use Rattle.craq_seat.specs.declared.journal.Record.{Record}
 use Rattle.craq_seat.specs.Books.{members_of}
 use Rattle.craq_seat.specs.Calls.{Called}
 use Rattle.craq_seat.specs.Cells.{Celled}
-use Rattle.craq_seat.specs.Merge.{AtNode, IsMerge, Journals, Line, all_lines, run_of}
+use Rattle.craq_seat.specs.Merge.{AtNode, IsMerge, Journals, MergedStep, all_lines, run_of}
 use Rattle.craq_seat.specs.Numbered.{numbered_from}
 
 -- ---- cells that can be audited
@@ -56,7 +56,7 @@ IsOpenedLater rs o =
 abbrev pub NamesItsStop : Journals → BookEvent → Type 0
 NamesItsStop j (books.Join id) = ⊤
 NamesItsStop j (books.Remove stopped stop) =
-    (stop.node ≡ stopped.node) × (l : Line) × Contains (all_lines j) l × (l.node ≡ stop.node) × (l.stamp ≡ stop.stamp) × (l.event ≡ AtNode events.Stop)
+    (stop.node ≡ stopped.node) × (l : MergedStep) × Contains (all_lines j) l × (l.node ≡ stop.node) × (l.stamp ≡ stop.stamp) × (l.event ≡ AtNode events.Stop)
 NamesItsStop j books.Tick = ⊤
 
 -- the cells are the chain's: one for each id that ever was a member, opened as it became one
@@ -71,7 +71,7 @@ pub record AreOfChain {C : Type 0} (book : Celled Mastered BookEvent) (cells : L
 -- the message was sent, under its name, in a step of a lower stamp than that of its arrival
 abbrev pub WasSent : Journals → ℕ → LinkMessage → Type 0
 WasSent j stamp m =
-    (m.stamp < stamp) × (l : Line) × Contains (all_lines j) l × (l.node ≡ m.sender) × (l.stamp ≡ m.stamp)
+    (m.stamp < stamp) × (l : MergedStep) × Contains (all_lines j) l × (l.node ≡ m.sender) × (l.stamp ≡ m.stamp)
     × (slice_get (numbered_from 0 (record { node = l.node; stamp = l.stamp }) (sent_in l.step.outs)) m.index ≡ Some m)
 
 -- a delivery is of a message that was sent
@@ -122,7 +122,7 @@ pub record IsFirstUnheld (j : Journals) (receipts : List Called) (index : ℕ) :
 pub record IsMergedRun (j : Journals) (receipts : List Called) (run : Run) : Type 0 where
   pub sent : AllByRecursion (λ (n : ℕ × List (Record Event)). AllByRecursion (HasSender j) n.1) j.nodes
   pub held : AllByRecursion (IsHeld j) receipts
-  pub merge : (lines : List Line) × IsMerge j lines × (run ≡ run_of j.members lines)
+  pub merge : (lines : List MergedStep) × IsMerge j lines × (run ≡ run_of j.members lines)
 
 -- a message has no sender; this is reported before any receipt
 abbrev pub SaysNoSender : Journals → ℕ → ℕ → Type 0

@@ -5,9 +5,9 @@ use Rattle.craq_names.specs.declared.refusal.Refusal.{Refusal}
 use Rattle.craq_model.specs.declared.config.Config.{Config}
 use Rattle.craq_model.specs.declared.step.Step.{Step}
 use Rattle.craq_model.specs.Members.{IsMembership}
-use Rattle.craq_epochs.specs.Mastered.{Mastered, joined, removed}
+use Rattle.craq_epochs.specs.Mastered.{Mastered, master_after_join, removed}
 use Rattle.craq_epochs.specs.Mastered as masters
-use Rattle.craq_chain.specs.Parts.{told_step}
+use Rattle.craq_chain.specs.Parts.{membership_step}
 use Rattle.craq_seat.specs.declared.journal.BookEvent.{BookEvent}
 use Rattle.craq_seat.specs.declared.journal.BookEvent.TheVariants.{Join, Remove, Tick}
 use Rattle.craq_seat.specs.declared.journal.Opening.{Opening}
@@ -18,20 +18,20 @@ use Rattle.craq_seat.specs.Stamps.{book_stamp}
 
 -- the master sends the membership to each member, or the refusal stays
 abbrev pub tells : Result Mastered Refusal → Result (Mastered × Step) Refusal
-tells (Ok m) = Ok (m, told_step m.chain m.epoch m.members)
+tells (Ok m) = Ok (m, membership_step m.chain m.epoch m.members)
 tells (Err e) = Err e
 
 -- one step of a master: sends the next membership, or the present one again, to each member
 abbrev pub book_step : Mastered → BookEvent → Result (Mastered × Step) Refusal
-book_step m (Join id) = tells (joined m id)
+book_step m (Join id) = tells (master_after_join m id)
 book_step m (Remove stopped stop) = tells (removed m stopped)
 book_step m Tick = tells (Ok m)
 
 -- the master took the wanted step; or it is unchanged and was refused as wanted, or out of memory
 -- where a step is wanted
-abbrev pub Turns : Mastered → Mastered → Result Step Refusal → Result (Mastered × Step) Refusal → Type 0
-Turns old new (Ok step) wanted = wanted ≡ Ok (new, step)
-Turns old new (Err e) wanted = Refuses e wanted × (new ≡ old)
+abbrev pub Transitions : Mastered → Mastered → Result Step Refusal → Result (Mastered × Step) Refusal → Type 0
+Transitions old new (Ok step) wanted = wanted ≡ Ok (new, step)
+Transitions old new (Err e) wanted = Refuses e wanted × (new ≡ old)
 
 -- a master's cell is opened as node 0, with the first membership, before any stamp
 abbrev pub book_opening : ℕ → List ℕ → Opening
@@ -49,7 +49,7 @@ members_of (Some config) = config.members
 
 -- the master before its first step
 abbrev pub first_master : Opening → Mastered
-first_master o = masters.opened o.name.chain (members_of o.config)
+first_master o = masters.opened_master o.name.chain (members_of o.config)
 
 -- the invariants of a master's cell
 pub record IsBook (c : Celled Mastered BookEvent) : Type 0 where

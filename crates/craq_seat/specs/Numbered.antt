@@ -4,7 +4,7 @@ use Rattle.craq_model.specs.declared.message.LinkMessage.{LinkMessage}
 use Rattle.craq_model.specs.declared.step.Out.{Out}
 use Rattle.craq_model.specs.declared.step.Out.TheVariants as outs
 use Rattle.craq_runs.specs.Chain.{sent_in}
-use Rattle.craq_node_invariant.specs.Sound.{AreSpelled}
+use Rattle.craq_node_invariant.specs.Sound.{AreEncodable}
 use Rattle.craq_seat.specs.declared.journal.Receipt.{Receipt}
 
 -- a message is named by its sender, and by the stamp and index of its sending
@@ -26,5 +26,5 @@ AreFrom id (outs.Answer ticket answer ∷ os) = AreFrom id os
 pub record CanBeSent (receipt : Receipt) (os : List Out) : Type 0 where
   pub stamp : 1 ≤ receipt.stamp
   pub senders : AreFrom receipt.node os
-  pub spelled : AreSpelled os
+  pub spelled : AreEncodable os
   pub few : length (sent_in os) ≤ 2 ^ 32

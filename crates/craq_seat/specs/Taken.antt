@@ -7,7 +7,7 @@ use Rattle.craq_model.specs.declared.step.Step.{Step}
 use Rattle.craq_model.specs.Node.{node_step}
 use Rattle.craq_model.specs.Plain.{Plain}
 use Rattle.craq_epochs.specs.Mastered.{Mastered}
-use Rattle.craq_node.specs.Represented.{Answers, uncounted_step}
+use Rattle.craq_node.specs.Represented.{StepAnswers, uncounted_step}
 use Rattle.craq_seat.specs.declared.journal.BookEvent.{BookEvent}
 use Rattle.craq_seat.specs.declared.journal.Receipt.{Receipt}
 use Rattle.craq_seat.specs.Books.{book_step}
@@ -17,7 +17,7 @@ use Rattle.craq_seat.specs.Stamps.{book_stamp, event_stamp}
 -- a core took its step or refused it, after memory was requested elsewhere: memory may have run out
 -- before the core's step
 abbrev pub AnswersAfter : (Plain → Type 0) → Plain → Event → Result Step Refusal → Type 0
-AnswersAfter now old event (Ok step) = Answers now old event (Ok step)
+AnswersAfter now old event (Ok step) = StepAnswers now old event (Ok step)
 AnswersAfter now old event (Err e) = RefusesWhere ⊤ e (node_step old event) × now old
 
 -- the cell of a core that stood for a plain node took the node's step, or refused it; without a
@@ -28,6 +28,6 @@ TakesEvent represents now old event pass result =
 
 -- a master's cell took the master's step, or refused it; without a journal it is out of memory only
 -- where a step is wanted
-abbrev pub TakesTurn : Celled Mastered BookEvent → Celled Mastered BookEvent → BookEvent → ℕ → Result Receipt Refusal → Type 0
-TakesTurn old new event pass result =
+abbrev pub TakesTransition : Celled Mastered BookEvent → Celled Mastered BookEvent → BookEvent → ℕ → Result Receipt Refusal → Type 0
+TakesTransition old new event pass result =
     Takes old new result (CanWant old (book_stamp event) pass (IsOk (book_step old.inside event))) (cell_step book_step old event (book_stamp event) pass)

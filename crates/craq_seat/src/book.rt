@@ -1,5 +1,5 @@
 //! `BookCell`: a chain's master as node 0, whose steps have stamps and are recorded in a journal;
-//! used by `craq_workers`, `craq_locked` and the audit.
+//! used by `craq_workers`, `craq_cell_chain` and the audit.
 ghost use Rattle.std.specs.Prelude.{◌≡◌, ◌⊎◌, ◌↔◌, Err, IfOk, IfErr, IfSome, OnOk};
 ghost use Rattle.std.specs.Option.{option_copied};
 ghost use Rattle.craq_epochs.specs.Mastered as masters;
@@ -7,9 +7,9 @@ ghost use Rattle.craq_model.specs.Members.{IsMembership};
 ghost use Rattle.craq_seat.specs.Books.{IsBook, book_opening};
 ghost use Rattle.craq_seat.specs.Cells.{opened, receipt_of};
 ghost use Rattle.craq_seat.specs.Numbered.{CanBeSent};
-ghost use Rattle.craq_seat.specs.Taken.{TakesTurn};
+ghost use Rattle.craq_seat.specs.Taken.{TakesTransition};
 
-use crate::mastering::turn;
+use crate::mastering::transition;
 use crate::stamps::{book_stamp, next_stamp};
 use crate::{BookEvent, Opening, Receipt, Record};
 use craq_epochs::Master;
@@ -55,7 +55,7 @@ impl BookCell {
         members: &[NodeId],
         journal: bool,
     ) -> Result<Self, Refusal>
-        ensures ok { IfOk result (λ c. c ≡ opened (book_opening chain members.now) journal (masters.opened chain members.now)) }
+        ensures ok { IfOk result (λ c. c ≡ opened (book_opening chain members.now) journal (masters.opened_master chain members.now)) }
         ensures membership { OnOk result (IsMembership members.now) }
         ensures bad { (result ≡ Err Refusal.BadConfig) ↔ ¬ (IsMembership members.now) }
         ensures err { IfErr result (λ e. (e ≡ Refusal.BadConfig) ⊎ (e ≡ Refusal.Memory)) }
@@ -90,7 +90,7 @@ impl BookCell {
     /// is the only one; a join or a removal as `Exhausted` in the last epoch; `Memory` if an
     /// allocation failed.
     pub fn take(&mut self, alloc: Global, event: BookEvent, pass: Pass) -> Result<Receipt, Refusal>
-        ensures step { TakesTurn self.old self.new event pass result }
+        ensures step { TakesTransition self.old self.new event pass result }
         ensures kept { IsBook self.new }
     {
         let stamp = next_stamp(self.stamp, pass, book_stamp(&event))?;
@@ -101,7 +101,7 @@ impl BookCell {
         match &mut self.journal {
             Some(journal) => {
                 journal.reserve(1)?;
-                let step = turn(alloc, &mut self.master, event)?;
+                let step = transition(alloc, &mut self.master, event)?;
                 journal.push_reserved(Record {
                     stamp,
                     event,
@@ -112,7 +112,7 @@ impl BookCell {
                 Ok(receipt)
             }
             None => {
-                self.last = Some(turn(alloc, &mut self.master, event)?);
+                self.last = Some(transition(alloc, &mut self.master, event)?);
                 self.stamp = stamp;
                 Ok(receipt)
             }

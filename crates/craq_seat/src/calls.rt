@@ -413,7 +413,7 @@ fn serve_accepted(
 /// Answers the calls of a step: the accepted request waits from now on, and each waiting call that
 /// the step answers gets its receipt and waits no more. When out of memory, the calls that the step
 /// accepts or answers are dropped.
-pub(crate) fn serve(
+pub(crate) fn serve_calls(
     alloc: Global,
     waiting: &mut Vec<Call>,
     asked: Result<Option<Ask>, AllocError>,

@@ -4,7 +4,7 @@ ghost use Rattle.std.specs.Prelude.{◌≡◌, ◌<◌, IfOk, IfErr, IfSome, IsN
 ghost use Rattle.std.specs.Option.{option_copied};
 ghost use Rattle.craq_model.specs.Plain.{Plain};
 ghost use Rattle.craq_node.specs.Represented.{CanArrive, CanOpen, IsFree, opening_of};
-ghost use Rattle.craq_node_invariant.specs.Sound.{AreSpelled};
+ghost use Rattle.craq_node_invariant.specs.Sound.{AreEncodable};
 ghost use Rattle.craq_seat.specs.Cells.{opened, receipt_of, with_inside};
 ghost use Rattle.craq_seat.specs.Kept.{IsKept};
 ghost use Rattle.craq_seat.specs.Numbered.{CanBeSent};
@@ -63,7 +63,7 @@ fn noted_step<C: Core>(
 ) -> Result<Step, Refusal>
     requires { CanArrive event.now }
     ensures step { (p : Plain) → C.represents core.old p → AnswersAfter (C.represents core.new) p event.now result }
-    ensures spelled { IfOk result (λ step. AreSpelled step.outs) }
+    ensures spelled { IfOk result (λ step. AreEncodable step.outs) }
     ensures same { journal.new.items ≡ journal.old.items }
     ensures room { OnOk result (vec_len journal.new < vec_capacity journal.new) }
 {

@@ -1,5 +1,5 @@
 //! `Desk`: a cell and its pending calls, whose replies it returns; used by `craq_workers` and
-//! `craq_locked`.
+//! `craq_cell_chain`.
 ghost use Rattle.std.specs.Prelude.{◌≡◌, [], IfOk, IfSome, IsNone, IsOk, OnErr};
 ghost use Rattle.craq_model.specs.Plain.{Plain};
 ghost use Rattle.craq_node.specs.Represented.{CanArrive, IsFree};
@@ -9,7 +9,7 @@ ghost use Rattle.craq_seat.specs.Kept.{IsKept};
 ghost use Rattle.craq_seat.specs.Stamps.{event_stamp, next_stamp};
 ghost use Rattle.craq_seat.specs.Taken.{TakesEvent};
 
-use crate::calls::{ask_of, serve};
+use crate::calls::{ask_of, serve_calls};
 use crate::{Call, CallReceipt, Cell, Receipt};
 use craq_model::Event;
 use craq_names::{Pass, Refusal};
@@ -81,7 +81,7 @@ impl<C: Core> Desk<C> {
                     Ok((receipt, Ok(Vec::new(alloc))))
                 }
                 Some(step) => {
-                    let calls = serve(alloc, &mut self.waiting, asked, &receipt, pass, step);
+                    let calls = serve_calls(alloc, &mut self.waiting, asked, &receipt, pass, step);
                     Ok((receipt, calls))
                 }
             },

@@ -1,5 +1,5 @@
 //! Journaled nodes and masters (cells), pending-call tables (desks), desks with a lock (seats).
-//! Runs in the program, in `craq_workers` and `craq_locked`; starts no threads.
+//! Runs in the program, in `craq_workers` and `craq_cell_chain`; starts no threads.
 //!
 //! A stamp numbers a step in a logical clock: it is above that of every step that may have caused
 //! it. `craq_audit` reads the journals.

@@ -1,8 +1,8 @@
 //! `numbered`: the messages of a step, each under the step's receipt and its index; used by
-//! `craq_locked`.
+//! `craq_cell_chain`.
 ghost use Rattle.std.specs.Prelude.{◌≡◌, ◌≤◌, ◌^◌, length, IfOk};
 ghost use Rattle.std.specs.List.{AllByRecursion};
-ghost use Rattle.craq_model.specs.Spelled.{IsSpelled};
+ghost use Rattle.craq_model.specs.Encodable.{IsEncodable};
 ghost use Rattle.craq_runs.specs.Chain.{sent_in};
 ghost use Rattle.craq_seat.specs.Numbered.{CanBeSent, named, numbered_from};
 
@@ -50,7 +50,7 @@ fn named_in(alloc: Global, outs: &[Out], receipt: Receipt) -> Result<Vec<LinkMes
 /// Copies the messages that a step sends, in order. Each has the receipt's node as its sender, the
 /// receipt's stamp, and its index among them, from 0. If the receipt is that of a cell's last step,
 /// each has an encoding. Fails only when out of memory.
-#[tactic(auto, using(crate::proofs::Sending::sent_spelled))]
+#[tactic(auto, using(crate::proofs::Sending::sent_encodable))]
 pub fn numbered(
     alloc: Global,
     step: &Step,
@@ -58,7 +58,7 @@ pub fn numbered(
 ) -> Result<Vec<LinkMessage>, AllocError>
     requires { length (sent_in step.now.outs) ≤ 2 ^ 32 }
     ensures messages { IfOk result (λ messages. messages.items ≡ numbered_from 0 receipt (sent_in step.now.outs)) }
-    ensures spelled { CanBeSent receipt step.now.outs → IfOk result (λ messages. AllByRecursion IsSpelled messages.items) }
+    ensures spelled { CanBeSent receipt step.now.outs → IfOk result (λ messages. AllByRecursion IsEncodable messages.items) }
 {
     named_in(alloc, step.outs.as_slice(), receipt)
 }

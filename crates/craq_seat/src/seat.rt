@@ -1,5 +1,5 @@
 //! `Seat`: a desk under a lock, with the callers that wait for its replies; used by `craq_workers`
-//! and `craq_locked`.
+//! and `craq_cell_chain`.
 use crate::Desk;
 use craq_names::Ticket;
 use craq_node::Core;

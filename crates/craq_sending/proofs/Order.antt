@@ -6,7 +6,7 @@ use Rattle.craq_model.specs.declared.message.LinkMessage.{LinkMessage}
 use Rattle.craq_model.specs.declared.ask.Answer.{Answer}
 use Rattle.craq_model.specs.declared.step.Out.{Out}
 use Rattle.craq_model.specs.declared.step.Out.TheVariants as outs
-use Rattle.craq_model.specs.Spelled.{IsSpelled}
+use Rattle.craq_model.specs.Encodable.{IsEncodable}
 use Rattle.craq_runs.specs.Chain.{sent_in}
 use Rattle.craq_seat.specs.declared.journal.Receipt.{Receipt}
 use Rattle.craq_seat.specs.Numbered.{named, numbered_from}
@@ -33,7 +33,7 @@ whole (s ∷ ss) (m ∷ all) (first, is) = (first, whole ss all is)
 pub record Goes (receipt : Receipt) (all : List Out) (sent : List Sent) (rest : List Out) : Type 0 where
   pub begun : Begins sent (numbered_from 0 receipt (sent_in all)) (numbered_from (length sent) receipt (sent_in rest))
   pub few : length sent + length (sent_in rest) ≤ 2 ^ 32
-  pub spelled : AllByRecursion IsSpelled (numbered_from (length sent) receipt (sent_in rest))
+  pub spelled : AllByRecursion IsEncodable (numbered_from (length sent) receipt (sent_in rest))
 
 -- the first of the rest
 next : (receipt : Receipt) (all : List Out) (sent : List Sent) (i : ℕ) (out : Out) → Goes receipt all sent (drop i all) → i < length all → out ≡ get_or all i out → Goes receipt all sent (out ∷ drop (i + 1) all)
@@ -70,7 +70,7 @@ can_add receipt all sent i out h below is = first_can receipt all (drop (i + 1) 
 pub adds_next : (receipt : Receipt) (all : List Out) (old new : List Sent) (i : ℕ) (out : Out) → Goes receipt all old (drop i all) → i < length all → out ≡ get_or all i out → Adds receipt old new out → Goes receipt all new (drop (i + 1) all)
 adds_next receipt all old new i out h below is adds = added receipt all (drop (i + 1) all) old new out (next receipt all old i out h below is) adds
 
-pub begins : (receipt : Receipt) (all : List Out) (sent : List Sent) → sent ≡ [] → length (sent_in all) ≤ 2 ^ 32 → AllByRecursion IsSpelled (numbered_from 0 receipt (sent_in all)) → Goes receipt all sent all
+pub begins : (receipt : Receipt) (all : List Out) (sent : List Sent) → sent ≡ [] → length (sent_in all) ≤ 2 ^ 32 → AllByRecursion IsEncodable (numbered_from 0 receipt (sent_in all)) → Goes receipt all sent all
 begins receipt all sent none few spelled =
     let count : length {A = Sent} [] + length (sent_in all) ≤ 2 ^ 32 = omega (arith, few) in
     subst (λ (first : List Sent). Goes receipt all first all) (sym none) (record { begun = refl; few = count; spelled = spelled })
@@ -85,7 +85,7 @@ all_sent receipt all sent i h end =
 pub record Brings (first : ℕ) (receipt : Receipt) (all : List Out) (sent : List Sent) (index : ℕ) (rest : List Out) : Type 0 where
   pub begun : Begins sent (entries_from first (numbered_from 0 receipt (sent_in all))) (entries_from first (numbered_from index receipt (sent_in rest)))
   pub few : index + length (sent_in rest) ≤ 2 ^ 32
-  pub spelled : AllByRecursion IsSpelled (numbered_from index receipt (sent_in rest))
+  pub spelled : AllByRecursion IsEncodable (numbered_from index receipt (sent_in rest))
 
 brings_first : (first : ℕ) (receipt : Receipt) (all : List Out) (sent : List Sent) (index i : ℕ) (out : Out) → Brings first receipt all sent index (drop i all) → i < length all → out ≡ get_or all i out → Brings first receipt all sent index (out ∷ drop (i + 1) all)
 brings_first first receipt all sent index i out h below is =
@@ -97,7 +97,7 @@ next_is first receipt all sent index i to out m h below at is =
     subst (λ (o : Out). Brings first receipt all sent index (o ∷ drop (i + 1) all)) is (brings_first first receipt all sent index i out h below at)
 
 -- the message of the next out has an index, and can be spelled
-brings_index : (first : ℕ) (receipt : Receipt) (all rest : List Out) (sent : List Sent) (index to : ℕ) (m : LinkMessage) → Brings first receipt all sent index (outs.Send to m ∷ rest) → (index < 2 ^ 32) × IsSpelled (named receipt index m)
+brings_index : (first : ℕ) (receipt : Receipt) (all rest : List Out) (sent : List Sent) (index to : ℕ) (m : LinkMessage) → Brings first receipt all sent index (outs.Send to m ∷ rest) → (index < 2 ^ 32) × IsEncodable (named receipt index m)
 unfolding sent_in
 brings_index first receipt all rest sent index to m h = (let few = h.few in omega (arith, few), h.spelled.0)
 
@@ -148,12 +148,12 @@ next_answered first receipt all sent index i ticket out answer h below at is =
 
 -- and a message has an index, and can be spelled under it
 pub next_index : (first : ℕ) (receipt : Receipt) (all : List Out) (sent : List Sent) (index i to : ℕ) (out : Out) (m : LinkMessage)
-    → Brings first receipt all sent index (drop i all) → i < length all → out ≡ get_or all i out → out ≡ outs.Send to m → (index < 2 ^ 32) × IsSpelled (named receipt index m)
+    → Brings first receipt all sent index (drop i all) → i < length all → out ≡ get_or all i out → out ≡ outs.Send to m → (index < 2 ^ 32) × IsEncodable (named receipt index m)
 next_index first receipt all sent index i to out m h below at is =
     brings_index first receipt all (drop (i + 1) all) sent index to m (next_is first receipt all sent index i to out m h below at is)
 
 -- no out is looked at yet
-pub brings_begin : (first : ℕ) (receipt : Receipt) (all : List Out) (sent : List Sent) → sent ≡ [] → length (sent_in all) ≤ 2 ^ 32 → AllByRecursion IsSpelled (numbered_from 0 receipt (sent_in all)) → Brings first receipt all sent 0 all
+pub brings_begin : (first : ℕ) (receipt : Receipt) (all : List Out) (sent : List Sent) → sent ≡ [] → length (sent_in all) ≤ 2 ^ 32 → AllByRecursion IsEncodable (numbered_from 0 receipt (sent_in all)) → Brings first receipt all sent 0 all
 brings_begin first receipt all sent none few spelled =
     let count : 0 + length (sent_in all) ≤ 2 ^ 32 = omega (arith, few) in
     subst (λ (s : List Sent). Brings first receipt all s 0 all) (sym none) (record { begun = refl; few = count; spelled = spelled })

@@ -7,29 +7,29 @@ use Rattle.craq_model.specs.declared.message.Body.TheVariants as bodies
 use Rattle.craq_model.specs.declared.message.LinkMessage.{LinkMessage}
 use Rattle.craq_model.specs.declared.step.Out.{Out}
 use Rattle.craq_model.specs.declared.step.Out.TheVariants as outs
-use Rattle.craq_model.specs.Spelled.{IsSpelled}
-use Rattle.craq_wire.specs.Spelling.{Spells}
+use Rattle.craq_model.specs.Encodable.{IsEncodable}
+use Rattle.craq_wire.specs.Encoding.{Encodes}
 use Rattle.craq_seat.specs.declared.journal.Receipt.{Receipt}
 use Rattle.craq_seat.specs.Numbered.{named}
 use Rattle.craq_sending.specs.declared.sending.Kind.{Kind}
 use Rattle.craq_sending.specs.declared.sending.Kind.TheVariants as kinds
 use Rattle.craq_sending.specs.declared.sending.Sent.{Sent}
 
-abbrev pub kind_of : Body → Kind
-kind_of (bodies.Config members) = kinds.Other
-kind_of (bodies.Entry e) = kinds.Entry
-kind_of (bodies.Ack position) = kinds.Ack
-kind_of (bodies.Query ticket k) = kinds.Other
-kind_of (bodies.VersionIs ticket version) = kinds.Other
-kind_of (bodies.Blank count) = kinds.Blank
-kind_of (bodies.Copy position s) = kinds.Other
-kind_of (bodies.Floor count) = kinds.Other
-kind_of (bodies.Part p) = kinds.Other
-kind_of (bodies.Batch es) = kinds.Other
+abbrev pub link_class : Body → Kind
+link_class (bodies.Config members) = kinds.Other
+link_class (bodies.Entry e) = kinds.Entry
+link_class (bodies.Ack position) = kinds.Ack
+link_class (bodies.Query ticket k) = kinds.Other
+link_class (bodies.VersionIs ticket version) = kinds.Other
+link_class (bodies.Blank count) = kinds.Blank
+link_class (bodies.Copy position s) = kinds.Other
+link_class (bodies.Floor count) = kinds.Other
+link_class (bodies.Part p) = kinds.Other
+link_class (bodies.Batch es) = kinds.Other
 
 -- an out that sends a message of this kind
 abbrev pub Sends : Kind → Out → Type 0
-Sends kind (outs.Send to m) = kind_of m.body ≡ kind
+Sends kind (outs.Send to m) = link_class m.body ≡ kind
 Sends kind (outs.Answer ticket answer) = ⊥
 
 -- the outs of a step that does one thing: it sends a message of this kind
@@ -100,8 +100,8 @@ pub record MakesNeedless (later earlier : LinkMessage) : Type 0 where
 -- the bytes are those of the message, and go to its receiver
 pub record IsSentAs (s : Sent) (m : LinkMessage) : Type 0 where
   pub to : s.to ≡ m.receiver
-  pub kind : s.kind ≡ kind_of m.body
-  pub bytes : Spells m s.bytes
+  pub kind : s.kind ≡ link_class m.body
+  pub bytes : Encodes m s.bytes
 
 -- the same of each, in order
 abbrev pub AreSentAs : List Sent → List LinkMessage → Type 0
@@ -112,7 +112,7 @@ AreSentAs (s ∷ ss) (m ∷ ms) = IsSentAs s m × AreSentAs ss ms
 
 -- the next out of a step of which so many messages are sent: its message, if it is one, can be spelled under the index that comes next
 abbrev pub CanAdd : Receipt → ℕ → Out → Type 0
-CanAdd receipt n (outs.Send to m) = (n < 2 ^ 32) × IsSpelled (named receipt n m)
+CanAdd receipt n (outs.Send to m) = (n < 2 ^ 32) × IsEncodable (named receipt n m)
 CanAdd receipt n (outs.Answer ticket answer) = ⊤
 
 -- its message, if it is one, is the last that is sent

@@ -2,10 +2,10 @@
 //! steps; called by the batches of `craq_workers`.
 ghost use Rattle.std.specs.Prelude.{◌≡◌, ◌∷◌, [], IfOk, IfSome, IsNone};
 ghost use Rattle.craq_runs.specs.Chain.{sent_in};
-ghost use Rattle.craq_model.specs.Spelled.{IsSpelled};
+ghost use Rattle.craq_model.specs.Encodable.{IsEncodable};
 ghost use Rattle.craq_seat.specs.Numbered.{CanBeSent, named, numbered_from};
 ghost use Rattle.craq_sending.specs.declared.sending.Kind.TheVariants as kinds;
-ghost use Rattle.craq_sending.specs.Sent.{CanAdd, IsSentAs, MakesNeedless, OnlySends, Sends, kind_of};
+ghost use Rattle.craq_sending.specs.Sent.{CanAdd, IsSentAs, MakesNeedless, OnlySends, Sends, link_class};
 
 use crate::{Kind, Sent};
 use craq_model::{Body, LinkMessage, Out, Step};
@@ -30,20 +30,20 @@ pub struct LoneAck {
 impl Model for LoneAck {
     ghost use Rattle.craq_model.specs.declared.message.Body.TheVariants as bodies;
     ghost use Rattle.craq_model.specs.declared.message.LinkMessage.{LinkMessage};
-    ghost use Rattle.craq_model.specs.Spelled.{IsSpelled};
+    ghost use Rattle.craq_model.specs.Encodable.{IsEncodable};
 
     ghost Value = { LinkMessage };
 
     ghost view = { λ a. record { chain = a.chain; sender = a.sender; receiver = a.receiver; stamp = a.stamp; index = 0; epoch = a.epoch; body = bodies.Ack a.position } };
 
-    ghost invariant = { λ a. IsSpelled (record { chain = a.chain; sender = a.sender; receiver = a.receiver; stamp = a.stamp; index = 0; epoch = a.epoch; body = bodies.Ack a.position }) };
+    ghost invariant = { λ a. IsEncodable (record { chain = a.chain; sender = a.sender; receiver = a.receiver; stamp = a.stamp; index = 0; epoch = a.epoch; body = bodies.Ack a.position }) };
 }
 
 /// Returns a message as the first of the step with this receipt, if it is an acknowledgement.
 fn ack_under(message: &LinkMessage, receipt: Receipt) -> Option<LoneAck>
-    requires { IsSpelled (named receipt 0 message.now) }
-    ensures some { IfSome result (λ ack. (kind_of message.now.body ≡ kinds.Ack) × (ack ≡ named receipt 0 message.now)) }
-    ensures none { IsNone result → ¬ (kind_of message.now.body ≡ kinds.Ack) }
+    requires { IsEncodable (named receipt 0 message.now) }
+    ensures some { IfSome result (λ ack. (link_class message.now.body ≡ kinds.Ack) × (ack ≡ named receipt 0 message.now)) }
+    ensures none { IsNone result → ¬ (link_class message.now.body ≡ kinds.Ack) }
 {
     match &message.body {
         Body::Ack(position) => Some(LoneAck {

@@ -4,9 +4,9 @@ ghost use Rattle.std.specs.Prelude.{◌≡◌, ◌≤◌, ◌^◌, length, nat_l
 ghost use Rattle.std.specs.List.{AllByRecursion, list_any};
 ghost use Rattle.craq_runs.specs.Chain.{sent_in};
 ghost use Rattle.craq_seat.specs.Numbered.{CanBeSent, named, numbered_from};
-ghost use Rattle.craq_model.specs.Spelled.{IsSpelled};
+ghost use Rattle.craq_model.specs.Encodable.{IsEncodable};
 ghost use Rattle.craq_sending.specs.declared.sending.Kind.TheVariants as kinds;
-ghost use Rattle.craq_sending.specs.Sent.{Adds, AreSentAs, CanAdd, IsSentAs, OnlySends, brings_from, entries_from, kind_of, lone_position};
+ghost use Rattle.craq_sending.specs.Sent.{Adds, AreSentAs, CanAdd, IsSentAs, OnlySends, brings_from, entries_from, link_class, lone_position};
 
 use bytes::Bytes;
 use craq_commands::Entry;
@@ -39,7 +39,7 @@ pub struct Sent {
 
 /// Returns the class of a message.
 fn kind_said(body: &Body) -> Kind
-    ensures { result ≡ kind_of body.now }
+    ensures { result ≡ link_class body.now }
 {
     match body {
         Body::Entry(_) => Kind::Entry,
@@ -94,7 +94,7 @@ fn encode_one(
     receipt: Receipt,
     index: u32,
 ) -> Result<Sent, AllocError>
-    requires { IsSpelled (named receipt index message.now) }
+    requires { IsEncodable (named receipt index message.now) }
     ensures { IfOk result (λ sent. IsSentAs sent (named receipt index message.now)) }
 {
     Ok(Sent {
@@ -128,7 +128,7 @@ fn add_out(
 /// Encodes the messages among outs, in order.
 fn encode_outs(alloc: Global, outs: &[Out], receipt: &Receipt) -> Result<Vec<Sent>, AllocError>
     requires few { length (sent_in outs.now) ≤ 2 ^ 32 }
-    requires spelled { AllByRecursion IsSpelled (numbered_from 0 receipt.now (sent_in outs.now)) }
+    requires spelled { AllByRecursion IsEncodable (numbered_from 0 receipt.now (sent_in outs.now)) }
     ensures { IfOk result (λ sent. AreSentAs sent.items (numbered_from 0 receipt.now (sent_in outs.now))) }
 {
     let mut sent = Vec::new(alloc);
@@ -142,7 +142,7 @@ fn encode_outs(alloc: Global, outs: &[Out], receipt: &Receipt) -> Result<Vec<Sen
 ///
 /// Each has the receipt's node as its sender, the receipt's stamp, and its index among them, from 0
 /// (`craq_seat::numbered`). Fails only when out of memory.
-#[tactic(auto, using(craq_seat::proofs::Sending::sent_spelled))]
+#[tactic(auto, using(craq_seat::proofs::Sending::sent_encodable))]
 pub fn encode_sent(alloc: Global, step: &Step, receipt: Receipt) -> Result<Vec<Sent>, AllocError>
     requires { CanBeSent receipt step.now.outs }
     ensures { IfOk result (λ sent. AreSentAs sent.items (numbered_from 0 receipt (sent_in step.now.outs))) }
@@ -158,7 +158,7 @@ fn encode_bringing(
     first: Seq,
 ) -> Result<Vec<Sent>, AllocError>
     requires few { length (sent_in outs.now) ≤ 2 ^ 32 }
-    requires spelled { AllByRecursion IsSpelled (numbered_from 0 receipt.now (sent_in outs.now)) }
+    requires spelled { AllByRecursion IsEncodable (numbered_from 0 receipt.now (sent_in outs.now)) }
     ensures { IfOk result (λ sent. AreSentAs sent.items (entries_from first (numbered_from 0 receipt.now (sent_in outs.now)))) }
 {
     let mut sent = Vec::new(alloc);
@@ -181,7 +181,7 @@ fn encode_bringing(
 ///
 /// Each has the receipt's node as its sender, the receipt's stamp, and its index among all messages
 /// of the step, from 0. Fails only when out of memory.
-#[tactic(auto, using(craq_seat::proofs::Sending::sent_spelled))]
+#[tactic(auto, using(craq_seat::proofs::Sending::sent_encodable))]
 pub fn encode_entries(
     alloc: Global,
     step: &Step,

@@ -1,4 +1,4 @@
 pub mod Listening
-pub mod Places
+pub mod Slots
 pub mod Refusing
 pub mod Status

@@ -3,7 +3,7 @@ use Rattle.std.specs.Prelude.{◌≡◌, ℕ, List, map, codes, string_bytes}
 use Rattle.serde_json.specs.Data.{Data, number, unsigned, string, array, object, member, no_members}
 use Rattle.serde_json.specs.View.{items_of}
 use Rattle.serde_json.specs.Written.{compact_text}
-use Rattle.craq_held.specs.Membered.{AreMembershipsOf}
+use Rattle.craq_locked_chain.specs.Membered.{AreMembershipsOf}
 use Rattle.craq_workers.specs.declared.store.ChainStatus.{ChainStatus}
 use Rattle.craq_workers.specs.Stores.{Stored}
 

@@ -1,20 +1,20 @@
 //! `accept`: serves the connections of a listener to a store, each on a thread of its own.
-//! `accept_with` serves them as a `Serving` says, also by a few threads (`crews`).
+//! `accept_with` serves them as a `Serving` says, also by a few threads (`contexts`).
 ghost use Rattle.std.specs.Prelude.{◌≡◌, ◌⊎◌, [], false, IfErr, IfOk};
 
 use crate::connections::Connections;
-use crate::crews::{Crowds, serve_by_threads};
-use crate::door::{ServedStore, Visit};
+use crate::io_threads::{EventLoops, serve_by_threads};
 use crate::listening::{Attempt, try_accept, wait_for_connection};
 use crate::logging::Log;
 use crate::passes::Passes;
 use crate::runtime::ServerRuntime;
+use crate::served_store::{ServedStore, Visit};
 use crate::socket_options::prepare;
-use craq_door::CallDoor;
 use craq_front::{Stream, serve};
 use craq_names::Refusal;
 use craq_node::Core;
 use craq_seat::CallReceipt;
+use craq_session::CallDoor;
 use craq_workers::{Gate, Store};
 use std::alloc::{AllocError, Global};
 use std::net::{TcpListener, TcpStream};
@@ -35,7 +35,7 @@ const GRACE_PAUSES: u32 = 500;
 #[derive(Clone, Copy, Debug)]
 pub struct Serving {
     /// True where the receipts of calls are kept.
-    pub keeps: bool,
+    pub keep_receipts: bool,
     /// The number of connections after which no more are taken, those included that were turned
     /// away; 0 for no end.
     pub connections: u32,
@@ -53,11 +53,11 @@ pub struct Serving {
 
 /// The outcome of serving.
 #[derive(Drop)]
-pub struct Served {
+pub struct ServeReport {
     /// The receipts of all calls where they are kept, by order of connection and then of calls.
     pub receipts: Vec<Vec<CallReceipt>>,
     /// True where some connection was ended at once because the process was out of memory or threads.
-    pub lacked: bool,
+    pub had_failures: bool,
     /// True where the listener failed for a reason that lasts, so that no more connections were taken.
     pub listener_failed: bool,
 }
@@ -66,7 +66,7 @@ pub struct Served {
 #[derive(Clone, Copy, Debug)]
 pub(crate) struct Taken {
     /// True where some connection was ended at once because the process was out of memory or threads.
-    pub(crate) lacked: bool,
+    pub(crate) had_failures: bool,
     /// True where the listener failed for a reason that lasts.
     pub(crate) listener_failed: bool,
 }
@@ -115,17 +115,17 @@ where
     G: Gate,
 {
     /// Logs that a connection is over, and frees its place.
-    fn leave(&self, place: usize) {
-        self.serving.log.ended(&self.rt, place);
-        self.connections.leave(&self.rt, place);
+    fn leave(&self, slot: usize) {
+        self.serving.log.ended(&self.rt, slot);
+        self.connections.leave(&self.rt, slot);
     }
 
     /// Takes the receipts of a connection that has ended, where they are kept, and frees its place.
-    pub(crate) fn ended(&self, place: usize, receipts: usize, calls: Vec<CallReceipt>) {
+    pub(crate) fn ended(&self, slot: usize, receipts: usize, calls: Vec<CallReceipt>) {
         if let Some(kept) = self.receipts.lock(&self.rt).get_mut(receipts) {
             *kept = calls;
         }
-        self.leave(place);
+        self.leave(slot);
     }
 }
 
@@ -190,7 +190,7 @@ where
     /// Makes room for a new connection's receipts, where they are kept, and returns its index.
     /// Fails only when out of memory.
     pub(crate) fn new_receipts(&self) -> Result<usize, AllocError> {
-        if !self.serving.keeps {
+        if !self.serving.keep_receipts {
             return Ok(0);
         }
         let mut receipts = self.receipts.lock(&self.rt);
@@ -207,25 +207,25 @@ where
     ) -> Result<Option<(Arc<TcpStream>, usize)>, AllocError> {
         let stream = Arc::new(self.alloc, stream)?;
         let shared = Arc::try_clone(&stream)?;
-        let Some(place) = self.connections.enter(&self.rt, shared)? else {
+        let Some(slot) = self.connections.enter(&self.rt, shared)? else {
             let count = self.turned_away.fetch_add(1, Ordering::SeqCst);
             let count = count.saturating_add(1);
             self.serving.log.turned_away(&self.rt, &stream, count);
             return Ok(None);
         };
-        self.serving.log.begun(&self.rt, place, &stream);
-        Ok(Some((stream, place)))
+        self.serving.log.begun(&self.rt, slot, &stream);
+        Ok(Some((stream, slot)))
     }
 
     /// Finishes the admission of a connection: frees its place where `begun` failed, and ends it
     /// where the server is to end by now.
     pub(crate) fn after_admission(
         &self,
-        place: usize,
+        slot: usize,
         begun: Result<(), AllocError>,
     ) -> Result<(), AllocError> {
         if begun.is_err() {
-            self.leave(place);
+            self.leave(slot);
         } else if self.connections.is_ending(&self.rt) {
             self.connections.end(&self.rt);
         }
@@ -233,7 +233,7 @@ where
     }
 
     /// Returns the store as the request handlers of connections call it.
-    pub(crate) fn callee(&self) -> ServedStore<'_, R, C, G> {
+    pub(crate) fn backend(&self) -> ServedStore<'_, R, C, G> {
         ServedStore {
             rt: self.rt,
             alloc: self.alloc,
@@ -244,25 +244,25 @@ where
 
     /// Serves a client to the end of its stream. Returns the receipts of its calls, where they are
     /// kept.
-    fn serve_client(&self, stream: &TcpStream, place: usize) -> Vec<CallReceipt> {
+    fn serve_client(&self, stream: &TcpStream, slot: usize) -> Vec<CallReceipt> {
         let _ = stream.set_nodelay(true);
         set_patience(stream, self.serving.idle);
         let mut reader = Stream::new(stream);
         let mut writer = Stream::new(stream);
         let visit = Visit {
-            callee: self.callee(),
+            backend: self.backend(),
             log: self.serving.log,
-            place,
+            slot,
         };
-        let mut door = CallDoor::new(self.alloc, visit, self.serving.keeps);
+        let mut door = CallDoor::new(self.alloc, visit, self.serving.keep_receipts);
         let _ = serve(self.alloc, &mut reader, &mut writer, &mut door);
         door.calls.into_receipts()
     }
 
     /// Serves a connection to its end, hands its receipts over and frees its place.
-    fn attend(&self, stream: Arc<TcpStream>, place: usize, receipts: usize) {
-        let calls = self.serve_client(&stream, place);
-        self.ended(place, receipts, calls);
+    fn attend(&self, stream: Arc<TcpStream>, slot: usize, receipts: usize) {
+        let calls = self.serve_client(&stream, slot);
+        self.ended(slot, receipts, calls);
         drop(stream);
     }
 
@@ -271,10 +271,10 @@ where
         &'s self,
         scope: &Scope<'s, E>,
         stream: Arc<TcpStream>,
-        place: usize,
+        slot: usize,
     ) -> Result<(), AllocError> {
         let receipts = self.new_receipts()?;
-        let thread = scope.spawn(move || self.attend(stream, place, receipts))?;
+        let thread = scope.spawn(move || self.attend(stream, slot, receipts))?;
         drop(thread);
         Ok(())
     }
@@ -282,28 +282,28 @@ where
     /// Serves a connection on a thread of its own where there is a place; else it is turned away.
     /// Fails where there is no thread or no memory; the connection is then closed.
     fn take_in<'s, E>(&'s self, scope: &Scope<'s, E>, stream: TcpStream) -> Result<(), AllocError> {
-        let Some((stream, place)) = self.admit(stream)? else {
+        let Some((stream, slot)) = self.admit(stream)? else {
             return Ok(());
         };
-        let begun = self.begin(scope, stream, place);
-        self.after_admission(place, begun)
+        let begun = self.begin(scope, stream, slot);
+        self.after_admission(slot, begun)
     }
 
     /// Takes in as many connections as `Serving` says, until the server is to end or its listener
     /// has failed.
     fn take_all<'s, E>(&'s self, scope: &Scope<'s, E>, listener: &TcpListener) -> Taken {
         let mut left = self.serving.connections;
-        let mut lacked = false;
+        let mut had_failures = false;
         for _ in self.rt.forever() {
             match self.next_connection(listener) {
                 Next::Connection(stream) => {
-                    lacked = self.take_in(scope, stream).is_err() || lacked;
+                    had_failures = self.take_in(scope, stream).is_err() || had_failures;
                 }
                 Next::End => break,
                 Next::ListenerFailed => {
                     self.end_open();
                     return Taken {
-                        lacked,
+                        had_failures,
                         listener_failed: true,
                     };
                 }
@@ -314,7 +314,7 @@ where
             left = left.saturating_sub(1);
         }
         Taken {
-            lacked,
+            had_failures,
             listener_failed: false,
         }
     }
@@ -345,18 +345,18 @@ where
 
 /// Serves the connections of a listener to a store, each until its client ends it, at most as many
 /// at once as `connections` has places. One more is closed without a reply. Returns once as many
-/// connections were made as the `Serving` of `crowds` says, or `connections` are to end, or the
+/// connections were made as the `Serving` of `event_loops` says, or `connections` are to end, or the
 /// listener has failed, and all connections are over.
 ///
-/// Where `crowds` has threads, they serve all connections in turn; else each connection has a
+/// Where `event_loops` has threads, they serve all connections in turn; else each connection has a
 /// thread of its own. Fails where one of those threads cannot be made; no connection was taken
 /// then.
 ///
 /// The listener is made non-blocking. An error of it that may pass, as no free descriptor or an
 /// aborted connection, is followed by a pause of 10 milliseconds and another try. After an error
-/// that lasts (`Served::listener_failed`) what the open connections brought is still answered, and
+/// that lasts (`ServeReport::listener_failed`) what the open connections brought is still answered, and
 /// those that are open 5 seconds later are cut. A connection for which there is no thread or no
-/// memory is closed at once (`Served::lacked`). The system is asked to hold at most 65,536 bytes in
+/// memory is closed at once (`ServeReport::had_failures`). The system is asked to hold at most 65,536 bytes in
 /// each direction of a connection and to probe silent peers (`prepare`); a connection for which it
 /// refuses that is closed and not counted.
 pub fn accept_with<'x, R, C, G>(
@@ -365,18 +365,18 @@ pub fn accept_with<'x, R, C, G>(
     store: &'x Store<C, G>,
     listener: &TcpListener,
     connections: &'x Connections,
-    crowds: Crowds,
-) -> Result<Served, AllocError>
+    event_loops: EventLoops,
+) -> Result<ServeReport, AllocError>
 where
     R: ServerRuntime,
     C: Core + Send + 'static,
     G: Gate + Send + Sync + 'static,
 {
-    let Crowds { serving, all } = crowds;
+    let EventLoops { serving, all } = event_loops;
     let server = Server::new(rt, alloc, store, serving, connections);
     let taken = if listener.set_nonblocking(true).is_err() {
         Ok(Taken {
-            lacked: false,
+            had_failures: false,
             listener_failed: true,
         })
     } else if all.is_empty() {
@@ -386,12 +386,12 @@ where
     };
     connections.finish(&rt);
     let Taken {
-        lacked,
+        had_failures,
         listener_failed,
     } = taken?;
-    Ok(Served {
+    Ok(ServeReport {
         receipts: server.into_receipts(),
-        lacked,
+        had_failures,
         listener_failed,
     })
 }
@@ -406,18 +406,18 @@ fn joined(alloc: Global, parts: Vec<Vec<CallReceipt>>) -> Result<Vec<CallReceipt
 }
 
 /// Returns the receipts of serving, or why serving failed.
-fn receipts_of(alloc: Global, served: Served) -> Result<Vec<CallReceipt>, Refusal>
+fn receipts_of(alloc: Global, served: ServeReport) -> Result<Vec<CallReceipt>, Refusal>
     ensures err { IfErr result (λ e. (e ≡ Refusal.Memory) ⊎ (e ≡ Refusal.Io)) }
 {
-    let Served {
+    let ServeReport {
         receipts,
-        lacked,
+        had_failures,
         listener_failed,
     } = served;
     if listener_failed {
         return Err(Refusal::Io);
     }
-    if lacked {
+    if had_failures {
         return Err(Refusal::Memory);
     }
     Ok(joined(alloc, receipts)?)
@@ -448,20 +448,20 @@ where
     ensures err { IfErr result (λ e. (e ≡ Refusal.Memory) ⊎ (e ≡ Refusal.Io)) }
     ensures none { store.now.journals ≡ false → IfOk result (λ receipts. receipts.items ≡ []) }
 {
-    let keeps = store.has_journals();
+    let keep_receipts = store.has_journals();
     let serving = Serving {
-        keeps,
+        keep_receipts,
         connections,
         threads: 0,
         idle: 0,
         most_leap: 0,
         log: Log::Silent,
     };
-    let crowds = Crowds::threadless(alloc, serving);
+    let event_loops = EventLoops::threadless(alloc, serving);
     let open = Connections::new(alloc, 0)?;
-    let served = accept_with(rt, alloc, store, listener, &open, crowds)?;
+    let served = accept_with(rt, alloc, store, listener, &open, event_loops)?;
     let receipts = receipts_of(alloc, served)?;
-    if keeps {
+    if keep_receipts {
         Ok(receipts)
     } else {
         drop(receipts);

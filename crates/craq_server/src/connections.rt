@@ -1,6 +1,6 @@
 //! `Connections`: the open connections of a server, each at a place, and the server's progress.
 //! Shared by `accept`, the threads that serve them, and those that wait for the server or end it.
-use crate::places::Places;
+use crate::connection_slots::ConnectionSlots;
 use std::alloc::{AllocError, Global};
 use std::net::{Shutdown, TcpStream};
 use std::sync::{Arc, Condvar, Mutex, Wait};
@@ -24,7 +24,7 @@ pub struct Connections {
     /// Notified at each progress.
     changed: Condvar,
     /// The open connections, each at its place.
-    places: Mutex<Places>,
+    slots: Mutex<ConnectionSlots>,
     /// True where there are never more places than at first.
     is_bounded: bool,
 }
@@ -34,7 +34,7 @@ impl Connections {
     /// system's limit of descriptors then bounds them. None is open yet. Fails only when out of
     /// memory.
     pub fn new(alloc: Global, most: u32) -> Result<Self, AllocError> {
-        let places = Places::new(alloc, most)?;
+        let slots = ConnectionSlots::new(alloc, most)?;
         Ok(Connections {
             progress: Mutex::new(Progress {
                 has_begun: false,
@@ -42,7 +42,7 @@ impl Connections {
                 is_over: false,
             }),
             changed: Condvar::new(),
-            places: Mutex::new(places),
+            slots: Mutex::new(slots),
             is_bounded: most > 0,
         })
     }
@@ -92,27 +92,27 @@ impl Connections {
         rt: &R,
         stream: Arc<TcpStream>,
     ) -> Result<Option<usize>, AllocError> {
-        let mut places = self.places.lock(rt);
+        let mut slots = self.slots.lock(rt);
         if !self.is_bounded {
-            places.make_room()?;
+            slots.make_room()?;
         }
-        Ok(places.enter(stream))
+        Ok(slots.enter(stream))
     }
 
     /// Frees the place of a connection that is over.
-    pub(crate) fn leave<R: Wait>(&self, rt: &R, place: usize) {
-        self.places.lock(rt).leave(place);
+    pub(crate) fn leave<R: Wait>(&self, rt: &R, slot: usize) {
+        self.slots.lock(rt).leave(slot);
     }
 
     /// Returns whether no connection is open.
     pub(crate) fn is_idle<R: Wait>(&self, rt: &R) -> bool {
-        self.places.lock(rt).are_free()
+        self.slots.lock(rt).are_free()
     }
 
     /// Shuts each open connection down.
     fn shut_all<R: Wait>(&self, rt: &R, how: Shutdown) {
-        let places = self.places.lock(rt);
-        for stream in places.as_slice().iter().flatten() {
+        let slots = self.slots.lock(rt);
+        for stream in slots.as_slice().iter().flatten() {
             let _ = stream.shutdown(how);
         }
     }

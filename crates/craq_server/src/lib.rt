@@ -3,20 +3,20 @@
 #![tactic(auto)]
 
 mod accepting;
+mod connection_slots;
 mod connections;
-mod crews;
-mod door;
+mod io_threads;
 mod listening;
 mod logging;
 mod passes;
-mod places;
 mod runtime;
+mod served_store;
 mod socket_options;
 mod status;
 
-pub use accepting::{Served, Serving, accept, accept_with};
+pub use accepting::{ServeReport, Serving, accept, accept_with};
 pub use connections::Connections;
-pub use crews::Crowds;
+pub use io_threads::EventLoops;
 pub use logging::Log;
 pub use runtime::ServerRuntime;
 pub use status::status_text;

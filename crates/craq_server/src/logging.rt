@@ -14,10 +14,10 @@ pub enum Log {
 }
 
 /// Logs that a connection has a place, and its peer: `nowhere` if the peer has already gone.
-fn tell_begun<R: Eprint>(rt: &R, place: usize, stream: &TcpStream) {
+fn tell_begun<R: Eprint>(rt: &R, slot: usize, stream: &TcpStream) {
     let _ = match stream.peer_addr() {
-        Ok(peer) => eprintln!(rt; "connection {place} from {peer}"),
-        Err(_) => eprintln!(rt; "connection {place} from nowhere"),
+        Ok(peer) => eprintln!(rt; "connection {slot} from {peer}"),
+        Err(_) => eprintln!(rt; "connection {slot} from nowhere"),
     };
 }
 
@@ -31,19 +31,19 @@ fn tell_turned_away<R: Eprint>(rt: &R, stream: &TcpStream, count: u64) {
 
 impl Log {
     /// Logs that a connection has a place from now on.
-    pub(crate) fn begun<R: Eprint>(self, rt: &R, place: usize, stream: &TcpStream) {
+    pub(crate) fn begun<R: Eprint>(self, rt: &R, slot: usize, stream: &TcpStream) {
         match self {
             Log::Silent => (),
-            Log::Lines => tell_begun(rt, place, stream),
+            Log::Lines => tell_begun(rt, slot, stream),
         }
     }
 
     /// Logs that the connection of a place is over.
-    pub(crate) fn ended<R: Eprint>(self, rt: &R, place: usize) {
+    pub(crate) fn ended<R: Eprint>(self, rt: &R, slot: usize) {
         match self {
             Log::Silent => (),
             Log::Lines => {
-                let _ = eprintln!(rt; "connection {place} ended");
+                let _ = eprintln!(rt; "connection {slot} ended");
             }
         }
     }
@@ -57,12 +57,12 @@ impl Log {
     }
 
     /// Logs that a call of the connection of a place is refused.
-    pub(crate) fn refused<R: Eprint>(self, rt: &R, place: usize, refusal: Refusal) {
+    pub(crate) fn refused<R: Eprint>(self, rt: &R, slot: usize, refusal: Refusal) {
         match self {
             Log::Silent => (),
             Log::Lines => {
                 let number = refusal.number();
-                let _ = eprintln!(rt; "connection {place}: refused {number}, {refusal}");
+                let _ = eprintln!(rt; "connection {slot}: refused {number}, {refusal}");
             }
         }
     }

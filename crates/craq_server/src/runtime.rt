@@ -1,4 +1,4 @@
-//! `ServerRuntime`: the handles that a server needs; for `accepting`, `crews` and programs that
+//! `ServerRuntime`: the handles that a server needs; for `accepting`, `contexts` and programs that
 //! serve.
 use std::sync::Wait;
 use std::thread::Threads;

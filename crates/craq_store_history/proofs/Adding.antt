@@ -12,7 +12,7 @@ use Rattle.craq_epochs.specs.Mastered as masters
 use Rattle.craq_runs.specs.Typed.{IsTypedRunOf}
 use Rattle.craq_seat.specs.declared.journal.BookEvent.{BookEvent}
 use Rattle.craq_seat.specs.declared.journal.Record.{Record}
-use Rattle.craq_seat.specs.Merge.{Line, book_line, node_line, run_of}
+use Rattle.craq_seat.specs.Merge.{MergedStep, book_line, node_line, run_of}
 use Rattle.craq_causality.specs.Authors.{IsMasterAfter, IsNodeAfter}
 use Rattle.craq_causality.specs.Causal.{AreCausal, AreFew}
 use Rattle.craq_causality.proofs.Growing.{joined_later, master_follows, master_more, no_lines, node_follows, node_more, sent_later, stopped_later}
@@ -44,7 +44,7 @@ quiet c log e h k holds =
     rw (members_quiet c log e h, ls) holds
 
 -- the entry is a line of the chain
-line_holds : (c : ℕ) (log : List Entry) (e : Entry) (members : List ℕ) (l : Line) → members_in c log ≡ Some members → opened_by c e ≡ None → line_in c e ≡ l ∷ [] → AreCausal c members (lines_in c log ++ l ∷ []) → ChainHolds c (members_in c (log ++ e ∷ [])) (lines_in c (log ++ e ∷ []))
+line_holds : (c : ℕ) (log : List Entry) (e : Entry) (members : List ℕ) (l : MergedStep) → members_in c log ≡ Some members → opened_by c e ≡ None → line_in c e ≡ l ∷ [] → AreCausal c members (lines_in c log ++ l ∷ []) → ChainHolds c (members_in c (log ++ e ∷ [])) (lines_in c (log ++ e ∷ []))
 line_holds c log e members l opened h k a =
     let ms : members_in c (log ++ e ∷ []) ≡ Some members = members_quiet c log e h ∙ opened in
     let ls : lines_in c (log ++ e ∷ []) ≡ lines_in c log ++ l ∷ [] = lines_more c log e ∙ ap (λ z. lines_in c log ++ z) k in
@@ -59,10 +59,10 @@ node_over : (name : NodeName) (members : List ℕ) (xs ys : List Entry) (p : Pla
 node_over name members xs ys p stamp h n =
     record { records = n.records; are = sym (own_same name.chain name.node xs ys h) ∙ n.are; replay = n.replay; low = n.low; stamps = n.stamps }
 
-node_here : (name : NodeName) (seen told log : List Entry) (stamp : ℕ) (event : Snapshot Event) (pass : ℕ) (step : Snapshot Step) (call : Option CallId) (next : Plain)
-    → MayStep name seen told (node_record stamp event pass step) call next → IsHistory log → IsPrefix seen log → IsPrefix told log → of author_of (Node name.chain name.node) seen ≡ of author_of (Node name.chain name.node) log
+node_here : (name : NodeName) (seen reported log : List Entry) (stamp : ℕ) (event : Snapshot Event) (pass : ℕ) (step : Snapshot Step) (call : Option CallId) (next : Plain)
+    → MayStep name seen reported (node_record stamp event pass step) call next → IsHistory log → IsPrefix seen log → IsPrefix reported log → of author_of (Node name.chain name.node) seen ≡ of author_of (Node name.chain name.node) log
     → ChainHolds name.chain (members_in name.chain (log ++ AtNode name stamp event pass step call ∷ [])) (lines_in name.chain (log ++ AtNode name stamp event pass step call ∷ []))
-node_here name seen told log stamp event pass step call next m h kept heard own =
+node_here name seen reported log stamp event pass step call next m h kept heard own =
     let c : ℕ = name.chain in
     let e : Entry = AtNode name stamp event pass step call in
     let r : Record Event = node_record stamp event pass step in
@@ -71,22 +71,22 @@ node_here name seen told log stamp event pass step call next m h kept heard own 
     (node_follows c m.at.members (lines_in c log) name.node m.node next m.stamp r
     (causal_in c log m.at.members opened (h.chains c)) m.at.member
     (node_over name m.at.members seen log m.node m.stamp own m.at.after) m.step m.later
-    (joined_later m.at.members (lines_in c seen) (lines_in c log) name.node (lines_prefix c seen log kept) m.at.joined, sent_later (lines_in c told) (lines_in c log) event.value (lines_prefix c told log heard) m.sent)
+    (joined_later m.at.members (lines_in c seen) (lines_in c log) name.node (lines_prefix c seen log kept) m.at.joined, sent_later (lines_in c reported) (lines_in c log) event.value (lines_prefix c reported log heard) m.sent)
     m.typed)
 
-pub node_may : (name : NodeName) (seen told : List Entry) (stamp : ℕ) (event : Snapshot Event) (pass : ℕ) (step : Snapshot Step) (call : Option CallId) (next : Plain) → MayStep name seen told (node_record stamp event pass step) call next → MayAdd author_of IsHistory seen told (AtNode name stamp event pass step call)
-node_may name seen told stamp event pass step call next m log h kept heard own =
+pub node_may : (name : NodeName) (seen reported : List Entry) (stamp : ℕ) (event : Snapshot Event) (pass : ℕ) (step : Snapshot Step) (call : Option CallId) (next : Plain) → MayStep name seen reported (node_record stamp event pass step) call next → MayAdd author_of IsHistory seen reported (AtNode name stamp event pass step call)
+node_may name seen reported stamp event pass step call next m log h kept heard own =
     let e : Entry = AtNode name stamp event pass step call in
     record {
       chains = λ c. elim (same_or_not name.chain c) [
-        | inl is ↦ subst (λ k. ChainHolds k (members_in k (log ++ e ∷ [])) (lines_in k (log ++ e ∷ []))) is (node_here name seen told log stamp event pass step call next m h kept heard own)
+        | inl is ↦ subst (λ k. ChainHolds k (members_in k (log ++ e ∷ [])) (lines_in k (log ++ e ∷ []))) is (node_here name seen reported log stamp event pass step call next m h kept heard own)
         | inr d ↦ quiet c log e refl (rw (ne_eqb name.chain c d) refl) (h.chains c)
       ];
-      calls = calls_more [] log e h.calls (accepts_later told log name event.value call heard m.called);
+      calls = calls_more [] log e h.calls (accepts_later reported log name event.value call heard m.called);
     }
 
-pub node_seen : (name : NodeName) (seen told new : List Entry) (stamp : ℕ) (event : Snapshot Event) (pass : ℕ) (step : Snapshot Step) (call : Option CallId) (next : Plain) → MayStep name seen told (node_record stamp event pass step) call next → IsAdded author_of seen told (AtNode name stamp event pass step call) new → IsNodeAt name new next stamp
-node_seen name seen told new stamp event pass step call next m a =
+pub node_seen : (name : NodeName) (seen reported new : List Entry) (stamp : ℕ) (event : Snapshot Event) (pass : ℕ) (step : Snapshot Step) (call : Option CallId) (next : Plain) → MayStep name seen reported (node_record stamp event pass step) call next → IsAdded author_of seen reported (AtNode name stamp event pass step call) new → IsNodeAt name new next stamp
+node_seen name seen reported new stamp event pass step call next m a =
     let c : ℕ = name.chain in
     let e : Entry = AtNode name stamp event pass step call in
     let r : Record Event = node_record stamp event pass step in
@@ -108,10 +108,10 @@ master_over : (c : ℕ) (members : List ℕ) (xs ys : List Entry) (p : Mastered)
 master_over c members xs ys p stamp h n =
     record { records = n.records; are = sym (own_same c 0 xs ys h) ∙ n.are; replay = n.replay; stamps = n.stamps }
 
-master_here : (c : ℕ) (seen told log : List Entry) (stamp : ℕ) (event : BookEvent) (pass : ℕ) (step : Snapshot Step) (next : Mastered)
-    → MayOrder c seen told (master_record stamp event pass step) next → IsHistory log → IsPrefix seen log → IsPrefix told log → of author_of (Node c 0) seen ≡ of author_of (Node c 0) log
+master_here : (c : ℕ) (seen reported log : List Entry) (stamp : ℕ) (event : BookEvent) (pass : ℕ) (step : Snapshot Step) (next : Mastered)
+    → MayOrder c seen reported (master_record stamp event pass step) next → IsHistory log → IsPrefix seen log → IsPrefix reported log → of author_of (Node c 0) seen ≡ of author_of (Node c 0) log
     → ChainHolds c (members_in c (log ++ AtMaster c stamp event pass step ∷ [])) (lines_in c (log ++ AtMaster c stamp event pass step ∷ []))
-master_here c seen told log stamp event pass step next m h kept heard own =
+master_here c seen reported log stamp event pass step next m h kept heard own =
     let e : Entry = AtMaster c stamp event pass step in
     let r : Record BookEvent = master_record stamp event pass step in
     let opened : members_in c log ≡ Some m.at.members = members_prefix c seen log m.at.members kept m.at.opened in
@@ -119,21 +119,21 @@ master_here c seen told log stamp event pass step next m h kept heard own =
     (master_follows c m.at.members (lines_in c log) m.master next m.stamp r
     (causal_in c log m.at.members opened (h.chains c))
     (master_over c m.at.members seen log m.master m.stamp own m.at.after) m.step m.later
-    (stopped_later (lines_in c told) (lines_in c log) event (lines_prefix c told log heard) m.stopped))
+    (stopped_later (lines_in c reported) (lines_in c log) event (lines_prefix c reported log heard) m.stopped))
 
-pub master_may : (chain : ℕ) (seen told : List Entry) (stamp : ℕ) (event : BookEvent) (pass : ℕ) (step : Snapshot Step) (next : Mastered) → MayOrder chain seen told (master_record stamp event pass step) next → MayAdd author_of IsHistory seen told (AtMaster chain stamp event pass step)
-master_may chain seen told stamp event pass step next m log h kept heard own =
+pub master_may : (chain : ℕ) (seen reported : List Entry) (stamp : ℕ) (event : BookEvent) (pass : ℕ) (step : Snapshot Step) (next : Mastered) → MayOrder chain seen reported (master_record stamp event pass step) next → MayAdd author_of IsHistory seen reported (AtMaster chain stamp event pass step)
+master_may chain seen reported stamp event pass step next m log h kept heard own =
     let e : Entry = AtMaster chain stamp event pass step in
     record {
       chains = λ c. elim (same_or_not chain c) [
-        | inl is ↦ subst (λ k. ChainHolds k (members_in k (log ++ e ∷ [])) (lines_in k (log ++ e ∷ []))) is (master_here chain seen told log stamp event pass step next m h kept heard own)
+        | inl is ↦ subst (λ k. ChainHolds k (members_in k (log ++ e ∷ [])) (lines_in k (log ++ e ∷ []))) is (master_here chain seen reported log stamp event pass step next m h kept heard own)
         | inr d ↦ quiet c log e refl (rw (ne_eqb chain c d) refl) (h.chains c)
       ];
       calls = calls_more [] log e h.calls tt;
     }
 
-pub master_seen : (c : ℕ) (seen told new : List Entry) (stamp : ℕ) (event : BookEvent) (pass : ℕ) (step : Snapshot Step) (next : Mastered) → MayOrder c seen told (master_record stamp event pass step) next → IsAdded author_of seen told (AtMaster c stamp event pass step) new → IsMasterAt c new next stamp
-master_seen c seen told new stamp event pass step next m a =
+pub master_seen : (c : ℕ) (seen reported new : List Entry) (stamp : ℕ) (event : BookEvent) (pass : ℕ) (step : Snapshot Step) (next : Mastered) → MayOrder c seen reported (master_record stamp event pass step) next → IsAdded author_of seen reported (AtMaster c stamp event pass step) new → IsMasterAt c new next stamp
+master_seen c seen reported new stamp event pass step next m a =
     let e : Entry = AtMaster c stamp event pass step in
     let r : Record BookEvent = master_record stamp event pass step in
     let before : List Entry = a.before in
@@ -160,8 +160,8 @@ opened_here c log members m h =
     let ls : lines_in c (log ++ e ∷ []) ≡ [] = lines_more c log e ∙ (append-nil (lines_in c log) ∙ none_holds c log none h) in
     rw (ms, ls) (no_lines c members.value m.membership)
 
-pub opened_may : (chain : ℕ) (seen told : List Entry) (members : Snapshot (List ℕ)) → MayOpen chain seen members.value → MayAdd author_of IsHistory seen told (Opened chain members)
-opened_may chain seen told members m log h kept heard own =
+pub opened_may : (chain : ℕ) (seen reported : List Entry) (members : Snapshot (List ℕ)) → MayOpen chain seen members.value → MayAdd author_of IsHistory seen reported (Opened chain members)
+opened_may chain seen reported members m log h kept heard own =
     let e : Entry = Opened chain members in
     let now : MayOpen chain log members.value = record { first = sym own ∙ m.first; membership = m.membership } in
     record {
@@ -174,8 +174,8 @@ opened_may chain seen told members m log h kept heard own =
 
 -- ---- calls
 
-pub called_may : (seen told : List Entry) (call : CallId) (name : NodeName) (ask : Snapshot Ask) → MayMake seen call → MayAdd author_of IsHistory seen told (Called call name ask)
-called_may seen told call name ask m log h kept heard own =
+pub called_may : (seen reported : List Entry) (call : CallId) (name : NodeName) (ask : Snapshot Ask) → MayMake seen call → MayAdd author_of IsHistory seen reported (Called call name ask)
+called_may seen reported call name ask m log h kept heard own =
     let e : Entry = Called call name ask in
     record {
       chains = λ c. quiet c log e refl refl (h.chains c);

@@ -64,9 +64,9 @@ again [] x ys = refl
 again (z ∷ zs) x ys = ap (λ l. z ∷ l) (again zs x ys)
 
 -- a step that accepts a call stands after the call, in every history that goes on from it
-pub accepted_later : (log seen told mid before rest : List Entry) (call : CallId) (name at : NodeName) (ask : Snapshot Ask) (stamp : ℕ) (event : Snapshot Event) (pass : ℕ) (step : Snapshot Step) → IsHistory log → IsAdded author_of seen told (Called call name ask) mid → IsPrefix mid log
+pub accepted_later : (log seen reported mid before rest : List Entry) (call : CallId) (name at : NodeName) (ask : Snapshot Ask) (stamp : ℕ) (event : Snapshot Event) (pass : ℕ) (step : Snapshot Step) → IsHistory log → IsAdded author_of seen reported (Called call name ask) mid → IsPrefix mid log
     → log ≡ before ++ AtNode at stamp event pass step (Some call) ∷ rest → IsPrefix mid before
-accepted_later log seen told mid before rest call name at ask stamp event pass step h a p is =
+accepted_later log seen reported mid before rest call name at ask stamp event pass step h a p is =
     let e : Entry = AtNode at stamp event pass step (Some call) in
     let c : Entry = Called call name ask in
     let w : WasCalled before call at _ = (may_call log before rest e h is).2 in

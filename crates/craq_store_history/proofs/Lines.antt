@@ -2,7 +2,7 @@
 use Rattle.std.proofs.Common.{◌≡◌, ℕ, ◌==◌, ◌&&◌, Bool, true, false, if◌then◌else◌, List, [], ◌∷◌, ◌++◌, Option, Some, None, refl, sym, ap, subst, ◌∙◌, append_assoc, append-nil}
 use Rattle.std.proofs.lemmas.List.Elements.{filter-append}
 use mathlib.Core.List.{IsPrefix}
-use Rattle.craq_seat.specs.Merge.{Line, book_line, node_line}
+use Rattle.craq_seat.specs.Merge.{MergedStep, book_line, node_line}
 use Rattle.craq_causality.specs.Authors.{lines_of}
 use Rattle.craq_ghost_history.specs.declared.author.Author.TheVariants.{Node, Client}
 use Rattle.craq_ghost_history.specs.Authors.{of, same}
@@ -58,11 +58,11 @@ members_prefix c xs ys members p h =
 
 -- ---- an author's lines are of its entries
 
-empty_both : (b : Bool) → ◌≡◌ {A = List Line} [] (if b then [] else [])
+empty_both : (b : Bool) → ◌≡◌ {A = List MergedStep} [] (if b then [] else [])
 empty_both true = refl
 empty_both false = refl
 
-own_once : (a b : Bool) (id : ℕ) (l : Line) → (l.node == id) ≡ b → lines_of id (if a then l ∷ [] else []) ≡ (if a && b then (if a then l ∷ [] else []) else [])
+own_once : (a b : Bool) (id : ℕ) (l : MergedStep) → (l.node == id) ≡ b → lines_of id (if a then l ∷ [] else []) ≡ (if a && b then (if a then l ∷ [] else []) else [])
 own_once false b id l h = refl
 own_once true true id l h = rw h refl
 own_once true false id l h = rw h refl
@@ -78,7 +78,7 @@ unfolding lines_in
 join true c e es = refl
 join false c e es = refl
 
-both : (xs ys us vs : List Line) → xs ≡ us → ys ≡ vs → xs ++ ys ≡ us ++ vs
+both : (xs ys us vs : List MergedStep) → xs ≡ us → ys ≡ vs → xs ++ ys ≡ us ++ vs
 both xs ys us vs e f = rw (e, f) refl
 
 own_lines : (c id : ℕ) (log : List Entry) → lines_of id (lines_in c log) ≡ lines_in c (of author_of (Node c id) log)
@@ -87,7 +87,7 @@ own_lines c id [] = refl
 own_lines c id (e ∷ es) =
     let mine : List Entry = of author_of (Node c id) es in
     let b : Bool = same (author_of e) (Node c id) in
-    filter-append (λ (l : Line). l.node == id) (line_in c e) (lines_in c es)
+    filter-append (λ (l : MergedStep). l.node == id) (line_in c e) (lines_in c es)
     ∙ (both (lines_of id (line_in c e)) (lines_of id (lines_in c es)) (if b then line_in c e else []) (lines_in c mine) (line_own c id e) (own_lines c id es)
     ∙ join b c e mine)
 

@@ -6,7 +6,7 @@ use Rattle.craq_names.specs.declared.name.NodeName.{NodeName}
 use Rattle.craq_model.specs.declared.ask.Ask.{Ask}
 use Rattle.craq_model.specs.declared.ask.Event.{Event}
 use Rattle.craq_model.specs.declared.ask.Event.TheVariants as events
-use Rattle.craq_seat.specs.Merge.{Line}
+use Rattle.craq_seat.specs.Merge.{MergedStep}
 use Rattle.craq_causality.specs.Causal.{AreCausal}
 use Rattle.craq_store_history.specs.declared.entry.CallId.{CallId}
 use Rattle.craq_store_history.specs.declared.entry.Entry.{Entry}
@@ -14,7 +14,7 @@ use Rattle.craq_store_history.specs.declared.entry.Entry.TheVariants.{Opened, Ca
 use Rattle.craq_store_history.specs.Entries.{lines_in, members_in}
 
 -- the lines of an opened chain are in causal order; a chain that is not opened has none
-abbrev pub ChainHolds : ℕ → Option (List ℕ) → List Line → Type 0
+abbrev pub ChainHolds : ℕ → Option (List ℕ) → List MergedStep → Type 0
 ChainHolds c None lines = lines ≡ []
 ChainHolds c (Some members) lines = AreCausal c members lines
 

@@ -5,7 +5,7 @@ use Rattle.craq_model.specs.declared.ask.Event.{Event}
 use Rattle.craq_model.specs.declared.step.Step.{Step}
 use Rattle.craq_seat.specs.declared.journal.BookEvent.{BookEvent}
 use Rattle.craq_seat.specs.declared.journal.Record.{Record}
-use Rattle.craq_seat.specs.Merge.{Line, book_line, node_line}
+use Rattle.craq_seat.specs.Merge.{MergedStep, book_line, node_line}
 use Rattle.craq_ghost_history.specs.declared.author.Author.{Author}
 use Rattle.craq_ghost_history.specs.declared.author.Author.TheVariants.{Node, Client}
 use Rattle.craq_store_history.specs.declared.entry.Entry.{Entry}
@@ -25,14 +25,14 @@ abbrev pub master_record : ℕ → BookEvent → ℕ → Snapshot Step → Recor
 master_record stamp event pass step = record { stamp = stamp; event = event; pass = pass; step = step.value }
 
 -- the line of a chain that an entry is, if it is one
-abbrev pub line_in : ℕ → Entry → List Line
+abbrev pub line_in : ℕ → Entry → List MergedStep
 line_in c (Opened chain members) = []
 line_in c (Called call name ask) = []
 line_in c (AtNode name stamp event pass step call) = if name.chain == c then node_line name.node (node_record stamp event pass step) ∷ [] else []
 line_in c (AtMaster chain stamp event pass step) = if chain == c then book_line (master_record stamp event pass step) ∷ [] else []
 
 -- the lines of a chain
-unfoldable pub lines_in : ℕ → List Entry → List Line
+unfoldable pub lines_in : ℕ → List Entry → List MergedStep
 lines_in c [] = []
 lines_in c (e ∷ es) = line_in c e ++ lines_in c es
 

@@ -35,24 +35,24 @@ pub record IsMasterAt (chain : ℕ) (seen : List Entry) (master : Mastered) (sta
   pub after : IsMasterAfter chain members (lines_in chain seen) master stamp
 
 -- the node takes this step: the next of the node that its own steps lead to, of a message that was sent by what it was told, or of a call that was made
-pub record MayStep (name : NodeName) (seen told : List Entry) (r : Record Event) (call : Option CallId) (next : Plain) : Type 0 where
+pub record MayStep (name : NodeName) (seen reported : List Entry) (r : Record Event) (call : Option CallId) (next : Plain) : Type 0 where
   pub node : Plain
   pub stamp : ℕ
   pub at : IsNodeAt name seen node stamp
   pub step : node_step node r.event ≡ Ok (next, r.step)
   pub later : stamp < r.stamp
-  pub sent : IsOfSent (lines_in name.chain told) r.event
+  pub sent : IsOfSent (lines_in name.chain reported) r.event
   pub typed : IsOfType (AtNode r.event)
-  pub called : Accepts told name r.event call
+  pub called : Accepts reported name r.event call
 
 -- the master takes this step: a removal comes after the stop that it names
-pub record MayOrder (chain : ℕ) (seen told : List Entry) (r : Record BookEvent) (next : Mastered) : Type 0 where
+pub record MayOrder (chain : ℕ) (seen reported : List Entry) (r : Record BookEvent) (next : Mastered) : Type 0 where
   pub master : Mastered
   pub stamp : ℕ
   pub at : IsMasterAt chain seen master stamp
   pub step : book_step master r.event ≡ Ok (next, r.step)
   pub later : stamp < r.stamp
-  pub stopped : IsOfStopped (lines_in chain told) r.event
+  pub stopped : IsOfStopped (lines_in chain reported) r.event
 
 -- a chain is opened once, by its master, with members that may be a membership
 pub record MayOpen (chain : ℕ) (seen : List Entry) (members : List ℕ) : Type 0 where

@@ -29,22 +29,22 @@ pub fn each_chain_is_a_run()
 /// Each author knows enough to add its entry, whatever the others have added. A history without entries keeps the rule.
 pub fn authors_keep_the_rule()
     ensures empty { IsHistory [] }
-    ensures opened { (chain : ℕ) (seen told : List Entry) (members : Snapshot (List ℕ)) → MayOpen chain seen members.value
-        → MayAdd author_of IsHistory seen told (Opened chain members) }
-    ensures called { (seen told : List Entry) (call : CallId) (name : NodeName) (ask : Snapshot Ask) → MayMake seen call
-        → MayAdd author_of IsHistory seen told (Called call name ask) }
-    ensures node { (name : NodeName) (seen told : List Entry) (stamp : ℕ) (event : Snapshot Event) (pass : ℕ) (step : Snapshot Step) (call : Option CallId) (next : Plain)
-        → MayStep name seen told (node_record stamp event pass step) call next → MayAdd author_of IsHistory seen told (AtNode name stamp event pass step call) }
-    ensures master { (chain : ℕ) (seen told : List Entry) (stamp : ℕ) (event : BookEvent) (pass : ℕ) (step : Snapshot Step) (next : Mastered)
-        → MayOrder chain seen told (master_record stamp event pass step) next → MayAdd author_of IsHistory seen told (AtMaster chain stamp event pass step) }
+    ensures opened { (chain : ℕ) (seen reported : List Entry) (members : Snapshot (List ℕ)) → MayOpen chain seen members.value
+        → MayAdd author_of IsHistory seen reported (Opened chain members) }
+    ensures called { (seen reported : List Entry) (call : CallId) (name : NodeName) (ask : Snapshot Ask) → MayMake seen call
+        → MayAdd author_of IsHistory seen reported (Called call name ask) }
+    ensures node { (name : NodeName) (seen reported : List Entry) (stamp : ℕ) (event : Snapshot Event) (pass : ℕ) (step : Snapshot Step) (call : Option CallId) (next : Plain)
+        → MayStep name seen reported (node_record stamp event pass step) call next → MayAdd author_of IsHistory seen reported (AtNode name stamp event pass step call) }
+    ensures master { (chain : ℕ) (seen reported : List Entry) (stamp : ℕ) (event : BookEvent) (pass : ℕ) (step : Snapshot Step) (next : Mastered)
+        → MayOrder chain seen reported (master_record stamp event pass step) next → MayAdd author_of IsHistory seen reported (AtMaster chain stamp event pass step) }
 {}
 
 /// After a step was added, the author's own entries replay to the node, or the master, after it.
 pub fn authors_are_replayed()
-    ensures node { (name : NodeName) (seen told new : List Entry) (stamp : ℕ) (event : Snapshot Event) (pass : ℕ) (step : Snapshot Step) (call : Option CallId) (next : Plain)
-        → MayStep name seen told (node_record stamp event pass step) call next → IsAdded author_of seen told (AtNode name stamp event pass step call) new → IsNodeAt name new next stamp }
-    ensures master { (chain : ℕ) (seen told new : List Entry) (stamp : ℕ) (event : BookEvent) (pass : ℕ) (step : Snapshot Step) (next : Mastered)
-        → MayOrder chain seen told (master_record stamp event pass step) next → IsAdded author_of seen told (AtMaster chain stamp event pass step) new → IsMasterAt chain new next stamp }
+    ensures node { (name : NodeName) (seen reported new : List Entry) (stamp : ℕ) (event : Snapshot Event) (pass : ℕ) (step : Snapshot Step) (call : Option CallId) (next : Plain)
+        → MayStep name seen reported (node_record stamp event pass step) call next → IsAdded author_of seen reported (AtNode name stamp event pass step call) new → IsNodeAt name new next stamp }
+    ensures master { (chain : ℕ) (seen reported new : List Entry) (stamp : ℕ) (event : BookEvent) (pass : ℕ) (step : Snapshot Step) (next : Mastered)
+        → MayOrder chain seen reported (master_record stamp event pass step) next → IsAdded author_of seen reported (AtMaster chain stamp event pass step) new → IsMasterAt chain new next stamp }
 {}
 
 /// A step that accepts a call stands after the call, asks what the call asks of this node, and stands after all that the
@@ -52,7 +52,7 @@ pub fn authors_are_replayed()
 pub fn accepted_calls_follow()
     ensures made { (log done rest : List Entry) (name : NodeName) (stamp : ℕ) (event : Snapshot Event) (pass : ℕ) (step : Snapshot Step) (call : CallId)
         → IsHistory log → log ≡ done ++ AtNode name stamp event pass step (Some call) ∷ rest → Accepts done name event.value (Some call) }
-    ensures later { (log seen told mid done rest : List Entry) (call : CallId) (name at : NodeName) (ask : Snapshot Ask) (stamp : ℕ) (event : Snapshot Event) (pass : ℕ) (step : Snapshot Step)
-        → IsHistory log → IsAdded author_of seen told (Called call name ask) mid → IsPrefix mid log
+    ensures later { (log seen reported mid done rest : List Entry) (call : CallId) (name at : NodeName) (ask : Snapshot Ask) (stamp : ℕ) (event : Snapshot Event) (pass : ℕ) (step : Snapshot Step)
+        → IsHistory log → IsAdded author_of seen reported (Called call name ask) mid → IsPrefix mid log
         → log ≡ done ++ AtNode at stamp event pass step (Some call) ∷ rest → IsPrefix mid done }
 {}

@@ -27,8 +27,8 @@ all_next client next [] e a b = (b, tt)
 all_next client next (x ∷ xs) e a b = (below_next client next x a.0, all_next client next xs e a.1 b)
 
 -- after a call the next number is free
-pub fresh_after : (client next : ℕ) (seen told new : List Entry) (name : NodeName) (ask : Snapshot Ask) → MayMake seen (call_of client next) → IsAdded author_of seen told (Called (call_of client next) name ask) new → MayMake new (call_of client (next + 1))
-fresh_after client next seen told new name ask m a =
+pub fresh_after : (client next : ℕ) (seen reported new : List Entry) (name : NodeName) (ask : Snapshot Ask) → MayMake seen (call_of client next) → IsAdded author_of seen reported (Called (call_of client next) name ask) new → MayMake new (call_of client (next + 1))
+fresh_after client next seen reported new name ask m a =
     let call : CallId = call_of client next in
     subst (AllByRecursion (IsBelow (call_of client (next + 1)))) (sym a.now)
     (all_next client next a.before (Called call name ask) (below_later call seen a.before (sym a.own) m) (λ same. omega arith))

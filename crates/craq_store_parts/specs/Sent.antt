@@ -4,7 +4,7 @@ use Rattle.std.specs.declared.snapshot.Snapshot.{Snapshot}
 use Rattle.craq_names.specs.declared.name.NodeName.{NodeName}
 use Rattle.craq_model.specs.declared.ask.Ask.{Ask}
 use Rattle.craq_model.specs.declared.message.LinkMessage.{LinkMessage}
-use Rattle.craq_wire.specs.Spelling.{Spells}
+use Rattle.craq_wire.specs.Encoding.{Encodes}
 use Rattle.craq_causality.specs.Causal.{WasSent}
 use Rattle.craq_ghost_history.specs.declared.author.Author.TheVariants.{Client}
 use Rattle.craq_ghost_history.specs.Histories.{IsAdded, Written}
@@ -17,7 +17,7 @@ use Rattle.craq_store_history.specs.Steps.{MayMake}
 -- in this history a node of the chain, or its master, sent a message that these bytes spell
 pub record IsSentAs (chain : ℕ) (bytes : List ℕ) (log : List Entry) : Type 0 where
   pub message : LinkMessage
-  pub spelled : Spells message bytes
+  pub spelled : Encodes message bytes
   pub sent : WasSent (lines_in chain log) message
 
 -- what a contract sees of bytes on their way

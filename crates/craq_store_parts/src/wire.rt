@@ -3,7 +3,7 @@ ghost use Rattle.std.specs.Prelude.{◌≡◌, IfOk};
 ghost use Rattle.craq_causality.specs.Causal.{WasSent};
 ghost use Rattle.craq_store_history.specs.Entries.{lines_in};
 ghost use Rattle.craq_store_parts.specs.Sent.{IsSentAs};
-ghost use Rattle.craq_wire.specs.Spelling.{Spells};
+ghost use Rattle.craq_wire.specs.Encoding.{Encodes};
 
 use bytes::Bytes;
 use craq_ghost_history::{Named, Token};
@@ -50,7 +50,7 @@ impl<N: Named> Wire<N> {
     /// spell a message.
     pub fn read(self, alloc: Global) -> Result<(LinkMessage, Token<Entry, StoreRule, N>), Refusal>
         ensures sent { IfOk result (λ r. WasSent (lines_in self.chain r.1) r.0) }
-        ensures spelled { IfOk result (λ r. Spells r.0 self.bytes) }
+        ensures spelled { IfOk result (λ r. Encodes r.0 self.bytes) }
     {
         let Wire {
             chain: _,

@@ -19,10 +19,10 @@ use Rattle.craq_model.specs.declared.ask.Ask.TheVariants as asks
 use Rattle.craq_model.specs.declared.ask.Event.{Event}
 use Rattle.craq_model.specs.declared.step.Step.{Step}
 use Rattle.craq_model.specs.Plain.{Plain, newest, position_of, newest_object, clean_object, object_within}
-use Rattle.craq_model.specs.Settle.{Turn, read_answer}
-use Rattle.craq_model.specs.Asks.{ask_turn}
-use Rattle.craq_model.specs.Node.{event_turn}
-use Rattle.craq_protocol.specs.Machine.{World}
+use Rattle.craq_model.specs.Settle.{Transition, read_answer}
+use Rattle.craq_model.specs.Asks.{ask_transition}
+use Rattle.craq_model.specs.Node.{event_transition}
+use Rattle.craq_protocol.specs.Machine.{MachineState}
 use Rattle.craq_protocol.specs.Promises.{IsPrefix, Later}
 use Rattle.craq_protocol.proofs.Prefix.{prefix_length, prefix_is_take}
 use Rattle.craq_runs.specs.declared.explanation.Place.{Place}
@@ -30,7 +30,7 @@ use Rattle.craq_runs.specs.declared.run.Move.TheVariants as moves
 use Rattle.craq_runs.specs.declared.run.Taken.{Taken}
 use Rattle.craq_runs.specs.Chain.{Progress, node_at}
 use Rattle.craq_runs.specs.Seen.{Asked, ask_with}
-use Rattle.craq_runs.specs.Explain.{Account, account_with, due_in}
+use Rattle.craq_runs.specs.Explain.{Account, account_with, pending_in}
 use Rattle.craq_refinement.specs.Follows.{IsPlaced, IsHistory, seen_of, NodeFollows}
 use Rattle.craq_refinement.proofs.Lists.{placed_back}
 use Rattle.craq_refinement.proofs.Worlds.{history_length}
@@ -43,14 +43,14 @@ use Rattle.craq_updates.proofs.NewAsks.{TookAsk, new_ask_found}
 use Rattle.craq_updates.proofs.AtNodes.{now_at}
 use Rattle.craq_updates.proofs.Accounts.{next_account}
 use Rattle.craq_strong_answers.proofs.Gives.{Gives, Waits}
-use Rattle.craq_strong_answers.proofs.Same.{SameHistory, UpdateTurn, update_turns}
+use Rattle.craq_strong_answers.proofs.Same.{SameHistory, UpdateTransition, update_transitions}
 use Rattle.craq_strong_answers.proofs.Asks.{MayReply, MayRead, ReadGives, update_gives, read_gives}
-use Rattle.craq_strong_answers.proofs.Stands.{state_after, before, due_of, DueUpdate, DueRead}
+use Rattle.craq_strong_answers.proofs.Stands.{state_after, before, pending_of, PendingUpdate, PendingRead}
 use Rattle.craq_strong_answers.proofs.Stays.{GoesOn}
 use Rattle.craq_strong_answers.proofs.Nodes.{holds_log, Holds, GivenWithin, given_within, version_after, rises_between}
 use Rattle.craq_strong_answers.proofs.Looks.{clean_committed}
 use Rattle.craq_strong_answers.proofs.Kept.{kept_from, newest_position, IsNewest, Replied, replied_old, replied_new}
-use Rattle.craq_strong_answers.proofs.Served.{IsDueAt, Served}
+use Rattle.craq_strong_answers.proofs.Served.{IsPendingAt, RequestsServed}
 use Rattle.craq_strong_answers.proofs.Answering.{Answered, Questions, Versions, owed_by, before_log, At, at_node, at_holds, at_running, may_answer}
 use Rattle.craq_strong_answers.proofs.Hearing.{holds_same}
 
@@ -60,52 +60,52 @@ asking node ask step = record { chosen = moves.Ask node ask; step = step }
 
 -- ---- a new request in the account
 
-pub new_asked : (a : Account) (w : World Entry) (node : ℕ) (ask : Ask) (x : Progress) (step : Step) → Known a w → (t : TookAsk a.chain node ask x step)
+pub new_asked : (a : Account) (w : MachineState Entry) (node : ℕ) (ask : Ask) (x : Progress) (step : Step) → Known a w → (t : TookAsk a.chain node ask x step)
     → ask_with (next_account a (asking node ask step) x).asks node (t.here.was.last_ticket + 1) ≡ Some (record { move = a.chain.moves + 1; node = node; ticket = step.ticket; ask = ask })
 unfolding account_with
 new_asked a w node ask x step k t =
     new_ask_found a.chain.nodes node (a.chain.moves + 1) (t.here.was.last_ticket + 1) step.ticket ask t.here.was a.asks t.here.at (omega arith) t.ticket k.ticketed
 
 -- the number committed before a new request is the length of the log
-pub before_new : (a b : Account) (w v : World Entry) (ask : Asked) → Known a w → GoesOn a b w v → ask.move ≡ a.chain.moves + 1 → before b ask ≡ length w.log
+pub before_new : (a b : Account) (w v : MachineState Entry) (ask : Asked) → Known a w → GoesOn a b w v → ask.move ≡ a.chain.moves + 1 → before b ask ≡ length w.log
 before_new a b w v ask k g is =
     let l : AreLens a.chain.moves a.lens (numbers_of a.asks a.committed) = k.lens in
     let at : ask.move - 1 ≡ a.chain.moves = omega (arith, is) in
     ap (slice_index (0 ∷ b.lens)) at ∙ (g.lens a.chain.moves (omega (arith, l.count)) ∙ (l.ends ∙ (numbers_length a.asks a.committed ∙ ap length k.committed)))
 
-new_due : (a : Account) (w : World Entry) (node : ℕ) (u : Update) (x : Progress) (step : Step) → Served a w → (t : TookAsk a.chain node (asks.Update u) x step)
-    → due_of (next_account a (asking node (asks.Update u) step) x).due node (t.here.was.last_ticket + 1)
-    ≡ Some (record { node = node; ticket = t.here.was.last_ticket + 1; position = max (position_of t.here.turn.0 u.client) (length a.committed) })
+new_pending : (a : Account) (w : MachineState Entry) (node : ℕ) (u : Update) (x : Progress) (step : Step) → RequestsServed a w → (t : TookAsk a.chain node (asks.Update u) x step)
+    → pending_of (next_account a (asking node (asks.Update u) step) x).pending node (t.here.was.last_ticket + 1)
+    ≡ Some (record { node = node; ticket = t.here.was.last_ticket + 1; position = max (position_of t.here.transition.0 u.client) (length a.committed) })
 unfolding account_with
-new_due a w node u x step s t =
+new_pending a w node u x step s t =
     let ticket : ℕ = t.here.was.last_ticket + 1 in
-    let place : Place = record { node = node; ticket = ticket; position = max (position_of t.here.turn.0 u.client) (length a.committed) } in
+    let place : Place = record { node = node; ticket = ticket; position = max (position_of t.here.transition.0 u.client) (length a.committed) } in
     let test : Place → Bool = λ p. (p.node == node) && (p.ticket == ticket) in
-    let is : due_in (length a.committed) step.ticket (node_at x.0.nodes node) (moves.Ask node (asks.Update u)) ≡ place ∷ [] =
-    ap (λ o. due_in (length a.committed) o (node_at x.0.nodes node) (moves.Ask node (asks.Update u))) t.ticket
-    ∙ ap (λ o. due_in (length a.committed) (Some ticket) o (moves.Ask node (asks.Update u))) (now_at t.here) in
-    let others : AllByRecursion (λ (d : Place). test d ≡ false) a.due =
-    all_like (IsDueAt a.chain.nodes) (λ (d : Place). test d ≡ false) a.due
+    let is : pending_in (length a.committed) step.ticket (node_at x.0.nodes node) (moves.Ask node (asks.Update u)) ≡ place ∷ [] =
+    ap (λ o. pending_in (length a.committed) o (node_at x.0.nodes node) (moves.Ask node (asks.Update u))) t.ticket
+    ∙ ap (λ o. pending_in (length a.committed) (Some ticket) o (moves.Ask node (asks.Update u))) (now_at t.here) in
+    let others : AllByRecursion (λ (d : Place). test d ≡ false) a.pending =
+    all_like (IsPendingAt a.chain.nodes) (λ (d : Place). test d ≡ false) a.pending
     (λ d i. false_from_ne_true (test d) (λ h.
     let p : ((d.node == node) ≡ true) × ((d.ticket == ticket) ≡ true) = and_parts (d.node == node) (d.ticket == ticket) h in
     let P : ℕ → Type 0 = λ j. node_at a.chain.nodes j ≡ Some i.node in
     let same : t.here.was ≡ i.node = some_same (node_at a.chain.nodes node) t.here.at (subst P (eqb-true d.node node p.0) i.at) in
     let last : t.here.was.last_ticket ≡ i.node.last_ticket = ap (λ (p : Plain). p.last_ticket) same in
     let e : d.ticket ≡ ticket = eqb-true d.ticket ticket p.1 in
-    omega (arith, i.given, last, e))) s.due in
-    ap (λ l. due_of (a.due ++ l) node ticket) is
-    ∙ find_last test a.due place others (ap (λ b. b && (ticket == ticket)) (eq-eqb node node refl) ∙ eq-eqb ticket ticket refl)
+    omega (arith, i.given, last, e))) s.pending in
+    ap (λ l. pending_of (a.pending ++ l) node ticket) is
+    ∙ find_last test a.pending place others (ap (λ b. b && (ticket == ticket)) (eq-eqb node node refl) ∙ eq-eqb ticket ticket refl)
 
 -- ---- updates
 
 -- a new update that waits
-due_new : (a : Account) (w v : World Entry) (node : ℕ) (u : Update) (x : Progress) (step : Step) → Known a w → Served a w → Known (next_account a (asking node (asks.Update u) step) x) v
-    → GoesOn a (next_account a (asking node (asks.Update u) step) x) w v → (t : TookAsk a.chain node (asks.Update u) x step) → At (next_account a (asking node (asks.Update u) step) x) v node t.here.turn.0
-    → t.here.turn.0.ready ≡ true → t.here.turn.0.running ≡ true → (position : ℕ) (reply : Reply) → Replied t.here.was t.here.turn.0 u position reply
-    → DueUpdate (next_account a (asking node (asks.Update u) step) x) v node (record { ticket = t.here.was.last_ticket + 1; position = position; reply = reply })
-due_new a w v node u x step k s n g t h ready runs position reply r =
+pending_new : (a : Account) (w v : MachineState Entry) (node : ℕ) (u : Update) (x : Progress) (step : Step) → Known a w → RequestsServed a w → Known (next_account a (asking node (asks.Update u) step) x) v
+    → GoesOn a (next_account a (asking node (asks.Update u) step) x) w v → (t : TookAsk a.chain node (asks.Update u) x step) → At (next_account a (asking node (asks.Update u) step) x) v node t.here.transition.0
+    → t.here.transition.0.ready ≡ true → t.here.transition.0.running ≡ true → (position : ℕ) (reply : Reply) → Replied t.here.was t.here.transition.0 u position reply
+    → PendingUpdate (next_account a (asking node (asks.Update u) step) x) v node (record { ticket = t.here.was.last_ticket + 1; position = position; reply = reply })
+pending_new a w v node u x step k s n g t h ready runs position reply r =
     let b : Account = next_account a (asking node (asks.Update u) step) x in
-    let q : Plain = t.here.turn.0 in
+    let q : Plain = t.here.transition.0 in
     let f : NodeFollows v (seen_of q) = at_node b v node q h in
     let H : List Entry = v.history node in
     let K : ℕ → Type 0 = λ j. IsHistory q.past.base q.past.base_state q.past.entries (v.history j) in
@@ -137,7 +137,7 @@ due_new a w v node u x step k s n g t h ready runs position reply r =
       is_ask = new_asked a w node (asks.Update u) x step k t;
       is = refl;
       place = record { node = node; ticket = t.here.was.last_ticket + 1; position = max m c };
-      due = new_due a w node u x step s t;
+      pending = new_pending a w node u x step s t;
       not_before = omega (arith, first, log);
       reached = ⊎_elim (λ le. inl (omega (arith, le, r.at))) (λ le. inr (omega (arith, le, log, grown))) (which m c);
       held = held;
@@ -152,20 +152,20 @@ due_new a w v node u x step k s n g t h ready runs position reply r =
         either : (m c : ℕ) → (m ≤ c) ⊎ (c ≤ m)
         either m c = grind arith
 
-pub asks_update : (a : Account) (w v : World Entry) (node : ℕ) (u : Update) (x : Progress) (step : Step) (position : List ℕ → ℕ) → Known a w → Served a w → Known (next_account a (asking node (asks.Update u) step) x) v
-    → GoesOn a (next_account a (asking node (asks.Update u) step) x) w v → (t : TookAsk a.chain node (asks.Update u) x step) → At (next_account a (asking node (asks.Update u) step) x) v node t.here.turn.0
-    → t.here.turn.0.running ≡ true → ((key : List ℕ) → position key ≡ length v.log)
-    → (let b : Account = next_account a (asking node (asks.Update u) step) x in Waits (DueUpdate b v node) (DueRead b v node) (Answered b v position node) (Questions b) (Versions b v) t.here.was
-    → Gives (DueUpdate b v node) (DueRead b v node) (Answered b v position node) (Questions b) (Versions b v) t.here.turn)
+pub asks_update : (a : Account) (w v : MachineState Entry) (node : ℕ) (u : Update) (x : Progress) (step : Step) (position : List ℕ → ℕ) → Known a w → RequestsServed a w → Known (next_account a (asking node (asks.Update u) step) x) v
+    → GoesOn a (next_account a (asking node (asks.Update u) step) x) w v → (t : TookAsk a.chain node (asks.Update u) x step) → At (next_account a (asking node (asks.Update u) step) x) v node t.here.transition.0
+    → t.here.transition.0.running ≡ true → ((key : List ℕ) → position key ≡ length v.log)
+    → (let b : Account = next_account a (asking node (asks.Update u) step) x in Waits (PendingUpdate b v node) (PendingRead b v node) (Answered b v position node) (Questions b) (Versions b v) t.here.was
+    → Gives (PendingUpdate b v node) (PendingRead b v node) (Answered b v position node) (Questions b) (Versions b v) t.here.transition)
 asks_update a w v node u x step position k s n g t h runs last waits =
     let b : Account = next_account a (asking node (asks.Update u) step) x in
     let p : Plain = t.here.was in
-    let q : Plain = t.here.turn.0 in
-    let E : Event → Type 0 = λ e. event_turn p e ≡ Ok t.here.turn in
-    let does : ask_turn p (asks.Update u) ≡ Ok t.here.turn = subst E t.here.by t.here.does in
-    let ut : UpdateTurn p u q = update_turns p u t.here.turn does in
-    let D : (position : ℕ) (reply : Reply) → Replied p q u position reply → DueUpdate b v node (record { ticket = p.last_ticket + 1; position = position; reply = reply }) = λ position reply r. due_new a w v node u x step k s n g t h ut.still runs position reply r in
-    let both : MayReply (DueUpdate b v node) (DueRead b v node) (Answered b v position node) (Questions b) (Versions b v) p u = record {
+    let q : Plain = t.here.transition.0 in
+    let E : Event → Type 0 = λ e. event_transition p e ≡ Ok t.here.transition in
+    let does : ask_transition p (asks.Update u) ≡ Ok t.here.transition = subst E t.here.by t.here.does in
+    let ut : UpdateTransition p u q = update_transitions p u t.here.transition does in
+    let D : (position : ℕ) (reply : Reply) → Replied p q u position reply → PendingUpdate b v node (record { ticket = p.last_ticket + 1; position = position; reply = reply }) = λ position reply r. pending_new a w v node u x step k s n g t h ut.still runs position reply r in
+    let both : MayReply (PendingUpdate b v node) (PendingRead b v node) (Answered b v position node) (Questions b) (Versions b v) p u = record {
       old = λ reply is. ⊎_elim
           (λ (o : (r : Reply) × (said (newest p) u.client u.number ≡ Some r) × (q.past.entries ≡ p.past.entries)). D (position_of p u.client) reply (replied_old p q u reply ut.base ut.state o.2 is))
           (λ (m : (said (newest p) u.client u.number ≡ None) × (q.past.entries ≡ p.past.entries ++ entry_for p u ∷ [])). absurd (none_some (said (newest p) u.client u.number) m.0 is))
@@ -175,7 +175,7 @@ asks_update a w v node u x step position k s n g t h runs last waits =
           (λ (m : (said (newest p) u.client u.number ≡ None) × (q.past.entries ≡ p.past.entries ++ entry_for p u ∷ [])). D (entry_for p u).position (entry_for p u).reply (replied_new p q u ut.base ut.state m.1 m.0))
           ut.entries;
     } in
-    update_gives (DueUpdate b v node) (DueRead b v node) (Answered b v position node) (Questions b) (Versions b v) p waits u both t.here.turn does (may_answer b v node q position h runs last)
+    update_gives (PendingUpdate b v node) (PendingRead b v node) (Answered b v position node) (Questions b) (Versions b v) p waits u both t.here.transition does (may_answer b v node q position h runs last)
   where
     none_some : {A : Type 0} {y : A} (o : Option A) → o ≡ None → o ≡ Some y → ⊥
     none_some o n s = cc
@@ -183,7 +183,7 @@ asks_update a w v node u x step position k s n g t h runs last waits =
 -- ---- reads
 
 -- a read keeps the history
-read_leaves : (p : Plain) (mode : ReadMode) (object : ObjectId) (t : Turn) → ask_turn p (asks.Read mode object) ≡ Ok t → SameHistory p t.0 × (p.ready ≡ true)
+read_leaves : (p : Plain) (mode : ReadMode) (object : ObjectId) (t : Transition) → ask_transition p (asks.Read mode object) ≡ Ok t → SameHistory p t.0 × (p.ready ≡ true)
 read_leaves p mode object t does =
     let r : ReadGives (λ u. ⊤) (λ r. ⊤) (λ t a. ⊤) (λ a b c. ⊤) (λ a b c. ⊤) p t =
     read_gives (λ u. ⊤) (λ r. ⊤) (λ t a. ⊤) (λ a b c. ⊤) (λ a b c. ⊤) p (record { updates = every p.waiting_updates; reads = every p.waiting_reads; asks = λ r h. tt }) mode object (λ ready. trivial mode) t does in
@@ -198,32 +198,32 @@ read_leaves p mode object t does =
     trivial Eventual = tt
     trivial (Bounded k) = tt
 
-pub asks_read : (a : Account) (w v : World Entry) (node : ℕ) (mode : ReadMode) (object : ObjectId) (x : Progress) (step : Step) (position : List ℕ → ℕ) → Known a w → Known (next_account a (asking node (asks.Read mode object) step) x) v
-    → GoesOn a (next_account a (asking node (asks.Read mode object) step) x) w v → (t : TookAsk a.chain node (asks.Read mode object) x step) → At (next_account a (asking node (asks.Read mode object) step) x) v node t.here.turn.0
-    → t.here.turn.0.running ≡ true → ((key : List ℕ) → position key ≡ length v.log)
-    → (let b : Account = next_account a (asking node (asks.Read mode object) step) x in Waits (DueUpdate b v node) (DueRead b v node) (Answered b v position node) (Questions b) (Versions b v) t.here.was
-    → Gives (DueUpdate b v node) (DueRead b v node) (Answered b v position node) (Questions b) (Versions b v) t.here.turn)
+pub asks_read : (a : Account) (w v : MachineState Entry) (node : ℕ) (mode : ReadMode) (object : ObjectId) (x : Progress) (step : Step) (position : List ℕ → ℕ) → Known a w → Known (next_account a (asking node (asks.Read mode object) step) x) v
+    → GoesOn a (next_account a (asking node (asks.Read mode object) step) x) w v → (t : TookAsk a.chain node (asks.Read mode object) x step) → At (next_account a (asking node (asks.Read mode object) step) x) v node t.here.transition.0
+    → t.here.transition.0.running ≡ true → ((key : List ℕ) → position key ≡ length v.log)
+    → (let b : Account = next_account a (asking node (asks.Read mode object) step) x in Waits (PendingUpdate b v node) (PendingRead b v node) (Answered b v position node) (Questions b) (Versions b v) t.here.was
+    → Gives (PendingUpdate b v node) (PendingRead b v node) (Answered b v position node) (Questions b) (Versions b v) t.here.transition)
 asks_read a w v node mode object x step position k n g t h runs last waits =
     let b : Account = next_account a (asking node (asks.Read mode object) step) x in
     let p : Plain = t.here.was in
-    let q : Plain = t.here.turn.0 in
-    let E : Event → Type 0 = λ e. event_turn p e ≡ Ok t.here.turn in
-    let does : ask_turn p (asks.Read mode object) ≡ Ok t.here.turn = subst E t.here.by t.here.does in
-    let leaves : SameHistory p q × (p.ready ≡ true) = read_leaves p mode object t.here.turn does in
+    let q : Plain = t.here.transition.0 in
+    let E : Event → Type 0 = λ e. event_transition p e ≡ Ok t.here.transition in
+    let does : ask_transition p (asks.Read mode object) ≡ Ok t.here.transition = subst E t.here.by t.here.does in
+    let leaves : SameHistory p q × (p.ready ≡ true) = read_leaves p mode object t.here.transition does in
     let same : SameHistory p q = leaves.0 in
     let o : Holds b.asks v p (v.history node) = holds_same b.asks v p q (v.history node) same (at_holds b v node q h) in
     let f : NodeFollows v (seen_of q) = at_node b v node q h in
     let ready : v.ready node ≡ true = let P : ℕ → Type 0 = λ j. v.ready j ≡ q.ready in subst P h.same f.ready ∙ (same.ready ∙ leaves.1) in
     let l : IsPrefix v.log (v.history node) = holds_log v node n.reached ready (at_running b v node q h runs) in
     let acked : v.acknowledged node ≡ p.past.acknowledged = let A : ℕ → Type 0 = λ j. v.acknowledged j ≡ q.past.acknowledged in subst A h.same f.acknowledged ∙ same.acknowledged in
-    let r : ReadGives (DueUpdate b v node) (DueRead b v node) (Answered b v position node) (Questions b) (Versions b v) p t.here.turn =
-    read_gives (DueUpdate b v node) (DueRead b v node) (Answered b v position node) (Questions b) (Versions b v) p waits mode object
-    (λ _. by_mode mode o l ready acked (new_asked a w node (asks.Read mode object) x step k t)) t.here.turn does in
+    let r : ReadGives (PendingUpdate b v node) (PendingRead b v node) (Answered b v position node) (Questions b) (Versions b v) p t.here.transition =
+    read_gives (PendingUpdate b v node) (PendingRead b v node) (Answered b v position node) (Questions b) (Versions b v) p waits mode object
+    (λ _. by_mode mode o l ready acked (new_asked a w node (asks.Read mode object) x step k t)) t.here.transition does in
     r.gives
   where
     by_mode : (m : ReadMode) → Holds (next_account a (asking node (asks.Read mode object) step) x).asks v t.here.was (v.history node) → IsPrefix v.log (v.history node) → v.ready node ≡ true → v.acknowledged node ≡ t.here.was.past.acknowledged
         → ask_with (next_account a (asking node (asks.Read mode object) step) x).asks node (t.here.was.last_ticket + 1) ≡ Some (record { move = a.chain.moves + 1; node = node; ticket = step.ticket; ask = asks.Read m object })
-        → (let b : Account = next_account a (asking node (asks.Read mode object) step) x in MayRead (DueUpdate b v node) (DueRead b v node) (Answered b v position node) (Questions b) (Versions b v) t.here.was m object.key)
+        → (let b : Account = next_account a (asking node (asks.Read mode object) step) x in MayRead (PendingUpdate b v node) (PendingRead b v node) (Answered b v position node) (Questions b) (Versions b v) t.here.was m object.key)
     by_mode Eventual o l ready acked found =
         let b : Account = next_account a (asking node (asks.Read mode object) step) x in
         let p : Plain = t.here.was in
@@ -239,7 +239,7 @@ asks_read a w v node mode object x step position k n g t h runs last waits =
         let answer : ℕ × List ℕ = object_within p key (clean_version + bound) in
         let w : GivenWithin H p key (clean_version + bound) = given_within b.asks v p H key (clean_version + bound) o (omega arith) in
         let old : clean_version ≡ version_after H key p.past.acknowledged = ap (λ (s : State). version_of s.objects key) o.clean_is in
-        let rise : version_after H key p.past.acknowledged ≤ version_after H key (length v.log) = rises_between b.asks H key p.past.acknowledged (length v.log) o.numbered o.genuine o.committed in
+        let rise : version_after H key p.past.acknowledged ≤ version_after H key (length v.log) = rises_between b.asks H key p.past.acknowledged (length v.log) o.numbered o.valid_entry o.committed in
         let whole : version_after H key (length v.log) ≡ version_of (after_entries opening_state v.log).objects key = ap (λ es. version_of (after_entries opening_state es).objects key) (prefix_is_take l) in
         let clean_there : version_after H key (v.acknowledged node) ≡ version_after H key p.past.acknowledged = ap (version_after H key) acked in
         let mine : answer.0 ≡ version_after H key w.count = ap (λ (o : ℕ × List ℕ). o.0) w.is in

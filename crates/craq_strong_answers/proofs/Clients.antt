@@ -13,7 +13,7 @@ use Rattle.craq_model.specs.declared.step.Step.{Step}
 use Rattle.craq_model.specs.declared.waiting.WaitingUpdate.{WaitingUpdate}
 use Rattle.craq_model.specs.declared.waiting.WaitingRead.{WaitingRead}
 use Rattle.craq_model.specs.Plain.{Plain, opening_member}
-use Rattle.craq_protocol.specs.Machine.{World, opening}
+use Rattle.craq_protocol.specs.Machine.{MachineState, initial_state}
 use Rattle.craq_protocol.specs.Promises.{IsPrefix, Later}
 use Rattle.craq_runs.specs.declared.explanation.Place.{Place}
 use Rattle.craq_runs.specs.declared.run.Move.{Move}
@@ -30,26 +30,26 @@ use Rattle.craq_updates.proofs.Updates.{numbers_of}
 use Rattle.craq_updates.proofs.Known.{Known}
 use Rattle.craq_updates.proofs.Accounts.{KnownNext, next_account, known_after, moves_counted}
 use Rattle.craq_updates.proofs.Runs.{opening_known}
-use Rattle.craq_strong_answers.proofs.Outs.{AllTold}
-use Rattle.craq_strong_answers.proofs.Stands.{DueUpdate, DueRead}
+use Rattle.craq_strong_answers.proofs.Outs.{AllReported}
+use Rattle.craq_strong_answers.proofs.Stands.{PendingUpdate, PendingRead}
 use Rattle.craq_strong_answers.proofs.Stays.{GoesOn}
-use Rattle.craq_strong_answers.proofs.Served.{Served, goes_on}
+use Rattle.craq_strong_answers.proofs.Served.{RequestsServed, goes_on}
 use Rattle.craq_strong_answers.proofs.Answering.{Answered as IsAnswered, Questions, Versions}
 use Rattle.craq_strong_answers.proofs.Serving.{ServedNext, served_next, next_chain, position_in}
 use Rattle.craq_strong_answers.proofs.Placed.{Explains, HasAsk, strong_of, after_move, zip_stays, strong_stays, step_places}
 use Rattle.craq_strong_answers.proofs.Times.{times, times_nil, update_tickets, read_tickets, open_of}
 use Rattle.craq_strong_answers.proofs.Once.{Once, given_at, once_at_node, once_at_master}
 
-pub record Clients (a : Account) (w : World Entry) (receivers : List ℕ) (given : List Answered) : Type 0 where
+pub record Clients (a : Account) (w : MachineState Entry) (receivers : List ℕ) (given : List Answered) : Type 0 where
   pub known : Known a w
-  pub served : Served a w
+  pub served : RequestsServed a w
   pub received : receivers ≡ map (λ (m : LinkMessage). m.receiver) a.chain.messages
   pub asked : AllByRecursion (HasAsk a.asks) given
   pub placed : AllZip (Explains a) (strong_of a.asks given) a.places
   pub once : (id : ℕ) → Once a.chain.nodes id given
 
 -- the receivers of outputs
-sent_to : (b : Account) (v : World Entry) (position : List ℕ → ℕ) (id : ℕ) (os : List Out) → AllTold (IsAnswered b v position id) (Questions b) (Versions b v) os → receivers_in os ≡ map (λ (m : LinkMessage). m.receiver) (sent_in os)
+sent_to : (b : Account) (v : MachineState Entry) (position : List ℕ → ℕ) (id : ℕ) (os : List Out) → AllReported (IsAnswered b v position id) (Questions b) (Versions b v) os → receivers_in os ≡ map (λ (m : LinkMessage). m.receiver) (sent_in os)
 unfolding receivers_in sent_in
 sent_to b v position id [] a = refl
 sent_to b v position id (outs.Send to m ∷ os) a = λ i. a.0.0 i ∷ sent_to b v position id os a.1 i
@@ -82,7 +82,7 @@ zip_append R (a ∷ xs) [] us vs z y = absurd z
 zip_append R (a ∷ xs) (b ∷ ys) us vs z y = (z.0, zip_append R xs ys us vs z.1 y)
 
 -- the committed list grows
-pub committed_grows : {a b : Account} {w v : World Entry} → Known a w → Known b v → Later w v → IsPrefix a.committed b.committed
+pub committed_grows : {a b : Account} {w v : MachineState Entry} → Known a w → Known b v → Later w v → IsPrefix a.committed b.committed
 committed_grows {a} {b} {w} {v} k n later =
     let P : List Entry → Type 0 = λ l. IsPrefix a.committed l in
     let Q : List Entry → Type 0 = λ l. IsPrefix l v.log in
@@ -93,25 +93,25 @@ abbrev pub new_answers : Account → Taken → List Answered
 new_answers a t = answers_in (a.chain.moves + 1) (place_of a.chain t.chosen) t.step.outs
 
 -- one more move
-pub record ClientsNext (a : Account) (t : Taken) (x : Progress) (w : World Entry) (receivers : List ℕ) (given : List Answered) : Type 0 where
-  pub world : World Entry
+pub record ClientsNext (a : Account) (t : Taken) (x : Progress) (w : MachineState Entry) (receivers : List ℕ) (given : List Answered) : Type 0 where
+  pub world : MachineState Entry
   pub later : Later w world
   pub goes : GoesOn a (next_account a t x) w world
-  pub told : AllTold (IsAnswered (next_account a t x) world (position_in a t x) (place_of a.chain t.chosen)) (Questions (next_account a t x)) (Versions (next_account a t x) world) t.step.outs
+  pub reported : AllReported (IsAnswered (next_account a t x) world (position_in a t x) (place_of a.chain t.chosen)) (Questions (next_account a t x)) (Versions (next_account a t x) world) t.step.outs
   pub clients : Clients (next_account a t x) world (receivers ++ receivers_in t.step.outs) (given ++ new_answers a t)
 
 next_places : (a : Account) (t : Taken) (x : Progress) → (next_account a t x).places
-    ≡ a.places ++ places_of (next_account a t x).asks (next_account a t x).due (next_account a t x).committed (node_at a.chain.nodes (place_of a.chain t.chosen)) (tail_word a t.chosen) (new_answers a t)
+    ≡ a.places ++ places_of (next_account a t x).asks (next_account a t x).pending (next_account a t x).committed (node_at a.chain.nodes (place_of a.chain t.chosen)) (tail_word a t.chosen) (new_answers a t)
 unfolding account_with
 next_places a t x = refl
 
-pub clients_next : (a : Account) (w : World Entry) (t : Taken) (x : Progress) (receivers : List ℕ) (given : List Answered) → Clients a w receivers given → chain_step a.chain t.chosen ≡ Ok x → x.1 ≡ t.step → IsMoveOfType t.chosen
+pub clients_next : (a : Account) (w : MachineState Entry) (t : Taken) (x : Progress) (receivers : List ℕ) (given : List Answered) → Clients a w receivers given → chain_step a.chain t.chosen ≡ Ok x → x.1 ≡ t.step → IsMoveOfType t.chosen
     → ClientsNext a t x w receivers given
 clients_next a w t x receivers given c does same type =
     let b : Account = next_account a t x in
     let k : Known a w = c.known in
     let one : KnownNext a b w = known_after a w t x k does same type in
-    let v : World Entry = one.world in
+    let v : MachineState Entry = one.world in
     let n : Known b v = one.known in
     let g : GoesOn a b w v = goes_on a w v t x k one.later in
     let s : ServedNext a t x v = served_next a w v t x does same k c.served n g in
@@ -125,12 +125,12 @@ clients_next a w t x receivers given c does same type =
     let long : number ≤ length b.lens = omega (arith, l.count, count) in
     let last : after_move b number ≡ length v.log = ap (slice_index (0 ∷ b.lens)) (sym count) ∙ (l.ends ∙ (mapped b.asks b.committed ∙ ap length n.committed)) in
     let I : ℕ → Type 0 = λ m. AllByRecursion (λ (y : Asked). y.move ≤ m) b.asks in
-    let places : _ = step_places b v (node_at a.chain.nodes id) (tail_word a t.chosen) number id t.step.outs n long last (subst I count n.in_time) s.told in
+    let places : _ = step_places b v (node_at a.chain.nodes id) (tail_word a t.chosen) number id t.step.outs n long last (subst I count n.in_time) s.reported in
     let longer : IsPrefix a.committed b.committed = committed_grows k n one.later in
     let old : AllZip (Explains b) (strong_of a.asks given) a.places = zip_stays k g longer (strong_of a.asks given) a.places c.placed in
     let Z : List Answered → Type 0 = λ xs. AllZip (Explains b) xs a.places in
     let kept : AllZip (Explains b) (strong_of b.asks given) a.places = subst Z (sym (strong_stays g given c.asked)) old in
-    let more : List Place = places_of b.asks b.due b.committed (node_at a.chain.nodes id) (tail_word a t.chosen) new in
+    let more : List Place = places_of b.asks b.pending b.committed (node_at a.chain.nodes id) (tail_word a t.chosen) new in
     let strong : strong_of b.asks (given ++ new) ≡ strong_of b.asks given ++ strong_of b.asks new = filter-append (λ (x : Answered). is_strong_answer (ask_of b.asks x) x.answer) given new in
     let Y : List Answered → Type 0 = λ xs. AllZip (Explains b) xs b.places in
     let W : List Place → Type 0 = λ ps. AllZip (Explains b) (strong_of b.asks given ++ strong_of b.asks new) ps in
@@ -141,11 +141,11 @@ clients_next a w t x receivers given c does same type =
       world = v;
       later = one.later;
       goes = g;
-      told = s.told;
+      reported = s.reported;
       clients = record {
         known = n;
         served = s.served;
-        received = (λ i. c.received i ++ sent_to b v (position_in a t x) id t.step.outs s.told i) ∙ (sym (map-append R a.chain.messages (sent_in t.step.outs)) ∙ ap (map R) (sym messages));
+        received = (λ i. c.received i ++ sent_to b v (position_in a t x) id t.step.outs s.reported i) ∙ (sym (map-append R a.chain.messages (sent_in t.step.outs)) ∙ ap (map R) (sym messages));
         asked = all_append (HasAsk b.asks) given new (all_like (HasAsk a.asks) (HasAsk b.asks) given (λ y h. (h.0, g.stay y.node y.ticket h.0 h.1)) c.asked) places.1;
         placed = subst Y (sym strong) (subst W (sym (next_places a t x)) (zip_append (Explains b) (strong_of b.asks given) a.places (strong_of b.asks new) more kept places.0));
         once = subst O (sym chain) (λ j. once_after a.chain t x number j given same where_at (c.once j));
@@ -168,17 +168,17 @@ waits_nothing chain members (m ∷ ids) id p h =
     (λ e i. waits_nothing chain members ids id p i)
     h
 
-pub opening_clients : (chain : ℕ) (run : Run) → IsTypedRunOf chain run → Clients (opening_account chain run.members) (opening run.members) [] []
+pub opening_clients : (chain : ℕ) (run : Run) → IsTypedRunOf chain run → Clients (opening_account chain run.members) (initial_state run.members) [] []
 unfolding given_at
 opening_clients chain run i =
     let a : Account = opening_account chain run.members in
     record {
       known = opening_known chain run.members i.run_of.members;
       served = record {
-        updates = λ id p at. let P : List WaitingUpdate → Type 0 = λ l. AllByRecursion (DueUpdate a (opening run.members) id) l in subst P (sym (waits_nothing chain run.members run.members id p at).0) tt;
-        reads = λ id p at. let P : List WaitingRead → Type 0 = λ l. AllByRecursion (DueRead a (opening run.members) id) l in subst P (sym (waits_nothing chain run.members run.members id p at).1) tt;
+        updates = λ id p at. let P : List WaitingUpdate → Type 0 = λ l. AllByRecursion (PendingUpdate a (initial_state run.members) id) l in subst P (sym (waits_nothing chain run.members run.members id p at).0) tt;
+        reads = λ id p at. let P : List WaitingRead → Type 0 = λ l. AllByRecursion (PendingRead a (initial_state run.members) id) l in subst P (sym (waits_nothing chain run.members run.members id p at).1) tt;
         messages = tt;
-        due = tt;
+        pending = tt;
       };
       received = refl;
       asked = tt;

@@ -9,18 +9,18 @@ use Rattle.craq_commands.specs.SingleCopy.{opening_state, after_entries}
 use Rattle.craq_commands.proofs.Entries.{after_entries-append}
 use Rattle.craq_model.specs.Past.{values_after, newest_within}
 use Rattle.craq_model.specs.Plain.{Plain, id_of, newest, clean, clean_object, entries_after, object_within}
-use Rattle.craq_protocol.specs.Machine.{World}
+use Rattle.craq_protocol.specs.Machine.{MachineState}
 use Rattle.craq_protocol.specs.Promises.{IsPrefix, IsReached, IsSafe}
 use Rattle.craq_protocol.proofs.Prefix.{prefix_take}
 use Rattle.craq_protocol.proofs.Reached.{reached_safe}
 use Rattle.craq_runs.specs.Seen.{Asked}
 use Rattle.craq_refinement.specs.Follows.{seen_of, NodeFollows}
-use Rattle.craq_updates.specs.Genuine.{AllGenuine}
+use Rattle.craq_updates.specs.ValidEntries.{AllValid}
 use Rattle.craq_updates.proofs.Found.{IsNumbered}
-use Rattle.craq_updates.proofs.Entries.{genuine_closed}
+use Rattle.craq_updates.proofs.Entries.{valid_closed}
 use Rattle.craq_updates.proofs.Known.{newest_is}
 use Rattle.craq_strong_answers.proofs.Stands.{state_after}
-use Rattle.craq_strong_answers.proofs.Versions.{genuine_rest, no_older_prefix, version_rises, version_tells}
+use Rattle.craq_strong_answers.proofs.Versions.{valid_rest, no_older_prefix, version_rises, version_tells}
 use Rattle.craq_strong_answers.proofs.Within.{IsWithin, within, version_at}
 
 -- ---- prefixes of one history
@@ -32,20 +32,20 @@ version_after h key count = version_of (state_after count h).objects key
 shorter : (h : List Entry) (i j : ℕ) → i ≤ j → IsPrefix (take i h) (take j h)
 shorter h i j le = let P : List Entry → Type 0 = λ l. IsPrefix l (take j h) in subst P (take-take i j h le) (prefix_take i (take j h))
 
-taken_genuine : (asked : List Asked) (h : List Entry) (j : ℕ) → AllGenuine asked opening_state h → AllGenuine asked opening_state (take j h)
-taken_genuine asked h j g = genuine_closed asked opening_state (take j h) h (prefix_take j h) g
+taken_valid : (asked : List Asked) (h : List Entry) (j : ℕ) → AllValid asked opening_state h → AllValid asked opening_state (take j h)
+taken_valid asked h j g = valid_closed asked opening_state (take j h) h (prefix_take j h) g
 
-pub rises_between : (asked : List Asked) (h : List Entry) (key : List ℕ) (i j : ℕ) → IsNumbered asked → AllGenuine asked opening_state h → i ≤ j → version_after h key i ≤ version_after h key j
+pub rises_between : (asked : List Asked) (h : List Entry) (key : List ℕ) (i j : ℕ) → IsNumbered asked → AllValid asked opening_state h → i ≤ j → version_after h key i ≤ version_after h key j
 rises_between asked h key i j n g le =
-    version_rises (state_after i h).objects (state_after j h).objects key (no_older_prefix asked (take i h) (take j h) key n (taken_genuine asked h j g) (shorter h i j le))
+    version_rises (state_after i h).objects (state_after j h).objects key (no_older_prefix asked (take i h) (take j h) key n (taken_valid asked h j g) (shorter h i j le))
 
-tells_between : (asked : List Asked) (h : List Entry) (key : List ℕ) (i j : ℕ) → IsNumbered asked → AllGenuine asked opening_state h → i ≤ j → version_after h key i ≡ version_after h key j
+tells_between : (asked : List Asked) (h : List Entry) (key : List ℕ) (i j : ℕ) → IsNumbered asked → AllValid asked opening_state h → i ≤ j → version_after h key i ≡ version_after h key j
     → object_of (state_after j h).objects key ≡ object_of (state_after i h).objects key
 tells_between asked h key i j n g le e =
-    version_tells (state_after i h).objects (state_after j h).objects key (no_older_prefix asked (take i h) (take j h) key n (taken_genuine asked h j g) (shorter h i j le)) (omega (arith, e))
+    version_tells (state_after i h).objects (state_after j h).objects key (no_older_prefix asked (take i h) (take j h) key n (taken_valid asked h j g) (shorter h i j le)) (omega (arith, e))
 
 -- equal versions are equal objects
-pub same_objects : (asked : List Asked) (h : List Entry) (key : List ℕ) (i j : ℕ) → IsNumbered asked → AllGenuine asked opening_state h → version_after h key i ≡ version_after h key j
+pub same_objects : (asked : List Asked) (h : List Entry) (key : List ℕ) (i j : ℕ) → IsNumbered asked → AllValid asked opening_state h → version_after h key i ≡ version_after h key j
     → object_of (state_after i h).objects key ≡ object_of (state_after j h).objects key
 same_objects asked h key i j n g e =
     ⊎_elim (λ le. sym (tells_between asked h key i j n g le e)) (λ le. tells_between asked h key j i n g le (sym e)) (either i j)
@@ -56,9 +56,9 @@ same_objects asked h key i j n g e =
 -- ---- a node
 
 -- the properties of a node with this history
-pub record Holds (asked : List Asked) (w : World Entry) (p : Plain) (h : List Entry) : Type 0 where
+pub record Holds (asked : List Asked) (w : MachineState Entry) (p : Plain) (h : List Entry) : Type 0 where
   pub numbered : IsNumbered asked
-  pub genuine : AllGenuine asked opening_state h
+  pub valid_entry : AllValid asked opening_state h
   pub newest_is : newest p ≡ after_entries opening_state h
   pub clean_is : clean p ≡ state_after p.past.acknowledged h
   pub after_is : entries_after p p.past.acknowledged ≡ drop p.past.acknowledged h
@@ -66,7 +66,7 @@ pub record Holds (asked : List Asked) (w : World Entry) (p : Plain) (h : List En
   pub committed : p.past.acknowledged ≤ length w.log
   pub same : take p.past.acknowledged h ≡ take p.past.acknowledged w.log
 
-pub node_holds : (asked : List Asked) (w : World Entry) (p : Plain) → IsReached w → IsNumbered asked → AllGenuine asked opening_state (w.history (id_of p)) → NodeFollows w (seen_of p) → Holds asked w p (w.history (id_of p))
+pub node_holds : (asked : List Asked) (w : MachineState Entry) (p : Plain) → IsReached w → IsNumbered asked → AllValid asked opening_state (w.history (id_of p)) → NodeFollows w (seen_of p) → Holds asked w p (w.history (id_of p))
 unfolding clean entries_after
 node_holds asked w p r n g f =
     let h : List Entry = w.history (id_of p) in
@@ -82,7 +82,7 @@ node_holds asked w p r n g f =
     let T : ℕ → Type 0 = λ j. take j h ≡ take j w.log in
     record {
       numbered = n;
-      genuine = g;
+      valid_entry = g;
       newest_is = newest_is p f;
       clean_is = sym (ap (after_entries opening_state) start ∙ (after_entries-append opening_state front (take k p.past.entries) ∙ ap (λ s. after_entries s (take k p.past.entries)) f.history.after));
       after_is = sym rest;
@@ -102,15 +102,15 @@ pub record GivenWithin (h : List Entry) (p : Plain) (key : List ℕ) (bound : �
 state_add : (h : List Entry) (i j : ℕ) → state_after (i + j) h ≡ after_entries (state_after i h) (take j (drop i h))
 state_add h i j = ap (after_entries opening_state) (take-add i j h) ∙ after_entries-append opening_state (take i h) (take j (drop i h))
 
-pub given_within : (asked : List Asked) (w : World Entry) (p : Plain) (h : List Entry) (key : List ℕ) (bound : ℕ) → Holds asked w p h → (clean_object p key).0 ≤ bound → GivenWithin h p key bound
+pub given_within : (asked : List Asked) (w : MachineState Entry) (p : Plain) (h : List Entry) (key : List ℕ) (bound : ℕ) → Holds asked w p h → (clean_object p key).0 ≤ bound → GivenWithin h p key bound
 unfolding clean entries_after
 given_within asked w p h key bound o le =
     let a : ℕ = p.past.acknowledged in
     let s : State = state_after a h in
     let es : List Entry = drop a h in
     let split : take a h ++ es ≡ h = take-append-drop a h in
-    let P : List Entry → Type 0 = λ l. AllGenuine asked opening_state l in
-    let g : AllGenuine asked s es = genuine_rest asked opening_state (take a h) es (subst P (sym split) o.genuine) in
+    let P : List Entry → Type 0 = λ l. AllValid asked opening_state l in
+    let g : AllValid asked s es = valid_rest asked opening_state (take a h) es (subst P (sym split) o.valid_entry) in
     let clean_version : (clean_object p key).0 ≡ version_of s.objects key = ap (λ (s : State). version_of s.objects key) o.clean_is in
     let i : IsWithin s es key bound = within asked s es key bound o.numbered g (omega (arith, clean_version, le)) in
     let at : (j : ℕ) → version_after h key (a + j) ≡ version_at s es key j = λ j. ap (λ (s : State). version_of s.objects key) (state_add h a j) in
@@ -129,5 +129,5 @@ given_within asked w p h key bound o le =
     }
 
 -- a running node that is ready holds the log
-pub holds_log : (w : World Entry) (id : ℕ) → IsReached w → w.ready id ≡ true → w.running id ≡ true → IsPrefix w.log (w.history id)
+pub holds_log : (w : MachineState Entry) (id : ℕ) → IsReached w → w.ready id ≡ true → w.running id ≡ true → IsPrefix w.log (w.history id)
 holds_log w id r ready running = let s : IsSafe w = reached_safe r in s.committed id ready (s.alive id running)

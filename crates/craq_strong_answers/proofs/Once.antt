@@ -10,14 +10,14 @@ use Rattle.craq_model.specs.declared.ask.Event.TheVariants as events
 use Rattle.craq_model.specs.declared.step.Out.{Out}
 use Rattle.craq_model.specs.declared.step.Out.TheVariants as outs
 use Rattle.craq_model.specs.Plain.{Plain, opening_joined}
-use Rattle.craq_model.specs.Settle.{Turn}
-use Rattle.craq_model.specs.Node.{event_turn}
+use Rattle.craq_model.specs.Settle.{Transition}
+use Rattle.craq_model.specs.Node.{event_transition}
 use Rattle.craq_runs.specs.declared.run.Move.{Move}
 use Rattle.craq_runs.specs.Chain.{Chain, Progress, node_at}
 use Rattle.craq_runs.specs.Seen.{Answered, answers_in}
 use Rattle.craq_runs.specs.Valid.{same_name}
 use Rattle.craq_updates.proofs.EachMove.{place_of}
-use Rattle.craq_updates.proofs.Turns.{Accepts, ask_accepts}
+use Rattle.craq_updates.proofs.Transitions.{Accepts, ask_accepts}
 use Rattle.craq_updates.proofs.Places.{AtNode, AtMaster, OneMore}
 use Rattle.craq_updates.proofs.AtNodes.{now_at, others_stay, tickets_rise, for_node, tick_same, stop_same}
 use Rattle.craq_updates.proofs.Known.{NodesGrow, some_same, grow_at_node, grow_at_master}
@@ -59,11 +59,11 @@ pub record Once (nodes : List Plain) (id : ℕ) (given : List Answered) : Type 0
   pub absent : node_at nodes id ≡ None → (k : ℕ) → times k (given_at id given) ≤ 0
 
 -- the tickets of a step: those that waited, and that of a request
-closes : (p : Plain) (e : Event) (t : Turn) → event_turn p e ≡ Ok t → Closes (open_of p) t ⊎ (Closes (open_of p ++ (p.last_ticket + 1) ∷ []) t × (t.0.last_ticket ≡ p.last_ticket + 1))
+closes : (p : Plain) (e : Event) (t : Transition) → event_transition p e ≡ Ok t → Closes (open_of p) t ⊎ (Closes (open_of p ++ (p.last_ticket + 1) ∷ []) t × (t.0.last_ticket ≡ p.last_ticket + 1))
 closes p (events.Ask ask) t h = let a : Accepts p t = ask_accepts p ask t h in inr (ask_closes p ask t h, a.last)
-closes p (events.Deliver m) t h = let P : Turn → Type 0 = λ t. Closes (open_of p) t in inl (subst P (for_node p m t h) (body_closes p m m.body))
-closes p events.Tick t h = let P : Turn → Type 0 = λ t. Closes (open_of p) t in inl (subst P (tick_same p t h) (tick_closes p))
-closes p events.Stop t h = let P : Turn → Type 0 = λ t. Closes (open_of p) t in inl (subst P (stop_same p t h) (stop_closes p))
+closes p (events.Deliver m) t h = let P : Transition → Type 0 = λ t. Closes (open_of p) t in inl (subst P (for_node p m t h) (body_closes p m m.body))
+closes p events.Tick t h = let P : Transition → Type 0 = λ t. Closes (open_of p) t in inl (subst P (tick_same p t h) (tick_closes p))
+closes p events.Stop t h = let P : Transition → Type 0 = λ t. Closes (open_of p) t in inl (subst P (stop_same p t h) (stop_closes p))
 
 gone : (nodes more : List Plain) (id : ℕ) → NodesGrow nodes more → node_at more id ≡ None → node_at nodes id ≡ None
 gone nodes more id grow h = by (node_at nodes id) refl
@@ -75,33 +75,33 @@ gone nodes more id grow h = by (node_at nodes id) refl
     by None e = refl
     by (Some p) e = let q : _ = grow id p e in absurd (nothing (node_at more id) h q.1)
 
-pub once_at_node : {c : Chain} {chosen : Move} {x : Progress} (h : AtNode c chosen x) (number id : ℕ) (given : List Answered) → Once c.nodes id given → Once x.0.nodes id (given ++ answers_in number (place_of c chosen) h.turn.1.outs)
+pub once_at_node : {c : Chain} {chosen : Move} {x : Progress} (h : AtNode c chosen x) (number id : ℕ) (given : List Answered) → Once c.nodes id given → Once x.0.nodes id (given ++ answers_in number (place_of c chosen) h.transition.1.outs)
 once_at_node {c} {chosen} {x} h number id given o =
     let place : ℕ = place_of c chosen in
-    let new : List Answered = answers_in number place h.turn.1.outs in
+    let new : List Answered = answers_in number place h.transition.1.outs in
     let p : Plain = h.was in
-    let q : Plain = h.turn.0 in
+    let q : Plain = h.transition.0 in
     let split : (k : ℕ) → times k (given_at id (given ++ new)) ≡ times k (given_at id given) + times k (given_at id new) = λ k. ap (times k) (given_more id given new) ∙ times_append k (given_at id given) (given_at id new) in
     let G : NodesGrow c.nodes x.0.nodes = grow_at_node h in
     let absent : node_at x.0.nodes id ≡ None → (k : ℕ) → times k (given_at id (given ++ new)) ≤ 0 = λ n k.
     let ne : place ≢ id = λ e. let P : ℕ → Type 0 = λ j. node_at x.0.nodes j ≡ Some q in nothing (node_at x.0.nodes id) n (subst P e (now_at h)) in
-    let e : times k (given_at id new) ≡ 0 = ap (times k) (given_elsewhere number place id h.turn.1.outs ne) ∙ times_nil k in
+    let e : times k (given_at id new) ≡ 0 = ap (times k) (given_elsewhere number place id h.transition.1.outs ne) ∙ times_nil k in
     omega (arith, split k, e, o.absent (gone c.nodes x.0.nodes id G n) k)
     in
     ⊎_elim
     (λ (e : id ≡ place).
     let P : ℕ → Type 0 = λ j. node_at c.nodes j ≡ Some p in
     let was : node_at c.nodes id ≡ Some p = subst P (sym e) h.at in
-    let Q : ℕ → Type 0 = λ j. given_at j new ≡ given_in h.turn.1.outs in
-    let mine : (k : ℕ) → times k (given_at id new) ≡ times k (given_in h.turn.1.outs) = λ k. ap (times k) (subst Q (sym e) (given_here number place h.turn.1.outs)) in
+    let Q : ℕ → Type 0 = λ j. given_at j new ≡ given_in h.transition.1.outs in
+    let mine : (k : ℕ) → times k (given_at id new) ≡ times k (given_in h.transition.1.outs) = λ k. ap (times k) (subst Q (sym e) (given_here number place h.transition.1.outs)) in
     let now : (r : Plain) → node_at x.0.nodes id ≡ Some r → q ≡ r = λ r at. let R : ℕ → Type 0 = λ j. node_at x.0.nodes j ≡ Some r in some_same (node_at x.0.nodes place) (now_at h) (subst R e at) in
     let more : (k : ℕ) → (times k (given_at id (given ++ new)) + times k (open_of q) ≤ 1) × (q.last_ticket < k → times k (given_at id (given ++ new)) + times k (open_of q) ≤ 0) = λ k.
     ⊎_elim
-    (λ (cl : Closes (open_of p) h.turn).
+    (λ (cl : Closes (open_of p) h.transition).
     (omega (arith, split k, mine k, cl.at k, o.there p was k), λ lt. omega (arith, split k, mine k, cl.at k, o.below p was k (omega (arith, lt, tickets_rise h)))))
-    (λ (cl : Closes (open_of p ++ (p.last_ticket + 1) ∷ []) h.turn × (q.last_ticket ≡ p.last_ticket + 1)).
+    (λ (cl : Closes (open_of p ++ (p.last_ticket + 1) ∷ []) h.transition × (q.last_ticket ≡ p.last_ticket + 1)).
     let sum : times k (open_of p ++ (p.last_ticket + 1) ∷ []) ≡ times k (open_of p) + (cond (p.last_ticket + 1 == k) 1 0 + 0) = times_append k (open_of p) ((p.last_ticket + 1) ∷ []) ∙ ap (λ n. times k (open_of p) + n) (times_cons k (p.last_ticket + 1) [] ∙ ap (λ n. cond (p.last_ticket + 1 == k) 1 0 + n) (times_nil k)) in
-    let at : times k (given_in h.turn.1.outs) + times k (open_of q) ≤ times k (open_of p ++ (p.last_ticket + 1) ∷ []) = cl.0.at k in
+    let at : times k (given_in h.transition.1.outs) + times k (open_of q) ≤ times k (open_of p ++ (p.last_ticket + 1) ∷ []) = cl.0.at k in
     ⊎_elim
     (λ (same : p.last_ticket + 1 ≡ k).
     let one : cond (p.last_ticket + 1 == k) 1 0 ≤ 1 = at_most_one (p.last_ticket + 1 == k) in
@@ -111,7 +111,7 @@ once_at_node {c} {chosen} {x} h number id given o =
     let zero : C ≡ 0 = cond-false (p.last_ticket + 1 == k) 1 0 (ne_eqb (p.last_ticket + 1) k ne) in
     (omega (arith, split k, mine k, at, sum, zero, o.there p was k), λ lt. omega (arith, split k, mine k, at, sum, zero, o.below p was k (omega (arith, lt, cl.1)))))
     (cases_eq (p.last_ticket + 1) k))
-    (closes p h.event h.turn h.does)
+    (closes p h.event h.transition h.does)
     in
     record {
       there = λ r at k. let R : Plain → Type 0 = λ r. times k (given_at id (given ++ new)) + times k (open_of r) ≤ 1 in subst R (now r at) (more k).0;
@@ -119,7 +119,7 @@ once_at_node {c} {chosen} {x} h number id given o =
       absent = absent;
     })
     (λ (ne : id ≢ place).
-    let none : (k : ℕ) → times k (given_at id new) ≡ 0 = λ k. ap (times k) (given_elsewhere number place id h.turn.1.outs (λ e. ne (sym e))) ∙ times_nil k in
+    let none : (k : ℕ) → times k (given_at id new) ≡ 0 = λ k. ap (times k) (given_elsewhere number place id h.transition.1.outs (λ e. ne (sym e))) ∙ times_nil k in
     let old : (r : Plain) → node_at x.0.nodes id ≡ Some r → node_at c.nodes id ≡ Some r = λ r at. sym (others_stay h id ne) ∙ at in
     record {
       there = λ r at k. omega (arith, split k, none k, o.there r (old r at) k);

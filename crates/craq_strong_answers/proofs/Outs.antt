@@ -34,28 +34,28 @@ Says Q V sender receiver (bodies.Part part) = ⊤
 Says Q V sender receiver (bodies.Floor count) = ⊤
 
 -- the content of outputs: each message goes to its receiver; G of a reply's ticket and the reply
-abbrev pub AllTold : (ℕ → Answer → Type 0) → (ℕ → ℕ → List ℕ → Type 0) → (ℕ → ℕ → ℕ → Type 0) → List Out → Type 0
-AllTold G Q V [] = ⊤
-AllTold G Q V (outs.Send to m ∷ os) = ((to ≡ m.receiver) × Says Q V m.sender m.receiver m.body) × AllTold G Q V os
-AllTold G Q V (outs.Answer ticket answer ∷ os) = G ticket answer × AllTold G Q V os
+abbrev pub AllReported : (ℕ → Answer → Type 0) → (ℕ → ℕ → List ℕ → Type 0) → (ℕ → ℕ → ℕ → Type 0) → List Out → Type 0
+AllReported G Q V [] = ⊤
+AllReported G Q V (outs.Send to m ∷ os) = ((to ≡ m.receiver) × Says Q V m.sender m.receiver m.body) × AllReported G Q V os
+AllReported G Q V (outs.Answer ticket answer ∷ os) = G ticket answer × AllReported G Q V os
 
 module _ (G : ℕ → Answer → Type 0) (Q : ℕ → ℕ → List ℕ → Type 0) (V : ℕ → ℕ → ℕ → Type 0) where
-  pub told_both : (os ps : List Out) → AllTold G Q V os → AllTold G Q V ps → AllTold G Q V (os ++ ps)
-  told_both [] ps a b = b
-  told_both (outs.Send to m ∷ os) ps a b = (a.0, told_both os ps a.1 b)
-  told_both (outs.Answer ticket answer ∷ os) ps a b = (a.0, told_both os ps a.1 b)
+  pub reported_both : (os ps : List Out) → AllReported G Q V os → AllReported G Q V ps → AllReported G Q V (os ++ ps)
+  reported_both [] ps a b = b
+  reported_both (outs.Send to m ∷ os) ps a b = (a.0, reported_both os ps a.1 b)
+  reported_both (outs.Answer ticket answer ∷ os) ps a b = (a.0, reported_both os ps a.1 b)
 
-  pub told_answers : (gs : List Given) → AllByRecursion (λ (g : Given). G g.0 g.1) gs → AllTold G Q V (answer_outs gs)
-  told_answers [] a = tt
-  told_answers (g ∷ gs) a = (a.0, told_answers gs a.1)
+  pub reported_answers : (gs : List Given) → AllByRecursion (λ (g : Given). G g.0 g.1) gs → AllReported G Q V (answer_outs gs)
+  reported_answers [] a = tt
+  reported_answers (g ∷ gs) a = (a.0, reported_answers gs a.1)
 
-  pub told_sends : (p : Plain) (to : ℕ) (bs : List Body) → AllByRecursion (Says Q V (id_of p) to) bs → AllTold G Q V (send_all p to bs)
-  told_sends p to [] a = tt
-  told_sends p to (b ∷ bs) a = ((refl, a.0), told_sends p to bs a.1)
+  pub reported_sends : (p : Plain) (to : ℕ) (bs : List Body) → AllByRecursion (Says Q V (id_of p) to) bs → AllReported G Q V (send_all p to bs)
+  reported_sends p to [] a = tt
+  reported_sends p to (b ∷ bs) a = ((refl, a.0), reported_sends p to bs a.1)
 
-  pub told_neighbour : (o : Option ℕ) (sends : ℕ → List Out) → ((to : ℕ) → AllTold G Q V (sends to)) → AllTold G Q V (to_neighbour o sends)
-  told_neighbour None sends f = tt
-  told_neighbour (Some to) sends f = f to
+  pub reported_neighbour : (o : Option ℕ) (sends : ℕ → List Out) → ((to : ℕ) → AllReported G Q V (sends to)) → AllReported G Q V (to_neighbour o sends)
+  reported_neighbour None sends f = tt
+  reported_neighbour (Some to) sends f = f to
 
   says_run : (id to : ℕ) (es : List Entry) → Says Q V id to (run_body es)
   says_run id to [] = tt
@@ -89,30 +89,30 @@ module _ (G : ℕ → Answer → Type 0) (Q : ℕ → ℕ → List ℕ → Type 
   unfolding catch_up
   says_catch_up p position id to = says_more id to (entry_bodies (entries_after p position)) (bodies.Floor (length_of p) ∷ []) (says_entry_bodies id to (entries_after p position)) (tt, tt)
 
-  told_queries : (p : Plain) (rs : List WaitingRead) → AllByRecursion (λ (r : WaitingRead). Q (id_of p) r.ticket r.key) rs
-      → AllTold G Q V (map (λ (r : WaitingRead). send p (last_of p.members) (bodies.Query r.ticket r.key)) rs)
-  told_queries p [] a = tt
-  told_queries p (r ∷ rs) a = ((refl, a.0), told_queries p rs a.1)
+  reported_queries : (p : Plain) (rs : List WaitingRead) → AllByRecursion (λ (r : WaitingRead). Q (id_of p) r.ticket r.key) rs
+      → AllReported G Q V (map (λ (r : WaitingRead). send p (last_of p.members) (bodies.Query r.ticket r.key)) rs)
+  reported_queries p [] a = tt
+  reported_queries p (r ∷ rs) a = ((refl, a.0), reported_queries p rs a.1)
 
-  told_ready : (p : Plain) → AllByRecursion (λ (r : WaitingRead). Q (id_of p) r.ticket r.key) p.waiting_reads → AllTold G Q V (ready_sends p)
+  reported_ready : (p : Plain) → AllByRecursion (λ (r : WaitingRead). Q (id_of p) r.ticket r.key) p.waiting_reads → AllReported G Q V (ready_sends p)
   unfolding ready_sends
-  told_ready p a =
+  reported_ready p a =
       let first : List Out = to_neighbour (successor p) (λ to. send_all p to (catch_up p p.past.acknowledged)) in
       let second : List Out = to_neighbour (predecessor p) (λ to. send p to (bodies.Ack p.past.acknowledged) ∷ []) in
       let third : List Out = cond (is_last p) [] (queries p) in
-      told_both (first ++ second) third
-      (told_both first second
-      (told_neighbour (successor p) (λ to. send_all p to (catch_up p p.past.acknowledged)) (λ to. told_sends p to (catch_up p p.past.acknowledged) (says_catch_up p p.past.acknowledged (id_of p) to)))
-      (told_neighbour (predecessor p) (λ to. send p to (bodies.Ack p.past.acknowledged) ∷ []) (λ to. ((refl, tt), tt))))
-      (cond_both (is_last p) [] (queries p) (λ (os : List Out). AllTold G Q V os) (λ e. tt) (λ e. told_queries p p.waiting_reads a))
+      reported_both (first ++ second) third
+      (reported_both first second
+      (reported_neighbour (successor p) (λ to. send_all p to (catch_up p p.past.acknowledged)) (λ to. reported_sends p to (catch_up p p.past.acknowledged) (says_catch_up p p.past.acknowledged (id_of p) to)))
+      (reported_neighbour (predecessor p) (λ to. send p to (bodies.Ack p.past.acknowledged) ∷ []) (λ to. ((refl, tt), tt))))
+      (cond_both (is_last p) [] (queries p) (λ (os : List Out). AllReported G Q V os) (λ e. tt) (λ e. reported_queries p p.waiting_reads a))
 
-  told_unready : (p : Plain) → AllTold G Q V (unready_sends p)
+  reported_unready : (p : Plain) → AllReported G Q V (unready_sends p)
   unfolding unready_sends
-  told_unready p = told_neighbour (predecessor p) (λ to. send p to (bodies.Blank (length_of p)) ∷ []) (λ to. ((refl, tt), tt))
+  reported_unready p = reported_neighbour (predecessor p) (λ to. send p to (bodies.Blank (length_of p)) ∷ []) (λ to. ((refl, tt), tt))
 
-  pub told_tick : (p : Plain) → AllByRecursion (λ (r : WaitingRead). Q (id_of p) r.ticket r.key) p.waiting_reads → AllTold G Q V (tick_sends p)
+  pub reported_tick : (p : Plain) → AllByRecursion (λ (r : WaitingRead). Q (id_of p) r.ticket r.key) p.waiting_reads → AllReported G Q V (tick_sends p)
   unfolding tick_sends
-  told_tick p a =
-      cond_both (p.epoch == 0) [] (cond p.ready (ready_sends p) (unready_sends p)) (λ (os : List Out). AllTold G Q V os)
+  reported_tick p a =
+      cond_both (p.epoch == 0) [] (cond p.ready (ready_sends p) (unready_sends p)) (λ (os : List Out). AllReported G Q V os)
       (λ e. tt)
-      (λ e. cond_both p.ready (ready_sends p) (unready_sends p) (λ (os : List Out). AllTold G Q V os) (λ r. told_ready p a) (λ r. told_unready p))
+      (λ e. cond_both p.ready (ready_sends p) (unready_sends p) (λ (os : List Out). AllReported G Q V os) (λ r. reported_ready p a) (λ r. reported_unready p))

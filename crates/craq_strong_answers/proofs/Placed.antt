@@ -11,16 +11,16 @@ use Rattle.craq_model.specs.declared.ask.Answer.TheVariants as answers
 use Rattle.craq_model.specs.declared.step.Out.{Out}
 use Rattle.craq_model.specs.declared.step.Out.TheVariants as outs
 use Rattle.craq_model.specs.Plain.{Plain}
-use Rattle.craq_protocol.specs.Machine.{World}
+use Rattle.craq_protocol.specs.Machine.{MachineState}
 use Rattle.craq_protocol.specs.Promises.{IsPrefix}
 use Rattle.craq_runs.specs.declared.explanation.Place.{Place}
 use Rattle.craq_runs.specs.Seen.{Asked, Answered, ask_with, ask_of, answers_in, is_strong_ask, is_strong_answer}
-use Rattle.craq_runs.specs.Explain.{Account, due_place, read_place, place_by, place_if_asked, places_of}
+use Rattle.craq_runs.specs.Explain.{Account, pending_place, read_place, place_by, place_if_asked, places_of}
 use Rattle.craq_runs.specs.Valid.{IsSaid}
 use Rattle.craq_updates.proofs.Lens.{AreLens}
 use Rattle.craq_updates.proofs.Updates.{numbers_of, numbers_length}
 use Rattle.craq_updates.proofs.Known.{Known}
-use Rattle.craq_strong_answers.proofs.Outs.{AllTold}
+use Rattle.craq_strong_answers.proofs.Outs.{AllReported}
 use Rattle.craq_strong_answers.proofs.Stands.{state_after, before, Owed, IsAnswer}
 use Rattle.craq_strong_answers.proofs.Stays.{GoesOn, before_stays, asked_in_time, state_stays}
 use Rattle.craq_strong_answers.proofs.Answering.{Answered as IsAnswered, Questions, Versions}
@@ -50,7 +50,7 @@ strong_of asked xs = filter (λ (x : Answered). is_strong_answer (ask_of asked x
 
 -- ---- earlier replies keep their places
 
-pub explains_stay : {a b : Account} {w v : World Entry} → Known a w → GoesOn a b w v → IsPrefix a.committed b.committed → (x : Answered) (p : Place) → Explains a x p → Explains b x p
+pub explains_stay : {a b : Account} {w v : MachineState Entry} → Known a w → GoesOn a b w v → IsPrefix a.committed b.committed → (x : Answered) (p : Place) → Explains a x p → Explains b x p
 explains_stay {a} {b} {w} {v} k g longer x p e =
     let l : AreLens a.chain.moves a.lens (numbers_of a.asks a.committed) = k.lens in
     let same : before b e.ask ≡ before a e.ask = before_stays g x.node x.ticket e.ask e.is_ask in
@@ -70,13 +70,13 @@ explains_stay {a} {b} {w} {v} k g longer x p e =
       is_said = subst S (sym (state_stays p.position a.committed b.committed longer within)) e.is_said;
     }
 
-pub zip_stays : {a b : Account} {w v : World Entry} → Known a w → GoesOn a b w v → IsPrefix a.committed b.committed → (xs : List Answered) (ps : List Place) → AllZip (Explains a) xs ps → AllZip (Explains b) xs ps
+pub zip_stays : {a b : Account} {w v : MachineState Entry} → Known a w → GoesOn a b w v → IsPrefix a.committed b.committed → (xs : List Answered) (ps : List Place) → AllZip (Explains a) xs ps → AllZip (Explains b) xs ps
 zip_stays k g l [] [] z = tt
 zip_stays k g l [] (p ∷ ps) z = absurd z
 zip_stays k g l (x ∷ xs) [] z = absurd z
 zip_stays k g l (x ∷ xs) (p ∷ ps) z = (explains_stay k g l x p z.0, zip_stays k g l xs ps z.1)
 
-pub strong_stays : {a b : Account} {w v : World Entry} → GoesOn a b w v → (xs : List Answered) → AllByRecursion (HasAsk a.asks) xs → strong_of b.asks xs ≡ strong_of a.asks xs
+pub strong_stays : {a b : Account} {w v : MachineState Entry} → GoesOn a b w v → (xs : List Answered) → AllByRecursion (HasAsk a.asks) xs → strong_of b.asks xs ≡ strong_of a.asks xs
 strong_stays g [] h = refl
 strong_stays {a} {b} g (x ∷ xs) h =
     let same : ask_of b.asks x ≡ ask_of a.asks x = g.stay x.node x.ticket h.0.0 h.0.1 ∙ sym h.0.1 in
@@ -85,23 +85,23 @@ strong_stays {a} {b} g (x ∷ xs) h =
 -- ---- the replies of a step
 
 -- one reply, before the others
-one_place : (b : Account) (v : World Entry) (old : Option Plain) (word : Option (ℕ × ℕ)) (number id ticket : ℕ) (answer : Answer) (xs : List Answered) (ps : List Place)
+one_place : (b : Account) (v : MachineState Entry) (old : Option Plain) (word : Option (ℕ × ℕ)) (number id ticket : ℕ) (answer : Answer) (xs : List Answered) (ps : List Place)
     → Known b v → number ≤ length b.lens → after_move b number ≡ length v.log → AllByRecursion (λ (y : Asked). y.move ≤ number) b.asks
     → (ask : Asked) → ask_with b.asks id ticket ≡ Some ask → (kind : Ask) → ask.ask ≡ kind → Owed b v (λ key. read_place b.committed old word key) id ticket ask kind answer
     → AllZip (Explains b) (strong_of b.asks xs) ps
     → AllZip (Explains b) (cond (is_strong_answer (Some ask) answer) ((record { move = number; node = id; ticket = ticket; answer = answer }) ∷ strong_of b.asks xs) (strong_of b.asks xs))
-    (place_by b.due b.committed old word (record { move = number; node = id; ticket = ticket; answer = answer }) ask.ask ++ ps)
-unfolding due_place
+    (place_by b.pending b.committed old word (record { move = number; node = id; ticket = ticket; answer = answer }) ask.ask ++ ps)
+unfolding pending_place
 one_place b v old word number id ticket answer xs ps k in_time last below ask found (asks.Update u) is o z = by_answer answer o
   where
     by_answer : (answer : Answer) → Owed b v (λ key. read_place b.committed old word key) id ticket ask (asks.Update u) answer
         → AllZip (Explains b) (cond (is_strong_answer (Some ask) answer) ((record { move = number; node = id; ticket = ticket; answer = answer }) ∷ strong_of b.asks xs) (strong_of b.asks xs))
-        (place_by b.due b.committed old word (record { move = number; node = id; ticket = ticket; answer = answer }) ask.ask ++ ps)
+        (place_by b.pending b.committed old word (record { move = number; node = id; ticket = ticket; answer = answer }) ask.ask ++ ps)
     by_answer (answers.Read version value) o = absurd o
     by_answer (answers.Update reply) o =
         let x : Answered = record { move = number; node = id; ticket = ticket; answer = answers.Update reply } in
-        let P : Ask → Type 0 = λ kind. AllZip (Explains b) (x ∷ strong_of b.asks xs) (place_by b.due b.committed old word x kind ++ ps) in
-        let place : due_place b.due id ticket ≡ o.place.position = ap (λ (o : Option Place). unwrap_or (option_map (λ (p : Place). p.position) o) 0) o.due in
+        let P : Ask → Type 0 = λ kind. AllZip (Explains b) (x ∷ strong_of b.asks xs) (place_by b.pending b.committed old word x kind ++ ps) in
+        let place : pending_place b.pending id ticket ≡ o.place.position = ap (λ (o : Option Place). unwrap_or (option_map (λ (p : Place). p.position) o) 0) o.pending in
         let S : List Entry → Type 0 = λ l. IsSaid (state_after o.place.position l) (asks.Update u) (answers.Update reply) in
         let T : Ask → Type 0 = λ kind. IsSaid (state_after o.place.position b.committed) kind (answers.Update reply) in
         let Q : ℕ → Type 0 = λ n. Explains b x (record { node = id; ticket = ticket; position = n }) in
@@ -121,11 +121,11 @@ one_place b v old word number id ticket answer xs ps k in_time last below ask fo
   where
     by_answer : (answer : Answer) → Owed b v (λ key. read_place b.committed old word key) id ticket ask (asks.Read Strong object) answer
         → AllZip (Explains b) (cond (is_strong_answer (Some ask) answer) ((record { move = number; node = id; ticket = ticket; answer = answer }) ∷ strong_of b.asks xs) (strong_of b.asks xs))
-        (place_by b.due b.committed old word (record { move = number; node = id; ticket = ticket; answer = answer }) ask.ask ++ ps)
+        (place_by b.pending b.committed old word (record { move = number; node = id; ticket = ticket; answer = answer }) ask.ask ++ ps)
     by_answer (answers.Update reply) o = absurd o
     by_answer (answers.Read version value) o =
         let x : Answered = record { move = number; node = id; ticket = ticket; answer = answers.Read version value } in
-        let P : Ask → Type 0 = λ kind. AllZip (Explains b) (cond (is_strong_ask kind) (x ∷ strong_of b.asks xs) (strong_of b.asks xs)) (place_by b.due b.committed old word x kind ++ ps) in
+        let P : Ask → Type 0 = λ kind. AllZip (Explains b) (cond (is_strong_ask kind) (x ∷ strong_of b.asks xs) (strong_of b.asks xs)) (place_by b.pending b.committed old word x kind ++ ps) in
         let n : ℕ = read_place b.committed old word object.key in
         let S : List Entry → Type 0 = λ l. IsSaid (state_after n l) (asks.Read Strong object) (answers.Read version value) in
         let T : Ask → Type 0 = λ kind. IsSaid (state_after n b.committed) kind (answers.Read version value) in
@@ -147,27 +147,27 @@ one_place b v old word number id ticket answer xs ps k in_time last below ask fo
   where
     by_answer : (answer : Answer) → Owed b v (λ key. read_place b.committed old word key) id ticket ask (asks.Read Eventual object) answer
         → AllZip (Explains b) (cond (is_strong_answer (Some ask) answer) ((record { move = number; node = id; ticket = ticket; answer = answer }) ∷ strong_of b.asks xs) (strong_of b.asks xs))
-        (place_by b.due b.committed old word (record { move = number; node = id; ticket = ticket; answer = answer }) ask.ask ++ ps)
+        (place_by b.pending b.committed old word (record { move = number; node = id; ticket = ticket; answer = answer }) ask.ask ++ ps)
     by_answer (answers.Update reply) o = absurd o
     by_answer (answers.Read version value) o =
         let x : Answered = record { move = number; node = id; ticket = ticket; answer = answers.Read version value } in
-        let P : Ask → Type 0 = λ kind. AllZip (Explains b) (cond (is_strong_ask kind) (x ∷ strong_of b.asks xs) (strong_of b.asks xs)) (place_by b.due b.committed old word x kind ++ ps) in
+        let P : Ask → Type 0 = λ kind. AllZip (Explains b) (cond (is_strong_ask kind) (x ∷ strong_of b.asks xs) (strong_of b.asks xs)) (place_by b.pending b.committed old word x kind ++ ps) in
         subst P (sym is) z
 one_place b v old word number id ticket answer xs ps k in_time last below ask found (asks.Read (Bounded bound) object) is o z = by_answer answer o
   where
     by_answer : (answer : Answer) → Owed b v (λ key. read_place b.committed old word key) id ticket ask (asks.Read (Bounded bound) object) answer
         → AllZip (Explains b) (cond (is_strong_answer (Some ask) answer) ((record { move = number; node = id; ticket = ticket; answer = answer }) ∷ strong_of b.asks xs) (strong_of b.asks xs))
-        (place_by b.due b.committed old word (record { move = number; node = id; ticket = ticket; answer = answer }) ask.ask ++ ps)
+        (place_by b.pending b.committed old word (record { move = number; node = id; ticket = ticket; answer = answer }) ask.ask ++ ps)
     by_answer (answers.Update reply) o = absurd o
     by_answer (answers.Read version value) o =
         let x : Answered = record { move = number; node = id; ticket = ticket; answer = answers.Read version value } in
-        let P : Ask → Type 0 = λ kind. AllZip (Explains b) (cond (is_strong_ask kind) (x ∷ strong_of b.asks xs) (strong_of b.asks xs)) (place_by b.due b.committed old word x kind ++ ps) in
+        let P : Ask → Type 0 = λ kind. AllZip (Explains b) (cond (is_strong_ask kind) (x ∷ strong_of b.asks xs) (strong_of b.asks xs)) (place_by b.pending b.committed old word x kind ++ ps) in
         subst P (sym is) z
 
-pub step_places : (b : Account) (v : World Entry) (old : Option Plain) (word : Option (ℕ × ℕ)) (number id : ℕ) (os : List Out)
+pub step_places : (b : Account) (v : MachineState Entry) (old : Option Plain) (word : Option (ℕ × ℕ)) (number id : ℕ) (os : List Out)
     → Known b v → number ≤ length b.lens → after_move b number ≡ length v.log → AllByRecursion (λ (y : Asked). y.move ≤ number) b.asks
-    → AllTold (IsAnswered b v (λ key. read_place b.committed old word key) id) (Questions b) (Versions b v) os
-    → AllZip (Explains b) (strong_of b.asks (answers_in number id os)) (places_of b.asks b.due b.committed old word (answers_in number id os)) × AllByRecursion (HasAsk b.asks) (answers_in number id os)
+    → AllReported (IsAnswered b v (λ key. read_place b.committed old word key) id) (Questions b) (Versions b v) os
+    → AllZip (Explains b) (strong_of b.asks (answers_in number id os)) (places_of b.asks b.pending b.committed old word (answers_in number id os)) × AllByRecursion (HasAsk b.asks) (answers_in number id os)
 unfolding answers_in places_of
 step_places b v old word number id [] k in_time last below t = (tt, tt)
 step_places b v old word number id (outs.Send to m ∷ os) k in_time last below t = step_places b v old word number id os k in_time last below t.1
@@ -175,7 +175,7 @@ step_places b v old word number id (outs.Answer ticket answer ∷ os) k in_time 
     let rest : _ = step_places b v old word number id os k in_time last below t.1 in
     let x : Answered = record { move = number; node = id; ticket = ticket; answer = answer } in
     let xs : List Answered = answers_in number id os in
-    let ps : List Place = places_of b.asks b.due b.committed old word xs in
+    let ps : List Place = places_of b.asks b.pending b.committed old word xs in
     let a : IsAnswer b v (λ key. read_place b.committed old word key) id ticket answer = t.0 in
-    let P : Option Asked → Type 0 = λ o. AllZip (Explains b) (cond (is_strong_answer o answer) (x ∷ strong_of b.asks xs) (strong_of b.asks xs)) (place_if_asked b.due b.committed old word x o ++ ps) in
+    let P : Option Asked → Type 0 = λ o. AllZip (Explains b) (cond (is_strong_answer o answer) (x ∷ strong_of b.asks xs) (strong_of b.asks xs)) (place_if_asked b.pending b.committed old word x o ++ ps) in
     (subst P (sym a.is_ask) (one_place b v old word number id ticket answer xs ps k in_time last below a.ask a.is_ask a.ask.ask refl a.owed rest.0), ((a.ask, a.is_ask), rest.1))

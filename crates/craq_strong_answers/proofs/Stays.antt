@@ -10,7 +10,7 @@ use Rattle.craq_model.specs.declared.message.Body.TheVariants as bodies
 use Rattle.craq_model.specs.declared.message.LinkMessage.{LinkMessage}
 use Rattle.craq_model.specs.declared.waiting.WaitingUpdate.{WaitingUpdate}
 use Rattle.craq_model.specs.declared.waiting.WaitingRead.{WaitingRead}
-use Rattle.craq_protocol.specs.Machine.{World}
+use Rattle.craq_protocol.specs.Machine.{MachineState}
 use Rattle.craq_protocol.specs.Promises.{IsPrefix, Later}
 use Rattle.craq_protocol.proofs.Prefix.{take_prefix, prefix_length}
 use Rattle.craq_runs.specs.declared.explanation.Place.{Place}
@@ -19,13 +19,13 @@ use Rattle.craq_runs.specs.Explain.{Account}
 use Rattle.craq_updates.proofs.Found.{find_all}
 use Rattle.craq_updates.proofs.Entries.{StaysAsked}
 use Rattle.craq_strong_answers.proofs.Outs.{Says}
-use Rattle.craq_strong_answers.proofs.Stands.{state_after, before, due_of, DueUpdate, AskedRead, DueRead, ToldVersion, IsTold}
+use Rattle.craq_strong_answers.proofs.Stands.{state_after, before, pending_of, PendingUpdate, AskedRead, PendingRead, ReportedVersion, IsReported}
 
 -- an account goes on: more requests, pending places and lengths
-pub record GoesOn (a b : Account) (w v : World Entry) : Type 0 where
+pub record GoesOn (a b : Account) (w v : MachineState Entry) : Type 0 where
   pub stay : StaysAsked a.asks b.asks
   pub in_time : AllByRecursion (λ (x : Asked). x.move ≤ length a.lens) a.asks
-  pub due : (node ticket : ℕ) (p : Place) → due_of a.due node ticket ≡ Some p → due_of b.due node ticket ≡ Some p
+  pub pending : (node ticket : ℕ) (p : Place) → pending_of a.pending node ticket ≡ Some p → pending_of b.pending node ticket ≡ Some p
   pub lens : (move : ℕ) → move ≤ length a.lens → slice_index (0 ∷ b.lens) move ≡ slice_index (0 ∷ a.lens) move
   pub longer : length a.lens ≤ length b.lens
   pub later : Later w v
@@ -34,7 +34,7 @@ pub asked_in_time : (a : Account) (n node ticket : ℕ) (ask : Asked) → AllByR
 unfolding ask_with
 asked_in_time a n node ticket ask below h = find_all (λ (x : Asked). x.move ≤ n) (λ (x : Asked). (x.node == node) && _) a.asks ask below h
 
-pub before_stays : {a b : Account} {w v : World Entry} → GoesOn a b w v → (node ticket : ℕ) (ask : Asked) → ask_with a.asks node ticket ≡ Some ask → before b ask ≡ before a ask
+pub before_stays : {a b : Account} {w v : MachineState Entry} → GoesOn a b w v → (node ticket : ℕ) (ask : Asked) → ask_with a.asks node ticket ≡ Some ask → before b ask ≡ before a ask
 before_stays {a} {b} g node ticket ask h =
     let le : ask.move ≤ length a.lens = asked_in_time a (length a.lens) node ticket ask g.in_time h in
     g.lens (ask.move - 1) (omega (arith, le))
@@ -43,7 +43,7 @@ before_stays {a} {b} g node ticket ask h =
 pub state_stays : (k : ℕ) (xs ys : List Entry) → IsPrefix xs ys → k ≤ length xs → state_after k ys ≡ state_after k xs
 state_stays k xs ys p le = ap (after_entries opening_state) (take_prefix k p le)
 
-pub update_stays : {a b : Account} {w v : World Entry} → GoesOn a b w v → (id : ℕ) (u : WaitingUpdate) → DueUpdate a w id u → DueUpdate b v id u
+pub update_stays : {a b : Account} {w v : MachineState Entry} → GoesOn a b w v → (id : ℕ) (u : WaitingUpdate) → PendingUpdate a w id u → PendingUpdate b v id u
 update_stays {a} {b} {w} {v} g id u d =
     let l : Later w v = g.later in
     let same : before b d.ask ≡ before a d.ask = before_stays g id u.ticket d.ask d.is_ask in
@@ -54,7 +54,7 @@ update_stays {a} {b} {w} {v} g id u d =
       is_ask = g.stay id u.ticket d.ask d.is_ask;
       is = d.is;
       place = d.place;
-      due = g.due id u.ticket d.place d.due;
+      pending = g.pending id u.ticket d.place d.pending;
       not_before = omega (arith, same, d.not_before);
       reached = ⊎_elim (λ le. inl le) (λ le. inr (omega (arith, le, prefix_length l.log))) d.reached;
       held = omega (arith, d.held, prefix_length (l.history id));
@@ -63,14 +63,14 @@ update_stays {a} {b} {w} {v} g id u d =
       is_newest = ap (λ (s : State). said s d.update.client d.update.number) (state_stays u.position (w.history id) (v.history id) (l.history id) d.newest) ∙ d.is_newest;
     }
 
-pub asked_stays : {a b : Account} {w v : World Entry} → GoesOn a b w v → (id ticket : ℕ) (key : List ℕ) → AskedRead a id ticket key → AskedRead b id ticket key
+pub asked_stays : {a b : Account} {w v : MachineState Entry} → GoesOn a b w v → (id ticket : ℕ) (key : List ℕ) → AskedRead a id ticket key → AskedRead b id ticket key
 asked_stays g id ticket key r = record { ask = r.ask; object = r.object; is_ask = g.stay id ticket r.ask r.is_ask; is = r.is; key_is = r.key_is }
 
-pub read_stays : {a b : Account} {w v : World Entry} → GoesOn a b w v → (id : ℕ) (r : WaitingRead) → DueRead a w id r → DueRead b v id r
+pub read_stays : {a b : Account} {w v : MachineState Entry} → GoesOn a b w v → (id : ℕ) (r : WaitingRead) → PendingRead a w id r → PendingRead b v id r
 read_stays {a} {b} {w} {v} g id r d = let l : Later w v = g.later in record { ready = l.ready id d.ready; asked = asked_stays g id r.ticket r.key d.asked }
 
-pub told_stays : {a b : Account} {w v : World Entry} → GoesOn a b w v → (id ticket version sent : ℕ) → ToldVersion a w id ticket version sent → ToldVersion b v id ticket version sent
-told_stays {a} {b} {w} {v} g id ticket version sent t =
+pub reported_stays : {a b : Account} {w v : MachineState Entry} → GoesOn a b w v → (id ticket version sent : ℕ) → ReportedVersion a w id ticket version sent → ReportedVersion b v id ticket version sent
+reported_stays {a} {b} {w} {v} g id ticket version sent t =
     let l : Later w v = g.later in
     let same : before b t.ask ≡ before a t.ask = before_stays g id ticket t.ask t.is_ask in
     record {
@@ -83,25 +83,25 @@ told_stays {a} {b} {w} {v} g id ticket version sent t =
       version_is = ap (λ (s : State). version_of s.objects t.object.key) (state_stays sent w.log v.log l.log t.committed) ∙ t.version_is;
     }
 
-pub message_stays : {a b : Account} {w v : World Entry} → GoesOn a b w v → (m : LinkMessage) (sent : ℕ) → IsTold a w m sent → IsTold b v m sent
+pub message_stays : {a b : Account} {w v : MachineState Entry} → GoesOn a b w v → (m : LinkMessage) (sent : ℕ) → IsReported a w m sent → IsReported b v m sent
 message_stays {a} {b} {w} {v} g m sent t = by_body m.body t
   where
-    A : Account → World Entry → Body → Type 0
-    A a w body = Says (λ sender ticket key. AskedRead a sender ticket key) (λ receiver ticket version. ToldVersion a w receiver ticket version sent) m.sender m.receiver body
+    A : Account → MachineState Entry → Body → Type 0
+    A a w body = Says (λ sender ticket key. AskedRead a sender ticket key) (λ receiver ticket version. ReportedVersion a w receiver ticket version sent) m.sender m.receiver body
 
-    by_body : (body : Body) → Says (λ sender ticket key. AskedRead a sender ticket key) (λ receiver ticket version. ToldVersion a w receiver ticket version sent) m.sender m.receiver body → Says (λ sender ticket key. AskedRead b sender ticket key) (λ receiver ticket version. ToldVersion b v receiver ticket version sent) m.sender m.receiver body
+    by_body : (body : Body) → Says (λ sender ticket key. AskedRead a sender ticket key) (λ receiver ticket version. ReportedVersion a w receiver ticket version sent) m.sender m.receiver body → Says (λ sender ticket key. AskedRead b sender ticket key) (λ receiver ticket version. ReportedVersion b v receiver ticket version sent) m.sender m.receiver body
     by_body (bodies.Config members) t = tt
     by_body (bodies.Entry e) t = tt
     by_body (bodies.Ack position) t = tt
     by_body (bodies.Query ticket key) t = asked_stays g m.sender ticket key t
-    by_body (bodies.VersionIs ticket version) t = told_stays g m.receiver ticket version sent t
+    by_body (bodies.VersionIs ticket version) t = reported_stays g m.receiver ticket version sent t
     by_body (bodies.Blank count) t = tt
     by_body (bodies.Batch es) t = tt
     by_body (bodies.Copy position state) t = tt
     by_body (bodies.Part part) t = tt
     by_body (bodies.Floor count) t = tt
 
-pub messages_stay : {a b : Account} {w v : World Entry} → GoesOn a b w v → (ms : List LinkMessage) (sents : List ℕ) → AllZip (IsTold a w) ms sents → AllZip (IsTold b v) ms sents
+pub messages_stay : {a b : Account} {w v : MachineState Entry} → GoesOn a b w v → (ms : List LinkMessage) (sents : List ℕ) → AllZip (IsReported a w) ms sents → AllZip (IsReported b v) ms sents
 messages_stay g [] [] z = tt
 messages_stay g [] (s ∷ sents) z = absurd z
 messages_stay g (m ∷ ms) [] z = absurd z

@@ -5,7 +5,7 @@ use Rattle.craq_names.specs.declared.refusal.Refusal.{Refusal}
 use Rattle.craq_commands.specs.declared.entry.Entry.{Entry}
 use Rattle.craq_commands.specs.declared.state.State.{State}
 use Rattle.craq_commands.specs.SingleCopy.{opening_state, after}
-use Rattle.craq_protocol.specs.Machine.{World, opening}
+use Rattle.craq_protocol.specs.Machine.{MachineState, initial_state}
 use Rattle.craq_protocol.proofs.Prefix.{prefix_take}
 use Rattle.craq_runs.specs.declared.explanation.Place.{Place}
 use Rattle.craq_runs.specs.declared.run.Run.{Run}
@@ -15,15 +15,15 @@ use Rattle.craq_runs.specs.Runs.{progressed, Takes, AreTaken}
 use Rattle.craq_runs.specs.Seen.{Seen, Answered, answers_in, answers_from, receivers_in, node_of, seen, strong_answers}
 use Rattle.craq_runs.specs.Explain.{Account, opening_account, account_with, account_of, explanation_in, explain}
 use Rattle.craq_runs.specs.Valid.{state_at, IsSaid, IsExplained, StrongHold, IsChecked, place_name, answer_name}
-use Rattle.craq_updates.specs.Genuine.{AllGenuine}
+use Rattle.craq_updates.specs.ValidEntries.{AllValid}
 use Rattle.craq_runs.specs.Typed.{IsMoveOfType, AreOfType, IsTypedRunOf}
 use Rattle.craq_updates.proofs.Places.{happens_at}
-use Rattle.craq_updates.proofs.Entries.{genuine_closed}
+use Rattle.craq_updates.proofs.Entries.{valid_closed}
 use Rattle.craq_updates.proofs.Updates.{updates_take, after_updates, numbers_name}
 use Rattle.craq_updates.proofs.Known.{Known}
 use Rattle.craq_updates.proofs.Accounts.{next_account, moves_counted}
 use Rattle.craq_updates.proofs.Runs.{account_by, run_account}
-use Rattle.craq_updates.proofs.Explained.{seen_by, log_genuine, grows_in, seen_run}
+use Rattle.craq_updates.proofs.Explained.{seen_by, log_valid, grows_in, seen_run}
 use Rattle.craq_strong_answers.proofs.Stands.{state_after}
 use Rattle.craq_strong_answers.proofs.Placed.{Explains, strong_of}
 use Rattle.craq_strong_answers.proofs.Once.{no_name_twice, all_once, distinct_filter}
@@ -32,12 +32,12 @@ use Rattle.craq_strong_answers.proofs.Clients.{Clients, ClientsNext, clients_nex
 -- ---- each run
 
 pub record ClientsRun (b : Account) (given : List Answered) : Type 0 where
-  pub world : World Entry
+  pub world : MachineState Entry
   pub receivers : List ℕ
   pub clients : Clients b world receivers given
 
-by_result : (t : Taken) (ts : List Taken) (a : Account) (w : World Entry) (receivers : List ℕ) (given : List Answered) → Clients a w receivers given → IsMoveOfType t.chosen
-    → ((b : Account) (v : World Entry) (receivers : List ℕ) (given : List Answered) → Clients b v receivers given → AreTaken b.chain ts → ClientsRun (account_of b ts) (given ++ answers_from (b.chain.moves + 1) receivers ts))
+by_result : (t : Taken) (ts : List Taken) (a : Account) (w : MachineState Entry) (receivers : List ℕ) (given : List Answered) → Clients a w receivers given → IsMoveOfType t.chosen
+    → ((b : Account) (v : MachineState Entry) (receivers : List ℕ) (given : List Answered) → Clients b v receivers given → AreTaken b.chain ts → ClientsRun (account_of b ts) (given ++ answers_from (b.chain.moves + 1) receivers ts))
     → (res : Result Progress Refusal) → chain_step a.chain t.chosen ≡ res → Takes res t.step × AreTaken (progressed a.chain res) ts
     → ClientsRun (account_of (account_by a t res) ts) (given ++ answers_from (a.chain.moves + 1) receivers (t ∷ ts))
 unfolding account_with answers_from
@@ -55,25 +55,25 @@ by_result t ts a w receivers given c type go (Ok x) is taken =
     ∙ ap (λ l. given ++ (l ++ answers_from (a.chain.moves + 1 + 1) (receivers ++ receivers_in t.step.outs) ts)) same))
     r
 
-clients_moves : (ts : List Taken) (a : Account) (w : World Entry) (receivers : List ℕ) (given : List Answered) → Clients a w receivers given → AreTaken a.chain ts → AreOfType ts
+clients_moves : (ts : List Taken) (a : Account) (w : MachineState Entry) (receivers : List ℕ) (given : List Answered) → Clients a w receivers given → AreTaken a.chain ts → AreOfType ts
     → ClientsRun (account_of a ts) (given ++ answers_from (a.chain.moves + 1) receivers ts)
 unfolding answers_from
 clients_moves [] a w receivers given c taken type = let P : List Answered → Type 0 = λ l. ClientsRun a l in subst P (sym (append-nil given)) (record { world = w; receivers = receivers; clients = c })
 clients_moves (t ∷ ts) a w receivers given c taken type = by_result t ts a w receivers given c type.0 (λ b v r g c taken. clients_moves ts b v r g c taken type.1) (chain_step a.chain t.chosen) refl taken
 
 pub clients_run : (chain : ℕ) (run : Run) → IsTypedRunOf chain run → ClientsRun (run_account chain run) (answers_from 1 [] run.moves)
-clients_run chain run i = clients_moves run.moves (opening_account chain run.members) (opening run.members) [] [] (opening_clients chain run i) i.run_of.moves i.typed
+clients_run chain run i = clients_moves run.moves (opening_account chain run.members) (initial_state run.members) [] [] (opening_clients chain run i) i.run_of.moves i.typed
 
 -- ---- the tests
 
 -- the state of the explanation is that after the entries
-pub state_is : (a : Account) (w : World Entry) (answers : List Answered) (count : ℕ) → Known a w → state_at (seen_by a answers) (explanation_in a) count ≡ state_after count a.committed
+pub state_is : (a : Account) (w : MachineState Entry) (answers : List Answered) (count : ℕ) → Known a w → state_at (seen_by a answers) (explanation_in a) count ≡ state_after count a.committed
 state_is a w answers count k =
-    let g : AllGenuine a.asks opening_state a.committed = log_genuine k in
-    let part : AllGenuine a.asks opening_state (take count a.committed) = genuine_closed a.asks opening_state (take count a.committed) a.committed (prefix_take count a.committed) g in
+    let g : AllValid a.asks opening_state a.committed = log_valid k in
+    let part : AllValid a.asks opening_state (take count a.committed) = valid_closed a.asks opening_state (take count a.committed) a.committed (prefix_take count a.committed) g in
     ap after (updates_take a.asks opening_state count a.committed k.numbered g) ∙ after_updates a.asks opening_state (take count a.committed) k.numbered part
 
-explained : (a : Account) (w : World Entry) (answers xs : List Answered) (ps : List Place) → Known a w → AllZip (Explains a) xs ps → AllZip (IsExplained (seen_by a answers) (explanation_in a)) xs ps
+explained : (a : Account) (w : MachineState Entry) (answers xs : List Answered) (ps : List Place) → Known a w → AllZip (Explains a) xs ps → AllZip (IsExplained (seen_by a answers) (explanation_in a)) xs ps
 explained a w answers [] [] k z = tt
 explained a w answers [] (p ∷ ps) k z = absurd z
 explained a w answers (x ∷ xs) [] k z = absurd z
@@ -97,23 +97,23 @@ names a [] (p ∷ ps) z = absurd z
 names a (x ∷ xs) [] z = absurd z
 names a (x ∷ xs) (p ∷ ps) z = let e : Explains a x p = z.0 in λ i. (e.node i, e.ticket i) ∷ names a xs ps z.1 i
 
-pub strong_in : (a : Account) (w : World Entry) (receivers : List ℕ) (answers : List Answered) → Clients a w receivers answers → StrongHold (seen_by a answers) (explanation_in a)
+pub strong_in : (a : Account) (w : MachineState Entry) (receivers : List ℕ) (answers : List Answered) → Clients a w receivers answers → StrongHold (seen_by a answers) (explanation_in a)
 unfolding strong_answers
 strong_in a w receivers answers c = record {
   explained = explained a w answers (strong_of a.asks answers) a.places c.known c.placed;
   once = distinct_filter _ _ answers (no_name_twice answers (all_once a.chain.nodes answers c.once));
 }
 
-pub places_in : (a : Account) (w : World Entry) (receivers : List ℕ) (answers : List Answered) → Clients a w receivers answers → map place_name a.places ≡ map answer_name (strong_answers (seen_by a answers))
+pub places_in : (a : Account) (w : MachineState Entry) (receivers : List ℕ) (answers : List Answered) → Clients a w receivers answers → map place_name a.places ≡ map answer_name (strong_answers (seen_by a answers))
 unfolding strong_answers
 places_in a w receivers answers c = names a (strong_of a.asks answers) a.places c.placed
 
-pub checked_in : (a : Account) (w : World Entry) (receivers : List ℕ) (answers : List Answered) → Clients a w receivers answers → IsChecked (seen_by a answers) (explanation_in a)
+pub checked_in : (a : Account) (w : MachineState Entry) (receivers : List ℕ) (answers : List Answered) → Clients a w receivers answers → IsChecked (seen_by a answers) (explanation_in a)
 checked_in a w receivers answers c =
     let k : Known a w = c.known in
     let l : _ = k.lens in
     record {
-      form = record { asks = numbers_name a.asks opening_state a.committed k.numbered (log_genuine k); lens = l.count; places = places_in a w receivers answers c };
+      form = record { asks = numbers_name a.asks opening_state a.committed k.numbered (log_valid k); lens = l.count; places = places_in a w receivers answers c };
       list = grows_in a w answers k;
       strong = strong_in a w receivers answers c;
     }

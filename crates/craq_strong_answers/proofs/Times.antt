@@ -7,7 +7,7 @@ use Rattle.craq_model.specs.declared.waiting.WaitingUpdate.{WaitingUpdate}
 use Rattle.craq_model.specs.declared.waiting.WaitingRead.{WaitingRead}
 use Rattle.craq_model.specs.Plain.{Plain}
 use Rattle.craq_model.specs.Settle.{Given, insert_given, by_ticket, answer_outs}
-use Rattle.craq_strong_answers.proofs.Outs.{AllTold}
+use Rattle.craq_strong_answers.proofs.Outs.{AllReported}
 
 unfoldable pub times : ℕ → List ℕ → ℕ
 times k [] = 0
@@ -54,7 +54,7 @@ given_answers [] = refl
 given_answers (g ∷ gs) = ap (λ l. g.0 ∷ l) (given_answers gs)
 
 -- if no reply is allowed, there is none
-pub none_given : (Q : ℕ → ℕ → List ℕ → Type 0) (V : ℕ → ℕ → ℕ → Type 0) (os : List Out) → AllTold (λ ticket answer. ⊥) Q V os → given_in os ≡ []
+pub none_given : (Q : ℕ → ℕ → List ℕ → Type 0) (V : ℕ → ℕ → ℕ → Type 0) (os : List Out) → AllReported (λ ticket answer. ⊥) Q V os → given_in os ≡ []
 unfolding given_in
 none_given Q V [] a = refl
 none_given Q V (outs.Send to m ∷ os) a = none_given Q V os a.1

@@ -17,29 +17,29 @@ use Rattle.craq_protocol.specs.Promises.{IsPrefix}
 use Rattle.craq_runs.specs.Seen.{Asked}
 use Rattle.craq_laws.proofs.Histories.{IsNoOlder, more_updates}
 use Rattle.craq_laws.proofs.Writes.{found_here, found_elsewhere}
-use Rattle.craq_updates.specs.Genuine.{IsGenuine, AllGenuine}
+use Rattle.craq_updates.specs.ValidEntries.{IsValidEntry, AllValid}
 use Rattle.craq_updates.proofs.Found.{IsNumbered}
 use Rattle.craq_updates.proofs.Updates.{updates_of, after_updates}
 
 -- ---- along a list
 
-pub genuine_rest : (asked : List Asked) (s : State) (xs ys : List Entry) → AllGenuine asked s (xs ++ ys) → AllGenuine asked (after_entries s xs) ys
-genuine_rest asked s [] ys g = g
-genuine_rest asked s (x ∷ xs) ys g = genuine_rest asked (after_entry s x) xs ys g.1
+pub valid_rest : (asked : List Asked) (s : State) (xs ys : List Entry) → AllValid asked s (xs ++ ys) → AllValid asked (after_entries s xs) ys
+valid_rest asked s [] ys g = g
+valid_rest asked s (x ∷ xs) ys g = valid_rest asked (after_entry s x) xs ys g.1
 
-pub no_older_entries : (asked : List Asked) (s : State) (es : List Entry) (key : List ℕ) → IsNumbered asked → AllGenuine asked s es → IsNoOlder s.objects (after_entries s es).objects key
+pub no_older_entries : (asked : List Asked) (s : State) (es : List Entry) (key : List ℕ) → IsNumbered asked → AllValid asked s es → IsNoOlder s.objects (after_entries s es).objects key
 no_older_entries asked s es key n g =
     let P : State → Type 0 = λ t. IsNoOlder s.objects t.objects key in
     subst P (after_updates asked s es n g) (more_updates s (updates_of asked es) key)
 
 -- the longer of two prefixes has no older versions
-pub no_older_prefix : (asked : List Asked) (xs ys : List Entry) (key : List ℕ) → IsNumbered asked → AllGenuine asked opening_state ys → IsPrefix xs ys
+pub no_older_prefix : (asked : List Asked) (xs ys : List Entry) (key : List ℕ) → IsNumbered asked → AllValid asked opening_state ys → IsPrefix xs ys
     → IsNoOlder (after_entries opening_state xs).objects (after_entries opening_state ys).objects key
 no_older_prefix asked xs ys key n g p =
-    let P : List Entry → Type 0 = λ l. AllGenuine asked opening_state l in
+    let P : List Entry → Type 0 = λ l. AllValid asked opening_state l in
     let S : State → Type 0 = λ t. IsNoOlder (after_entries opening_state xs).objects t.objects key in
     let same : after_entries opening_state ys ≡ after_entries (after_entries opening_state xs) p.rest = ap (after_entries opening_state) (sym p.is) ∙ after_entries-append opening_state xs p.rest in
-    subst S (sym same) (no_older_entries asked (after_entries opening_state xs) p.rest key n (genuine_rest asked opening_state xs p.rest (subst P (sym p.is) g)))
+    subst S (sym same) (no_older_entries asked (after_entries opening_state xs) p.rest key n (valid_rest asked opening_state xs p.rest (subst P (sym p.is) g)))
 
 pub version_rises : (m n : Objects) (key : List ℕ) → IsNoOlder m n key → version_of m key ≤ version_of n key
 version_rises m n key (inl lt) = omega (arith, lt)
@@ -111,7 +111,7 @@ by_writes m now (w ∷ ws) key d h =
     }))
     (λ e. by_writes m next ws key d.1 (set_elsewhere now w.0 key (version_of m w.0 + 1) w.1 e ∙ h))
 
-pub by_entry : (asked : List Asked) (s : State) (e : Entry) (key : List ℕ) → IsGenuine asked s e
+pub by_entry : (asked : List Asked) (s : State) (e : Entry) (key : List ℕ) → IsValidEntry asked s e
     → Leaves s.objects (object_of (after_entry s e).objects key) (values_in e.writes key) key ⊎ Gives s.objects (object_of (after_entry s e).objects key) (values_in e.writes key) key
 unfolding after_entry
 by_entry asked s e key g =

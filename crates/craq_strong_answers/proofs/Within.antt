@@ -12,9 +12,9 @@ use Rattle.craq_model.specs.Past.{values_in, values_after, newest_within}
 use Rattle.craq_runs.specs.Seen.{Asked}
 use Rattle.craq_runs.specs.Explain.{wrote}
 use Rattle.craq_refinement.specs.Follows.{IsPlaced}
-use Rattle.craq_updates.specs.Genuine.{AllGenuine}
+use Rattle.craq_updates.specs.ValidEntries.{AllValid}
 use Rattle.craq_protocol.proofs.Prefix.{prefix_take}
-use Rattle.craq_updates.proofs.Entries.{genuine_closed}
+use Rattle.craq_updates.proofs.Entries.{valid_closed}
 use Rattle.craq_updates.proofs.Found.{IsNumbered}
 use Rattle.craq_strong_answers.proofs.Versions.{Leaves, Gives, by_entry, no_older_entries, version_rises}
 
@@ -45,10 +45,10 @@ pushed s e es key bound values same rises below split i = record {
     by_count zero h = omega (arith, rises, i.most 0 below)
     by_count (suc k) h = i.most k h
 
-rising : (asked : List Asked) (s : State) (es : List Entry) (key : List ℕ) (k : ℕ) → IsNumbered asked → AllGenuine asked s es → version_of s.objects key ≤ version_at s es key k
-rising asked s es key k n g = version_rises s.objects (after_entries s (take k es)).objects key (no_older_entries asked s (take k es) key n (genuine_closed asked s (take k es) es (prefix_take k es) g))
+rising : (asked : List Asked) (s : State) (es : List Entry) (key : List ℕ) (k : ℕ) → IsNumbered asked → AllValid asked s es → version_of s.objects key ≤ version_at s es key k
+rising asked s es key k n g = version_rises s.objects (after_entries s (take k es)).objects key (no_older_entries asked s (take k es) key n (valid_closed asked s (take k es) es (prefix_take k es) g))
 
-pub within : (asked : List Asked) (s : State) (es : List Entry) (key : List ℕ) (bound : ℕ) → IsNumbered asked → AllGenuine asked s es → version_of s.objects key ≤ bound → IsWithin s es key bound
+pub within : (asked : List Asked) (s : State) (es : List Entry) (key : List ℕ) (bound : ℕ) → IsNumbered asked → AllValid asked s es → version_of s.objects key ≤ bound → IsWithin s es key bound
 unfolding newest_within values_after
 within asked s [] key bound n g le = record { count = 0; short = omega arith; is = refl; below = le; most = λ k. by_count k }
   where
@@ -126,7 +126,7 @@ wrote_later s k e es key version not_here i = record {
   is = i.is;
 }
 
-pub written : (asked : List Asked) (s : State) (k : ℕ) (es : List Entry) (key : List ℕ) (version : ℕ) → IsNumbered asked → AllGenuine asked s es → IsPlaced k es → version_of s.objects key < version
+pub written : (asked : List Asked) (s : State) (k : ℕ) (es : List Entry) (key : List ℕ) (version : ℕ) → IsNumbered asked → AllValid asked s es → IsPlaced k es → version_of s.objects key < version
     → version ≤ version_of (after_entries s es).objects key → IsWritten s k es key version
 unfolding wrote
 written asked s k [] key version n g p lt le = absurd (omega (arith, lt, le))

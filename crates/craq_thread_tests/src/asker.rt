@@ -3,7 +3,7 @@
 use crate::asks::{name_of, put_of, read_of, version_of};
 use crate::gate::{TestGate, Tested};
 use craq_commands::ReadMode;
-use craq_list::ListCore;
+use craq_compact_history::ListCore;
 use craq_model::Ask;
 use craq_names::{Pass, Refusal};
 use craq_seat::CallReceipt;

@@ -65,7 +65,7 @@ pub fn read_of(alloc: Global, mode: ReadMode, key: &[u8]) -> Result<Ask, Refusal
 
 /// The reply that is expected.
 #[derive(Clone, Copy)]
-pub enum Told {
+pub enum Reported {
     /// The put wrote this version.
     Written(u64),
     /// The read finds this version and the written value; for version 0, no value.
@@ -73,10 +73,11 @@ pub enum Told {
 }
 
 /// Returns true if a reply is the expected one.
-pub fn tells(answer: &Answer, told: Told) -> bool {
-    match (answer, told) {
-        (Answer::Update(Reply::Written(version)), Told::Written(number)) => version.get() == number,
-        (Answer::Read { version, value }, Told::Found(number)) => {
+pub fn tells(answer: &Answer, reported: Reported) -> bool {
+    match (answer, reported) {
+        (Answer::Update(Reply::Written(version)), Reported::Written(number)) => version.get()
+            == number,
+        (Answer::Read { version, value }, Reported::Found(number)) => {
             let found: &[u8] = if number == 0 { &[] } else { WRITTEN };
             version.get() == number && value.as_slice() == found
         }

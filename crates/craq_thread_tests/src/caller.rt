@@ -1,11 +1,11 @@
 //! Provides a client of a store under trial, on a thread of its own: it puts, reads what it put,
 //! and retries; for `driving`.
-use crate::asks::{Told, name_of, put_of, read_of, tells};
+use crate::asks::{Reported, name_of, put_of, read_of, tells};
 use crate::course::Course;
 use crate::gate::{TestGate, Tested};
 use crate::waits::rest;
 use craq_commands::ReadMode;
-use craq_list::ListCore;
+use craq_compact_history::ListCore;
 use craq_model::Ask;
 use craq_names::{Pass, Refusal};
 use craq_workers::Client;
@@ -62,11 +62,11 @@ impl Caller {
         course: &Course,
         node: u32,
         ask: Ask,
-        told: Told,
+        reported: Reported,
     ) -> Result<(), Refusal> {
         let asked = course.ticks.load(Ordering::SeqCst);
         let (answer, receipt) = self.client.call(rt, name_of(node), ask)?;
-        let is_right = tells(&answer, told);
+        let is_right = tells(&answer, reported);
         drop(answer);
         course.note(rt, receipt, asked, is_right);
         Ok(())
@@ -75,21 +75,33 @@ impl Caller {
     /// Sends an eventual read to a node. Its reply needs no tick.
     pub fn glance<R: Wait>(&mut self, rt: &R, course: &Course, node: u32) -> Result<(), Refusal> {
         let ask = self.read(1, ReadMode::Eventual)?;
-        self.ask(rt, course, node, ask, Told::Found(0))
+        self.ask(rt, course, node, ask, Reported::Found(0))
     }
 
     /// Sends the put of this number to the head.
     fn try_put<R: Wait>(&mut self, rt: &R, course: &Course, number: u64) -> Result<(), Refusal> {
         let ask = self.put(number)?;
         let head = course.head.load(Ordering::SeqCst);
-        self.ask(rt, course, head, ask, Told::Written(version_after(number)))
+        self.ask(
+            rt,
+            course,
+            head,
+            ask,
+            Reported::Written(version_after(number)),
+        )
     }
 
     /// Sends a strong read of the object that the put of this number wrote to the tail.
     fn try_read<R: Wait>(&mut self, rt: &R, course: &Course, number: u64) -> Result<(), Refusal> {
         let ask = self.read(number, ReadMode::Strong)?;
         let tail = course.tail.load(Ordering::SeqCst);
-        self.ask(rt, course, tail, ask, Told::Found(version_after(number)))?;
+        self.ask(
+            rt,
+            course,
+            tail,
+            ask,
+            Reported::Found(version_after(number)),
+        )?;
         course.ready.fetch_max(u64::from(tail), Ordering::SeqCst);
         Ok(())
     }

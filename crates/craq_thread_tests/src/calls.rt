@@ -68,8 +68,8 @@ fn look_behind<R>(rt: R, host: HostRuntime, store: &Tested, open: &AtomicBool) -
 where
     R: Threads + Wait + Copy + Send + 'static,
 {
-    let told = store.status(&rt)?;
-    drop(told);
+    let reported = store.status(&rt)?;
+    drop(reported);
     audit_behind(rt, host, store, open)
 }
 

@@ -126,7 +126,7 @@ impl Gate for CaseGate {
         self.form.is_in_place()
     }
 
-    fn carried(&self) -> bool {
-        self.form.is_carried()
+    fn chain_threads(&self) -> bool {
+        self.form.is_chain_thread()
     }
 }

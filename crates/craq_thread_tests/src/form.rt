@@ -9,14 +9,14 @@ pub enum Form {
     /// Callers run the steps of their requests, and one thread for each node runs the others.
     InPlace,
     /// One chain thread, and callers run the steps of their reads.
-    Carried,
+    ChainThread,
 }
 
 /// All forms, in words.
 pub const FORMS: [(Form, &str); 3] = [
     (Form::Workers, "two threads a node"),
     (Form::InPlace, "steps in place"),
-    (Form::Carried, "one thread a chain"),
+    (Form::ChainThread, "one thread a chain"),
 ];
 
 impl Form {
@@ -31,7 +31,7 @@ impl Form {
     }
 
     /// Returns true if one thread runs the steps of a whole chain.
-    pub fn is_carried(self) -> bool {
-        matches!(self, Form::Carried)
+    pub fn is_chain_thread(self) -> bool {
+        matches!(self, Form::ChainThread)
     }
 }

@@ -3,7 +3,7 @@
 use crate::asks::plan;
 use crate::case_gate::CaseGate;
 use crate::trial_gate::TrialGate;
-use craq_list::ListCore;
+use craq_compact_history::ListCore;
 use craq_names::{NodeName, Refusal};
 use craq_workers::{Gate, OpenGate, Store, Work};
 use std::alloc::Global;
@@ -85,11 +85,11 @@ impl Gate for TestGate {
         }
     }
 
-    fn carried(&self) -> bool {
+    fn chain_threads(&self) -> bool {
         match self {
-            TestGate::Case(gate) => gate.carried(),
-            TestGate::Trial(gate) => gate.carried(),
-            TestGate::Open(gate) => gate.carried(),
+            TestGate::Case(gate) => gate.chain_threads(),
+            TestGate::Trial(gate) => gate.chain_threads(),
+            TestGate::Open(gate) => gate.chain_threads(),
         }
     }
 }

@@ -85,8 +85,8 @@ impl Ground {
     where
         R: Threads + Wait + Copy + Send + 'static,
     {
-        let told = self.store.status(&rt)?;
-        drop(told);
+        let reported = self.store.status(&rt)?;
+        drop(reported);
         self.glance_and_audit(rt, &[1, 3])
     }
 

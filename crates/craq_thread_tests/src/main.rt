@@ -108,7 +108,7 @@ where
         }
     }
     for (trial, text) in &sizes.others() {
-        if form.is_carried() && trial.wants_workers() {
+        if form.is_chain_thread() && trial.wants_workers() {
             continue;
         }
         if !try_one(rt, host, Test::Trial(*trial), *text, form)? {

@@ -16,7 +16,7 @@ fn with_store(form: Form) -> &'static str {
     match form {
         Form::Workers => "\nThreads:\t9\n",
         Form::InPlace => "\nThreads:\t6\n",
-        Form::Carried => "\nThreads:\t4\n",
+        Form::ChainThread => "\nThreads:\t4\n",
     }
 }
 
@@ -25,7 +25,7 @@ fn with_two_nodes(form: Form) -> &'static str {
     match form {
         Form::Workers => "\nThreads:\t7\n",
         Form::InPlace => "\nThreads:\t5\n",
-        Form::Carried => "\nThreads:\t4\n",
+        Form::ChainThread => "\nThreads:\t4\n",
     }
 }
 

@@ -7,7 +7,7 @@ use crate::gate::{TestGate, Tested, start_store};
 use craq_audit::Audit;
 use craq_names::Refusal;
 use craq_seat::CallReceipt;
-use craq_server::{Connections, Crowds, Log, Served, Serving, accept, accept_with};
+use craq_server::{Connections, EventLoops, Log, ServeReport, Serving, accept, accept_with};
 use craq_workers::OpenGate;
 use std::alloc::{AllocError, Global};
 use std::net::{Net, SocketAddr, TcpListener, TcpStream};
@@ -52,7 +52,7 @@ impl Manner {
     fn gate(self) -> OpenGate {
         OpenGate {
             in_place: true,
-            carried: matches!(self, Manner::Together),
+            chain_threads: matches!(self, Manner::Together),
         }
     }
 }
@@ -89,7 +89,7 @@ where
     R: Net<Listener = TcpListener, Stream = TcpStream>,
 {
     let serving = Serving {
-        keeps: true,
+        keep_receipts: true,
         connections: CONNECTIONS,
         threads: THREADS,
         idle: 0,
@@ -97,17 +97,17 @@ where
         log: Log::Silent,
     };
     let connections = Connections::new(rt.alloc(), CONNECTIONS)?;
-    let crowds = Crowds::new(&rt, rt.alloc(), serving)?;
-    let served = accept_with(rt, rt.alloc(), store, listener, &connections, crowds)?;
-    let Served {
+    let event_loops = EventLoops::new(&rt, rt.alloc(), serving)?;
+    let served = accept_with(rt, rt.alloc(), store, listener, &connections, event_loops)?;
+    let ServeReport {
         receipts,
-        lacked,
+        had_failures,
         listener_failed,
     } = served;
     if listener_failed {
         return Err(Refusal::Io);
     }
-    if lacked {
+    if had_failures {
         return Err(Refusal::Memory);
     }
     Ok(joined(rt.alloc(), receipts)?)

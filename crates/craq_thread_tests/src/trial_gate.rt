@@ -39,7 +39,7 @@ pub struct TrialGate {
 impl TrialGate {
     /// Holds a node here until it is released, if the trial does so at this point.
     fn pass(&self, node: NodeName, work: Work, count: u64, place: Place) {
-        let is_turn = self.form.is_carried() && self.trial.holds_node();
+        let is_turn = self.form.is_chain_thread() && self.trial.holds_node();
         if u64::from(node.node.get()) != self.trial.held()
             || matches!(work, Work::Asks) != is_turn
             || !self.trial.holds(place, count)
@@ -108,7 +108,7 @@ impl Gate for TrialGate {
         self.form.is_in_place()
     }
 
-    fn carried(&self) -> bool {
-        self.form.is_carried()
+    fn chain_threads(&self) -> bool {
+        self.form.is_chain_thread()
     }
 }

@@ -48,7 +48,7 @@ pub fn end_of<R: Threads>(
 }
 
 /// Returns true if the system reports this of the process.
-fn is_told(host: HostRuntime, threads: &str) -> bool {
+fn is_reported(host: HostRuntime, threads: &str) -> bool {
     match fs::read_to_string(&host, "/proc/self/status") {
         Ok(status) => status.as_str().contains(threads),
         Err(_) => false,
@@ -58,7 +58,7 @@ fn is_told(host: HostRuntime, threads: &str) -> bool {
 /// Polls until this process has the reported number of threads. Returns false if it never has.
 pub fn comes_to(host: HostRuntime, threads: &str) -> bool {
     for _ in 0..LIMIT {
-        if is_told(host, threads) {
+        if is_reported(host, threads) {
             return true;
         }
         rest(host);

@@ -9,7 +9,7 @@ use Rattle.craq_model.specs.declared.ask.Ask.TheVariants as asks
 use Rattle.craq_model.specs.declared.step.Step.{Step}
 use Rattle.craq_model.specs.Plain.{Plain, id_of, newest}
 use Rattle.craq_protocol.specs.Machine as machine
-use Rattle.craq_protocol.specs.Machine.{World}
+use Rattle.craq_protocol.specs.Machine.{MachineState}
 use Rattle.craq_protocol.specs.Promises.{IsPrefix, IsReached, Later}
 use Rattle.craq_runs.specs.declared.run.Move.{Move}
 use Rattle.craq_runs.specs.declared.run.Move.TheVariants as moves
@@ -18,7 +18,7 @@ use Rattle.craq_runs.specs.Chain.{Chain, Progress, node_at, chain_step}
 use Rattle.craq_runs.specs.Seen.{Asked, ask_in, ask_with}
 use Rattle.craq_runs.specs.Explain.{Account, account_with, committed_by, ask_number}
 use Rattle.craq_refinement.specs.Follows.{seen_of, NodeFollows, Follows}
-use Rattle.craq_updates.specs.Genuine.{IsGenuine, AllGenuine}
+use Rattle.craq_updates.specs.ValidEntries.{IsValidEntry, AllValid}
 use Rattle.craq_runs.specs.Typed.{IsMoveOfType}
 use Rattle.craq_laws.proofs.Nodes.{node_id}
 use Rattle.craq_updates.proofs.Machine.{Held}
@@ -26,7 +26,7 @@ use Rattle.craq_updates.proofs.Moves.{LogBy}
 use Rattle.craq_updates.proofs.Steps.{Went}
 use Rattle.craq_updates.proofs.EachMove.{place_of, entry_for, MayAppend, each_move}
 use Rattle.craq_updates.proofs.Found.{find_all}
-use Rattle.craq_updates.proofs.Entries.{genuine_closed, genuine_push, genuine_stays, entry_genuine, StaysAsked}
+use Rattle.craq_updates.proofs.Entries.{valid_closed, valid_push, valid_stays, entry_valid, StaysAsked}
 use Rattle.craq_updates.proofs.Updates.{numbers_of, number_is, numbers_stay, numbers_length}
 use Rattle.craq_updates.proofs.Places.{AtNode, AtMaster, happens_at}
 use Rattle.craq_updates.proofs.AtNodes.{now_at}
@@ -37,14 +37,14 @@ use Rattle.craq_updates.proofs.NewAsks.{TookAsk, took_ask, NewAsks, new_asks, nu
 
 -- ---- the entry of a new update is valid
 
-held_more : (asked more : List Asked) → StaysAsked asked more → (w : World Entry) → Held (AllGenuine asked opening_state) w → Held (AllGenuine more opening_state) w
+held_more : (asked more : List Asked) → StaysAsked asked more → (w : MachineState Entry) → Held (AllValid asked opening_state) w → Held (AllValid more opening_state) w
 held_more asked more f w h = record {
-  histories = λ n. genuine_stays asked more f opening_state (w.history n) (h.histories n);
-  log = genuine_stays asked more f opening_state w.log h.log;
+  histories = λ n. valid_stays asked more f opening_state (w.history n) (h.histories n);
+  log = valid_stays asked more f opening_state w.log h.log;
 }
 
-may_append : (a : Account) (w : World Entry) → Known a w → (chosen : Move) (x : Progress) (step : Step) → chain_step a.chain chosen ≡ Ok x → x.1 ≡ step → IsMoveOfType chosen
-    → MayAppend (AllGenuine (a.asks ++ ask_in (a.chain.moves + 1) step.ticket chosen) opening_state) a.chain w chosen
+may_append : (a : Account) (w : MachineState Entry) → Known a w → (chosen : Move) (x : Progress) (step : Step) → chain_step a.chain chosen ≡ Ok x → x.1 ≡ step → IsMoveOfType chosen
+    → MayAppend (AllValid (a.asks ++ ask_in (a.chain.moves + 1) step.ticket chosen) opening_state) a.chain w chosen
 may_append a w k (moves.Ask node (asks.Read mode object)) x step does same type = tt
 may_append a w k (moves.Deliver number) x step does same type = tt
 may_append a w k (moves.Tick node) x step does same type = tt
@@ -56,7 +56,7 @@ may_append a w k (moves.Ask node (asks.Update u)) x step does same type =
     let chosen : Move = moves.Ask node (asks.Update u) in
     let number : ℕ = a.chain.moves + 1 in
     let more : List Asked = a.asks ++ ask_in number step.ticket chosen in
-    let old : AllGenuine more opening_state (w.history node) = genuine_stays a.asks more (asks_stay a.asks (ask_in number step.ticket chosen)) opening_state (w.history node) (k.held.histories node) in
+    let old : AllValid more opening_state (w.history node) = valid_stays a.asks more (asks_stay a.asks (ask_in number step.ticket chosen)) opening_state (w.history node) (k.held.histories node) in
     ⊎_elim
     (λ (here : AtNode a.chain chosen x).
     let t : TookAsk a.chain node (asks.Update u) x step = took_ask a.chain node (asks.Update u) x step here same in
@@ -67,10 +67,10 @@ may_append a w k (moves.Ask node (asks.Update u)) x step does same type =
     let ask : Asked = record { move = number; node = node; ticket = step.ticket; ask = asks.Update u } in
     let found : ask_with more node (p.last_ticket + 1) ≡ Some ask = new_ask_found a.chain.nodes node number (p.last_ticket + 1) step.ticket (asks.Update u) p a.asks at (omega arith) ticket k.ticketed in
     let P : ℕ → Type 0 = λ j. ask_with more j (p.last_ticket + 1) ≡ Some ask in
-    let g : IsGenuine more (newest p) (entry_for p u) = entry_genuine more ask p u (subst P (sym id) found) refl new type in
+    let g : IsValidEntry more (newest p) (entry_for p u) = entry_valid more ask p u (subst P (sym id) found) refl new type in
     let Q : ℕ → Type 0 = λ j. newest p ≡ after_entries opening_state (w.history j) in
-    let R : State → Type 0 = λ s. IsGenuine more s (entry_for p u) in
-    genuine_push more opening_state (w.history node) (entry_for p u) old (subst R (subst Q id (newest_is p n)) g))
+    let R : State → Type 0 = λ s. IsValidEntry more s (entry_for p u) in
+    valid_push more opening_state (w.history node) (entry_for p u) old (subst R (subst Q id (newest_is p n)) g))
     (λ (m : AtMaster a.chain chosen x). absurd (nonempty (m.no_ask number step.ticket)))
     (happens_at a.chain chosen x does)
   where
@@ -80,7 +80,7 @@ may_append a w k (moves.Ask node (asks.Update u)) x step does same type =
 -- ---- the account
 
 -- the numbers of requests are no higher than the number of moves
-numbers_below : (asked : List Asked) (s : State) (n : ℕ) (es : List Entry) → AllByRecursion (λ (x : Asked). x.move ≤ n) asked → AllGenuine asked s es → AllByRecursion (λ k. k ≤ n) (numbers_of asked es)
+numbers_below : (asked : List Asked) (s : State) (n : ℕ) (es : List Entry) → AllByRecursion (λ (x : Asked). x.move ≤ n) asked → AllValid asked s es → AllByRecursion (λ k. k ≤ n) (numbers_of asked es)
 unfolding ask_with
 numbers_below asked s n [] below g = tt
 numbers_below asked s n (e ∷ es) below g =
@@ -88,7 +88,7 @@ numbers_below asked s n (e ∷ es) below g =
     (omega (arith, number_is asked s e g.0, one), numbers_below asked (after_entry s e) n es below g.1)
 
 lens_after : (asked more : List Asked) (moves next : ℕ) (lens : List ℕ) (log longer : List Entry) → next ≡ moves + 1 → StaysAsked asked more → AreLens moves lens (numbers_of asked log) → IsPrefix log longer
-    → AllGenuine asked opening_state log → AllGenuine more opening_state longer → AllByRecursion (λ (x : Asked). x.move ≤ next) more
+    → AllValid asked opening_state log → AllValid more opening_state longer → AllByRecursion (λ (x : Asked). x.move ≤ next) more
     → AreLens next (lens ++ length longer ∷ []) (numbers_of more longer)
 lens_after asked more moves next lens log longer same stay l p g h below =
     let rest : List ℕ = numbers_of more p.rest in
@@ -109,7 +109,7 @@ abbrev pub next_account : Account → Taken → Progress → Account
 next_account a t x = account_with a t (place_of a.chain t.chosen) x.0 (node_at a.chain.nodes (place_of a.chain t.chosen)) (node_at x.0.nodes (place_of a.chain t.chosen))
 
 -- the move commits the log after it
-committed_after : (a : Account) (w v : World Entry) (chosen : Move) (x : Progress) → Known a w → chain_step a.chain chosen ≡ Ok x → Follows x.0 v → IsReached v → Later w v → LogBy (place_of a.chain chosen) w v
+committed_after : (a : Account) (w v : MachineState Entry) (chosen : Move) (x : Progress) → Known a w → chain_step a.chain chosen ≡ Ok x → Follows x.0 v → IsReached v → Later w v → LogBy (place_of a.chain chosen) w v
     → committed_by a.committed (node_at x.0.nodes (place_of a.chain chosen)) ≡ v.log
 committed_after a w v chosen x k does g s later log =
     ap (λ l. committed_by l (node_at x.0.nodes (place_of a.chain chosen))) k.committed
@@ -133,22 +133,22 @@ moves_counted c chosen x (inl a) = ap (λ (y : Progress). y.0.moves) a.is
 moves_counted c chosen x (inr m) = m.count
 
 -- one more move: there is a world for which the invariant holds again, and its log is no shorter
-pub record KnownNext (a b : Account) (w : World Entry) : Type 0 where
-  pub world : World Entry
+pub record KnownNext (a b : Account) (w : MachineState Entry) : Type 0 where
+  pub world : MachineState Entry
   pub known : Known b world
   pub later : Later w world
 
-pub known_after : (a : Account) (w : World Entry) (t : Taken) (x : Progress) → Known a w → chain_step a.chain t.chosen ≡ Ok x → x.1 ≡ t.step → IsMoveOfType t.chosen → KnownNext a (next_account a t x) w
+pub known_after : (a : Account) (w : MachineState Entry) (t : Taken) (x : Progress) → Known a w → chain_step a.chain t.chosen ≡ Ok x → x.1 ≡ t.step → IsMoveOfType t.chosen → KnownNext a (next_account a t x) w
 unfolding account_with
 known_after a w t x k does same type =
     let c : Chain = a.chain in
     let id : ℕ = place_of c t.chosen in
     let extra : List Asked = ask_in (c.moves + 1) t.step.ticket t.chosen in
     let more : List Asked = a.asks ++ extra in
-    let P : List Entry → Type 0 = AllGenuine more opening_state in
+    let P : List Entry → Type 0 = AllValid more opening_state in
     let stay : StaysAsked a.asks more = asks_stay a.asks extra in
-    let g : Went P (MayAppend P c w t.chosen) id w x.0 = each_move P (genuine_closed more opening_state) c w t.chosen x k.follows k.reached does in
-    let v : World Entry = g.world in
+    let g : Went P (MayAppend P c w t.chosen) id w x.0 = each_move P (valid_closed more opening_state) c w t.chosen x k.follows k.reached does in
+    let v : MachineState Entry = g.world in
     let held : Held P v = g.held (may_append a w k t.chosen x t.step does same type) (held_more a.asks more stay w k.held) in
     let log : committed_by a.committed (node_at x.0.nodes id) ≡ v.log = committed_after a w v t.chosen x k does g.follows g.reached g.later g.log in
     let where_at : AtNode c t.chosen x ⊎ AtMaster c t.chosen x = happens_at c t.chosen x does in

@@ -8,7 +8,7 @@ use Rattle.craq_protocol.specs.Promises.{IsPrefix}
 use Rattle.craq_protocol.proofs.Prefix.{prefix_is_take}
 use Rattle.craq_protocol.specs.Members.{is_last}
 use Rattle.craq_protocol.specs.Machine as machine
-use Rattle.craq_protocol.specs.Machine.{World, known_membership}
+use Rattle.craq_protocol.specs.Machine.{MachineState, known_membership}
 use Rattle.craq_protocol.specs.Promises.{IsReached, IsSafe, Later}
 use Rattle.craq_protocol.proofs.Reached.{reached_safe}
 use Rattle.craq_model.specs.Plain.{Plain, id_of, is_tail, entries_after}
@@ -43,7 +43,7 @@ same_length xs ys p e = sym (prefix_is_take p) ∙ (ap (λ k. take k ys) e ∙ t
     take_whole (y ∷ l) = ap (λ l. y ∷ l) (take_whole l)
 
 -- a running node is a tail exactly if it is one in the world
-pub tail_seen : {c : Chain} {w : World Entry} → Follows c w → IsReached w → (id : ℕ) (q : Plain) → id_of q ≡ id → node_at c.nodes id ≡ Some q → q.running ≡ true → machine.is_tail w id ≡ is_tail q
+pub tail_seen : {c : Chain} {w : MachineState Entry} → Follows c w → IsReached w → (id : ℕ) (q : Plain) → id_of q ≡ id → node_at c.nodes id ≡ Some q → q.running ≡ true → machine.is_tail w id ≡ is_tail q
 tail_seen {c} {w} f r id q same at u =
     let P : ℕ → Type 0 = λ j. node_at c.nodes j ≡ Some q in
     let there : node_at c.nodes (id_of q) ≡ Some q = subst P (sym same) at in
@@ -52,12 +52,12 @@ tail_seen {c} {w} f r id q same at u =
     subst Q same (is_tail-seen w (seen_of q) (f.nodes (id_of q) q there) u (λ e. ready_member q h r e))
 
 -- the step's node commits the log after it
-pub commits_log : {c : Chain} {w v : World Entry} {chosen : Move} {x : Progress} → Follows c w → IsReached w → Follows x.0 v → IsReached v → Later w v → LogBy (place_of c chosen) w v
-    → (a : AtNode c chosen x) → committed_by w.log (Some a.turn.0) ≡ v.log
+pub commits_log : {c : Chain} {w v : MachineState Entry} {chosen : Move} {x : Progress} → Follows c w → IsReached w → Follows x.0 v → IsReached v → Later w v → LogBy (place_of c chosen) w v
+    → (a : AtNode c chosen x) → committed_by w.log (Some a.transition.0) ≡ v.log
 unfolding entries_after
 commits_log {c} {w} {v} {chosen} {x} f r g s later log a =
     let id : ℕ = place_of c chosen in
-    let q : Plain = a.turn.0 in
+    let q : Plain = a.transition.0 in
     let n : NodeFollows v (seen_of q) = g.nodes id q (now_at a) in
     let H : ℕ → Type 0 = λ j. IsHistory q.past.base q.past.base_state q.past.entries (v.history j) in
     let here : IsHistory q.past.base q.past.base_state q.past.entries (v.history id) = subst H (now_id a) n.history in

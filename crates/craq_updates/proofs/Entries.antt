@@ -11,28 +11,28 @@ use Rattle.craq_model.specs.Plain.{Plain, id_of, newest}
 use Rattle.craq_runs.specs.Seen.{Asked, ask_with}
 use Rattle.craq_laws.proofs.Copies.{new_unsaid}
 use Rattle.craq_laws.proofs.Writes.{with_versioned}
-use Rattle.craq_updates.specs.Genuine.{IsGenuine, AllGenuine}
+use Rattle.craq_updates.specs.ValidEntries.{IsValidEntry, AllValid}
 use Rattle.craq_runs.specs.Typed.{IsOfType}
 use Rattle.craq_updates.proofs.Machine.{IsClosed}
 use Rattle.craq_updates.proofs.EachMove.{entry_for, IsNewAt}
 use Rattle.craq_updates.proofs.Keys.{writes_once}
 
-pub genuine_front : (asked : List Asked) (s : State) (xs rest : List Entry) → AllGenuine asked s (xs ++ rest) → AllGenuine asked s xs
-genuine_front asked s [] rest g = tt
-genuine_front asked s (e ∷ xs) rest g = (g.0, genuine_front asked (after_entry s e) xs rest g.1)
+pub valid_front : (asked : List Asked) (s : State) (xs rest : List Entry) → AllValid asked s (xs ++ rest) → AllValid asked s xs
+valid_front asked s [] rest g = tt
+valid_front asked s (e ∷ xs) rest g = (g.0, valid_front asked (after_entry s e) xs rest g.1)
 
-pub genuine_closed : (asked : List Asked) (s : State) → IsClosed (AllGenuine asked s)
-genuine_closed asked s xs ys p g = let P : List Entry → Type 0 = λ l. AllGenuine asked s l in genuine_front asked s xs p.rest (subst P (sym p.is) g)
+pub valid_closed : (asked : List Asked) (s : State) → IsClosed (AllValid asked s)
+valid_closed asked s xs ys p g = let P : List Entry → Type 0 = λ l. AllValid asked s l in valid_front asked s xs p.rest (subst P (sym p.is) g)
 
-pub genuine_push : (asked : List Asked) (s : State) (xs : List Entry) (e : Entry) → AllGenuine asked s xs → IsGenuine asked (after_entries s xs) e → AllGenuine asked s (xs ++ e ∷ [])
-genuine_push asked s [] e g h = (h, tt)
-genuine_push asked s (x ∷ xs) e g h = (g.0, genuine_push asked (after_entry s x) xs e g.1 h)
+pub valid_push : (asked : List Asked) (s : State) (xs : List Entry) (e : Entry) → AllValid asked s xs → IsValidEntry asked (after_entries s xs) e → AllValid asked s (xs ++ e ∷ [])
+valid_push asked s [] e g h = (h, tt)
+valid_push asked s (x ∷ xs) e g h = (g.0, valid_push asked (after_entry s x) xs e g.1 h)
 
 -- each request that is found by its ticket stays found
 abbrev pub StaysAsked : List Asked → List Asked → Type 0
 StaysAsked asked more = (node ticket : ℕ) (a : Asked) → ask_with asked node ticket ≡ Some a → ask_with more node ticket ≡ Some a
 
-one_stays : (asked more : List Asked) → StaysAsked asked more → (s : State) (e : Entry) → IsGenuine asked s e → IsGenuine more s e
+one_stays : (asked more : List Asked) → StaysAsked asked more → (s : State) (e : Entry) → IsValidEntry asked s e → IsValidEntry more s e
 one_stays asked more f s e g = record {
   update = g.update;
   by = record { ask = g.by.ask; is_ask = f e.origin_node e.origin_ticket g.by.ask g.by.is_ask; is = g.by.is; client = g.by.client; number = g.by.number };
@@ -43,9 +43,9 @@ one_stays asked more f s e g = record {
   applied = g.applied;
 }
 
-pub genuine_stays : (asked more : List Asked) → StaysAsked asked more → (s : State) (es : List Entry) → AllGenuine asked s es → AllGenuine more s es
-genuine_stays asked more f s [] g = tt
-genuine_stays asked more f s (e ∷ es) g = (one_stays asked more f s e g.0, genuine_stays asked more f (after_entry s e) es g.1)
+pub valid_stays : (asked more : List Asked) → StaysAsked asked more → (s : State) (es : List Entry) → AllValid asked s es → AllValid more s es
+valid_stays asked more f s [] g = tt
+valid_stays asked more f s (e ∷ es) g = (one_stays asked more f s e g.0, valid_stays asked more f (after_entry s e) es g.1)
 
 -- ---- a new entry
 
@@ -55,9 +55,9 @@ unfolding after_entry apply
 applied_new s u e new c n r w =
     rw new (λ i. record { objects = w i; kept = kept_with s (c i) (n i) (r i) })
 
-pub entry_genuine : (asked : List Asked) (a : Asked) (p : Plain) (u : Update) → ask_with asked (id_of p) (p.last_ticket + 1) ≡ Some a → a.ask ≡ asks.Update u → IsNewAt p u → IsOfType u.command
-    → IsGenuine asked (newest p) (entry_for p u)
-entry_genuine asked a p u at is new type =
+pub entry_valid : (asked : List Asked) (a : Asked) (p : Plain) (u : Update) → ask_with asked (id_of p) (p.last_ticket + 1) ≡ Some a → a.ask ≡ asks.Update u → IsNewAt p u → IsOfType u.command
+    → IsValidEntry asked (newest p) (entry_for p u)
+entry_valid asked a p u at is new type =
     let s : State = newest p in
     let fresh : is_new_to s u.client u.number ≡ true = (new_unsaid (window_of s u.client) u.number).1 new.new in
     record {

@@ -8,7 +8,7 @@ use Rattle.craq_commands.proofs.Entries.{after_entries-append}
 use Rattle.craq_model.specs.Plain.{Plain, id_of, newest, opening_joined}
 use Rattle.craq_protocol.specs.Members.{is_member, is_last}
 use Rattle.craq_protocol.specs.Machine as machine
-use Rattle.craq_protocol.specs.Machine.{World, known_membership}
+use Rattle.craq_protocol.specs.Machine.{MachineState, known_membership}
 use Rattle.craq_protocol.specs.Promises.{IsReached}
 use Rattle.craq_protocol.proofs.Invariant.{Invariant}
 use Rattle.craq_protocol.proofs.Reached.{reached_inv}
@@ -18,7 +18,7 @@ use Rattle.craq_runs.specs.Seen.{Asked}
 use Rattle.craq_runs.specs.Explain.{Account}
 use Rattle.craq_refinement.specs.Follows.{seen_of, NodeFollows, Follows}
 use Rattle.craq_refinement.proofs.Master.{found}
-use Rattle.craq_updates.specs.Genuine.{AllGenuine}
+use Rattle.craq_updates.specs.ValidEntries.{AllValid}
 use Rattle.craq_updates.proofs.Machine.{Held}
 use Rattle.craq_updates.proofs.EachMove.{place_of}
 use Rattle.craq_updates.proofs.Found.{IsNumbered, find_left}
@@ -33,11 +33,11 @@ pub record IsTicketed (nodes : List Plain) (a : Asked) : Type 0 where
   pub at : node_at nodes a.node ≡ Some node
   pub given : (t : ℕ) → a.ticket ≡ Some t → t ≤ node.last_ticket
 
-pub record Known (a : Account) (w : World Entry) : Type 0 where
+pub record Known (a : Account) (w : MachineState Entry) : Type 0 where
   pub reached : IsReached w
   pub follows : Follows a.chain w
   pub committed : a.committed ≡ w.log
-  pub held : Held (AllGenuine a.asks opening_state) w
+  pub held : Held (AllValid a.asks opening_state) w
   pub numbered : IsNumbered a.asks
   pub in_time : AllByRecursion (λ (x : Asked). x.move ≤ a.chain.moves) a.asks
   pub ticketed : AllByRecursion (IsTicketed a.chain.nodes) a.asks
@@ -59,9 +59,9 @@ grow_at_node {c} {chosen} {x} a id p h =
     (λ e.
     let P : ℕ → Type 0 = λ j. node_at c.nodes j ≡ Some p in
     let same : a.was ≡ p = some_same (node_at c.nodes (place_of c chosen)) a.at (subst P e h) in
-    let Q : ℕ → Type 0 = λ j. node_at x.0.nodes j ≡ Some a.turn.0 in
-    let R : Plain → Type 0 = λ p. p.last_ticket ≤ a.turn.0.last_ticket in
-    (a.turn.0, subst Q (sym e) (now_at a), subst R same (tickets_rise a)))
+    let Q : ℕ → Type 0 = λ j. node_at x.0.nodes j ≡ Some a.transition.0 in
+    let R : Plain → Type 0 = λ p. p.last_ticket ≤ a.transition.0.last_ticket in
+    (a.transition.0, subst Q (sym e) (now_at a), subst R same (tickets_rise a)))
     (λ ne. (p, others_stay a id ne ∙ h, omega arith))
     (cases_eq id (place_of c chosen))
 
@@ -100,7 +100,7 @@ nobody_at_master {c} {chosen} {x} n a =
     a.nodes
 
 -- a tail is a node of the chain
-pub tail_there : {c : Chain} {w : World Entry} → Follows c w → IsReached w → (id : ℕ) → machine.is_tail w id ≡ true → (p : Plain) × (node_at c.nodes id ≡ Some p)
+pub tail_there : {c : Chain} {w : MachineState Entry} → Follows c w → IsReached w → (id : ℕ) → machine.is_tail w id ≡ true → (p : Plain) × (node_at c.nodes id ≡ Some p)
 tail_there {c} {w} f r id t =
     let i : Invariant w = reached_inv r in
     let running : w.running id ≡ true = (and_parts (w.running id) (w.ready id) (and_parts (w.running id && w.ready id) (is_last (known_membership w id) id) t).0).0 in
@@ -111,7 +111,7 @@ tail_there {c} {w} f r id t =
 -- ---- states
 
 -- a node's newest state is that after its whole history
-pub newest_is : {w : World Entry} (p : Plain) → NodeFollows w (seen_of p) → newest p ≡ after_entries opening_state (w.history (id_of p))
+pub newest_is : {w : MachineState Entry} (p : Plain) → NodeFollows w (seen_of p) → newest p ≡ after_entries opening_state (w.history (id_of p))
 unfolding newest
 newest_is {w} p n =
     sym (ap (after_entries opening_state) (sym n.history.whole) ∙ (after_entries-append opening_state n.history.front p.past.entries ∙ ap (λ s. after_entries s p.past.entries) n.history.after))

@@ -2,7 +2,7 @@ pub mod Machine
 pub mod Moves
 pub mod Steps
 pub mod EachMove
-pub mod Turns
+pub mod Transitions
 pub mod Found
 pub mod Keys
 pub mod Entries

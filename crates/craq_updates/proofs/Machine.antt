@@ -3,7 +3,7 @@
 use Rattle.std.proofs.Common.{◌≡◌, ◌≢◌, ⊎_elim, ℕ, suc, ◌==◌, true, ◌&&◌, List, [], ◌∷◌, length, sym, subst, ◌∙◌, arith}
 use Rattle.std.proofs.lemmas.Bool.{cond_both, and_parts, or_cases, eqb-true, cases_eq, both_ways}
 use Rattle.craq_protocol.specs.Members.{is_member, is_next, with_value, IsDistinct}
-use Rattle.craq_protocol.specs.Machine.{World, known_membership, is_tail, after_commit}
+use Rattle.craq_protocol.specs.Machine.{MachineState, known_membership, is_tail, after_commit}
 use Rattle.craq_protocol.specs.Promises.{IsPrefix, Before, IsSafe}
 use Rattle.craq_protocol.proofs.Lists.{put_same, put_other, is_member_here}
 
@@ -45,11 +45,11 @@ next_other (m ∷ k ∷ ms) a d h =
 abbrev pub IsClosed : {A : Type 0} → (List A → Type 0) → Type 0
 IsClosed {A} P = (xs ys : List A) → IsPrefix xs ys → P ys → P xs
 
-pub record Held {A : Type 0} (P : List A → Type 0) (w : World A) : Type 0 where
+pub record Held {A : Type 0} (P : List A → Type 0) (w : MachineState A) : Type 0 where
   pub histories : (n : ℕ) → P (w.history n)
   pub log : P w.log
 
-pub held_commit : {A : Type 0} (P : List A → Type 0) (w : World A) (n : ℕ) → Held P w → Held P (after_commit w n)
+pub held_commit : {A : Type 0} (P : List A → Type 0) (w : MachineState A) (n : ℕ) → Held P w → Held P (after_commit w n)
 held_commit P w n h =
     cond_both (is_tail w n) (record w { acknowledged = with_value w.acknowledged n (length (w.history n)); log = w.history n }) w (λ v. Held P v)
     (λ e. record { histories = h.histories; log = h.histories n })
@@ -64,7 +64,7 @@ history_put {A} P f n xs h p m =
     (cases_eq m n)
 
 -- the history that a node has from its predecessor is a prefix of the predecessor's
-pub from_predecessor : {A : Type 0} (P : List A → Type 0) → IsClosed P → (w v : World A) (n from : ℕ) (xs : List A) → Held P w → IsSafe v
+pub from_predecessor : {A : Type 0} (P : List A → Type 0) → IsClosed P → (w v : MachineState A) (n from : ℕ) (xs : List A) → Held P w → IsSafe v
     → is_next (known_membership w n) from n ≡ true → known_membership v n ≡ known_membership w n → v.history n ≡ xs
     → ((m : ℕ) → m ≢ n → v.history m ≡ w.history m) → P xs
 from_predecessor {A} P c w v n from xs h s nx same is others =

@@ -3,7 +3,7 @@
 use Rattle.std.proofs.Common.{◌≡◌, ◌⊎◌, inl, inr, ⊎_elim, ℕ, ◌+◌, ◌==◌, nat_lt, nat_le, true, false, not, ◌&&◌, List, [], ◌∷◌, ◌++◌, map, length, take, slice_get, Option, Some, None, refl, sym, subst, ◌∙◌}
 use Rattle.std.proofs.lemmas.Bool.{cond_both, and_parts, both_ways, not-true}
 use Rattle.craq_protocol.specs.Members.{is_member, is_first, is_next, membership_of, with_value, without}
-use Rattle.craq_protocol.specs.Machine.{Body, Message, World, Move, Entry, Ack, Copy, Floor, Append, Take, Become_ready, Adopt, Stop, Remove, Join, Send_entry, Send_ack, Send_copy, Send_floor, entry_at, known_membership, current_membership, is_tail, after_commit, after_send, after_receipt, after_take, after_floor, after_send_entry, after_move, after_moves}
+use Rattle.craq_protocol.specs.Machine.{MachineBody, Message, MachineState, MachineMove, Entry, Ack, Copy, Floor, Append, Take, Become_ready, Adopt, Stop, Remove, Join, Send_entry, Send_ack, Send_copy, Send_floor, entry_at, known_membership, current_membership, is_tail, after_commit, after_send, after_receipt, after_take, after_floor, after_send_entry, after_move, after_moves}
 use Rattle.craq_protocol.specs.Promises.{IsReached, IsSafe}
 use Rattle.craq_protocol.proofs.Lists.{put_same, put_other}
 use Rattle.craq_protocol.proofs.Prefix.{prefix_nil}
@@ -12,10 +12,10 @@ use Rattle.craq_updates.proofs.Machine.{IsClosed, Held, held_commit, history_put
 
 -- ---- a property of all histories
 
-held_receipt : {A : Type 0} (P : List A → Type 0) → IsClosed P → (w : World A) (n from : ℕ) (b : Body A) → Held P w → IsSafe (after_receipt w n from b) → Held P (after_receipt w n from b)
+held_receipt : {A : Type 0} (P : List A → Type 0) → IsClosed P → (w : MachineState A) (n from : ℕ) (b : MachineBody A) → Held P w → IsSafe (after_receipt w n from b) → Held P (after_receipt w n from b)
 held_receipt {A} P c w n from (Entry place entry) h s =
     let xs : List A = w.history n ++ entry ∷ [] in
-    let g : World A = record w { history = with_value w.history n xs } in
+    let g : MachineState A = record w { history = with_value w.history n xs } in
     cond_both (is_next (known_membership w n) from n && (place == length (w.history n) + 1)) (after_commit g n) w (λ v. IsSafe v → Held P v)
     (λ e s.
     let nx : is_next (known_membership w n) from n ≡ true = (and_parts (is_next (known_membership w n) from n) (place == length (w.history n) + 1) e).0 in
@@ -34,7 +34,7 @@ held_receipt {A} P c w n from (Ack count) h s =
     (λ e. record { histories = h.histories; log = h.log })
     (λ e. h)
 held_receipt {A} P c w n from (Copy entries) h s =
-    let g : World A = record w { history = with_value w.history n entries; acknowledged = with_value w.acknowledged n (length entries) } in
+    let g : MachineState A = record w { history = with_value w.history n entries; acknowledged = with_value w.acknowledged n (length entries) } in
     cond_both (is_next (known_membership w n) from n && (not (w.ready n) && nat_lt (length (w.history n)) (length entries))) g w (λ v. IsSafe v → Held P v)
     (λ e s.
     let nx : is_next (known_membership w n) from n ≡ true = (and_parts (is_next (known_membership w n) from n) (not (w.ready n) && nat_lt (length (w.history n)) (length entries)) e).0 in
@@ -47,7 +47,7 @@ held_receipt {A} P c w n from (Floor count) h s =
     (λ e. record { histories = h.histories; log = h.log })
     (λ e. h)
 
-held_taken : {A : Type 0} (P : List A → Type 0) → IsClosed P → (w : World A) (n : ℕ) (o : Option (Message A)) → Held P w → IsSafe (after_take w n o) → Held P (after_take w n o)
+held_taken : {A : Type 0} (P : List A → Type 0) → IsClosed P → (w : MachineState A) (n : ℕ) (o : Option (Message A)) → Held P w → IsSafe (after_take w n o) → Held P (after_take w n o)
 held_taken {A} P c w n None h s = h
 held_taken {A} P c w n (Some m) h s =
     cond_both (w.running n && ((m.to == n) && (m.epoch == w.epoch n))) (after_receipt w n m.from m.body) w (λ v. IsSafe v → Held P v)
@@ -55,7 +55,7 @@ held_taken {A} P c w n (Some m) h s =
     (λ e s. h)
     s
 
-held_floor : {A : Type 0} (P : List A → Type 0) (w : World A) (n : ℕ) (o : Option ℕ) → Held P w → Held P (after_floor w n o)
+held_floor : {A : Type 0} (P : List A → Type 0) (w : MachineState A) (n : ℕ) (o : Option ℕ) → Held P w → Held P (after_floor w n o)
 held_floor P w n None h = h
 held_floor P w n (Some floor) h =
     cond_both (w.running n && (not (w.ready n) && nat_le floor (length (w.history n)))) (after_commit (record w { ready = with_value w.ready n true }) n) w (λ v. Held P v)
@@ -63,21 +63,21 @@ held_floor P w n (Some floor) h =
     (λ e. h)
 
 -- a move that adds no entry at a head
-abbrev pub IsQuiet : {A : Type 0} → Move A → Type 0
+abbrev pub IsQuiet : {A : Type 0} → MachineMove A → Type 0
 IsQuiet (Append node entry) = ⊥
 IsQuiet move = Unit {0}
 
-held_sent : {A : Type 0} (P : List A → Type 0) (w : World A) (n to place : ℕ) (o : Option A) → Held P w → Held P (after_send_entry w n to place o)
+held_sent : {A : Type 0} (P : List A → Type 0) (w : MachineState A) (n to place : ℕ) (o : Option A) → Held P w → Held P (after_send_entry w n to place o)
 held_sent P w n to place None h = h
 held_sent P w n to place (Some entry) h =
     cond_both (w.running n && is_next (known_membership w n) n to) (after_send w n to (Entry place entry)) w (λ v. Held P v)
     (λ e. record { histories = h.histories; log = h.log })
     (λ e. h)
 
-held_joined : {A : Type 0} (P : List A → Type 0) → IsClosed P → (w : World A) (n : ℕ) → Held P w → (m : ℕ) → P (with_value w.history n [] m)
+held_joined : {A : Type 0} (P : List A → Type 0) → IsClosed P → (w : MachineState A) (n : ℕ) → Held P w → (m : ℕ) → P (with_value w.history n [] m)
 held_joined P c w n h = history_put P w.history n [] h.histories (c [] w.log (prefix_nil w.log) h.log)
 
-by_move : {A : Type 0} (P : List A → Type 0) → IsClosed P → (w : World A) (move : Move A) → IsQuiet move → Held P w → IsSafe (after_move w move) → Held P (after_move w move)
+by_move : {A : Type 0} (P : List A → Type 0) → IsClosed P → (w : MachineState A) (move : MachineMove A) → IsQuiet move → Held P w → IsSafe (after_move w move) → Held P (after_move w move)
 by_move P c w (Append n entry) q h s = absurd q
 by_move P c w (Take n which) q h s = held_taken P c w n (slice_get w.messages which) h s
 by_move P c w (Become_ready n) q h s = held_floor P w n (w.floor n) h
@@ -122,12 +122,12 @@ by_move P c w (Send_floor n to) q h s =
     (λ e. h)
 
 -- a property that each prefix inherits is preserved, except by a new entry
-pub held_quiet : {A : Type 0} (P : List A → Type 0) → IsClosed P → (w : World A) (move : Move A) → IsReached w → IsQuiet move → Held P w → Held P (after_move w move)
+pub held_quiet : {A : Type 0} (P : List A → Type 0) → IsClosed P → (w : MachineState A) (move : MachineMove A) → IsReached w → IsQuiet move → Held P w → Held P (after_move w move)
 held_quiet P c w move r q h = by_move P c w move q h (reached_safe (reached_run r (move ∷ [])))
 
-pub held_append : {A : Type 0} (P : List A → Type 0) (w : World A) (n : ℕ) (entry : A) → Held P w → P (w.history n ++ entry ∷ []) → Held P (after_move w (Append n entry))
+pub held_append : {A : Type 0} (P : List A → Type 0) (w : MachineState A) (n : ℕ) (entry : A) → Held P w → P (w.history n ++ entry ∷ []) → Held P (after_move w (Append n entry))
 held_append {A} P w n entry h p =
-    let g : World A = record w { history = with_value w.history n (w.history n ++ entry ∷ []) } in
+    let g : MachineState A = record w { history = with_value w.history n (w.history n ++ entry ∷ []) } in
     cond_both ((w.running n && w.ready n) && is_first (known_membership w n) n) (after_commit g n) w (λ v. Held P v)
     (λ e. held_commit P g n (record { histories = history_put P w.history n (w.history n ++ entry ∷ []) h.histories p; log = h.log }))
     (λ e. h)
@@ -135,24 +135,24 @@ held_append {A} P w n entry h p =
 -- ---- the node that commits
 
 -- the log stays, or the node is a tail
-abbrev pub LogBy : {A : Type 0} → ℕ → World A → World A → Type 0
+abbrev pub LogBy : {A : Type 0} → ℕ → MachineState A → MachineState A → Type 0
 LogBy id w v = (v.log ≡ w.log) ⊎ (is_tail v id ≡ true)
 
 -- the move is the node's, or commits nothing
-abbrev pub IsMoveOf : {A : Type 0} → ℕ → Move A → Type 0
+abbrev pub IsMoveOf : {A : Type 0} → ℕ → MachineMove A → Type 0
 IsMoveOf id (Append n entry) = n ≡ id
 IsMoveOf id (Take n which) = n ≡ id
 IsMoveOf id (Become_ready n) = n ≡ id
 IsMoveOf id (Adopt n epoch) = n ≡ id
 IsMoveOf id move = Unit {0}
 
-log_commit : {A : Type 0} (w g : World A) (n : ℕ) → g.log ≡ w.log → LogBy n w (after_commit g n)
+log_commit : {A : Type 0} (w g : MachineState A) (n : ℕ) → g.log ≡ w.log → LogBy n w (after_commit g n)
 log_commit w g n same =
     cond_both (is_tail g n) (record g { acknowledged = with_value g.acknowledged n (length (g.history n)); log = g.history n }) g (λ v. LogBy n w v)
     (λ e. inr e)
     (λ e. inl same)
 
-log_receipt : {A : Type 0} (w : World A) (n from : ℕ) (b : Body A) → LogBy n w (after_receipt w n from b)
+log_receipt : {A : Type 0} (w : MachineState A) (n from : ℕ) (b : MachineBody A) → LogBy n w (after_receipt w n from b)
 log_receipt w n from (Entry place entry) =
     let g : _ = record w { history = with_value w.history n (w.history n ++ entry ∷ []) } in
     cond_both (is_next (known_membership w n) from n && (place == length (w.history n) + 1)) (after_commit g n) w (λ v. LogBy n w v)
@@ -173,14 +173,14 @@ log_receipt w n from (Floor count) =
     (λ e. inl refl)
     (λ e. inl refl)
 
-log_taken : {A : Type 0} (w : World A) (n : ℕ) (o : Option (Message A)) → LogBy n w (after_take w n o)
+log_taken : {A : Type 0} (w : MachineState A) (n : ℕ) (o : Option (Message A)) → LogBy n w (after_take w n o)
 log_taken w n None = inl refl
 log_taken w n (Some m) =
     cond_both (w.running n && ((m.to == n) && (m.epoch == w.epoch n))) (after_receipt w n m.from m.body) w (λ v. LogBy n w v)
     (λ e. log_receipt w n m.from m.body)
     (λ e. inl refl)
 
-log_floor : {A : Type 0} (w : World A) (n : ℕ) (o : Option ℕ) → LogBy n w (after_floor w n o)
+log_floor : {A : Type 0} (w : MachineState A) (n : ℕ) (o : Option ℕ) → LogBy n w (after_floor w n o)
 log_floor w n None = inl refl
 log_floor w n (Some floor) =
     let g : _ = record w { ready = with_value w.ready n true } in
@@ -188,14 +188,14 @@ log_floor w n (Some floor) =
     (λ e. log_commit w g n refl)
     (λ e. inl refl)
 
-log_sent : {A : Type 0} (w : World A) (n to place : ℕ) (o : Option A) → (after_send_entry w n to place o).log ≡ w.log
+log_sent : {A : Type 0} (w : MachineState A) (n to place : ℕ) (o : Option A) → (after_send_entry w n to place o).log ≡ w.log
 log_sent w n to place None = refl
 log_sent w n to place (Some entry) = cond_both (w.running n && is_next (known_membership w n) n to) (after_send w n to (Entry place entry)) w (λ v. v.log ≡ w.log) (λ e. refl) (λ e. refl)
 
-log_at : {A : Type 0} (w : World A) (move : Move A) (id n : ℕ) → n ≡ id → LogBy n w (after_move w move) → LogBy id w (after_move w move)
+log_at : {A : Type 0} (w : MachineState A) (move : MachineMove A) (id n : ℕ) → n ≡ id → LogBy n w (after_move w move) → LogBy id w (after_move w move)
 log_at w move id n e l = let P : ℕ → Type 0 = λ k. LogBy k w (after_move w move) in subst P e l
 
-pub log_by : {A : Type 0} (id : ℕ) (w : World A) (move : Move A) → IsMoveOf id move → LogBy id w (after_move w move)
+pub log_by : {A : Type 0} (id : ℕ) (w : MachineState A) (move : MachineMove A) → IsMoveOf id move → LogBy id w (after_move w move)
 log_by id w (Append n entry) m =
     let g : _ = record w { history = with_value w.history n (w.history n ++ entry ∷ []) } in
     log_at w (Append n entry) id n m
@@ -232,7 +232,7 @@ log_by id w (Send_floor n to) m =
     inl (cond_both ((w.running n && w.ready n) && is_next (known_membership w n) n to) (after_send w n to (Floor (length (w.history n)))) w (λ v. v.log ≡ w.log) (λ e. refl) (λ e. refl))
 
 -- a ready node does not become ready again
-already : {A : Type 0} (w : World A) (n : ℕ) (o : Option ℕ) → w.ready n ≡ true → after_floor w n o ≡ w
+already : {A : Type 0} (w : MachineState A) (n : ℕ) (o : Option ℕ) → w.ready n ≡ true → after_floor w n o ≡ w
 already w n None r = refl
 already w n (Some floor) r =
     cond_both (w.running n && (not (w.ready n) && nat_le floor (length (w.history n)))) (after_commit (record w { ready = with_value w.ready n true }) n) w (λ v. v ≡ w)
@@ -240,22 +240,22 @@ already w n (Some floor) r =
     (λ e. refl)
 
 -- a node may become ready after it committed
-pub log_ready : {A : Type 0} (w v : World A) (id : ℕ) → LogBy id w v → LogBy id w (after_move v (Become_ready id))
+pub log_ready : {A : Type 0} (w v : MachineState A) (id : ℕ) → LogBy id w v → LogBy id w (after_move v (Become_ready id))
 log_ready {A} w v id by =
     ⊎_elim
     (λ e. ⊎_elim (λ f. inl (f ∙ e)) (λ t. inr t) (log_by id v (Become_ready id) refl))
     (λ t.
     let ready : v.ready id ≡ true = (and_parts (v.running id) (v.ready id) (and_parts (v.running id && v.ready id) _ t).0).1 in
-    let P : World A → Type 0 = λ u. LogBy id w u in
+    let P : MachineState A → Type 0 = λ u. LogBy id w u in
     subst P (sym (already v id (v.floor id) ready)) (inr t))
     by
 
 -- a node that takes a message is a tail if it was one
-tail_commit : {A : Type 0} (w : World A) (n : ℕ) → is_tail (after_commit w n) n ≡ is_tail w n
+tail_commit : {A : Type 0} (w : MachineState A) (n : ℕ) → is_tail (after_commit w n) n ≡ is_tail w n
 tail_commit w n =
     cond_both (is_tail w n) (record w { acknowledged = with_value w.acknowledged n (length (w.history n)); log = w.history n }) w (λ v. is_tail v n ≡ is_tail w n) (λ e. refl) (λ e. refl)
 
-tail_receipt : {A : Type 0} (w : World A) (n from : ℕ) (b : Body A) → is_tail (after_receipt w n from b) n ≡ is_tail w n
+tail_receipt : {A : Type 0} (w : MachineState A) (n from : ℕ) (b : MachineBody A) → is_tail (after_receipt w n from b) n ≡ is_tail w n
 tail_receipt w n from (Entry place entry) =
     let g : _ = record w { history = with_value w.history n (w.history n ++ entry ∷ []) } in
     cond_both (is_next (known_membership w n) from n && (place == length (w.history n) + 1)) (after_commit g n) w (λ v. is_tail v n ≡ is_tail w n) (λ e. tail_commit g n) (λ e. refl)
@@ -268,20 +268,20 @@ tail_receipt w n from (Copy entries) =
 tail_receipt w n from (Floor count) =
     cond_both (is_next (known_membership w n) from n && not (w.ready n)) (record w { floor = with_value w.floor n (Some count) }) w (λ v. is_tail v n ≡ is_tail w n) (λ e. refl) (λ e. refl)
 
-tail_taken : {A : Type 0} (w : World A) (n : ℕ) (o : Option (Message A)) → is_tail (after_take w n o) n ≡ is_tail w n
+tail_taken : {A : Type 0} (w : MachineState A) (n : ℕ) (o : Option (Message A)) → is_tail (after_take w n o) n ≡ is_tail w n
 tail_taken w n None = refl
 tail_taken w n (Some m) =
     cond_both (w.running n && ((m.to == n) && (m.epoch == w.epoch n))) (after_receipt w n m.from m.body) w (λ v. is_tail v n ≡ is_tail w n) (λ e. tail_receipt w n m.from m.body) (λ e. refl)
 
-tail_takes : {A : Type 0} (w : World A) (id : ℕ) (which : List ℕ) → is_tail (after_moves w (map (Take id) which)) id ≡ is_tail w id
+tail_takes : {A : Type 0} (w : MachineState A) (id : ℕ) (which : List ℕ) → is_tail (after_moves w (map (Take id) which)) id ≡ is_tail w id
 tail_takes w id [] = refl
 tail_takes w id (k ∷ ks) = tail_takes (after_move w (Take id k)) id ks ∙ tail_taken w id (slice_get w.messages k)
 
 -- a node takes messages one after the other
-pub log_takes : {A : Type 0} (w : World A) (id : ℕ) (which : List ℕ) → LogBy id w (after_moves w (map (Take id) which))
+pub log_takes : {A : Type 0} (w : MachineState A) (id : ℕ) (which : List ℕ) → LogBy id w (after_moves w (map (Take id) which))
 log_takes w id [] = inl refl
 log_takes {A} w id (k ∷ ks) =
-    let v : World A = after_move w (Take id k) in
+    let v : MachineState A = after_move w (Take id k) in
     ⊎_elim
     (λ e. ⊎_elim (λ d. inl (e ∙ d)) (λ t. inr (tail_takes v id ks ∙ t)) (log_by id w (Take id k) refl))
     (λ t. inr t)

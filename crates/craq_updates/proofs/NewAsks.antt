@@ -6,12 +6,12 @@ use Rattle.craq_model.specs.declared.ask.Ask.{Ask}
 use Rattle.craq_model.specs.declared.ask.Event.{Event}
 use Rattle.craq_model.specs.declared.step.Step.{Step}
 use Rattle.craq_model.specs.Plain.{Plain}
-use Rattle.craq_model.specs.Node.{event_turn}
+use Rattle.craq_model.specs.Node.{event_transition}
 use Rattle.craq_runs.specs.declared.run.Move.{Move}
 use Rattle.craq_runs.specs.declared.run.Move.TheVariants as moves
 use Rattle.craq_runs.specs.Chain.{Chain, Progress, node_at, chain_step}
 use Rattle.craq_runs.specs.Seen.{Asked, ask_in, ask_with}
-use Rattle.craq_updates.proofs.Turns.{Accepts, ask_accepts}
+use Rattle.craq_updates.proofs.Transitions.{Accepts, ask_accepts}
 use Rattle.craq_updates.proofs.Places.{AtNode, AtMaster, happens_at}
 use Rattle.craq_updates.proofs.AtNodes.{now_at}
 use Rattle.craq_updates.proofs.Found.{IsNumbered, numbered_push, IsBelow, ask_stays, ask_last}
@@ -21,13 +21,13 @@ use Rattle.craq_updates.proofs.Known.{IsTicketed, NodesGrow, some_same}
 -- a request that was accepted, at its node
 pub record TookAsk (c : Chain) (node : ℕ) (ask : Ask) (x : Progress) (step : Step) : Type 0 where
   pub here : AtNode c (moves.Ask node ask) x
-  pub accepts : Accepts here.was here.turn
+  pub accepts : Accepts here.was here.transition
   pub ticket : step.ticket ≡ Some (here.was.last_ticket + 1)
 
 unfoldable pub took_ask : (c : Chain) (node : ℕ) (ask : Ask) (x : Progress) (step : Step) → AtNode c (moves.Ask node ask) x → x.1 ≡ step → TookAsk c node ask x step
 took_ask c node ask x step a same =
-    let P : Event → Type 0 = λ e. event_turn a.was e ≡ Ok a.turn in
-    let accepts : Accepts a.was a.turn = ask_accepts a.was ask a.turn (subst P a.by a.does) in
+    let P : Event → Type 0 = λ e. event_transition a.was e ≡ Ok a.transition in
+    let accepts : Accepts a.was a.transition = ask_accepts a.was ask a.transition (subst P a.by a.does) in
     record { here = a; accepts = accepts; ticket = ap (λ (s : Step). s.ticket) (sym same ∙ ap (λ (y : Progress). y.1) a.is) ∙ accepts.given }
 
 -- the requests of a move: none, or one with its number and the node's next ticket
@@ -48,7 +48,7 @@ asked_here c (moves.Ask node ask) x step a same =
       is = refl;
       number = refl;
       ticketed = record {
-        node = t.here.turn.0;
+        node = t.here.transition.0;
         at = now_at t.here;
         given = λ k h. let same : t.here.was.last_ticket + 1 ≡ k = some_same step.ticket t.ticket h in omega (arith, same, t.accepts.last);
       };

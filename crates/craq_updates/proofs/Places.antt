@@ -9,8 +9,8 @@ use Rattle.craq_model.specs.declared.ask.Event.{Event}
 use Rattle.craq_model.specs.declared.ask.Event.TheVariants as events
 use Rattle.craq_model.specs.Members.{is_member, without}
 use Rattle.craq_model.specs.Plain.{Plain, opening_joined}
-use Rattle.craq_model.specs.Settle.{Turn}
-use Rattle.craq_model.specs.Node.{event_turn}
+use Rattle.craq_model.specs.Settle.{Transition}
+use Rattle.craq_model.specs.Node.{event_transition}
 use Rattle.craq_runs.specs.declared.run.Move.{Move}
 use Rattle.craq_runs.specs.declared.run.Move.TheVariants as moves
 use Rattle.craq_runs.specs.Chain.{Chain, Progress, node_at, message_at, sent_in, config_to, config_progress, next_epoch, with_node, is_running, node_progress, arrival_progress, tick_progress, removal_progress, join_progress, counted_progress, chain_step}
@@ -35,9 +35,9 @@ pub record AtNode (c : Chain) (chosen : Move) (x : Progress) : Type 0 where
   pub running : was.running ≡ true
   pub event : Event
   pub by : EventOf c chosen event
-  pub turn : Turn
-  pub does : event_turn was event ≡ Ok turn
-  pub is : x ≡ (moved c turn, turn.1)
+  pub transition : Transition
+  pub does : event_transition was event ≡ Ok transition
+  pub is : x ≡ (moved c transition, transition.1)
 
 -- the nodes after a move of the master: the same, or one more
 pub record OneMore (nodes more : List Plain) : Type 0 where
@@ -62,7 +62,7 @@ at_node : (c : Chain) (chosen : Move) (id : ℕ) (e : Event) (x : Progress) → 
 at_node c chosen id e x same by k =
     let t : Took c (node_at c.nodes id) e x = took c (node_at c.nodes id) e x k in
     let P : ℕ → Type 0 = λ j. node_at c.nodes j ≡ Some t.node in
-    record { was = t.node; at = subst P (sym same) t.there; running = t.running; event = e; by = by; turn = t.turn; does = t.does; is = t.is }
+    record { was = t.node; at = subst P (sym same) t.there; running = t.running; event = e; by = by; transition = t.transition; does = t.does; is = t.is }
 
 denied : {y : Progress} (b : Bool) (e : Refusal) (r : Result Progress Refusal) → cond b (Err e) r ≡ Ok y → (b ≡ false) × (r ≡ Ok y)
 denied {y} b e r h = cond_both b (Err e) r (λ (x : Result Progress Refusal). x ≡ Ok y → (b ≡ false) × (r ≡ Ok y)) (λ i k. absurd (cc)) (λ i k. (i, k)) h

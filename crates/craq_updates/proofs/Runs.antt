@@ -7,7 +7,7 @@ use Rattle.craq_names.specs.declared.refusal.Refusal.{Refusal}
 use Rattle.craq_commands.specs.declared.entry.Entry.{Entry}
 use Rattle.craq_model.specs.Members.{IsMembership}
 use Rattle.craq_model.specs.Plain.{Plain, id_of, opening_member}
-use Rattle.craq_protocol.specs.Machine.{World, opening}
+use Rattle.craq_protocol.specs.Machine.{MachineState, initial_state}
 use Rattle.craq_protocol.specs.Promises.{Later}
 use Rattle.craq_protocol.proofs.Reached.{reached_opening}
 use Rattle.craq_protocol.proofs.Stays.{later_self, later_trans}
@@ -35,7 +35,7 @@ nobody_opens chain members (id ∷ ids) a =
     let one : 1 ≤ id = a.0.0 in
     cond-false (id == 0) (Some (q id)) (find (λ (p : Plain). id_of p == 0) (map q ids)) (ne_eqb id 0 (λ e. omega (arith, e, one))) ∙ nobody_opens chain members ids a.1
 
-pub opening_known : (chain : ℕ) (members : List ℕ) → IsMembership members → Known (opening_account chain members) (opening members)
+pub opening_known : (chain : ℕ) (members : List ℕ) → IsMembership members → Known (opening_account chain members) (initial_state members)
 opening_known chain members m = record {
   reached = reached_opening members (distinct_members members m.distinct);
   follows = opening_follows chain members;
@@ -55,15 +55,15 @@ abbrev pub account_by : Account → Taken → Result Progress Refusal → Accoun
 account_by a t r = account_with a t (place_of a.chain t.chosen) (progressed a.chain r) (node_at a.chain.nodes (place_of a.chain t.chosen)) (node_at (progressed a.chain r).nodes (place_of a.chain t.chosen))
 
 -- the invariant after moves: the requests are those of the moves, and each move was counted
-pub record KnownRun (a : Account) (w : World Entry) (ts : List Taken) (b : Account) : Type 0 where
-  pub world : World Entry
+pub record KnownRun (a : Account) (w : MachineState Entry) (ts : List Taken) (b : Account) : Type 0 where
+  pub world : MachineState Entry
   pub known : Known b world
   pub later : Later w world
   pub asks : b.asks ≡ a.asks ++ asks_from (a.chain.moves + 1) ts
   pub moves : b.chain.moves ≡ a.chain.moves + length ts
 
-by_result : (t : Taken) (ts : List Taken) (a : Account) (w : World Entry) → Known a w → IsMoveOfType t.chosen
-    → ((b : Account) (v : World Entry) → Known b v → AreTaken b.chain ts → KnownRun b v ts (account_of b ts))
+by_result : (t : Taken) (ts : List Taken) (a : Account) (w : MachineState Entry) → Known a w → IsMoveOfType t.chosen
+    → ((b : Account) (v : MachineState Entry) → Known b v → AreTaken b.chain ts → KnownRun b v ts (account_of b ts))
     → (res : Result Progress Refusal) → chain_step a.chain t.chosen ≡ res → Takes res t.step × AreTaken (progressed a.chain res) ts → KnownRun a w (t ∷ ts) (account_of (account_by a t res) ts)
 unfolding account_with asks_from
 by_result t ts a w k type go (Err e) is taken = absurd taken.0
@@ -80,7 +80,7 @@ by_result t ts a w k type go (Ok x) is taken =
       moves = omega (arith, rest.moves, count);
     }
 
-pub known_moves : (ts : List Taken) (a : Account) (w : World Entry) → Known a w → AreTaken a.chain ts → AreOfType ts → KnownRun a w ts (account_of a ts)
+pub known_moves : (ts : List Taken) (a : Account) (w : MachineState Entry) → Known a w → AreTaken a.chain ts → AreOfType ts → KnownRun a w ts (account_of a ts)
 unfolding asks_from
 known_moves [] a w k taken type = record { world = w; known = k; later = later_self w; asks = sym (append-nil a.asks); moves = omega arith }
 known_moves (t ∷ ts) a w k taken type = by_result t ts a w k type.0 (λ b v k taken. known_moves ts b v k taken type.1) (chain_step a.chain t.chosen) refl taken
@@ -89,5 +89,5 @@ known_moves (t ∷ ts) a w k taken type = by_result t ts a w k type.0 (λ b v k 
 abbrev pub run_account : ℕ → Run → Account
 run_account chain run = account_of (opening_account chain run.members) run.moves
 
-pub known_run : (chain : ℕ) (run : Run) → IsTypedRunOf chain run → KnownRun (opening_account chain run.members) (opening run.members) run.moves (run_account chain run)
-known_run chain run i = known_moves run.moves (opening_account chain run.members) (opening run.members) (opening_known chain run.members i.run_of.members) i.run_of.moves i.typed
+pub known_run : (chain : ℕ) (run : Run) → IsTypedRunOf chain run → KnownRun (opening_account chain run.members) (initial_state run.members) run.moves (run_account chain run)
+known_run chain run i = known_moves run.moves (opening_account chain run.members) (initial_state run.members) (opening_known chain run.members i.run_of.members) i.run_of.moves i.typed

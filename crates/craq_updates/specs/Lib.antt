@@ -1,2 +1,2 @@
-pub mod Genuine
+pub mod ValidEntries
 pub mod Updates

@@ -13,15 +13,15 @@ ghost use Rattle.craq_runs.specs.Seen.{asks_from, seen, update_at};
 ghost use Rattle.craq_runs.specs.Valid.{OnlyGrows, committed, state_at};
 ghost use Rattle.craq_runs.specs.declared.run.Run.{Run};
 ghost use Rattle.craq_runs.specs.declared.run.Taken.{Taken};
-ghost use Rattle.craq_updates.specs.Genuine.{AllGenuine, HasGenuineHistory, IsBeginning};
+ghost use Rattle.craq_updates.specs.ValidEntries.{AllValid, HasValidHistory, IsBeginning};
 ghost use Rattle.craq_updates.specs.Updates.{updates_in};
 ghost use Rattle.craq_runs.specs.Typed.{IsTypedRunOf};
 
 /// States that each committed entry was requested and that its number was new. Its writes and reply
 /// are those of its command on one copy of the objects that applied the updates before it.
-pub fn committed_entries_are_genuine()
+pub fn committed_entries_are_valid()
     ensures { (chain : ℕ) (run : Run) → IsTypedRunOf chain run
-        → AllGenuine (asks_from 1 run.moves) opening_state (account_of (opening_account chain run.members) run.moves).committed }
+        → AllValid (asks_from 1 run.moves) opening_state (account_of (opening_account chain run.members) run.moves).committed }
 {}
 
 /// States that replaying the committed entries is applying the committed updates: the state after
@@ -37,10 +37,10 @@ pub fn replay_is_the_single_copy()
 {}
 
 /// States the same of each entry that a node of the chain holds, or knows only by a state.
-pub fn held_entries_are_genuine()
+pub fn held_entries_are_valid()
     ensures { (chain : ℕ) (run : Run) (id : ℕ) (p : Plain) → IsTypedRunOf chain run
         → node_at (after_moves (opening_chain chain run.members) run.moves).nodes id ≡ Some p
-        → HasGenuineHistory (asks_from 1 run.moves) p }
+        → HasValidHistory (asks_from 1 run.moves) p }
 {}
 
 /// States that each number of the explanation names an update that was requested, and that each

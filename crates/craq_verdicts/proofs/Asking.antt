@@ -17,13 +17,13 @@ use Rattle.craq_model.specs.declared.ask.Ask.TheVariants as asks
 use Rattle.craq_runs.specs.Typed.{IsAskOfType, IsMoveOfType, IsOfType}
 use Rattle.craq_runs.specs.declared.run.Move.{Move}
 use Rattle.craq_runs.specs.declared.run.Move.TheVariants as moves
-use Rattle.craq_script.specs.declared.line.Change.{Change}
-use Rattle.craq_script.specs.declared.line.Change.TheVariants as changes
-use Rattle.craq_script.specs.declared.line.Line.{Line}
-use Rattle.craq_script.specs.declared.line.Line.TheVariants as lines
+use Rattle.craq_script.specs.declared.line.ScriptCommand.{ScriptCommand}
+use Rattle.craq_script.specs.declared.line.ScriptCommand.TheVariants as changes
+use Rattle.craq_script.specs.declared.line.ScriptLine.{ScriptLine}
+use Rattle.craq_script.specs.declared.line.ScriptLine.TheVariants as lines
 use Rattle.craq_script.specs.declared.line.ScriptObject.{ScriptObject}
 use Rattle.craq_script.specs.declared.line.UpdateLine.{UpdateLine}
-use Rattle.craq_words.specs.Asked.{command_of, has_key, is_value, lists_of, numbered, objects_named, read_of, transaction_command, update_of, values_given}
+use Rattle.craq_text.specs.Asked.{command_of, has_key, is_value, lists_of, numbered, objects_named, read_of, transaction_command, asked_update, values_given}
 use Rattle.craq_play.specs.Moves.{asked_move, move_of}
 
 -- a property of a result holds too after a test that refuses
@@ -57,7 +57,7 @@ as_command_fits : (r : Result Transaction Refusal) → IfOk r IsWithinLimits →
 as_command_fits (Ok t) h = h
 as_command_fits (Err e) h = tt
 
-command_fits : (change : Change) → IfOk (command_of change) IsOfType
+command_fits : (change : ScriptCommand) → IfOk (command_of change) IsOfType
 unfolding command_of
 command_fits (changes.Put object value) = tt
 command_fits (changes.TestAndSet object expect value) = tt
@@ -71,8 +71,8 @@ numbered_fits : (client number : ℕ) (r : Result Command Refusal) → IfOk r Is
 numbered_fits client number (Ok command) h = holds_behind IsAskOfType (eqb number 0) refusals.BadNumber (Ok (asks.Update (record { client = client; number = number; command = command }))) (λ some. h)
 numbered_fits client number (Err e) h = tt
 
-update_fits : (line : UpdateLine) → IfOk (update_of line) IsAskOfType
-unfolding update_of
+update_fits : (line : UpdateLine) → IfOk (asked_update line) IsAskOfType
+unfolding asked_update
 update_fits line =
     holds_behind IsAskOfType (not (list_all has_key (objects_named line.change))) refusals.BadKey _ (λ keys.
     holds_behind IsAskOfType (not (list_all is_value (values_given line.change))) refusals.ValueTooLong _ (λ values.
@@ -90,9 +90,9 @@ asked_fits node (Ok ask) h =
     elim (chain_of_first (asked_objects ask) == 0) as (λ b. IfOk (cond b (Ok (Some (moves.Ask node ask))) (Err refusals.UnknownChain)) MoveFits) [ true ↦ h | false ↦ tt ]
 asked_fits node (Err e) h = tt
 
-pub line_fits : (line : Line) → IfOk (move_of line) MoveFits
+pub line_fits : (line : ScriptLine) → IfOk (move_of line) MoveFits
 unfolding move_of
-line_fits (lines.Update update) = asked_fits update.node (update_of update) (update_fits update)
+line_fits (lines.Update update) = asked_fits update.node (asked_update update) (update_fits update)
 line_fits (lines.Read node mode object) = asked_fits node (read_of mode object) (read_fits mode object)
 line_fits (lines.Deliver message) = tt
 line_fits (lines.Tick node) = tt

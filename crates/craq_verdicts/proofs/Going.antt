@@ -9,8 +9,8 @@ use Rattle.craq_runs.specs.declared.run.Move.{Move}
 use Rattle.craq_runs.specs.declared.run.Move.TheVariants as moves
 use Rattle.craq_runs.specs.declared.run.Taken.{Taken}
 use Rattle.craq_laws.proofs.Nodes as nodes
-use Rattle.craq_chain.specs.Chained.{Chained, after_taking, chain_of, moved, with_move}
-use Rattle.craq_script.specs.declared.line.Line.{Line}
+use Rattle.craq_chain.specs.Chained.{Chained, after_taking, chain_of_run, moved, with_move}
+use Rattle.craq_script.specs.declared.line.ScriptLine.{ScriptLine}
 use Rattle.craq_play.specs.Moves.{move_of}
 use Rattle.craq_play.specs.Played.{after_line, after_one, goes_on}
 use Rattle.craq_schedules.specs.Drawn.{after_choices, after_next, next_of}
@@ -22,19 +22,19 @@ abbrev pub HasRun : Chained → Type 0
 HasRun w = IsTypedRunOf w.chain w.run
 
 -- one more move
-runs_with : (w : Chained) (t : Taken) → HasRun w → IsMoveOfType t.chosen → Takes (chain_step (chain_of w) t.chosen) t.step → HasRun (with_move w t)
+runs_with : (w : Chained) (t : Taken) → HasRun w → IsMoveOfType t.chosen → Takes (chain_step (chain_of_run w) t.chosen) t.step → HasRun (with_move w t)
 runs_with w t h fits takes =
     record {
       run_of = record { members = h.run_of.members; moves = nodes.goes_on (opening_chain w.chain w.run.members) w.run.moves t h.run_of.moves takes };
       typed = nodes.typed_push w.run.moves t h.typed fits;
     }
 
-moved_runs : (w : Chained) (m : Move) (r : Result Progress Refusal) → chain_step (chain_of w) m ≡ r → IsMoveOfType m → HasRun w → IfOk (moved w m r) HasRun
+moved_runs : (w : Chained) (m : Move) (r : Result Progress Refusal) → chain_step (chain_of_run w) m ≡ r → IsMoveOfType m → HasRun w → IfOk (moved w m r) HasRun
 moved_runs w m (Ok x) is fits h = runs_with w (record { chosen = m; step = x.1 }) h fits (subst (λ (r : Result Progress Refusal). Takes r x.1) (sym is) refl)
 moved_runs w m (Err e) is fits h = tt
 
 taking_runs : (w : Chained) (m : Move) → IsMoveOfType m → HasRun w → IfOk (after_taking w m) HasRun
-taking_runs w m fits h = moved_runs w m (chain_step (chain_of w) m) refl fits h
+taking_runs w m fits h = moved_runs w m (chain_step (chain_of_run w) m) refl fits h
 
 -- a move that is taken or refused
 goes_on_runs : (w : Chained) (r : Result Chained Refusal) → HasRun w → IfOk r HasRun → HasRun (goes_on w r)
@@ -51,17 +51,17 @@ line_runs w (Err e) fits h = h
 
 -- ---- the choices of a schedule
 
-next_runs : (w : Chained) (rest : Chained → List Line → Chained) (o : Option (Line × List Line)) → ((v : Chained) (lines : List Line) → HasRun v → HasRun (rest v lines)) → HasRun w → HasRun (after_next w rest o)
+next_runs : (w : Chained) (rest : Chained → List ScriptLine → Chained) (o : Option (ScriptLine × List ScriptLine)) → ((v : Chained) (lines : List ScriptLine) → HasRun v → HasRun (rest v lines)) → HasRun w → HasRun (after_next w rest o)
 next_runs w rest None f h = h
 next_runs w rest (Some next) f h = f (after_line w (move_of next.0)) next.1 (line_runs w (move_of next.0) (line_fits next.0) h)
 
-pub choices_run : (choices : List ℕ) (w : Chained) (lines : List Line) → HasRun w → HasRun (after_choices choices w lines)
+pub choices_run : (choices : List ℕ) (w : Chained) (lines : List ScriptLine) → HasRun w → HasRun (after_choices choices w lines)
 choices_run [] w lines h = h
-choices_run (choice ∷ choices) w lines h = next_runs w (after_choices choices) (next_of (chain_of w) lines choice) (choices_run choices) h
+choices_run (choice ∷ choices) w lines h = next_runs w (after_choices choices) (next_of (chain_of_run w) lines choice) (choices_run choices) h
 
 -- ---- a stop after `cut` moves
 
-pub up_to_runs : (cut : ℕ) (w : Chained) (lines : List Line) → HasRun w → HasRun (up_to cut w lines)
+pub up_to_runs : (cut : ℕ) (w : Chained) (lines : List ScriptLine) → HasRun w → HasRun (up_to cut w lines)
 up_to_runs cut w [] h = h
 up_to_runs cut w (line ∷ lines) h =
     elim (count_taken w == cut) as (λ b. HasRun (cond b w (up_to cut (after_line w (move_of line)) lines))) [
@@ -73,13 +73,13 @@ delivered_runs : (most earlier : ℕ) (w : Chained) → HasRun w → HasRun (del
 unfolding delivered
 delivered_runs zero earlier w h = h
 delivered_runs (suc most) earlier w h =
-    elim (nat_le (length (chain_of w).messages) earlier) as (λ b. HasRun (cond b w (delivered most (earlier + 1) (after_one w (moves.Deliver (earlier + 1)))))) [
+    elim (nat_le (length (chain_of_run w).messages) earlier) as (λ b. HasRun (cond b w (delivered most (earlier + 1) (after_one w (moves.Deliver (earlier + 1)))))) [
       | true ↦ h
       | false ↦ delivered_runs most (earlier + 1) (after_one w (moves.Deliver (earlier + 1))) (one_runs w (moves.Deliver (earlier + 1)) tt h)
     ]
 
 removal_runs : (w : Chained) (r : Result Chained Refusal) → HasRun w → IfOk r HasRun → HasRun (after_removal w r)
-removal_runs w (Ok next) h k = delivered_runs most_deliveries (length (chain_of w).messages) next k
+removal_runs w (Ok next) h k = delivered_runs most_deliveries (length (chain_of_run w).messages) next k
 removal_runs w (Err e) h k = h
 
 pub without_runs : (w : Chained) (node : ℕ) → HasRun w → HasRun (without_node w node)

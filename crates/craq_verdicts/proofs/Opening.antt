@@ -7,7 +7,7 @@ use Rattle.craq_names.specs.Limits.{greatest_count}
 use Rattle.craq_names.proofs.Lists.{all_append}
 use Rattle.craq_model.specs.Members.{IsMembership}
 use Rattle.craq_runs.specs.Typed.{IsTypedRunOf}
-use Rattle.craq_play.specs.Played.{first_ids, opening}
+use Rattle.craq_play.specs.Played.{first_ids, script_opening}
 
 as_many : (n : ℕ) → length (first_ids n) ≡ n
 as_many zero = refl
@@ -33,7 +33,7 @@ unfolding IsDistinct
 all_distinct zero = tt
 all_distinct (suc n) = distinct_with (first_ids n) (suc n) (all_distinct n) (all_below n (suc n) (omega arith))
 
-pub opening_runs : (nodes : ℕ) → 1 ≤ nodes → nodes ≤ 8 → IsTypedRunOf (opening nodes).chain (opening nodes).run
+pub opening_runs : (nodes : ℕ) → 1 ≤ nodes → nodes ≤ 8 → IsTypedRunOf (script_opening nodes).chain (script_opening nodes).run
 opening_runs nodes some few =
     let many = as_many nodes in
     let members : IsMembership (first_ids nodes) = record { some = omega (arith, many); few = omega (arith, many); ids = all_ids nodes (omega arith); distinct = all_distinct nodes } in

@@ -9,8 +9,8 @@ ghost use Rattle.craq_runs.specs.Typed.{IsTypedRunOf};
 ghost use Rattle.craq_runs.specs.declared.explanation.Explanation.{Explanation};
 ghost use Rattle.craq_runs.specs.declared.run.Run.{Run};
 ghost use Rattle.craq_chain.specs.Chained.{Chained};
-ghost use Rattle.craq_script.specs.declared.line.Line.{Line};
-ghost use Rattle.craq_play.specs.Played.{opening};
+ghost use Rattle.craq_script.specs.declared.line.ScriptLine.{ScriptLine};
+ghost use Rattle.craq_play.specs.Played.{script_opening};
 ghost use Rattle.craq_schedules.specs.Drawn.{choices_text, drawn_text};
 ghost use Rattle.craq_schedules.specs.Stopped.{count_committed, cut_text, up_to, without_node};
 ghost use Rattle.craq_schedules.specs.Verdicts.{AnswersAsCheck, answer_on};
@@ -28,12 +28,12 @@ pub fn every_verdict_is_valid()
     ensures run { (holds : Run → Explanation → Bool) (w : Chained) → AnswersAsCheck holds
         → IsTypedRunOf w.chain w.run
         → answer_on holds w ≡ true }
-    ensures drawn { (holds : Run → Explanation → Bool) (nodes : ℕ) (choices : List ℕ) (lines : List Line) → AnswersAsCheck holds
+    ensures drawn { (holds : Run → Explanation → Bool) (nodes : ℕ) (choices : List ℕ) (lines : List ScriptLine) → AnswersAsCheck holds
         → 1 ≤ nodes
         → nodes ≤ 8
-        → drawn_text holds nodes choices lines ≡ choices_text choices (opening nodes) lines ++ codes "valid true\n" }
-    ensures stopped { (holds : Run → Explanation → Bool) (nodes node : ℕ) (lines : List Line) (cut : ℕ) → AnswersAsCheck holds
+        → drawn_text holds nodes choices lines ≡ choices_text choices (script_opening nodes) lines ++ codes "valid true\n" }
+    ensures stopped { (holds : Run → Explanation → Bool) (nodes node : ℕ) (lines : List ScriptLine) (cut : ℕ) → AnswersAsCheck holds
         → 1 ≤ nodes
         → nodes ≤ 8
-        → cut_text holds nodes node lines cut ≡ codes "cut " ++ decimal cut ++ codes " committed " ++ decimal (count_committed (without_node (up_to cut (opening nodes) lines) node)) ++ codes " " ++ codes "valid true\n" }
+        → cut_text holds nodes node lines cut ≡ codes "cut " ++ decimal cut ++ codes " committed " ++ decimal (count_committed (without_node (up_to cut (script_opening nodes) lines) node)) ++ codes " " ++ codes "valid true\n" }
 {}

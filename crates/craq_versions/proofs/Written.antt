@@ -69,8 +69,8 @@ room_written es gs key list at q =
     let split : (b : Bool) → room_in (cond b (Some list) (list_of es q)) ≡ cond b list.room (room_in (list_of es q)) = elim [ true ↦ refl | false ↦ refl ] in
     room_found gs q ∙ ap room_in (at q) ∙ split (is_at (key_cmp key) q) ∙ ap (cond (is_at (key_cmp key) q) list.room) (sym (room_found es q))
 
-told_equal : (key q : List ℕ) → is_at (key_cmp key) q ≡ true → key ≡ q
-told_equal key q h =
+reported_equal : (key q : List ℕ) → is_at (key_cmp key) q ≡ true → key ≡ q
+reported_equal key q h =
     let split : (r : Ordering) → key_cmp key q ≡ r → is_eq r ≡ true → key ≡ q = elim [ Less ↦ λ e h. cc | Equal ↦ λ e h. exact key q e | Greater ↦ λ e h. cc ] in
     split (key_cmp key q) refl h
 
@@ -87,7 +87,7 @@ pub rooms_kept : {V : Type 0} (es gs : Entries V) (key : List ℕ) (list : Versi
 rooms_kept es gs key list more at q =
     let P : ℕ → Type 0 = λ n. room_at (table_of es) q ≤ n in
     let split : (b : Bool) → is_at (key_cmp key) q ≡ b → room_at (table_of es) q ≤ cond b list.room (room_at (table_of es) q) = elim [
-      | true ↦ λ h. let Q : List ℕ → Type 0 = λ k. room_at (table_of es) k ≤ list.room in subst Q (told_equal key q h) more
+      | true ↦ λ h. let Q : List ℕ → Type 0 = λ k. room_at (table_of es) k ≤ list.room in subst Q (reported_equal key q h) more
       | false ↦ λ h. omega arith
     ] in
     subst P (sym (room_written es gs key list at q)) (split (is_at (key_cmp key) q) refl)
@@ -285,7 +285,7 @@ held_popped {V} es gs key old new rise rises was at h k versions clean q =
     let same : held_in new ≡ popped (held_in old) = λ i. record { versions = versions i; clean = clean i } in
     let shows : unwrap_or (shown new) nothing ≡ popped (held_at (table_of es) key) = unwrapped new.versions new.clean k ∙ same ∙ ap popped (sym (held_here es key old rise was h)) in
     let split : (b : Bool) → is_at (key_cmp key) q ≡ b → unwrap_or (option_and_then shown (cond b (Some new) (list_of es q))) nothing ≡ (if b then popped (held_at (table_of es) q) else held_at (table_of es) q) = elim [
-      | true ↦ λ e. shows ∙ ap (λ (x : List ℕ). popped (held_at (table_of es) x)) (told_equal key q e)
+      | true ↦ λ e. shows ∙ ap (λ (x : List ℕ). popped (held_at (table_of es) x)) (reported_equal key q e)
       | false ↦ λ e. sym (held_as es q rise)
     ] in
     held_as gs q rises ∙ ap (λ (o : Option (Versions V)). unwrap_or (option_and_then shown o) nothing) (at q) ∙ split (is_at (key_cmp key) q) refl
@@ -297,7 +297,7 @@ none_popped {V} es gs key rise same none q =
     let held : held_at (table_of es) key ≡ nothing = held_as es key rise ∙ ap (λ (o : Option (Versions V)). unwrap_or (option_and_then shown o) nothing) (sym none) in
     let empty : nothing ≡ popped {V = V} nothing = refl in
     let split : (b : Bool) → is_at (key_cmp key) q ≡ b → held_at (table_of es) q ≡ (if b then popped (held_at (table_of es) q) else held_at (table_of es) q) = elim [
-      | true ↦ λ e. let here = told_equal key q e in ap (λ (x : List ℕ). held_at (table_of es) x) (sym here) ∙ held ∙ empty ∙ ap popped (sym held) ∙ ap (λ (x : List ℕ). popped (held_at (table_of es) x)) here
+      | true ↦ λ e. let here = reported_equal key q e in ap (λ (x : List ℕ). held_at (table_of es) x) (sym here) ∙ held ∙ empty ∙ ap popped (sym held) ∙ ap (λ (x : List ℕ). popped (held_at (table_of es) x)) here
       | false ↦ λ e. refl
     ] in
     ap (λ (x : Entries V). held_at (table_of x) q) same ∙ split (is_at (key_cmp key) q) refl

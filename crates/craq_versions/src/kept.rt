@@ -96,13 +96,7 @@ impl<V: Drop> KeptItems<V> {
     {
         match &self.kept {
             Kept::Nothing => None,
-            Kept::One(item) => {
-                if index == 0 {
-                    Some(item)
-                } else {
-                    None
-                }
-            }
+            Kept::One(item) => { if index == 0 { Some(item) } else { None } }
             Kept::Queue(queue) => queue.get(index),
         }
     }

@@ -1,4 +1,4 @@
-//! A node's versions of objects: a list for each object, and a table of lists, for `craq_settled`.
+//! A node's versions of objects: a list for each object, and a table of lists, for `craq_compact_state`.
 //! Runs in the program.
 #![tactic(auto)]
 

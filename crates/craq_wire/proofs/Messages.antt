@@ -8,28 +8,28 @@ use Rattle.craq_model.specs.declared.message.Body.TheVariants as bodies
 use Rattle.craq_model.specs.declared.message.LinkMessage.{LinkMessage}
 use Rattle.craq_model.specs.declared.message.StatePart.{StatePart}
 use Rattle.craq_commands.specs.declared.state.State.{State}
-use Rattle.craq_model.specs.Spelled.{IsSpelled}
-use Rattle.craq_codec.specs.NumberSpelling.{number}
-use Rattle.craq_codec.specs.PartSpelling.{key, pair, counted, IsKey, IsPair, AreCounted}
+use Rattle.craq_model.specs.Encodable.{IsEncodable}
+use Rattle.craq_codec.specs.NumberEncoding.{number}
+use Rattle.craq_codec.specs.PartEncoding.{key, pair, counted, IsKey, IsPair, AreCounted}
 use Rattle.craq_codec.specs.NumberReading.{number_at}
 use Rattle.craq_codec.specs.PartReading.{key_at, value_at, pair_at, counted_at, mapped}
 use Rattle.craq_codec.specs.EntryReading.{window_at, entry_at}
-use Rattle.craq_codec.specs.EntrySpelling.{entry, EntryFits}
+use Rattle.craq_codec.specs.EntryEncoding.{entry, EntryFits}
 use Rattle.craq_codec.proofs.NumberExact.{IsBytes, Takes, Takes-then, IsExact, bind_some, some_is, step, chosen, u8_exact, u16_exact, u32_exact, u64_exact, wide8, wide32}
 use Rattle.craq_codec.proofs.PartExact.{key_exact, pair_exact, counted_exact, mapped_exact}
 use Rattle.craq_codec.proofs.Tagged.{one_case}
 use Rattle.craq_codec.proofs.EntryExact.{version_value_exact, window_exact, entry_exact}
 use Rattle.craq_wire.specs.Reading.{state_of, state_at, part_of, part_at, body_at, Header, header_of, header_at, message_of, message_at, all_of}
-use Rattle.craq_wire.specs.Spelling.{wire_version, kind_of, stored, kept_window, state, state_part, said, header, spelling_of, StoredFits, KeptFits, StateFits, PartFits, BodyFits, MessageFits, Spells}
-use Rattle.craq_wire.specs.Tests.{is_spelled}
-use Rattle.craq_wire.proofs.Tests.{decides_spelled}
+use Rattle.craq_wire.specs.Encoding.{wire_version, message_kind, stored, kept_window, state, state_part, body_bytes, header, encoding_of, StoredFits, KeptFits, StateFits, PartFits, BodyFits, MessageFits, Encodes}
+use Rattle.craq_wire.specs.Tests.{is_encodable}
+use Rattle.craq_wire.proofs.Tests.{decides_encodable}
 
 -- ---- bodies
 
-body_case : {A : Type 0} (spelling : A → List ℕ) (P : A → Type 0) (part : List ℕ → Option (A × List ℕ)) → IsExact spelling P part
-    → (f : A → Body) → ((a : A) → said (f a) ≡ spelling a) → ((a : A) → P a → BodyFits (f a)) → (kind : ℕ) → ((a : A) → kind_of (f a) ≡ kind)
-    → (bytes : List ℕ) (x : Body × List ℕ) → IsBytes bytes → mapped f (part bytes) ≡ Some x → (Takes bytes (said x.0) x.1 × BodyFits x.0) × (kind_of x.0 ≡ kind)
-body_case = one_case kind_of said BodyFits
+body_case : {A : Type 0} (encoding : A → List ℕ) (P : A → Type 0) (part : List ℕ → Option (A × List ℕ)) → IsExact encoding P part
+    → (f : A → Body) → ((a : A) → body_bytes (f a) ≡ encoding a) → ((a : A) → P a → BodyFits (f a)) → (kind : ℕ) → ((a : A) → message_kind (f a) ≡ kind)
+    → (bytes : List ℕ) (x : Body × List ℕ) → IsBytes bytes → mapped f (part bytes) ≡ Some x → (Takes bytes (body_bytes x.0) x.1 × BodyFits x.0) × (message_kind x.0 ≡ kind)
+body_case = one_case message_kind body_bytes BodyFits
 
 members_exact : IsExact (counted w8 (number w32)) (AreCounted w8 (λ id. id < 2 ^ 32)) (counted_at w8 (number_at w32))
 members_exact = counted_exact _ _ _ u32_exact w8 wide8
@@ -66,10 +66,10 @@ query_exact = pair_exact _ _ _ u64_exact _ _ _ key_exact
 version_exact : IsExact (pair (number w64) (number w64)) (IsPair (λ ticket. ticket < 2 ^ 64) (λ version. version < 2 ^ 64)) (pair_at (number_at w64) (number_at w64))
 version_exact = pair_exact _ _ _ u64_exact _ _ _ u64_exact
 
-body_takes : (kind : ℕ) (bytes : List ℕ) (x : Body × List ℕ) → IsBytes bytes → body_at kind bytes ≡ Some x → (Takes bytes (said x.0) x.1 × BodyFits x.0) × (kind_of x.0 ≡ kind)
+body_takes : (kind : ℕ) (bytes : List ℕ) (x : Body × List ℕ) → IsBytes bytes → body_at kind bytes ≡ Some x → (Takes bytes (body_bytes x.0) x.1 × BodyFits x.0) × (message_kind x.0 ≡ kind)
 unfolding body_at
 body_takes kind bytes x h e =
-    let P = λ (k : ℕ). (Takes bytes (said x.0) x.1 × BodyFits x.0) × (kind_of x.0 ≡ k) in
+    let P = λ (k : ℕ). (Takes bytes (body_bytes x.0) x.1 × BodyFits x.0) × (message_kind x.0 ≡ k) in
     chosen kind 1 _ _ x e P (body_case _ _ _ members_exact bodies.Config (λ a. refl) (λ a q. q) 1 (λ a. refl) bytes x h) (λ e.
     chosen kind 2 _ _ x e P (body_case _ _ _ entry_exact bodies.Entry (λ a. refl) (λ a q. q) 2 (λ a. refl) bytes x h) (λ e.
     chosen kind 3 _ _ x e P (body_case _ _ _ u64_exact bodies.Ack (λ a. refl) (λ a q. q) 3 (λ a. refl) bytes x h) (λ e.
@@ -82,7 +82,7 @@ body_takes kind bytes x h e =
     chosen kind 10 _ _ x e P (body_case _ _ _ batch_exact bodies.Batch (λ a. refl) (λ a q. q) 10 (λ a. refl) bytes x h) (λ e.
     absurd cc))))))))))
 
-body_again : (b : Body) (rest : List ℕ) → BodyFits b → body_at (kind_of b) (said b ++ rest) ≡ Some (b, rest)
+body_again : (b : Body) (rest : List ℕ) → BodyFits b → body_at (message_kind b) (body_bytes b ++ rest) ≡ Some (b, rest)
 unfolding body_at
 body_again (bodies.Config members) rest h = rw (members_exact.again members rest h) refl
 body_again (bodies.Entry e) rest h = rw (entry_exact.again e rest h) refl
@@ -95,7 +95,7 @@ body_again (bodies.Floor count) rest h = rw (u64_exact.again count rest h) refl
 body_again (bodies.Part p) rest h = rw (part_exact.again p rest h) refl
 body_again (bodies.Batch es) rest h = rw (batch_exact.again es rest h) refl
 
-kind_small : (b : Body) → kind_of b < 2 ^ 8
+kind_small : (b : Body) → message_kind b < 2 ^ 8
 kind_small (bodies.Config members) = omega arith
 kind_small (bodies.Entry e) = omega arith
 kind_small (bodies.Ack position) = omega arith
@@ -141,39 +141,39 @@ header_exact =
 
 abbrev front_of : LinkMessage → Header
 front_of m =
-    record { version = wire_version; kind = kind_of m.body; chain = m.chain; sender = m.sender; receiver = m.receiver; stamp = m.stamp; index = m.index; epoch = m.epoch }
+    record { version = wire_version; kind = message_kind m.body; chain = m.chain; sender = m.sender; receiver = m.receiver; stamp = m.stamp; index = m.index; epoch = m.epoch }
 
 -- a test that was passed
 passed : {A : Type 0} (b : Bool) (r : Option A) (y : A) → cond b r None ≡ Some y → (b ≡ true) × (r ≡ Some y)
 passed true r y e = (refl, e)
 passed false r y e = absurd cc
 
-same_front : (h : Header) (b : Body) → h.version ≡ wire_version → kind_of b ≡ h.kind → front h ≡ header (message_of h b)
+same_front : (h : Header) (b : Body) → h.version ≡ wire_version → message_kind b ≡ h.kind → front h ≡ header (message_of h b)
 same_front h b v k =
     let tail = number w16 h.chain ++ (number w32 h.sender ++ (number w32 h.receiver ++ (number w64 h.stamp ++ (number w32 h.index ++ number w64 h.epoch)))) in
     ap (λ (n : ℕ). number w8 n ++ (number w8 h.kind ++ tail)) v ∙ ap (λ (n : ℕ). number w8 wire_version ++ (number w8 n ++ tail)) (sym k)
 
-message_takes : (bytes : List ℕ) (x : LinkMessage × List ℕ) → IsBytes bytes → message_at bytes ≡ Some x → Takes bytes (spelling_of x.0) x.1 × MessageFits x.0
-unfolding message_at spelling_of
+message_takes : (bytes : List ℕ) (x : LinkMessage × List ℕ) → IsBytes bytes → message_at bytes ≡ Some x → Takes bytes (encoding_of x.0) x.1 × MessageFits x.0
+unfolding message_at encoding_of
 message_takes bytes x fits e =
     let s = step front FrontFits header_at header_exact bytes (λ h. cond (eqb h.0.version wire_version) (mapped (message_of h.0) (body_at h.0.kind h.1)) None) x fits e in
     let h = s.0.0 in
     let p = passed (eqb h.version wire_version) (mapped (message_of h) (body_at h.kind s.0.1)) x s.3 in
     let b = bind_some (body_at h.kind s.0.1) (λ y. Some (message_of h y.0, y.1)) x p.1 in
     let t = body_takes h.kind s.0.1 b.0 s.1.rest_fits b.1 in
-    let both : Takes bytes (front h ++ said b.0.0) b.0.1 = Takes-then s.1 t.0.0 in
+    let both : Takes bytes (front h ++ body_bytes b.0.0) b.0.1 = Takes-then s.1 t.0.0 in
     let same = same_front h b.0.0 (eqb-true _ _ p.0) t.1 in
     let made : LinkMessage × List ℕ = (message_of h b.0.0, b.0.1) in
-    subst (λ (y : LinkMessage × List ℕ). Takes bytes (header y.0 ++ said y.0.body) y.1 × MessageFits y.0) (some_is made x b.2) (
-      subst (λ (f : List ℕ). Takes bytes (f ++ said b.0.0) b.0.1) same both,
+    subst (λ (y : LinkMessage × List ℕ). Takes bytes (header y.0 ++ body_bytes y.0.body) y.1 × MessageFits y.0) (some_is made x b.2) (
+      subst (λ (f : List ℕ). Takes bytes (f ++ body_bytes b.0.0) b.0.1) same both,
       record {
         header = record { chain = s.2.chain; sender = s.2.sender; receiver = s.2.receiver; stamp = s.2.stamp; index = s.2.index; epoch = s.2.epoch };
         body = t.0.1;
       },
     )
 
-message_again : (m : LinkMessage) (rest : List ℕ) → MessageFits m → message_at (spelling_of m ++ rest) ≡ Some (m, rest)
-unfolding message_at spelling_of
+message_again : (m : LinkMessage) (rest : List ℕ) → MessageFits m → message_at (encoding_of m ++ rest) ≡ Some (m, rest)
+unfolding message_at encoding_of
 message_again m rest fits =
     let fit : FrontFits (front_of m) = record {
       version = omega arith;
@@ -185,48 +185,48 @@ message_again m rest fits =
       index = fits.header.index;
       epoch = fits.header.epoch;
     } in
-    ap message_at (append_assoc (header m) (said m.body) rest) ∙ rw (header_exact.again (front_of m) (said m.body ++ rest) fit, body_again m.body rest fits.body) refl
+    ap message_at (append_assoc (header m) (body_bytes m.body) rest) ∙ rw (header_exact.again (front_of m) (body_bytes m.body ++ rest) fit, body_again m.body rest fits.body) refl
 
-all_takes : (bytes : List ℕ) (m : LinkMessage) → IsBytes bytes → all_of bytes ≡ Some m → MessageFits m × (bytes ≡ spelling_of m)
+all_takes : (bytes : List ℕ) (m : LinkMessage) → IsBytes bytes → all_of bytes ≡ Some m → MessageFits m × (bytes ≡ encoding_of m)
 unfolding all_of
 all_takes bytes m fits e =
     let b = bind_some (message_at bytes) (λ x. cond (eqb (length x.1) 0) (Some x.0) None) m e in
     let p = passed (eqb (length b.0.1) 0) (Some b.0.0) m b.2 in
     let t = message_takes bytes b.0 fits b.1 in
     let nothing : b.0.1 ≡ [] = nil_from_length b.0.1 (eqb-true _ _ p.0) in
-    let whole : bytes ≡ spelling_of b.0.0 = t.0.parts ∙ ap (λ (r : List ℕ). spelling_of b.0.0 ++ r) nothing ∙ append-nil (spelling_of b.0.0) in
-    subst (λ (n : LinkMessage). MessageFits n × (bytes ≡ spelling_of n)) (some_is b.0.0 m p.1) (t.1, whole)
+    let whole : bytes ≡ encoding_of b.0.0 = t.0.parts ∙ ap (λ (r : List ℕ). encoding_of b.0.0 ++ r) nothing ∙ append-nil (encoding_of b.0.0) in
+    subst (λ (n : LinkMessage). MessageFits n × (bytes ≡ encoding_of n)) (some_is b.0.0 m p.1) (t.1, whole)
 
-all_again : (m : LinkMessage) → MessageFits m → all_of (spelling_of m) ≡ Some m
+all_again : (m : LinkMessage) → MessageFits m → all_of (encoding_of m) ≡ Some m
 unfolding all_of
 all_again m fits =
-    let one : message_at (spelling_of m) ≡ Some (m, []) = ap message_at (sym (append-nil (spelling_of m))) ∙ message_again m [] fits in
+    let one : message_at (encoding_of m) ≡ Some (m, []) = ap message_at (sym (append-nil (encoding_of m))) ∙ message_again m [] fits in
     rw one refl
 
-spelled_is_read : (bytes : List ℕ) (m : LinkMessage) → Spells m bytes → all_of bytes ≡ Some m
-spelled_is_read bytes m s = ap all_of s.spelling ∙ all_again m s.fits
+encodable_is_read : (bytes : List ℕ) (m : LinkMessage) → Encodes m bytes → all_of bytes ≡ Some m
+encodable_is_read bytes m s = ap all_of s.encoding ∙ all_again m s.fits
 
 -- ---- the contract of `decode`
 
-pub found : (bytes : List ℕ) (m : LinkMessage) → IsBytes bytes → all_of bytes ≡ Some m → is_spelled m ≡ true → Spells m bytes
+pub found : (bytes : List ℕ) (m : LinkMessage) → IsBytes bytes → all_of bytes ≡ Some m → is_encodable m ≡ true → Encodes m bytes
 found bytes m fits e t =
     let a = all_takes bytes m fits e in
-    record { fits = a.0; rules = (decides_spelled m).0 t; spelling = a.1 }
+    record { fits = a.0; rules = (decides_encodable m).0 t; encoding = a.1 }
 
-pub only : (bytes : List ℕ) (m other : LinkMessage) → all_of bytes ≡ Some m → Spells other bytes → other ≡ m
-only bytes m other e s = some_is other m (sym (spelled_is_read bytes other s) ∙ e)
+pub only : (bytes : List ℕ) (m other : LinkMessage) → all_of bytes ≡ Some m → Encodes other bytes → other ≡ m
+only bytes m other e s = some_is other m (sym (encodable_is_read bytes other s) ∙ e)
 
-pub nothing_there : (bytes : List ℕ) (m : LinkMessage) → all_of bytes ≡ None → Spells m bytes → ⊥
-nothing_there bytes m e s = let one = sym (spelled_is_read bytes m s) ∙ e in cc
+pub nothing_there : (bytes : List ℕ) (m : LinkMessage) → all_of bytes ≡ None → Encodes m bytes → ⊥
+nothing_there bytes m e s = let one = sym (encodable_is_read bytes m s) ∙ e in cc
 
-pub rules_broken : (bytes : List ℕ) (n m : LinkMessage) → all_of bytes ≡ Some n → is_spelled n ≡ false → Spells m bytes → ⊥
+pub rules_broken : (bytes : List ℕ) (n m : LinkMessage) → all_of bytes ≡ Some n → is_encodable n ≡ false → Encodes m bytes → ⊥
 rules_broken bytes n m e t s =
     let same = only bytes n m e s in
-    let kept : is_spelled n ≡ true = (decides_spelled n).1 (subst IsSpelled same s.rules) in
+    let kept : is_encodable n ≡ true = (decides_encodable n).1 (subst IsEncodable same s.rules) in
     cc
 
-pub one_value : (bytes : List ℕ) (m n : LinkMessage) → Spells m bytes → Spells n bytes → m ≡ n
-one_value bytes m n s t = only bytes n m (spelled_is_read bytes n t) s
+pub one_value : (bytes : List ℕ) (m n : LinkMessage) → Encodes m bytes → Encodes n bytes → m ≡ n
+one_value bytes m n s t = only bytes n m (encodable_is_read bytes n t) s
 
-pub one_form : (m : LinkMessage) (a b : List ℕ) → Spells m a → Spells m b → a ≡ b
-one_form m a b s t = s.spelling ∙ sym t.spelling
+pub one_form : (m : LinkMessage) (a b : List ℕ) → Encodes m a → Encodes m b → a ≡ b
+one_form m a b s t = s.encoding ∙ sym t.encoding

@@ -23,9 +23,9 @@ use Rattle.craq_model.specs.Members.{IsMembership}
 use Rattle.craq_model.specs.declared.message.Body.{Body}
 use Rattle.craq_model.specs.declared.message.Body.TheVariants as bodies
 use Rattle.craq_model.specs.declared.message.LinkMessage.{LinkMessage}
-use Rattle.craq_model.specs.Spelled.{IsReply, IsNotStale, IsSpelledEntry, IsSpelledWindow, IsSpelledState, IsSpelledPart, IsConsecutive, IsSpelledBatch, IsSpelledBody, IsFromItsSender, IsSpelled}
+use Rattle.craq_model.specs.Encodable.{IsReply, IsNotStale, IsEncodableEntry, IsEncodableWindow, IsEncodableState, IsEncodablePart, IsConsecutive, IsEncodableBatch, IsEncodableBody, IsFromItsSender, IsEncodable}
 use Rattle.craq_codec.proofs.Tests.{decides_le, decides_sure, decides_all, decides_reply, decides_not_stale}
-use Rattle.craq_wire.specs.Tests.{stands_twice, is_below_first, is_rising, same_key, has_version, is_entry, is_stored, is_kept, is_window, is_client, is_state, is_part, are_consecutive, is_batch, is_node, is_membership, is_body, is_from_its_sender, is_spelled}
+use Rattle.craq_wire.specs.Tests.{stands_twice, is_below_first, is_rising, same_key, has_version, is_entry, is_stored, is_kept, is_window, is_client, is_state, is_part, are_consecutive, is_batch, is_node, is_membership, is_body, is_from_its_sender, is_encodable}
 
 -- ---- no two equal items
 
@@ -110,7 +110,7 @@ module _ {K X : Type 0} (cmp : K → K → Ordering) (total : IsTotalOrder cmp) 
 
 -- ---- the rules
 
-decides_entry : (e : Entry) → Decides (is_entry e) (IsSpelledEntry e)
+decides_entry : (e : Entry) → Decides (is_entry e) (IsEncodableEntry e)
 unfolding is_entry
 decides_entry e =
     let once = decides_once e.writes in
@@ -125,7 +125,7 @@ decides_entry e =
     (λ h. record { position = h.0; origin_node = h.1.0; origin_ticket = h.1.1.0; reply = h.1.1.1.0; not_stale = h.1.1.1.1.0; few = h.1.1.1.1.1.0; versions = h.1.1.1.1.1.1.0; once = h.1.1.1.1.1.1.1 })
     (λ s. (s.position, (s.origin_node, (s.origin_ticket, (s.reply, (s.not_stale, (s.few, (s.versions, s.once)))))))) positions
 
-decides_window : (w : Window) → Decides (is_window w) (IsSpelledWindow w)
+decides_window : (w : Window) → Decides (is_window w) (IsEncodableWindow w)
 unfolding is_window
 decides_window w =
     let replies = Decides-and _ _ (decides_all is_kept (λ (k : Kept). IsReply k.1 × IsNotStale k.1) (λ k. Decides-and _ _ (decides_reply k.1) (decides_not_stale k.1)) w) (decides_rising nat_cmp nat_cmp_total w) in
@@ -133,11 +133,11 @@ decides_window w =
     let some = Decides-and _ _ (decides_le 1 (length w)) few in
     Decides-like _ (λ h. record { some = h.0; few = h.1.0; replies = h.1.1.0; numbers_rise = h.1.1.1 }) (λ s. (s.some, (s.few, (s.replies, s.numbers_rise)))) some
 
-decides_state : (s : State) → Decides (is_state s) (IsSpelledState s)
+decides_state : (s : State) → Decides (is_state s) (IsEncodableState s)
 unfolding is_state
 decides_state s =
     let rise = Decides-and _ _ (decides_rising key_cmp nat_list_cmp_total s.objects) (decides_rising nat_cmp nat_cmp_total s.kept) in
-    let windows = Decides-and _ _ (decides_all is_client (λ (k : ℕ × Window). IsSpelledWindow k.1) (λ k. decides_window k.1) s.kept) rise in
+    let windows = Decides-and _ _ (decides_all is_client (λ (k : ℕ × Window). IsEncodableWindow k.1) (λ k. decides_window k.1) s.kept) rise in
     let versions = Decides-and _ _ (decides_all is_stored (λ (o : List ℕ × (ℕ × List ℕ)). 1 ≤ o.1.0) (λ o. decides_le 1 o.1.0) s.objects) windows in
     let fewer = Decides-and _ _ (decides_le (length s.kept) greatest_count) versions in
     let few = Decides-and _ _ (decides_le (length s.objects) greatest_count) fewer in
@@ -150,7 +150,7 @@ decides_where : (a b : Bool) (P Q : Type 0) → Decides a P → Decides b Q → 
 decides_where true b P Q da db = (λ t p. db.0 t, λ h. db.1 (h (da.0 refl)))
 decides_where false b P Q da db = (λ t p. let clash : false ≡ true = da.1 p in absurd cc, λ h. refl)
 
-decides_part : (p : StatePart) → Decides (is_part p) (IsSpelledPart p)
+decides_part : (p : StatePart) → Decides (is_part p) (IsEncodablePart p)
 unfolding is_part
 decides_part p =
     let filled = decides_where (ltb p.number p.count) _ (p.number < p.count) _ (Decides-ltb p.number p.count) (Decides-eqb (item_count p.state) part_limit) in
@@ -170,10 +170,10 @@ decides_consecutive [] = decides_sure
 decides_consecutive (e ∷ []) = decides_sure
 decides_consecutive (e ∷ f ∷ es) = Decides-and _ _ (Decides-eqb f.position (e.position + 1)) (decides_consecutive (f ∷ es))
 
-decides_batch : (es : List Entry) → Decides (is_batch es) (IsSpelledBatch es)
+decides_batch : (es : List Entry) → Decides (is_batch es) (IsEncodableBatch es)
 unfolding is_batch
 decides_batch es =
-    let entries = Decides-and _ _ (decides_all is_entry IsSpelledEntry decides_entry es) (decides_consecutive es) in
+    let entries = Decides-and _ _ (decides_all is_entry IsEncodableEntry decides_entry es) (decides_consecutive es) in
     let few = Decides-and _ _ (decides_le (length es) batch_limit) entries in
     let several = Decides-and _ _ (decides_le 2 (length es)) few in
     Decides-like _ (λ h. record { several = h.0; few = h.1.0; entries = h.1.1.0; consecutive = h.1.1.1 }) (λ s. (s.several, (s.few, (s.entries, s.consecutive)))) several
@@ -186,7 +186,7 @@ decides_membership members =
     let some = Decides-and _ _ (decides_le 1 (length members)) few in
     Decides-like _ (λ h. record { some = h.0; few = h.1.0; ids = h.1.1.0; distinct = h.1.1.1 }) (λ m. (m.some, (m.few, (m.ids, m.distinct)))) some
 
-decides_body : (b : Body) → Decides (is_body b) (IsSpelledBody b)
+decides_body : (b : Body) → Decides (is_body b) (IsEncodableBody b)
 unfolding is_body
 decides_body (bodies.Config members) = decides_membership members
 decides_body (bodies.Entry e) = decides_entry e
@@ -211,11 +211,11 @@ decides_sender sender (bodies.Floor count) = decides_le 1 sender
 decides_sender sender (bodies.Part p) = decides_le 1 sender
 decides_sender sender (bodies.Batch es) = decides_le 1 sender
 
-pub decides_spelled : (m : LinkMessage) → Decides (is_spelled m) (IsSpelled m)
-unfolding is_spelled
-decides_spelled m =
-    let said = Decides-and _ _ (decides_le 1 m.epoch) (decides_body m.body) in
-    let stamps = Decides-and _ _ (decides_le 1 m.stamp) said in
+pub decides_encodable : (m : LinkMessage) → Decides (is_encodable m) (IsEncodable m)
+unfolding is_encodable
+decides_encodable m =
+    let body_bytes = Decides-and _ _ (decides_le 1 m.epoch) (decides_body m.body) in
+    let stamps = Decides-and _ _ (decides_le 1 m.stamp) body_bytes in
     let receivers = Decides-and _ _ (decides_le 1 m.receiver) stamps in
     let senders = Decides-and _ _ (decides_sender m.sender m.body) receivers in
     Decides-like _ (λ h. record { sender = h.0; receiver = h.1.0; stamp = h.1.1.0; epoch = h.1.1.1.0; body = h.1.1.1.1 })

@@ -8,11 +8,11 @@ use Rattle.craq_commands.specs.declared.entry.Entry.{Entry}
 use Rattle.craq_model.specs.declared.message.Body.{Body}
 use Rattle.craq_model.specs.declared.message.Body.TheVariants as bodies
 use Rattle.craq_model.specs.declared.message.LinkMessage.{LinkMessage}
-use Rattle.craq_model.specs.Spelled.{IsSpelledEntry, IsSpelledWindow, IsSpelledState, IsSpelledBody, IsSpelled}
+use Rattle.craq_model.specs.Encodable.{IsEncodableEntry, IsEncodableWindow, IsEncodableState, IsEncodableBody, IsEncodable}
 use Rattle.craq_codec.specs.Typed.{IsTypedEntry}
-use Rattle.craq_codec.specs.EntrySpelling.{EntryFits}
+use Rattle.craq_codec.specs.EntryEncoding.{EntryFits}
 use Rattle.craq_codec.proofs.Typed.{within_byte, entry_fits, window_fits}
-use Rattle.craq_wire.specs.Spelling.{KeptFits, StateFits, BodyFits, Spells, spelling_of}
+use Rattle.craq_wire.specs.Encoding.{KeptFits, StateFits, BodyFits, Encodes, encoding_of}
 use Rattle.craq_wire.specs.Typed.{IsTypedKept, IsTypedState, IsTypedBody, IsTypedMessage}
 
 few_members : (n : ℕ) → n ≤ 8 → n < 256
@@ -21,21 +21,21 @@ few_members n h = omega (arith, h)
 few_copied : (n : ℕ) → n ≤ 4294967295 → n < 4294967296
 few_copied n h = omega (arith, h)
 
-kept_fit : (kept : List (ℕ × Window)) → AllByRecursion IsTypedKept kept → AllByRecursion (λ (k : ℕ × Window). IsSpelledWindow k.1) kept → AllByRecursion KeptFits kept
+kept_fit : (kept : List (ℕ × Window)) → AllByRecursion IsTypedKept kept → AllByRecursion (λ (k : ℕ × Window). IsEncodableWindow k.1) kept → AllByRecursion KeptFits kept
 kept_fit [] t i = tt
 kept_fit (k ∷ ks) t i = ((t.0.0, window_fits k.1 t.0.1 i.0), kept_fit ks t.1 i.1)
 
-state_fits : (s : State) → IsTypedState s → IsSpelledState s → StateFits s
+state_fits : (s : State) → IsTypedState s → IsEncodableState s → StateFits s
 state_fits s t i = record {
   objects = record { few = few_copied (length s.objects) i.few_objects; each = t.objects };
   kept = record { few = few_copied (length s.kept) i.few_kept; each = kept_fit s.kept t.kept i.windows };
 }
 
-entries_fit : (es : List Entry) → AllByRecursion IsTypedEntry es → AllByRecursion IsSpelledEntry es → AllByRecursion EntryFits es
+entries_fit : (es : List Entry) → AllByRecursion IsTypedEntry es → AllByRecursion IsEncodableEntry es → AllByRecursion EntryFits es
 entries_fit [] t i = tt
 entries_fit (e ∷ es) t i = (entry_fits e t.0 i.0, entries_fit es t.1 i.1)
 
-body_fits : (b : Body) → IsTypedBody b → IsSpelledBody b → BodyFits b
+body_fits : (b : Body) → IsTypedBody b → IsEncodableBody b → BodyFits b
 body_fits (bodies.Config members) t i = record { few = few_members (length members) i.few; each = t }
 body_fits (bodies.Entry e) t i = entry_fits e t i
 body_fits (bodies.Ack position) t i = t
@@ -47,8 +47,8 @@ body_fits (bodies.Floor count) t i = t
 body_fits (bodies.Part p) t i = record { position = t.position; number = t.number; count = t.count; state = state_fits p.state t.state i.state }
 body_fits (bodies.Batch es) t i = record { few = within_byte (length es) i.few; each = entries_fit es t i.entries }
 
-pub spelled_somehow : (m : LinkMessage) → IsTypedMessage m → IsSpelled m ↔ ((bytes : List ℕ) × Spells m bytes)
-spelled_somehow m t = (
-  λ i. (spelling_of m, record { fits = record { header = t.header; body = body_fits m.body t.body i.body }; rules = i; spelling = refl }),
+pub encodable_somehow : (m : LinkMessage) → IsTypedMessage m → IsEncodable m ↔ ((bytes : List ℕ) × Encodes m bytes)
+encodable_somehow m t = (
+  λ i. (encoding_of m, record { fits = record { header = t.header; body = body_fits m.body t.body i.body }; rules = i; encoding = refl }),
   λ x. x.1.rules,
 )

@@ -1,4 +1,4 @@
 pub mod Reading
-pub mod Spelling
+pub mod Encoding
 pub mod Tests
 pub mod Typed

@@ -10,7 +10,7 @@ use Rattle.craq_model.specs.declared.message.StatePart.{StatePart}
 use Rattle.craq_codec.specs.NumberReading.{◌>>=◌, number_at}
 use Rattle.craq_codec.specs.PartReading.{key_at, value_at, pair_at, counted_at, mapped}
 use Rattle.craq_codec.specs.EntryReading.{entry_at, window_at}
-use Rattle.craq_wire.specs.Spelling.{wire_version}
+use Rattle.craq_wire.specs.Encoding.{wire_version}
 
 -- the state with these lists
 abbrev pub state_of : List (List ℕ × (ℕ × List ℕ)) × List (ℕ × Window) → State

@@ -124,5 +124,5 @@ is_from_its_sender sender (bodies.Part p) = nat_le 1 sender
 is_from_its_sender sender (bodies.Batch es) = nat_le 1 sender
 
 -- a message keeps its rules
-unfoldable pub is_spelled : LinkMessage → Bool
-is_spelled m = is_from_its_sender m.sender m.body && (nat_le 1 m.receiver && (nat_le 1 m.stamp && (nat_le 1 m.epoch && is_body m.body)))
+unfoldable pub is_encodable : LinkMessage → Bool
+is_encodable m = is_from_its_sender m.sender m.body && (nat_le 1 m.receiver && (nat_le 1 m.stamp && (nat_le 1 m.epoch && is_body m.body)))

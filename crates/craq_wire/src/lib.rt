@@ -10,5 +10,5 @@ mod rules;
 mod wire;
 
 pub use craq_model::{Body, LinkMessage};
-pub use laws::messages_with_spellings;
-pub use wire::{decode, encode, encode_as, one_spelling, spelled};
+pub use laws::messages_with_encodings;
+pub use wire::{decode, encode, encode_as, one_encoding, spelled};

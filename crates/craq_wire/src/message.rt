@@ -1,15 +1,15 @@
 //! Reads a message between nodes from the front of bytes and writes one at the end, kind by kind;
 //! used by `wire`.
 ghost use Rattle.std.specs.Prelude.{◌≡◌, ◌++◌, OnOk};
-ghost use Rattle.craq_codec.specs.NumberReading.{Gives};
-ghost use Rattle.craq_model.specs.Spelled.{IsSpelledBody, IsSpelledPart, IsSpelledState, IsSpelled};
+ghost use Rattle.craq_codec.specs.NumberReading.{Decodes};
+ghost use Rattle.craq_model.specs.Encodable.{IsEncodableBody, IsEncodablePart, IsEncodableState, IsEncodable};
 ghost use Rattle.craq_wire.specs.Reading.{body_at, message_at, part_at, state_at};
-ghost use Rattle.craq_wire.specs.Spelling.{header, renamed, said, state, state_part, kind_of, spelling_of, HeaderFits, StateFits, PartFits, BodyFits, MessageFits};
+ghost use Rattle.craq_wire.specs.Encoding.{header, renamed, body_bytes, state, state_part, message_kind, encoding_of, HeaderFits, StateFits, PartFits, BodyFits, MessageFits};
 
 use bytes::BytesMut;
 use craq_codec::{
-    Part, Unread, read_long_list, read_short_list, read_u8, read_u16, read_u32, read_u64,
-    write_long_list, write_short_list, write_u8, write_u16, write_u32, write_u64,
+    DecodeError, MessagePart, read_long_list, read_short_list, read_u8, read_u16, read_u32,
+    read_u64, write_long_list, write_short_list, write_u8, write_u16, write_u32, write_u64,
 };
 use craq_commands::{Entry, State};
 use craq_model::{Body, LinkMessage, StatePart};
@@ -24,8 +24,8 @@ const HEADER_SIZE: usize = 32;
 
 /// Reads the state at the front; returns it with the bytes after it.
 #[tactic(auto, unfolding(crate::specs::Reading::state_at, craq_codec::specs::PartReading::pair_at))]
-fn read_state(alloc: Global, bytes: &[u8]) -> Result<(State, &[u8]), Unread>
-    ensures { Gives (λ x. (x.0, x.1.now)) result (state_at bytes.now) }
+fn read_state(alloc: Global, bytes: &[u8]) -> Result<(State, &[u8]), DecodeError>
+    ensures { Decodes (λ x. (x.0, x.1.now)) result (state_at bytes.now) }
 {
     let (objects, rest) = read_long_list(alloc, bytes)?;
     let (kept, rest) = read_long_list(alloc, rest)?;
@@ -34,8 +34,8 @@ fn read_state(alloc: Global, bytes: &[u8]) -> Result<(State, &[u8]), Unread>
 
 /// Reads the part of a state at the front; returns it with the bytes after it.
 #[tactic(auto, unfolding(crate::specs::Reading::part_at, craq_codec::specs::PartReading::pair_at))]
-fn read_part(alloc: Global, bytes: &[u8]) -> Result<(StatePart, &[u8]), Unread>
-    ensures { Gives (λ x. (x.0, x.1.now)) result (part_at bytes.now) }
+fn read_part(alloc: Global, bytes: &[u8]) -> Result<(StatePart, &[u8]), DecodeError>
+    ensures { Decodes (λ x. (x.0, x.1.now)) result (part_at bytes.now) }
 {
     let (position, rest) = read_u64(bytes)?;
     let (number, rest) = read_u32(rest)?;
@@ -52,8 +52,8 @@ fn read_part(alloc: Global, bytes: &[u8]) -> Result<(StatePart, &[u8]), Unread>
 
 /// Reads a body of this kind; returns it with the bytes after it.
 #[tactic(auto, unfolding(crate::specs::Reading::body_at, craq_codec::specs::PartReading::pair_at))]
-fn read_body(alloc: Global, kind: u8, bytes: &[u8]) -> Result<(Body, &[u8]), Unread>
-    ensures { Gives (λ x. (x.0, x.1.now)) result (body_at kind bytes.now) }
+fn read_body(alloc: Global, kind: u8, bytes: &[u8]) -> Result<(Body, &[u8]), DecodeError>
+    ensures { Decodes (λ x. (x.0, x.1.now)) result (body_at kind bytes.now) }
 {
     match kind {
         1 => {
@@ -103,14 +103,14 @@ fn read_body(alloc: Global, kind: u8, bytes: &[u8]) -> Result<(Body, &[u8]), Unr
             let (entries, rest) = read_short_list(alloc, bytes)?;
             Ok((Body::Batch(entries), rest))
         }
-        _ => Err(Unread::BadFrame),
+        _ => Err(DecodeError::BadFrame),
     }
 }
 
 /// Reads the message at the front; returns it with the bytes after it.
 #[tactic(auto, unfolding(crate::specs::Reading::message_at, crate::specs::Reading::header_at, craq_codec::specs::PartReading::pair_at))]
-pub(crate) fn read_message(alloc: Global, bytes: &[u8]) -> Result<(LinkMessage, &[u8]), Unread>
-    ensures { Gives (λ x. (x.0, x.1.now)) result (message_at bytes.now) }
+pub(crate) fn read_message(alloc: Global, bytes: &[u8]) -> Result<(LinkMessage, &[u8]), DecodeError>
+    ensures { Decodes (λ x. (x.0, x.1.now)) result (message_at bytes.now) }
 {
     let (version, rest) = read_u8(bytes)?;
     let (kind, rest) = read_u8(rest)?;
@@ -121,7 +121,7 @@ pub(crate) fn read_message(alloc: Global, bytes: &[u8]) -> Result<(LinkMessage, 
     let (index, rest) = read_u32(rest)?;
     let (epoch, rest) = read_u64(rest)?;
     if version != WIRE_VERSION {
-        return Err(Unread::BadFrame);
+        return Err(DecodeError::BadFrame);
     }
     let (body, rest) = read_body(alloc, kind, rest)?;
     let message = LinkMessage {
@@ -138,7 +138,7 @@ pub(crate) fn read_message(alloc: Global, bytes: &[u8]) -> Result<(LinkMessage, 
 
 /// Returns the number of the body's kind.
 fn kind(body: &Body) -> u8
-    ensures { result ≡ kind_of body.now }
+    ensures { result ≡ message_kind body.now }
 {
     match body {
         Body::Config { .. } => 1,
@@ -157,7 +157,7 @@ fn kind(body: &Body) -> u8
 /// Writes the objects and the kept replies of a state at the end.
 #[tactic(auto, using(craq_codec::proofs::Free::all_of_any))]
 fn write_state(out: &mut BytesMut, s: &State) -> Result<(), AllocError>
-    requires { IsSpelledState s.now }
+    requires { IsEncodableState s.now }
     ensures fits { OnOk result (StateFits s.now) }
     ensures spelled { OnOk result (out.new.items ≡ out.old.items ++ state s.now) }
 {
@@ -167,7 +167,7 @@ fn write_state(out: &mut BytesMut, s: &State) -> Result<(), AllocError>
 
 /// Writes a part of a state at the end.
 fn write_part(out: &mut BytesMut, part: &StatePart) -> Result<(), AllocError>
-    requires { IsSpelledPart part.now }
+    requires { IsEncodablePart part.now }
     ensures fits { OnOk result (PartFits part.now) }
     ensures spelled { OnOk result (out.new.items ≡ out.old.items ++ state_part part.now) }
 {
@@ -180,9 +180,9 @@ fn write_part(out: &mut BytesMut, part: &StatePart) -> Result<(), AllocError>
 /// Writes a body at the end.
 #[tactic(auto, using(craq_codec::proofs::Free::all_of_any))]
 fn write_body(out: &mut BytesMut, body: &Body) -> Result<(), AllocError>
-    requires { IsSpelledBody body.now }
+    requires { IsEncodableBody body.now }
     ensures fits { OnOk result (BodyFits body.now) }
-    ensures spelled { OnOk result (out.new.items ≡ out.old.items ++ said body.now) }
+    ensures spelled { OnOk result (out.new.items ≡ out.old.items ++ body_bytes body.now) }
 {
     match body {
         Body::Config { members } => write_short_list(out, members.as_slice()),
@@ -208,7 +208,7 @@ fn write_body(out: &mut BytesMut, body: &Body) -> Result<(), AllocError>
 }
 
 /// Writes a message's header at the end, with this sender, stamp and index.
-#[tactic(auto, unfolding(craq_codec::specs::NumberSpelling::number))]
+#[tactic(auto, unfolding(craq_codec::specs::NumberEncoding::number))]
 fn write_header(
     out: &mut BytesMut,
     m: &LinkMessage,
@@ -232,7 +232,7 @@ fn write_header(
 }
 
 /// Writes a message at the end, with this sender, stamp and index instead of its own.
-#[tactic(auto, unfolding(crate::specs::Spelling::spelling_of))]
+#[tactic(auto, unfolding(crate::specs::Encoding::encoding_of))]
 pub(crate) fn write_message(
     out: &mut BytesMut,
     m: &LinkMessage,
@@ -240,9 +240,9 @@ pub(crate) fn write_message(
     stamp: Stamp,
     index: u32,
 ) -> Result<(), AllocError>
-    requires { IsSpelled (renamed m.now sender stamp index) }
+    requires { IsEncodable (renamed m.now sender stamp index) }
     ensures fits { OnOk result (MessageFits (renamed m.now sender stamp index)) }
-    ensures spelled { OnOk result (out.new.items ≡ out.old.items ++ spelling_of (renamed m.now sender stamp index)) }
+    ensures spelled { OnOk result (out.new.items ≡ out.old.items ++ encoding_of (renamed m.now sender stamp index)) }
 {
     write_header(out, m, sender, stamp, index)?;
     write_body(out, &m.body)

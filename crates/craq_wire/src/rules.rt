@@ -3,10 +3,10 @@
 ghost use Rattle.std.specs.Prelude.{◌≡◌};
 ghost use Rattle.craq_model.specs.Parts.{item_count};
 ghost use Rattle.std.specs.List.{list_all};
-ghost use Rattle.craq_wire.specs.Tests.{are_consecutive, has_version, is_batch, is_body, is_client, is_entry, is_filled, is_from_its_sender, is_kept, is_membership, is_node, is_part, is_spelled, is_state, is_stored, is_window};
+ghost use Rattle.craq_wire.specs.Tests.{are_consecutive, has_version, is_batch, is_body, is_client, is_entry, is_filled, is_from_its_sender, is_kept, is_membership, is_node, is_part, is_encodable, is_state, is_stored, is_window};
 
 use crate::alike::{has_twice, rises};
-use craq_codec::{is_fresh_reply, is_spelled_reply};
+use craq_codec::{is_encodable_reply, is_fresh_reply};
 use craq_commands::{Entry, Kept, Mini, State, WINDOW_LIMIT, Window, Write};
 use craq_epochs::MEMBER_LIMIT;
 use craq_model::{BATCH_LIMIT, Body, GREATEST_COUNT, LinkMessage, PART_LIMIT, StatePart};
@@ -27,7 +27,7 @@ fn test_entry(entry: &Entry) -> bool
     entry.position.get() >= 1
         && entry.origin_node.get() >= 1
         && entry.origin_ticket.get() >= 1
-        && is_spelled_reply(&entry.reply)
+        && is_encodable_reply(&entry.reply)
         && is_fresh_reply(&entry.reply)
         && entry.writes.len() <= Mini::MOST_ITEMS
         && have_versions(entry.writes.as_slice())
@@ -45,7 +45,7 @@ fn are_stored(objects: &[(Key, (Version, Value))]) -> bool
 fn are_kept(replies: &[Kept]) -> bool
     ensures { result ≡ list_all is_kept replies.now }
 {
-    replies.iter().all(|kept| is_spelled_reply(&kept.1) && is_fresh_reply(&kept.1))
+    replies.iter().all(|kept| is_encodable_reply(&kept.1) && is_fresh_reply(&kept.1))
 }
 
 /// Tests the rules of a client's kept replies.
@@ -185,9 +185,9 @@ fn test_sender(sender: NodeId, body: &Body) -> bool
 }
 
 /// Tests the rules of messages.
-#[tactic(auto, unfolding(crate::specs::Tests::is_spelled))]
+#[tactic(auto, unfolding(crate::specs::Tests::is_encodable))]
 pub(crate) fn test_message(m: &LinkMessage) -> bool
-    ensures { result ≡ is_spelled m.now }
+    ensures { result ≡ is_encodable m.now }
 {
     test_sender(m.sender, &m.body)
         && m.receiver.get() >= 1

@@ -7,8 +7,8 @@ use Rattle.craq_model.specs.Plain.{Plain}
 use Rattle.craq_epochs.specs.Mastered.{Mastered}
 use Rattle.craq_audit.specs.declared.finding.Audit.{Audit}
 use Rattle.craq_seat.specs.Calls.{Called}
-use Rattle.craq_held.specs.Held.{Confirms}
-use Rattle.craq_workers.specs.Stores.{Answers, HasJournals, IsMasterOf, IsRefused, Stored}
+use Rattle.craq_locked_chain.specs.Held.{Confirms}
+use Rattle.craq_workers.specs.Stores.{AuditAnswers, HasJournals, IsMasterOf, IsRefused, Stored}
 
 refused : {C : Type 0} (represents : C → Plain → Type 0) (store : Stored) (chain : ℕ) (receipts : List Called) (e : Refusal)
     → HasJournals store chain → Confirms represents (IsMasterOf store chain) receipts (Err e) → IsRefused represents store chain receipts e
@@ -42,7 +42,7 @@ refused represents store chain receipts refusals.Closed h k = absurd k.audited
 refused represents store chain receipts refusals.Io h k = absurd k.audited
 
 pub answered : {C : Type 0} (represents : C → Plain → Type 0) (store : Stored) (chain : ℕ) (receipts : List Called) (result : Result Audit Refusal)
-    → HasJournals store chain → Confirms represents (IsMasterOf store chain) receipts result → Answers represents store chain receipts result
+    → HasJournals store chain → Confirms represents (IsMasterOf store chain) receipts result → AuditAnswers represents store chain receipts result
 answered represents store chain receipts (Ok audit) h k = (h, k)
 answered represents store chain receipts (Err e) h k = refused represents store chain receipts e h k
 

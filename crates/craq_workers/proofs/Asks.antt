@@ -4,19 +4,19 @@ use Rattle.std.specs.Prelude.{MatchResult}
 use Rattle.craq_commands.specs.declared.read_mode.ReadMode.TheVariants as modes
 use Rattle.craq_names.specs.declared.refusal.Refusal.{Refusal}
 use Rattle.craq_names.specs.declared.refusal.Refusal.TheVariants as refusals
-use Rattle.craq_calls.specs.Refused.{CanRefuse, CanWait, IsUpdate}
-use Rattle.craq_letters.specs.declared.token.Token.{Token}
+use Rattle.craq_pending_calls.specs.Refused.{CanRefuse, CanWait, IsUpdate}
+use Rattle.craq_completions.specs.declared.token.Token.{Token}
 use Rattle.craq_model.specs.declared.ask.Ask.{Ask}
 use Rattle.craq_model.specs.declared.ask.Ask.TheVariants as asks
 use Rattle.craq_model.specs.Plain.{Plain}
 use Rattle.craq_seat.specs.Calls.{Called}
-use Rattle.craq_workers.specs.Asks.{IsCalled, IsPut, IsServed, IsTurnedAway, in_hand}
+use Rattle.craq_workers.specs.Asks.{IsCalled, IsPut, IsServed, IsRejected, in_hand}
 use Rattle.craq_workers.specs.Moves.{IsMissed}
 
-served : {C : Type 0} (represents : C → Plain → Type 0) (carried : Bool) (ask : Ask) (pass : ℕ) (token : Token) (hand : Option (Result Called Refusal))
-    → IsServed represents ask pass token hand ⊎ IsTurnedAway hand → IsPut represents carried ask pass token hand
-served represents carried ask pass token hand (inl is) = inl is
-served represents carried ask pass token hand (inr is) = inr (inl is)
+served : {C : Type 0} (represents : C → Plain → Type 0) (chain_threads : Bool) (ask : Ask) (pass : ℕ) (token : Token) (hand : Option (Result Called Refusal))
+    → IsServed represents ask pass token hand ⊎ IsRejected hand → IsPut represents chain_threads ask pass token hand
+served represents chain_threads ask pass token hand (inl is) = inl is
+served represents chain_threads ask pass token hand (inr is) = inr (inl is)
 
 same_hand : (reply : Option (Result Called Refusal)) (result : Result (Option Called) Refusal) → IfOk result (λ (found : Option Called). reply ≡ option_map Ok found) → IfErr result (λ (e : Refusal). reply ≡ Some (Err e)) → reply ≡ in_hand result
 same_hand reply (Ok None) ok err = ok
@@ -24,16 +24,16 @@ same_hand reply (Ok (Some receipt)) ok err = ok
 same_hand reply (Err e) ok err = err
 
 -- who has a reply in hand, or waits for a letter, was served or turned away
-pub put_in_hand : {C : Type 0} (represents : C → Plain → Type 0) (carried : Bool) (ask : Ask) (pass : ℕ) (token : Token) (reply : Option (Result Called Refusal)) (result : Result (Option Called) Refusal)
-    → IfOk result (λ (found : Option Called). reply ≡ option_map Ok found) → IfErr result (λ (e : Refusal). reply ≡ Some (Err e)) → IsServed represents ask pass token reply ⊎ IsTurnedAway reply → IsPut represents carried ask pass token (in_hand result)
-put_in_hand represents carried ask pass token reply result ok err is =
-    subst (λ (hand : Option (Result Called Refusal)). IsPut represents carried ask pass token hand) (same_hand reply result ok err) (served represents carried ask pass token reply is)
+pub put_in_hand : {C : Type 0} (represents : C → Plain → Type 0) (chain_threads : Bool) (ask : Ask) (pass : ℕ) (token : Token) (reply : Option (Result Called Refusal)) (result : Result (Option Called) Refusal)
+    → IfOk result (λ (found : Option Called). reply ≡ option_map Ok found) → IfErr result (λ (e : Refusal). reply ≡ Some (Err e)) → IsServed represents ask pass token reply ⊎ IsRejected reply → IsPut represents chain_threads ask pass token (in_hand result)
+put_in_hand represents chain_threads ask pass token reply result ok err is =
+    subst (λ (hand : Option (Result Called Refusal)). IsPut represents chain_threads ask pass token hand) (same_hand reply result ok err) (served represents chain_threads ask pass token reply is)
 
 -- an ask is queued, or turned away
-pub put_in_queue : {C : Type 0} (represents : C → Plain → Type 0) (carried : Bool) (ask : Ask) (pass : ℕ) (token : Token) (result : Result (Option Called) Refusal)
-    → MatchResult result (λ (found : Option Called). found ≡ None) IsMissed → (carried ≡ false) ⊎ IsUpdate ask → IsPut represents carried ask pass token (in_hand result)
-put_in_queue represents carried ask pass token (Ok found) h may = subst (λ (f : Option Called). IsPut represents carried ask pass token (in_hand (Ok f))) (sym h) (inr (inr may))
-put_in_queue represents carried ask pass token (Err e) h may = inr (inl h)
+pub put_in_queue : {C : Type 0} (represents : C → Plain → Type 0) (chain_threads : Bool) (ask : Ask) (pass : ℕ) (token : Token) (result : Result (Option Called) Refusal)
+    → MatchResult result (λ (found : Option Called). found ≡ None) IsMissed → (chain_threads ≡ false) ⊎ IsUpdate ask → IsPut represents chain_threads ask pass token (in_hand result)
+put_in_queue represents chain_threads ask pass token (Ok found) h may = subst (λ (f : Option Called). IsPut represents chain_threads ask pass token (in_hand (Ok f))) (sym h) (inr (inr may))
+put_in_queue represents chain_threads ask pass token (Err e) h may = inr (inl h)
 
 updates : (ask : Ask) → IsUpdate ask ⊎ ¬ (IsUpdate ask)
 updates (asks.Update update) = inl tt
@@ -75,41 +75,41 @@ can_or_not ask refusals.BadConfig = inr (λ h. h)
 can_or_not ask refusals.Closed = inl tt
 can_or_not ask refusals.Io = inr (λ h. h)
 
-told_as : {C : Type 0} (represents : C → Plain → Type 0) (carried : Bool) (ask : Ask) (pass : ℕ) (token : Token) (came told : Refusal)
-    → (CanRefuse ask came → told ≡ came) → (¬ (CanRefuse ask came) → told ≡ refusals.Closed) → IsPut represents carried ask pass token (Some (Err came))
-    → CanRefuse ask came ⊎ ¬ (CanRefuse ask came) → IsPut represents carried ask pass token (Some (Err told))
-told_as represents carried ask pass token came told same closed put (inl can) = subst (λ (e : Refusal). IsPut represents carried ask pass token (Some (Err e))) (sym (same can)) put
-told_as represents carried ask pass token came told same closed put (inr cannot) = subst (λ (e : Refusal). IsPut represents carried ask pass token (Some (Err e))) (sym (closed cannot)) (inr (inl tt))
+reported_as : {C : Type 0} (represents : C → Plain → Type 0) (chain_threads : Bool) (ask : Ask) (pass : ℕ) (token : Token) (came reported : Refusal)
+    → (CanRefuse ask came → reported ≡ came) → (¬ (CanRefuse ask came) → reported ≡ refusals.Closed) → IsPut represents chain_threads ask pass token (Some (Err came))
+    → CanRefuse ask came ⊎ ¬ (CanRefuse ask came) → IsPut represents chain_threads ask pass token (Some (Err reported))
+reported_as represents chain_threads ask pass token came reported same closed put (inl can) = subst (λ (e : Refusal). IsPut represents chain_threads ask pass token (Some (Err e))) (sym (same can)) put
+reported_as represents chain_threads ask pass token came reported same closed put (inr cannot) = subst (λ (e : Refusal). IsPut represents chain_threads ask pass token (Some (Err e))) (sym (closed cannot)) (inr (inl tt))
 
 -- and is refused so, or, where no such ask may be refused so, as by a closed store
-pub put_told_as : {C : Type 0} (represents : C → Plain → Type 0) (carried : Bool) (ask : Ask) (pass : ℕ) (token : Token) (came told : Refusal)
-    → (CanRefuse ask came → told ≡ came) → (¬ (CanRefuse ask came) → told ≡ refusals.Closed) → IsPut represents carried ask pass token (Some (Err came)) → IsPut represents carried ask pass token (Some (Err told))
-put_told_as represents carried ask pass token came told same closed put = told_as represents carried ask pass token came told same closed put (can_or_not ask came)
+pub put_reported_as : {C : Type 0} (represents : C → Plain → Type 0) (chain_threads : Bool) (ask : Ask) (pass : ℕ) (token : Token) (came reported : Refusal)
+    → (CanRefuse ask came → reported ≡ came) → (¬ (CanRefuse ask came) → reported ≡ refusals.Closed) → IsPut represents chain_threads ask pass token (Some (Err came)) → IsPut represents chain_threads ask pass token (Some (Err reported))
+put_reported_as represents chain_threads ask pass token came reported same closed put = reported_as represents chain_threads ask pass token came reported same closed put (can_or_not ask came)
 
 -- a receipt in hand is of an ask that was served
-pub taken_in_hand : {C : Type 0} (represents : C → Plain → Type 0) (carried : Bool) (ask : Ask) (pass : ℕ) (token : Token) (result : Result (Option Called) Refusal)
-    → IsPut represents carried ask pass token (in_hand result) → IfOk result (λ (found : Option Called). IfSome found (λ (receipt : Called). IsServed represents ask pass token (Some (Ok receipt))))
-taken_in_hand represents carried ask pass token (Ok None) put = tt
-taken_in_hand represents carried ask pass token (Ok (Some receipt)) (inl is) = is
-taken_in_hand represents carried ask pass token (Ok (Some receipt)) (inr (inl h)) = absurd h
-taken_in_hand represents carried ask pass token (Ok (Some receipt)) (inr (inr h)) = absurd h
-taken_in_hand represents carried ask pass token (Err e) put = tt
+pub taken_in_hand : {C : Type 0} (represents : C → Plain → Type 0) (chain_threads : Bool) (ask : Ask) (pass : ℕ) (token : Token) (result : Result (Option Called) Refusal)
+    → IsPut represents chain_threads ask pass token (in_hand result) → IfOk result (λ (found : Option Called). IfSome found (λ (receipt : Called). IsServed represents ask pass token (Some (Ok receipt))))
+taken_in_hand represents chain_threads ask pass token (Ok None) put = tt
+taken_in_hand represents chain_threads ask pass token (Ok (Some receipt)) (inl is) = is
+taken_in_hand represents chain_threads ask pass token (Ok (Some receipt)) (inr (inl h)) = absurd h
+taken_in_hand represents chain_threads ask pass token (Ok (Some receipt)) (inr (inr h)) = absurd h
+taken_in_hand represents chain_threads ask pass token (Err e) put = tt
 
 -- and a refusal in hand too, or there was no node to ask
-pub left_in_hand : {C : Type 0} (represents : C → Plain → Type 0) (carried : Bool) (ask : Ask) (pass : ℕ) (token : Token) (result : Result (Option Called) Refusal)
-    → IsPut represents carried ask pass token (in_hand result)
+pub left_in_hand : {C : Type 0} (represents : C → Plain → Type 0) (chain_threads : Bool) (ask : Ask) (pass : ℕ) (token : Token) (result : Result (Option Called) Refusal)
+    → IsPut represents chain_threads ask pass token (in_hand result)
     → IfErr result (λ (e : Refusal). (e ≡ refusals.UnknownChain) ⊎ IsServed represents ask pass token (Some (Err e)) ⊎ IsMissed e)
-left_in_hand represents carried ask pass token (Ok found) put = tt
-left_in_hand represents carried ask pass token (Err e) (inl is) = inr (inl is)
-left_in_hand represents carried ask pass token (Err e) (inr (inl is)) = inr (inr is)
-left_in_hand represents carried ask pass token (Err e) (inr (inr h)) = absurd h
+left_in_hand represents chain_threads ask pass token (Ok found) put = tt
+left_in_hand represents chain_threads ask pass token (Err e) (inl is) = inr (inl is)
+left_in_hand represents chain_threads ask pass token (Err e) (inr (inl is)) = inr (inr is)
+left_in_hand represents chain_threads ask pass token (Err e) (inr (inr h)) = absurd h
 
 -- a call whose receipt is in hand
-pub called_at_once : {C : Type 0} (represents : C → Plain → Type 0) (carried : Bool) (ask : Ask) (pass : ℕ) (token : Token) (found : Option Called) (receipt : Called)
-    → found ≡ Some receipt → IsPut represents carried ask pass token (in_hand (Ok found)) → IsCalled represents carried ask pass token (Ok receipt)
-called_at_once represents carried ask pass token found receipt is put = inl (subst (λ (f : Option Called). IsPut represents carried ask pass token (in_hand (Ok f))) is put)
+pub called_at_once : {C : Type 0} (represents : C → Plain → Type 0) (chain_threads : Bool) (ask : Ask) (pass : ℕ) (token : Token) (found : Option Called) (receipt : Called)
+    → found ≡ Some receipt → IsPut represents chain_threads ask pass token (in_hand (Ok found)) → IsCalled represents chain_threads ask pass token (Ok receipt)
+called_at_once represents chain_threads ask pass token found receipt is put = inl (subst (λ (f : Option Called). IsPut represents chain_threads ask pass token (in_hand (Ok f))) is put)
 
 -- and one that waited for a letter, whatever that brought
-pub called_by_letter : {C : Type 0} (represents : C → Plain → Type 0) (carried : Bool) (ask : Ask) (pass : ℕ) (token : Token) (found : Option Called) (outcome : Result Called Refusal)
-    → found ≡ None → IsPut represents carried ask pass token (in_hand (Ok found)) → IsCalled represents carried ask pass token outcome
-called_by_letter represents carried ask pass token found outcome is put = inr (subst (λ (f : Option Called). IsPut represents carried ask pass token (in_hand (Ok f))) is put)
+pub called_by_completion : {C : Type 0} (represents : C → Plain → Type 0) (chain_threads : Bool) (ask : Ask) (pass : ℕ) (token : Token) (found : Option Called) (outcome : Result Called Refusal)
+    → found ≡ None → IsPut represents chain_threads ask pass token (in_hand (Ok found)) → IsCalled represents chain_threads ask pass token outcome
+called_by_completion represents chain_threads ask pass token found outcome is put = inr (subst (λ (f : Option Called). IsPut represents chain_threads ask pass token (in_hand (Ok f))) is put)

@@ -6,4 +6,4 @@ pub mod Names
 pub mod Owed
 pub mod Posts
 pub mod Telling
-pub mod Ways
+pub mod Routes

@@ -9,9 +9,9 @@ use Rattle.craq_model.specs.declared.ask.Event.{Event}
 use Rattle.craq_model.specs.declared.ask.Event.TheVariants as events
 use Rattle.craq_model.specs.declared.step.Step.{Step}
 use Rattle.craq_model.specs.Members.{is_member}
-use Rattle.craq_model.specs.Node.{event_turn, node_step, outs_fit, within_counts}
+use Rattle.craq_model.specs.Node.{event_transition, node_step, outs_fit, within_counts}
 use Rattle.craq_model.specs.Plain.{Plain}
-use Rattle.craq_epochs.specs.Mastered.{Mastered, joined, removed}
+use Rattle.craq_epochs.specs.Mastered.{Mastered, master_after_join, removed}
 use Rattle.craq_node.specs.Represented.{uncounted_step}
 use Rattle.craq_seat.specs.declared.journal.BookEvent.{BookEvent}
 use Rattle.craq_seat.specs.declared.journal.BookEvent.TheVariants as books
@@ -21,7 +21,7 @@ use Rattle.craq_seat.specs.Cells.{CanWant, Celled, cell_step, recorded, stamped,
 use Rattle.craq_seat.specs.Journal.{Stepping}
 use Rattle.craq_seat.specs.Kept.{IsKept}
 use Rattle.craq_seat.specs.Stamps.{largest, next_stamp}
-use Rattle.craq_seat.specs.Taken.{TakesEvent, TakesTurn}
+use Rattle.craq_seat.specs.Taken.{TakesEvent, TakesTransition}
 use Rattle.craq_workers.specs.Moves.{CanJoin, CanStop, IsKeptIn}
 
 -- the refusal of a result, or another where there is none
@@ -66,15 +66,15 @@ pub wanted : {A : Type 0} (P : Refusal → Type 0) (can : Type 0) (e : Refusal) 
 wanted P can e r m h (inl k) = subst P (sym k.0) m
 wanted P can e r m h (inr k) = h e k
 
-untold : (P : Refusal → Type 0) (r : Result Mastered Refusal) → Among P r → Among P (tells r)
-untold P (Ok m) h e is = cc
-untold P (Err d) h e is = one P d (h d refl) e is
+unreported : (P : Refusal → Type 0) (r : Result Mastered Refusal) → Among P r → Among P (tells r)
+unreported P (Ok m) h e is = cc
+unreported P (Err d) h e is = one P d (h d refl) e is
 
 -- a master takes nobody in
 pub not_joined : (m : Mastered) (id : ℕ) → Among CanJoin (book_step m (books.Join id))
-unfolding joined
+unfolding master_after_join
 not_joined m id =
-    untold CanJoin (joined m id)
+    unreported CanJoin (master_after_join m id)
     (either CanJoin ((id == 0) || is_member m.used id) _ _ (one CanJoin refusals.UsedId tt)
     (either CanJoin (nat_le member_limit (length m.members)) _ _ (one CanJoin refusals.ChainFull tt)
     (either CanJoin (m.epoch == greatest) _ _ (one CanJoin refusals.Exhausted tt) (none CanJoin _))))
@@ -83,12 +83,12 @@ not_joined m id =
 pub not_removed : (m : Mastered) (stopped : NodeName) (stop : Receipt) → Among IsKeptIn (book_step m (books.Remove stopped stop))
 unfolding removed
 not_removed m stopped stop =
-    untold IsKeptIn (removed m stopped)
+    unreported IsKeptIn (removed m stopped)
     (either IsKeptIn (not ((stopped.chain == m.chain) && is_member m.members stopped.node)) _ _ (one IsKeptIn refusals.NotMember tt)
     (either IsKeptIn (length m.members == 1) _ _ (one IsKeptIn refusals.LastNode tt)
     (either IsKeptIn (m.epoch == greatest) _ _ (one IsKeptIn refusals.Exhausted tt) (none IsKeptIn _))))
 
-uncounted : (p : Plain) → Among CanStop (within_counts (event_turn p events.Stop))
+uncounted : (p : Plain) → Among CanStop (within_counts (event_transition p events.Stop))
 uncounted p = either CanStop (outs_fit _) _ _ (none CanStop _) (one CanStop refusals.Exhausted (inr refl))
 
 -- a node does not stop
@@ -109,12 +109,12 @@ stop_refused represents now old pass r e kept h is =
     stopped_of represents now (with_inside old kept.named.0) pass r (h kept.named.0 kept.named.1) e is
 
 -- the same of a master's
-pub join_refused : (old new : Celled Mastered BookEvent) (id pass : ℕ) (r : Result Receipt Refusal) → TakesTurn old new (books.Join id) pass r → IfErr r CanJoin
+pub join_refused : (old new : Celled Mastered BookEvent) (id pass : ℕ) (r : Result Receipt Refusal) → TakesTransition old new (books.Join id) pass r → IfErr r CanJoin
 join_refused old new id pass (Ok receipt) h = tt
 join_refused old new id pass (Err e) h =
     wanted CanJoin (CanWant old 0 pass (IsOk (book_step old.inside (books.Join id)))) e (cell_step book_step old (books.Join id) 0 pass) tt (unstepped CanJoin book_step old (books.Join id) 0 pass tt (not_joined old.inside id)) h.0
 
-pub removal_refused : (old new : Celled Mastered BookEvent) (stopped : NodeName) (stop : Receipt) (pass : ℕ) (r : Result Receipt Refusal) → TakesTurn old new (books.Remove stopped stop) pass r → IfErr r IsKeptIn
+pub removal_refused : (old new : Celled Mastered BookEvent) (stopped : NodeName) (stop : Receipt) (pass : ℕ) (r : Result Receipt Refusal) → TakesTransition old new (books.Remove stopped stop) pass r → IfErr r IsKeptIn
 removal_refused old new stopped stop pass (Ok receipt) h = tt
 removal_refused old new stopped stop pass (Err e) h =
     let event : BookEvent = books.Remove stopped stop in

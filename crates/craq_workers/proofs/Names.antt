@@ -8,7 +8,7 @@ use Rattle.craq_names.specs.declared.refusal.Refusal.{Refusal}
 use Rattle.craq_names.specs.declared.refusal.Refusal.TheVariants.{UnknownChain}
 use Rattle.craq_place.specs.Place.{chain_at}
 use Rattle.craq_place.specs.Plan.{Chain}
-use Rattle.craq_epochs.specs.Mastered.{Mastered, opened}
+use Rattle.craq_epochs.specs.Mastered.{Mastered, opened_master}
 use Rattle.craq_workers.specs.Stores.{masters_of}
 
 -- the names of chains of a plan
@@ -26,8 +26,8 @@ begins p id x e =
     drop_more p id x (slice_get_within p id x at) ∙ ap (λ (y : Chain). y ∷ drop (id + 1) p) (get_or_from_slice_get p id x x at)
 
 -- what is told of chains, of one more
-pub told_more : {A B : Type 0} (old new : List A) (c : A) (f : A → B) (rest all : List B) → new ≡ old ++ c ∷ [] → map f old ++ f c ∷ rest ≡ all → map f new ++ rest ≡ all
-told_more {A} {B} old new c f rest all same h =
+pub reported_more : {A B : Type 0} (old new : List A) (c : A) (f : A → B) (rest all : List B) → new ≡ old ++ c ∷ [] → map f old ++ f c ∷ rest ≡ all → map f new ++ rest ≡ all
+reported_more {A} {B} old new c f rest all same h =
     ap (λ (z : List A). map f z ++ rest) same ∙ ap (λ (z : List B). z ++ rest) (map-append f old (c ∷ [])) ∙ append_assoc (map f old) (f c ∷ []) rest ∙ h
 
 -- one chain more
@@ -35,14 +35,14 @@ pub next_named : {A : Type 0} (old new : List A) (c : A) (f : A → List ℕ) (p
     → map f old ++ names (drop id p) ≡ names p → chain_at p id ≡ Ok x → f c ≡ x.0 → new ≡ old ++ c ∷ [] → map f new ++ names (drop (id + 1) p) ≡ names p
 next_named old new c f p id x h e named same =
     let rest = names (drop (id + 1) p) in
-    told_more old new c f rest (names p) same
+    reported_more old new c f rest (names p) same
     (ap (λ (z : List ℕ). map f old ++ (z ∷ rest)) named ∙ ap (λ (z : List Chain). map f old ++ names z) (sym (begins p id x e)) ∙ h)
 
 pub next_mastered : {A : Type 0} (old new : List A) (c : A) (f : A → Mastered) (p : List Chain) (id : ℕ) (x : Chain)
-    → map f old ++ masters_of id (drop id p) ≡ masters_of 0 p → chain_at p id ≡ Ok x → f c ≡ opened id x.1 → new ≡ old ++ c ∷ [] → map f new ++ masters_of (id + 1) (drop (id + 1) p) ≡ masters_of 0 p
+    → map f old ++ masters_of id (drop id p) ≡ masters_of 0 p → chain_at p id ≡ Ok x → f c ≡ opened_master id x.1 → new ≡ old ++ c ∷ [] → map f new ++ masters_of (id + 1) (drop (id + 1) p) ≡ masters_of 0 p
 next_mastered old new c f p id x h e mastered same =
     let rest = masters_of (id + 1) (drop (id + 1) p) in
-    told_more old new c f rest (masters_of 0 p) same
+    reported_more old new c f rest (masters_of 0 p) same
     (ap (λ (z : Mastered). map f old ++ (z ∷ rest)) mastered ∙ ap (λ (z : List Chain). map f old ++ masters_of id z) (sym (begins p id x e)) ∙ h)
 
 -- no chain more

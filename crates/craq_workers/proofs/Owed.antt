@@ -13,7 +13,7 @@ use Rattle.craq_sending.specs.declared.sending.Kind.{Kind}
 use Rattle.craq_sending.specs.declared.sending.Kind.TheVariants as kinds
 use Rattle.craq_sending.specs.declared.sending.Sent.{Sent}
 use Rattle.craq_sending.specs.Sent.{AreSentAs, OnlySends, Sends}
-use Rattle.craq_workers.specs.Turns.{OwesStill}
+use Rattle.craq_workers.specs.Batches.{OwesStill}
 
 as_none : (sent : List Sent) → AreSentAs sent [] → sent ≡ []
 as_none [] is = refl

@@ -7,7 +7,7 @@ use Rattle.std.specs.declared.alloc.AllocError.{AllocError}
 use Rattle.std.specs.declared.alloc.Global.{Global}
 use Rattle.craq_names.specs.declared.refusal.Refusal.{Refusal}
 use Rattle.craq_names.specs.declared.refusal.Refusal.TheVariants as refusals
-use Rattle.craq_letters.specs.declared.token.Token.{Token}
+use Rattle.craq_completions.specs.declared.token.Token.{Token}
 use Rattle.craq_model.specs.declared.ask.Event.{Event}
 use Rattle.craq_model.specs.declared.step.Step.{Step}
 use Rattle.craq_model.specs.Plain.{Plain}
@@ -16,7 +16,7 @@ use Rattle.craq_seat.specs.Cells.{receipt_of}
 use Rattle.craq_seat.specs.declared.journal.Receipt.{Receipt}
 use Rattle.craq_seat.specs.declared.seat.Seated.{Seated}
 use Rattle.craq_seat.specs.declared.seat.Caller.{Caller}
-use Rattle.craq_workers.specs.Told.{AreSomeOf, HasInHand, IsReplyTo, Keeps, Kept, Reply, caller_under, is_own, others_of, own_receipt, replies_to, reply_to, said_by, said_to, Steps, TellsCallers, Waits, waiting_after, without_caller}
+use Rattle.craq_workers.specs.Replies.{AreSomeOf, HasInHand, IsReplyTo, Keeps, PendingReplies, Reply, caller_under, is_own, others_of, own_receipt, replies_to, reply_to, said_by, said_to, Steps, TellsCallers, Waits, waiting_after, without_caller}
 
 abbrev pub Outcomes : Type 0
 Outcomes = List (ℕ × Result Called Refusal)
@@ -30,20 +30,20 @@ found_under (d ∷ ds) ticket c is = grind (arith, found_under ds ticket c)
 pub to_found : (callers : List (Caller Token)) (ticket : ℕ) (c : Caller Token) (o : Result Called Refusal) → Some c ≡ caller_under callers ticket → IsReplyTo (Some ticket) o → IsReplyTo (Some c.ticket) o
 to_found callers ticket c o is may = subst (λ (n : ℕ). IsReplyTo (Some n) o) (sym (found_under callers ticket c is)) may
 
-pub keeps_none : (old : Kept) → Keeps old [] old
+pub keeps_none : (old : PendingReplies) → Keeps old [] old
 keeps_none old = ([], sym (append-nil old.replies), tt, λ room. (room, refl), λ all. refl)
 
 none_all : (t : Reply) → [] ≡ t ∷ [] → ⊥
 none_all t is = cc
 
 -- a reply is kept, or given back and so told at once
-pub kept_or_told : (old new : Kept) (t : Reply) (left : Option Reply) → (left ≡ None → (new.replies ≡ old.replies ++ t ∷ []) × (new.short ≡ old.short)) → IfSome left (λ (u : Reply). (new.replies ≡ old.replies) × (new.short ≡ true)) → Keeps old (t ∷ []) new
-kept_or_told old new t None kept back = (t ∷ [], (kept refl).0, inl (refl, tt), λ room. (sym (kept refl).1 ∙ room, refl), λ all. (kept refl).1)
-kept_or_told old new t (Some u) kept back = ([], back.0 ∙ sym (append-nil old.replies), tt, λ room. absurd (true≢false (sym back.1 ∙ room)), λ all. absurd (none_all t all))
+pub kept_or_reported : (old new : PendingReplies) (t : Reply) (left : Option Reply) → (left ≡ None → (new.replies ≡ old.replies ++ t ∷ []) × (new.short ≡ old.short)) → IfSome left (λ (u : Reply). (new.replies ≡ old.replies) × (new.short ≡ true)) → Keeps old (t ∷ []) new
+kept_or_reported old new t None kept back = (t ∷ [], (kept refl).0, inl (refl, tt), λ room. (sym (kept refl).1 ∙ room, refl), λ all. (kept refl).1)
+kept_or_reported old new t (Some u) kept back = ([], back.0 ∙ sym (append-nil old.replies), tt, λ room. absurd (true≢false (sym back.1 ∙ room)), λ all. absurd (none_all t all))
 
 -- nobody is told where nobody is found
-pub none_told : (old : Kept) (found : Option (Caller Token)) (o : Result Called Refusal) → None ≡ found → Keeps old (reply_to found o) old
-none_told old found o is = subst (λ (f : Option (Caller Token)). Keeps old (reply_to f o) old) is (keeps_none old)
+pub none_reported : (old : PendingReplies) (found : Option (Caller Token)) (o : Result Called Refusal) → None ≡ found → Keeps old (reply_to found o) old
+none_reported old found o is = subst (λ (f : Option (Caller Token)). Keeps old (reply_to f o) old) is (keeps_none old)
 
 some_behind : (xs before all : List Reply) → AreSomeOf xs all → AreSomeOf xs (before ++ all)
 some_behind xs [] all h = h
@@ -77,7 +77,7 @@ both_all xs ys all more some others is =
     let first : length xs ≡ length all = omega (arith, sizes, some_fewer xs all some, some_fewer ys more others) in
     let rest : length ys ≡ length more = omega (arith, sizes, first) in (all_of xs all some first, all_of ys more others rest)
 
-pub keeps_both : (old : Kept) (first more : List Reply) (mid new : Kept) → Keeps old first mid → Keeps mid more new → Keeps old (first ++ more) new
+pub keeps_both : (old : PendingReplies) (first more : List Reply) (mid new : PendingReplies) → Keeps old first mid → Keeps mid more new → Keeps old (first ++ more) new
 keeps_both old first more mid new (xs, is, some, all, full) (ys, so, others, rest, filled) = (
   xs ++ ys,
   so ∙ ap (λ (r : List Reply). r ++ ys) is ∙ append_assoc old.replies xs ys,
@@ -87,15 +87,15 @@ keeps_both old first more mid new (xs, is, some, all, full) (ys, so, others, res
 )
 
 -- these outcomes are left of all: the replies so far and those to come are all replies, and the callers that will wait are the same
-abbrev pub Left : List (Caller Token) → List (Caller Token) → Kept → Kept → Outcomes → Outcomes → Type 0
+abbrev pub Left : List (Caller Token) → List (Caller Token) → PendingReplies → PendingReplies → Outcomes → Outcomes → Type 0
 Left first now before after all rest =
     (done : List Reply) × (done ++ replies_to now rest ≡ replies_to first all) × Keeps before done after × (waiting_after now rest ≡ waiting_after first all)
 
-pub left_first : (callers : List (Caller Token)) (replies : Kept) (all : Outcomes) → Left callers callers replies replies all all
+pub left_first : (callers : List (Caller Token)) (replies : PendingReplies) (all : Outcomes) → Left callers callers replies replies all all
 left_first callers replies all = ([], refl, keeps_none replies, refl)
 
 -- one goes to the caller under its ticket
-pub left_next : (first now new : List (Caller Token)) (before mid after : Kept) (all rest : Outcomes) (ticket : ℕ) (o : Result Called Refusal)
+pub left_next : (first now new : List (Caller Token)) (before mid after : PendingReplies) (all rest : Outcomes) (ticket : ℕ) (o : Result Called Refusal)
     → Left first now before mid all ((ticket, o) ∷ rest) → new ≡ without_caller now ticket → Keeps mid (reply_to (caller_under now ticket) o) after → Left first new before after all rest
 left_next first now new before mid after all rest ticket o (done, replied, kept, waits) goes more =
     let one = reply_to (caller_under now ticket) o in (
@@ -105,10 +105,10 @@ left_next first now new before mid after all rest ticket o (done, replied, kept,
       ap (λ (cs : List (Caller Token)). waiting_after cs rest) goes ∙ waits,
     )
 
-pub left_told : (first now : List (Caller Token)) (before after : Kept) (all : Outcomes) → Left first now before after all [] → Keeps before (replies_to first all) after
-left_told first now before after all (done, replied, kept, waits) = subst (λ (rs : List Reply). Keeps before rs after) (sym (append-nil done) ∙ replied) kept
+pub left_reported : (first now : List (Caller Token)) (before after : PendingReplies) (all : Outcomes) → Left first now before after all [] → Keeps before (replies_to first all) after
+left_reported first now before after all (done, replied, kept, waits) = subst (λ (rs : List Reply). Keeps before rs after) (sym (append-nil done) ∙ replied) kept
 
-pub left_waits : (first now : List (Caller Token)) (before after : Kept) (all : Outcomes) → Left first now before after all [] → now ≡ waiting_after first all
+pub left_waits : (first now : List (Caller Token)) (before after : PendingReplies) (all : Outcomes) → Left first now before after all [] → now ≡ waiting_after first all
 left_waits first now before after all (done, replied, kept, waits) = waits
 
 -- the own receipt is the last one of these, if any is, else the one before them
@@ -161,9 +161,9 @@ says_own ticket (Ok receipts) = may_be ticket (own_receipt ticket receipts.items
 says_own ticket (Err e) = tt
 
 -- nobody is told in between
-pub left_same : (first now new : List (Caller Token)) (before mid after : Kept) (all rest : Outcomes) → new ≡ now → after ≡ mid → Left first now before mid all rest → Left first new before after all rest
+pub left_same : (first now new : List (Caller Token)) (before mid after : PendingReplies) (all rest : Outcomes) → new ≡ now → after ≡ mid → Left first now before mid all rest → Left first new before after all rest
 left_same first now new before mid after all rest callers replies left =
-    subst (λ (cs : List (Caller Token)). Left first cs before after all rest) (sym callers) (subst (λ (rs : Kept). Left first now before rs all rest) (sym replies) left)
+    subst (λ (cs : List (Caller Token)). Left first cs before after all rest) (sym callers) (subst (λ (rs : PendingReplies). Left first now before rs all rest) (sym replies) left)
 
 -- a desk whose cell took a step did so under its receipt, with the pass that was shown
 stepped : {C : Type 0} (represents : C → Plain → Type 0) (old took new : Desked C) (event : Event) (receipt : Receipt) (shown pass : ℕ)
@@ -178,13 +178,13 @@ pub refused : {C : Type 0} (represents : C → Plain → Type 0) (old new : Desk
 refused represents old new event shown pass e alike step = subst (λ (p : ℕ). Steps represents old new event p (Err e)) alike step
 
 -- so the callers of a step were told
-pub told_callers : {C : Type 0} (represents : C → Plain → Type 0) (old : Seated C Token) (took new : Desked C) (callers : List (Caller Token)) (event : Event) (receipt : Receipt) (shown pass : ℕ) (ticket : Option ℕ) (calls : Result (Vec Called Global) AllocError) (before after : Kept)
+pub reported_callers : {C : Type 0} (represents : C → Plain → Type 0) (old : Seated C Token) (took new : Desked C) (callers : List (Caller Token)) (event : Event) (receipt : Receipt) (shown pass : ℕ) (ticket : Option ℕ) (calls : Result (Vec Called Global) AllocError) (before after : PendingReplies)
     → new ≡ took → receipt ≡ receipt_of took.cell → shown ≡ pass → Steps represents old.desk took event shown (Ok receipt)
     → IfSome took.cell.last (λ (step : Step). CallsOf old.desk.waiting took.waiting event receipt shown step calls)
     → callers ≡ waiting_after old.callers.items (said_by calls took.cell.last ticket)
     → Keeps before (replies_to old.callers.items (said_by calls took.cell.last ticket)) after
     → TellsCallers represents old new callers event pass ticket calls before after
-told_callers {C} represents old took new callers event receipt shown pass ticket calls before after same is alike step served waits kept =
+reported_callers {C} represents old took new callers event receipt shown pass ticket calls before after same is alike step served waits kept =
     let by_receipt = subst (λ (r : Receipt). IfSome took.cell.last (λ (step : Step). CallsOf old.desk.waiting took.waiting event r shown step calls)) is served in
     let by_pass = subst (λ (p : ℕ). IfSome took.cell.last (λ (step : Step). CallsOf old.desk.waiting took.waiting event (receipt_of took.cell) p step calls)) alike by_receipt in
     subst (λ (d : Desked C). TellsCallers represents old d callers event pass ticket calls before after) (sym same)
@@ -197,17 +197,17 @@ says_it own ticket calls reply same says =
     (subst (λ (r : Option (Result Called Refusal)). IfSome r (λ (o : Result Called Refusal). IsReplyTo own o)) (sym says) (says_own own calls))
 
 -- what there is to tell is in hand
-pub in_hand : (token : Token) (ticket : Option ℕ) (said : Option (Result Called Refusal)) (o : Result Called Refusal) (callers : List (Caller Token)) (replies : Kept) → said ≡ Some o → HasInHand token ticket said (Some o) callers callers replies replies
+pub in_hand : (token : Token) (ticket : Option ℕ) (said : Option (Result Called Refusal)) (o : Result Called Refusal) (callers : List (Caller Token)) (replies : PendingReplies) → said ≡ Some o → HasInHand token ticket said (Some o) callers callers replies replies
 in_hand token ticket said o callers replies is =
     subst (λ (r : Option (Result Called Refusal)). HasInHand token ticket r (Some o) callers callers replies replies) (sym is) (refl, refl, refl)
 
-expects_now : (token : Token) (ticket : Option ℕ) (hand : Option (Result Called Refusal)) (old new : List (Caller Token)) (before after : Kept)
+expects_now : (token : Token) (ticket : Option ℕ) (hand : Option (Result Called Refusal)) (old new : List (Caller Token)) (before after : PendingReplies)
     → (hand ≡ None → Waits token ticket old new before after) → IfSome hand (λ (o : Result Called Refusal). (o ≡ Err refusals.Memory) × (new ≡ old) × (after ≡ before)) → HasInHand token ticket None hand old new before after
-expects_now token ticket None old new before after waits told = waits refl
-expects_now token ticket (Some o) old new before after waits told = told
+expects_now token ticket None old new before after waits reported = waits refl
+expects_now token ticket (Some o) old new before after waits reported = reported
 
 -- where there is nothing to tell, the caller waits, or has in hand that there is no room
-pub expects : (token : Token) (ticket : Option ℕ) (said hand : Option (Result Called Refusal)) (old new : List (Caller Token)) (before after : Kept)
+pub expects : (token : Token) (ticket : Option ℕ) (said hand : Option (Result Called Refusal)) (old new : List (Caller Token)) (before after : PendingReplies)
     → said ≡ None → (hand ≡ None → Waits token ticket old new before after) → IfSome hand (λ (o : Result Called Refusal). (o ≡ Err refusals.Memory) × (new ≡ old) × (after ≡ before)) → HasInHand token ticket said hand old new before after
-expects token ticket said hand old new before after is waits told =
-    subst (λ (r : Option (Result Called Refusal)). HasInHand token ticket r hand old new before after) (sym is) (expects_now token ticket hand old new before after waits told)
+expects token ticket said hand old new before after is waits reported =
+    subst (λ (r : Option (Result Called Refusal)). HasInHand token ticket r hand old new before after) (sym is) (expects_now token ticket hand old new before after waits reported)

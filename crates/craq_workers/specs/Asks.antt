@@ -1,35 +1,35 @@
 -- What comes of an ask that is put to a node of a running store.
 use Rattle.std.specs.Prelude.{◌≡◌, ◌⊎◌, ℕ, Bool, false, [], Option, Some, None, Result, Ok, Err}
-use Rattle.craq_calls.specs.Refused.{IsUpdate}
-use Rattle.craq_letters.specs.declared.token.Token.{Token}
+use Rattle.craq_pending_calls.specs.Refused.{IsUpdate}
+use Rattle.craq_completions.specs.declared.token.Token.{Token}
 use Rattle.craq_model.specs.declared.ask.Ask.{Ask}
 use Rattle.craq_model.specs.Plain.{Plain}
 use Rattle.craq_names.specs.declared.refusal.Refusal.{Refusal}
 use Rattle.craq_seat.specs.Calls.{Called}
 use Rattle.craq_seat.specs.declared.seat.Seated.{Seated}
 use Rattle.craq_workers.specs.Moves.{IsMissed}
-use Rattle.craq_workers.specs.Told.{ClosesOwn, Kept, RefusesOwn, TakesOwn}
+use Rattle.craq_workers.specs.Replies.{ClosesOwn, PendingReplies, RefusesOwn, TakesOwn}
 
 -- a turn has nothing to tell yet
-abbrev pub no_replies : Kept
+abbrev pub no_replies : PendingReplies
 no_replies = record { replies = []; short = false }
 
 -- a node at hand took the step of the ask, or refused it, or it is closed; and this is in hand, or a letter will come
 abbrev pub IsServed : {C : Type 0} → (C → Plain → Type 0) → Ask → ℕ → Token → Option (Result Called Refusal) → Type 0
 IsServed {C} represents ask pass token hand =
-    (old : Seated C Token) × (new : Seated C Token) × (after : Kept)
+    (old : Seated C Token) × (new : Seated C Token) × (after : PendingReplies)
     × (TakesOwn represents old new ask pass token hand no_replies after ⊎ RefusesOwn represents old new ask pass hand no_replies after ⊎ ClosesOwn old new hand no_replies after)
 
 -- no node was asked, since there was none to ask, or no memory
-abbrev pub IsTurnedAway : Option (Result Called Refusal) → Type 0
-IsTurnedAway None = ⊥
-IsTurnedAway (Some (Ok receipt)) = ⊥
-IsTurnedAway (Some (Err e)) = IsMissed e
+abbrev pub IsRejected : Option (Result Called Refusal) → Type 0
+IsRejected None = ⊥
+IsRejected (Some (Ok receipt)) = ⊥
+IsRejected (Some (Err e)) = IsMissed e
 
 -- the ask waits in its node's queue, as those of updates do, or, where each node has threads of its own, those of reads too
 abbrev pub IsQueued : Bool → Ask → Option (Result Called Refusal) → Type 0
-IsQueued carried ask None = (carried ≡ false) ⊎ IsUpdate ask
-IsQueued carried ask (Some outcome) = ⊥
+IsQueued chain_threads ask None = (chain_threads ≡ false) ⊎ IsUpdate ask
+IsQueued chain_threads ask (Some outcome) = ⊥
 
 -- what who asked has in hand: a receipt, a refusal, or nothing, where a letter will come
 abbrev pub in_hand : Result (Option Called) Refusal → Option (Result Called Refusal)
@@ -39,8 +39,8 @@ in_hand (Err e) = Some (Err e)
 
 -- an ask was served by a node on the spot, or turned away, or queued
 abbrev pub IsPut : {C : Type 0} → (C → Plain → Type 0) → Bool → Ask → ℕ → Token → Option (Result Called Refusal) → Type 0
-IsPut represents carried ask pass token hand = IsServed represents ask pass token hand ⊎ IsTurnedAway hand ⊎ IsQueued carried ask hand
+IsPut represents chain_threads ask pass token hand = IsServed represents ask pass token hand ⊎ IsRejected hand ⊎ IsQueued chain_threads ask hand
 
 -- a call has its outcome in hand, or by a letter for which it waited
 abbrev pub IsCalled : {C : Type 0} → (C → Plain → Type 0) → Bool → Ask → ℕ → Token → Result Called Refusal → Type 0
-IsCalled represents carried ask pass token outcome = IsPut represents carried ask pass token (Some outcome) ⊎ IsPut represents carried ask pass token None
+IsCalled represents chain_threads ask pass token outcome = IsPut represents chain_threads ask pass token (Some outcome) ⊎ IsPut represents chain_threads ask pass token None

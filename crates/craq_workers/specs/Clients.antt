@@ -3,15 +3,15 @@ use Rattle.std.specs.Prelude.{◌≡◌, ◌<◌, ◌≤◌, ◌⊎◌, ℕ, Boo
 use Rattle.craq_names.specs.declared.name.NodeName.{NodeName}
 use Rattle.craq_names.specs.declared.refusal.Refusal.{Refusal}
 use Rattle.craq_names.specs.declared.refusal.Refusal.TheVariants.{UnknownChain}
-use Rattle.craq_calls.specs.Refused.{CanRefuse}
-use Rattle.craq_letters.specs.declared.token.Token.{Token}
+use Rattle.craq_pending_calls.specs.Refused.{CanRefuse}
+use Rattle.craq_completions.specs.declared.token.Token.{Token}
 use Rattle.craq_model.specs.declared.ask.Ask.{Ask}
 
 -- how many chains the client's store has, by ids from 0, and whether one thread carries each; and the largest stamp that the client
 -- has seen
 pub record Asker : Type 0 where
   pub chains : ℕ
-  pub carried : Bool
+  pub chain_threads : Bool
   pub pass : ℕ
 
 -- the token of the one letter that comes into a client's box

@@ -3,6 +3,6 @@ pub mod Clients
 pub mod Moves
 pub mod Posts
 pub mod Stores
-pub mod Told
-pub mod Turns
-pub mod Ways
+pub mod Replies
+pub mod Batches
+pub mod Routes

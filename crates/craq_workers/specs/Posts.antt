@@ -12,13 +12,13 @@ use Rattle.craq_workers.specs.declared.work.Worker.TheVariants as workers
 pub data Post : Type 0 where
   Asks : (node : NodeName) → Post
   Links : (node : NodeName) → Post
-  Carrier : (chain : ℕ) → Post
+  ChainThread : (chain : ℕ) → Post
   Master : (chain : ℕ) → Post
 
 abbrev pub post_of : {C : Type 0} → Worker C → Post
 post_of (workers.Asks node) = Asks node.value.name
 post_of (workers.Links node) = Links node.value.name
-post_of (workers.Carrier chain) = Carrier chain
+post_of (workers.ChainThread chain) = ChainThread chain
 post_of (workers.Master chain ticks) = Master chain
 
 -- one worker for each chain
@@ -38,7 +38,7 @@ node_posts staffs.OnePerChain (Some name) = []
 abbrev pub member_posts : Staff → ℕ → List ℕ → List Post
 member_posts staffs.TwoPerNode chain members = flat_map (λ (n : ℕ). node_posts staffs.TwoPerNode (Some (record { chain = chain; node = n }))) members
 member_posts staffs.OnePerNode chain members = flat_map (λ (n : ℕ). node_posts staffs.OnePerNode (Some (record { chain = chain; node = n }))) members
-member_posts staffs.OnePerChain chain members = Carrier chain ∷ []
+member_posts staffs.OnePerChain chain members = ChainThread chain ∷ []
 
 -- those of a plan's chains, with ids from this one on: of each its members' and then its master's
 abbrev pub chain_posts : Staff → ℕ → List Chain → List Post

@@ -3,19 +3,19 @@ use Rattle.std.specs.Prelude.{◌≡◌, ◌<◌, ◌≤◌, ◌⊎◌, ◌+◌,
 use Rattle.craq_names.specs.declared.refusal.Refusal.{Refusal}
 use Rattle.craq_names.specs.declared.refusal.Refusal.TheVariants as refusals
 use Rattle.craq_model.specs.Plain.{Plain}
-use Rattle.craq_epochs.specs.Mastered.{Mastered, opened}
+use Rattle.craq_epochs.specs.Mastered.{Mastered, opened_master}
 use Rattle.craq_place.specs.Plan.{Chain}
 use Rattle.craq_audit.specs.declared.finding.Audit.{Audit}
 use Rattle.craq_seat.specs.declared.journal.BookEvent.{BookEvent}
 use Rattle.craq_seat.specs.Books.{IsBook, first_master}
 use Rattle.craq_seat.specs.Calls.{Called}
 use Rattle.craq_seat.specs.Cells.{Celled}
-use Rattle.craq_held.specs.Held.{Confirms}
+use Rattle.craq_locked_chain.specs.Held.{Confirms}
 
 -- the chains of a plan as their masters are opened, with ids from this one on
 abbrev pub masters_of : ℕ → List Chain → List Mastered
 masters_of id [] = []
-masters_of id (chain ∷ chains) = opened id chain.1 ∷ masters_of (id + 1) chains
+masters_of id (chain ∷ chains) = opened_master id chain.1 ∷ masters_of (id + 1) chains
 
 -- the names of a store's chains and their masters as they were opened, by id, and whether its cells keep journals
 pub record Stored : Type 0 where
@@ -47,6 +47,6 @@ IsRefused represents store chain receipts refusals.Memory = HasJournals store ch
 IsRefused represents store chain receipts e = ⊥
 
 -- what a store answers that is asked for the audit of a chain
-abbrev pub Answers : {C : Type 0} → (C → Plain → Type 0) → Stored → ℕ → List Called → Result Audit Refusal → Type 0
-Answers represents store chain receipts (Ok audit) = HasJournals store chain × Confirms represents (IsMasterOf store chain) receipts (Ok audit)
-Answers represents store chain receipts (Err e) = IsRefused represents store chain receipts e
+abbrev pub AuditAnswers : {C : Type 0} → (C → Plain → Type 0) → Stored → ℕ → List Called → Result Audit Refusal → Type 0
+AuditAnswers represents store chain receipts (Ok audit) = HasJournals store chain × Confirms represents (IsMasterOf store chain) receipts (Ok audit)
+AuditAnswers represents store chain receipts (Err e) = IsRefused represents store chain receipts e

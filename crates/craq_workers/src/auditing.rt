@@ -1,15 +1,15 @@
 //! `Store::audit`: audits a chain of a running store while all its nodes are locked; for a caller
 //! that has receipts.
 ghost use Rattle.std.specs.Prelude.{◌≡◌, IfOk, length};
-ghost use Rattle.craq_workers.specs.Stores.{Answers};
+ghost use Rattle.craq_workers.specs.Stores.{AuditAnswers};
 
 use crate::gate::Gate;
 use crate::node::RunningNode;
 use crate::steps::SeatedNode;
 use crate::store::Store;
 use craq_audit::Audit;
-use craq_held::HeldChain;
-use craq_letters::Addressee;
+use craq_completions::CompletionSender;
+use craq_locked_chain::LockedChain;
 use craq_names::{ChainId, Refusal};
 use craq_node::Core;
 use craq_seat::{BookCell, CallReceipt};
@@ -38,29 +38,29 @@ fn lock_chain<'b, 's, R: Wait, C: Core>(
     alloc: Global,
     book: &'b BookCell,
     nodes: &'s [Arc<RunningNode<C>>],
-) -> Result<HeldChain<'b, 's, C, Addressee>, AllocError>
+) -> Result<LockedChain<'b, 's, C, CompletionSender>, AllocError>
     ensures book { IfOk result (λ held. held.book ≡ book.now) }
     ensures cells { IfOk result (λ held. length held.cells ≡ length nodes.now) }
 {
     let seats = lock_all(rt, alloc, nodes)?;
-    HeldChain::new(alloc, book, seats)
+    LockedChain::new(alloc, book, seats)
 }
 
 impl<C: Core + Send + 'static, G: Gate + Send + Sync + 'static> Store<C, G> {
     /// Audits a chain: merges the journals of its cells, and looks for the calls of these receipts
-    /// in them (`HeldChain::audit`). Its master and all nodes that it ever had are locked
+    /// in them (`LockedChain::audit`). Its master and all nodes that it ever had are locked
     /// meanwhile. Changes nothing.
     ///
     /// Refused for the first of these that applies: `UnknownChain`; `JournalOff` if the store keeps
     /// no journals; `WrongNode` if the lock holds the master of another chain; `Memory` if there is
-    /// no room for the list of the nodes; then as `HeldChain::audit` refuses.
+    /// no room for the list of the nodes; then as `LockedChain::audit` refuses.
     pub fn audit<R: Wait>(
         &self,
         rt: &R,
         chain: ChainId,
         receipts: &[CallReceipt],
     ) -> Result<Audit, Refusal>
-        ensures { Answers C.represents self.now chain receipts.now result }
+        ensures { AuditAnswers C.represents self.now chain receipts.now result }
     {
         let place = self.shared.chain(chain)?;
         if !self.has_journals() {

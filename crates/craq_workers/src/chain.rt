@@ -3,17 +3,17 @@
 ghost use Rattle.std.specs.Prelude.{◌≡◌, ◌==◌, ◌⊎◌, ◌↔◌, Err, IfErr, IfOk, IsNone, IsTrue, MatchResult, None, Some, map};
 ghost use Rattle.std.specs.List.{filter_map, find};
 ghost use Rattle.std.specs.Option.{option_map};
-ghost use Rattle.craq_epochs.specs.Mastered.{opened};
+ghost use Rattle.craq_epochs.specs.Mastered.{opened_master};
 ghost use Rattle.craq_seat.specs.Books.{first_master, members_of};
 ghost use Rattle.craq_workers.specs.Moves.{IsMissed};
-ghost use Rattle.craq_workers.specs.Ways.{retired, shut};
+ghost use Rattle.craq_workers.specs.Routes.{retired, shut};
 
-use crate::bell::Bell;
-use crate::node::{Brought, Entrances, RunningNode, Waiting, Way};
+use crate::callers::WaitingCaller;
+use crate::node::{Delivery, Entrances, Route, RunningNode, Waiting};
 use crate::replies::Replies;
 use crate::steps::{QueuedAsk, dismiss};
-use crate::told::Unanswered;
-use craq_held::ChainBook;
+use crate::wake_up::WakeUp;
+use craq_locked_chain::ChainBook;
 use craq_model::Config;
 use craq_names::{ChainId, NodeId, Refusal, are_same};
 use craq_node::Core;
@@ -25,8 +25,8 @@ use std::sync::{Arc, Mutex, RwLock, Wait};
 
 /// The routing table of a chain: the entries of its nodes, and the parts of an open store.
 #[derive(Drop)]
-pub(crate) struct Ways<C: Core> {
-    pub nodes: Vec<Way<C>>,
+pub(crate) struct RoutingTable<C: Core> {
+    pub nodes: Vec<Route<C>>,
     /// `None` once the store is closed.
     pub open: Option<Open>,
 }
@@ -47,11 +47,11 @@ pub(crate) struct Chain<C: Core> {
     pub id: ChainId,
     pub first: Config,
     pub book: Mutex<ChainBook>,
-    pub ways: RwLock<Ways<C>>,
-    pub bell: Bell,
+    pub routes: RwLock<RoutingTable<C>>,
+    pub wake_up: WakeUp,
 }
 
-impl<C: Core> Ways<C> {
+impl<C: Core> RoutingTable<C> {
     /// Returns the parts of an open store, or `Closed` if the store is closed.
     pub(crate) fn open(&self) -> Result<&Open, Refusal>
         ensures { MatchResult result (λ o. self.now.open ≡ Some o.now) (λ e. (e ≡ Refusal.Closed) × IsNone self.now.open) }
@@ -64,11 +64,11 @@ impl<C: Core> Ways<C> {
 
     /// Returns all nodes that the chain has. Fails only when out of memory.
     fn all(&self, alloc: Global) -> Result<Vec<Arc<RunningNode<C>>>, AllocError>
-        ensures { IfOk result (λ nodes. map (λ n. n.value) nodes.items ≡ filter_map (λ way. option_map (λ n. n.value) way.node) self.now.nodes.items) }
+        ensures { IfOk result (λ nodes. map (λ n. n.value) nodes.items ≡ filter_map (λ route. option_map (λ n. n.value) route.node) self.now.nodes.items) }
     {
         let mut nodes = Vec::new(alloc);
-        for way in self.nodes.as_slice() {
-            if let Some(node) = &way.node {
+        for route in self.nodes.as_slice() {
+            if let Some(node) = &route.node {
                 nodes.push(Arc::try_clone(node)?)?;
             }
         }
@@ -76,13 +76,13 @@ impl<C: Core> Ways<C> {
     }
 
     /// Returns the entry of the node of this id, or `WrongNode` if the chain never had it.
-    pub(crate) fn to(&self, id: NodeId) -> Result<&Way<C>, Refusal>
-        ensures found { IfOk result (λ way. find (λ w. w.name.node == id) self.now.nodes.items ≡ Some way.now) }
+    pub(crate) fn to(&self, id: NodeId) -> Result<&Route<C>, Refusal>
+        ensures found { IfOk result (λ route. find (λ w. w.name.node == id) self.now.nodes.items ≡ Some route.now) }
         ensures err { IfErr result (λ e. (e ≡ Refusal.WrongNode) × (find (λ w. w.name.node == id) self.now.nodes.items ≡ None)) }
     {
-        for way in self.nodes.as_slice() {
-            if way.name.node == id {
-                return Ok(way);
+        for route in self.nodes.as_slice() {
+            if route.name.node == id {
+                return Ok(route);
             }
         }
         Err(Refusal::WrongNode)
@@ -94,8 +94,8 @@ impl<C: Core> Ways<C> {
         ensures nodes { self.new.nodes.items ≡ map (retired id keep) self.old.nodes.items }
         ensures open { self.new.open ≡ self.old.open }
     {
-        for way in self.nodes.iter_mut() {
-            way.retire(id, keep);
+        for route in self.nodes.iter_mut() {
+            route.retire(id, keep);
         }
     }
 
@@ -105,16 +105,16 @@ impl<C: Core> Ways<C> {
         ensures open { IsNone self.new.open }
     {
         self.open = None;
-        for way in self.nodes.iter_mut() {
-            way.entrances = None;
+        for route in self.nodes.iter_mut() {
+            route.entrances = None;
         }
     }
 }
 
-impl<C: Core> Way<C> {
+impl<C: Core> Route<C> {
     /// Brings something to the node, unless the node was removed, or one waits already that stands
     /// for it.
-    fn bring<R: Wait>(&self, rt: &R, brought: Brought) {
+    fn forward<R: Wait>(&self, rt: &R, brought: Delivery) {
         if let (Some(node), Some(entrances)) = (&self.node, &self.entrances) {
             if let Some(waiting) = node.admit(rt, brought) {
                 put_on_link(rt, node, entrances, waiting);
@@ -177,7 +177,7 @@ impl<C: Core> Chain<C> {
     /// Returns whether a master's cell was opened as that of this chain. A proof knows nothing of
     /// what a lock holds, so this is tested.
     pub(crate) fn has_opened(&self, opening: &Opening) -> bool
-        ensures { IsTrue result ↔ (first_master opening.now ≡ opened self.now.id self.now.first.members) }
+        ensures { IsTrue result ↔ (first_master opening.now ≡ opened_master self.now.id self.now.first.members) }
     {
         opening.name.chain == self.id
             && are_same(first_members(opening), self.first.members.as_slice())
@@ -189,9 +189,9 @@ impl<C: Core> Chain<C> {
     pub(crate) fn node<R: Wait>(&self, rt: &R, id: NodeId) -> Result<Arc<RunningNode<C>>, Refusal>
         ensures { IfErr result (λ e. IsMissed e) }
     {
-        let ways = self.ways.read(rt);
-        let _ = ways.open()?;
-        match &ways.to(id)?.node {
+        let routes = self.routes.read(rt);
+        let _ = routes.open()?;
+        match &routes.to(id)?.node {
             Some(node) => Ok(Arc::try_clone(node)?),
             None => Err(Refusal::Stopped),
         }
@@ -207,13 +207,13 @@ impl<C: Core> Chain<C> {
     ) -> Result<(), Refusal>
         ensures { IfErr result (λ e. IsMissed e) }
     {
-        let ways = self.ways.read(rt);
-        if ways.open.is_none() {
+        let routes = self.routes.read(rt);
+        if routes.open.is_none() {
             return take_back(rt, asked, Refusal::Closed);
         }
-        match ways.to(id) {
+        match routes.to(id) {
             Err(refusal) => take_back(rt, asked, refusal),
-            Ok(way) => match &way.entrances {
+            Ok(route) => match &route.entrances {
                 Some(entrances) => put_in(rt, entrances, asked),
                 None => take_back(rt, asked, Refusal::Stopped),
             },
@@ -227,9 +227,9 @@ impl<C: Core> Chain<C> {
         rt: &R,
         alloc: Global,
     ) -> Result<Vec<Arc<RunningNode<C>>>, Refusal> {
-        let ways = self.ways.read(rt);
-        let _ = ways.open()?;
-        Ok(ways.all(alloc)?)
+        let routes = self.routes.read(rt);
+        let _ = routes.open()?;
+        Ok(routes.all(alloc)?)
     }
 
     /// Returns all nodes that the chain has, of a store that is known to be open. Fails only when
@@ -239,7 +239,7 @@ impl<C: Core> Chain<C> {
         rt: &R,
         alloc: Global,
     ) -> Result<Vec<Arc<RunningNode<C>>>, AllocError> {
-        self.ways.read(rt).all(alloc)
+        self.routes.read(rt).all(alloc)
     }
 
     /// Returns a sender for a worker to keep as long as it works. Refused with `Closed` if the
@@ -247,32 +247,32 @@ impl<C: Core> Chain<C> {
     pub(crate) fn alive<R: Wait>(&self, rt: &R) -> Result<Sender<()>, Refusal>
         ensures { IfErr result (λ e. (e ≡ Refusal.Closed) ⊎ (e ≡ Refusal.Memory)) }
     {
-        let ways = self.ways.read(rt);
-        Ok(ways.open()?.alive.clone()?)
+        let routes = self.routes.read(rt);
+        Ok(routes.open()?.alive.clone()?)
     }
 
     /// Brings something to the node of this id. It is lost if there is no such node, and when out
     /// of memory.
-    pub(crate) fn bring<R: Wait>(&self, rt: &R, id: NodeId, brought: Brought) {
-        let ways = self.ways.read(rt);
-        if let Ok(way) = ways.to(id) {
-            way.bring(rt, brought);
+    pub(crate) fn forward<R: Wait>(&self, rt: &R, id: NodeId, brought: Delivery) {
+        let routes = self.routes.read(rt);
+        if let Ok(route) = routes.to(id) {
+            route.forward(rt, brought);
         }
     }
 
     /// Brings a tick to the master and to each running node.
     pub(crate) fn tick<R: Wait>(&self, rt: &R) {
-        let ways = self.ways.read(rt);
-        let Ok(open) = ways.open() else {
+        let routes = self.routes.read(rt);
+        let Ok(open) = routes.open() else {
             return;
         };
         let _ = open.master.try_send(rt, ());
-        for way in ways.nodes.as_slice() {
-            if way.node.as_ref().is_some_and(|node| !node.is_halted()) {
-                way.bring(rt, Brought::Tick);
+        for route in routes.nodes.as_slice() {
+            if route.node.as_ref().is_some_and(|node| !node.is_halted()) {
+                route.forward(rt, Delivery::Tick);
             }
         }
-        self.bell.ring();
+        self.wake_up.ring();
     }
 
     /// Reserves room for the entry of one more node. The room stays while the caller has the
@@ -281,44 +281,44 @@ impl<C: Core> Chain<C> {
     pub(crate) fn make_room<R: Wait>(&self, rt: &R) -> Result<(), Refusal>
         ensures { IfErr result (λ e. (e ≡ Refusal.Closed) ⊎ (e ≡ Refusal.Memory)) }
     {
-        let mut ways = self.ways.write(rt);
-        let _ = ways.open()?;
-        Ok(ways.nodes.reserve(1)?)
+        let mut routes = self.routes.write(rt);
+        let _ = routes.open()?;
+        Ok(routes.nodes.reserve(1)?)
     }
 
     /// Appends the entry of a node that joined. Does not fail if room was reserved.
-    pub(crate) fn add<R: Wait>(&self, rt: &R, way: Way<C>) -> Result<(), Refusal>
+    pub(crate) fn add<R: Wait>(&self, rt: &R, route: Route<C>) -> Result<(), Refusal>
         ensures { IfErr result (λ e. e ≡ Refusal.Memory) }
     {
-        let mut ways = self.ways.write(rt);
-        Ok(ways.nodes.push(way)?)
+        let mut routes = self.routes.write(rt);
+        Ok(routes.nodes.push(route)?)
     }
 
     /// Drops the senders of the node of this id, so that its workers end once their queues are
     /// empty. Drops the node too, unless an audit will need its cell (`keep`).
     pub(crate) fn retire<R: Wait>(&self, rt: &R, id: NodeId, keep: bool) {
-        self.ways.write(rt).retire(id, keep);
+        self.routes.write(rt).retire(id, keep);
     }
 
     /// Lets nothing in from now on. The workers end once their queues are empty. A chain thread
     /// ends after its batch, and `sweep` refuses the requests that are queued then.
     pub(crate) fn close<R: Wait>(&self, rt: &R) {
-        self.ways.write(rt).close();
-        self.bell.change();
+        self.routes.write(rt).close();
+        self.wake_up.change();
     }
 
     /// Refuses with `Closed` all callers that still wait, and all that ask later. Called once no
     /// worker is left.
     pub(crate) fn sweep<R: Wait>(&self, rt: &R, alloc: Global) {
-        let mut ways = self.ways.write(rt);
-        let nodes = mem::replace(&mut ways.nodes, Vec::new(alloc));
-        drop(ways);
-        for way in nodes {
-            let Way {
+        let mut routes = self.routes.write(rt);
+        let nodes = mem::replace(&mut routes.nodes, Vec::new(alloc));
+        drop(routes);
+        for route in nodes {
+            let Route {
                 name: _,
                 node,
                 entrances,
-            } = way;
+            } = route;
             drop(entrances);
             if let Some(node) = node {
                 empty(rt, alloc, &node);
@@ -336,7 +336,7 @@ fn empty<R: Wait, C: Core>(rt: &R, alloc: Global, node: &RunningNode<C>) {
     drop(seated);
     let mut replies = Replies::new(alloc);
     for caller in callers {
-        replies.add(rt, Unanswered::waited(caller), Err(Refusal::Closed));
+        replies.add(rt, WaitingCaller::waited(caller), Err(Refusal::Closed));
     }
     replies.tell(rt);
     refuse_queued(rt, node, &Refusal::Closed);

@@ -1,19 +1,19 @@
 //! `Client`: blocking calls of a store from any thread, one at a time, with the pass that they
 //! raise.
 ghost use Rattle.std.specs.Prelude.{◌≡◌, ◌⊎◌, ◌≤◌, ◌↔◌, max, Err, IfErr, IfOk, Ok, OnErr, length};
-ghost use Rattle.craq_calls.specs.Calls.{IsCallOf};
-ghost use Rattle.craq_calls.specs.Refused.{CanRefuse};
+ghost use Rattle.craq_pending_calls.specs.Calls.{IsCallOf};
+ghost use Rattle.craq_pending_calls.specs.Refused.{CanRefuse};
 ghost use Rattle.craq_workers.specs.Asks.{IsCalled};
 ghost use Rattle.craq_workers.specs.Clients.{RefusesAsk, only};
 
 use crate::chain::Chain;
 use crate::gate::Gate;
 use crate::shared::{Return, Shared};
-use craq_calls::{answer_of_call, pass_after, refusal_of_call};
-use craq_letters::{Letter, Letterbox, Outcome, Token};
+use craq_completions::{Completion, CompletionQueue, Outcome, Token};
 use craq_model::{Answer, Ask};
 use craq_names::{NodeName, Pass, Refusal};
 use craq_node::Core;
+use craq_pending_calls::{answer_of_call, pass_after, refusal_of_call};
 use craq_seat::CallReceipt;
 use std::alloc::Global;
 use std::marker::Model;
@@ -40,13 +40,13 @@ impl<C: Core, G: Gate> Model for Client<C, G> {
 
     ghost Value = { Asker };
 
-    ghost view = { λ c. record { chains = length c.shared.value.chains.items; carried = c.shared.value.carried; pass = c.pass } };
+    ghost view = { λ c. record { chains = length c.shared.value.chains.items; chain_threads = c.shared.value.chain_threads; pass = c.pass } };
 }
 
 impl<C: Core, G: Gate> Client<C, G> {
     /// Makes a client with this pass. Takes no memory.
     pub(crate) fn new(alloc: Global, shared: Arc<Shared<C, G>>, pass: Pass) -> Self
-        ensures { result ≡ record { chains = length shared.value.chains.items; carried = shared.value.carried; pass = pass } }
+        ensures { result ≡ record { chains = length shared.value.chains.items; chain_threads = shared.value.chain_threads; pass = pass } }
     {
         Client {
             alloc,
@@ -93,9 +93,9 @@ impl<C: Core, G: Gate> Client<C, G> {
         ensures pass { IfOk result (λ r. self.new.pass ≡ max self.old.pass r.1.answered.stamp) }
         ensures same { OnErr result (self.new ≡ self.old) }
         ensures chains { self.new.chains ≡ self.old.chains }
-        ensures carried { self.new.carried ≡ self.old.carried }
-        ensures taken { IfOk result (λ r. IsCalled C.represents self.old.carried ask self.old.pass only (Ok r.1)) }
-        ensures left { IfErr result (λ e. (e ≡ Refusal.UnknownChain) ⊎ IsCalled C.represents self.old.carried ask self.old.pass only (Err e)) }
+        ensures chain_threads { self.new.chain_threads ≡ self.old.chain_threads }
+        ensures taken { IfOk result (λ r. IsCalled C.represents self.old.chain_threads ask self.old.pass only (Ok r.1)) }
+        ensures left { IfErr result (λ e. (e ≡ Refusal.UnknownChain) ⊎ IsCalled C.represents self.old.chain_threads ask self.old.pass only (Err e)) }
     {
         let called = self.wait_for(rt, &node, &ask);
         drop(ask);
@@ -115,8 +115,8 @@ impl<C: Core, G: Gate> Client<C, G> {
         ensures call { IfOk result (λ r. IsCallOf node.now ask.now self.now.pass r.0 r.1) }
         ensures unknown { (result ≡ Err Refusal.UnknownChain) ↔ (self.now.chains ≤ node.now.chain) }
         ensures refused { IfErr result (λ e. RefusesAsk self.now.chains node.now ask.now e) }
-        ensures taken { IfOk result (λ r. IsCalled C.represents self.now.carried ask.now self.now.pass only (Ok r.1)) }
-        ensures left { IfErr result (λ e. (e ≡ Refusal.UnknownChain) ⊎ IsCalled C.represents self.now.carried ask.now self.now.pass only (Err e)) }
+        ensures taken { IfOk result (λ r. IsCalled C.represents self.now.chain_threads ask.now self.now.pass only (Ok r.1)) }
+        ensures left { IfErr result (λ e. (e ≡ Refusal.UnknownChain) ⊎ IsCalled C.represents self.now.chain_threads ask.now self.now.pass only (Err e)) }
     {
         let chain = self.shared.chain(node.chain)?;
         let receipt = self.reply(rt, chain, node, ask)?;
@@ -127,10 +127,10 @@ impl<C: Core, G: Gate> Client<C, G> {
     /// Returns the reply to a request, with a new completion queue to wait at.
     fn reply<R: Wait>(&self, rt: &R, chain: &Chain<C>, node: &NodeName, ask: &Ask) -> Outcome
         ensures refused { IfErr result (λ e. CanRefuse ask.now e) }
-        ensures called { IsCalled C.represents self.now.carried ask.now self.now.pass only result }
+        ensures called { IsCalled C.represents self.now.chain_threads ask.now self.now.pass only result }
     {
-        let letters = Arc::new(self.alloc, Letterbox::new(self.alloc, None))?;
-        self.reply_into(rt, chain, node, ask, &letters)
+        let completions = Arc::new(self.alloc, CompletionQueue::new(self.alloc, None))?;
+        self.reply_into(rt, chain, node, ask, &completions)
     }
 
     /// Returns the reply to a request: at once, or the completion that comes into this queue.
@@ -140,13 +140,13 @@ impl<C: Core, G: Gate> Client<C, G> {
         chain: &Chain<C>,
         node: &NodeName,
         ask: &Ask,
-        letters: &Arc<Letterbox>,
+        completions: &Arc<CompletionQueue>,
     ) -> Outcome
         ensures refused { IfErr result (λ e. CanRefuse ask.now e) }
-        ensures called { IsCalled C.represents self.now.carried ask.now self.now.pass only result }
+        ensures called { IsCalled C.represents self.now.chain_threads ask.now self.now.pass only result }
     {
         let back = Return {
-            letters,
+            completions,
             token: ONLY,
         };
         let found = self
@@ -154,20 +154,20 @@ impl<C: Core, G: Gate> Client<C, G> {
             .submit(rt, self.alloc, chain, node, ask, self.pass, back, true)?;
         match found {
             Some(receipt) => Ok(receipt),
-            None => wait_for_letter(rt, letters, ask),
+            None => wait_for_completion(rt, completions, ask),
         }
     }
 }
 
 /// Waits for the completion and returns its reply. A refusal that this request cannot have becomes
 /// `Closed`.
-fn wait_for_letter<R: Wait>(rt: &R, letters: &Letterbox, ask: &Ask) -> Outcome
+fn wait_for_completion<R: Wait>(rt: &R, completions: &CompletionQueue, ask: &Ask) -> Outcome
     ensures { IfErr result (λ e. CanRefuse ask.now e) }
 {
-    let Some(letter) = letters.wait(rt) else {
+    let Some(completion) = completions.wait(rt) else {
         return Err(Refusal::Closed);
     };
-    let Letter { token: _, reply } = letter;
+    let Completion { token: _, reply } = completion;
     match reply {
         Ok(receipt) => Ok(receipt),
         Err(refusal) => Err(refusal_of_call(ask, refusal)),

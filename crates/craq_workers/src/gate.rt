@@ -51,7 +51,7 @@ pub trait Gate: Drop {
     /// Returns whether one thread for each chain takes the steps of all its nodes. Callers then
     /// take the steps of their reads themselves, and, while that thread sleeps, those of few
     /// updates. A store asks this once, when it starts.
-    fn carried(&self) -> bool {
+    fn chain_threads(&self) -> bool {
         false
     }
 }
@@ -62,7 +62,7 @@ pub struct OpenGate {
     /// Callers take the steps of their requests themselves.
     pub in_place: bool,
     /// One thread for each chain takes the steps of all its nodes.
-    pub carried: bool,
+    pub chain_threads: bool,
 }
 
 impl Gate for OpenGate {
@@ -80,7 +80,7 @@ impl Gate for OpenGate {
         self.in_place
     }
 
-    fn carried(&self) -> bool {
-        self.carried
+    fn chain_threads(&self) -> bool {
+        self.chain_threads
     }
 }

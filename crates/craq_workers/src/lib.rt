@@ -5,9 +5,10 @@
 #![tactic(auto)]
 
 mod auditing;
-mod bell;
-mod carrying;
+mod batch;
+mod callers;
 mod chain;
+mod chain_thread;
 mod client;
 mod gate;
 mod node;
@@ -18,12 +19,11 @@ mod shared;
 mod staff;
 mod steps;
 mod store;
-mod told;
-mod turn;
 mod unsent;
+mod wake_up;
 mod work;
 
 pub use client::Client;
-pub use craq_letters::{Letter, Letterbox, Outcome, Token};
+pub use craq_completions::{Completion, CompletionQueue, Outcome, Token};
 pub use gate::{Gate, OpenGate, Work};
 pub use store::{ChainStatus, Store};

@@ -1,15 +1,15 @@
 //! `RunningNode`: a node as its workers and callers share it: its locked seat, its queues and the
-//! state of its life; and `Way`, the routing entry of a node.
+//! state of its life; and `Route`, the routing entry of a node.
 ghost use Rattle.std.specs.Prelude.{◌≡◌, ◌⊎◌, None, Some, if◌then◌else◌};
 ghost use Rattle.craq_model.specs.Plain.{Plain};
 ghost use Rattle.craq_seat.specs.Cells.{receipt_of};
-ghost use Rattle.craq_workers.specs.Ways.{WaitsAs, retired};
+ghost use Rattle.craq_workers.specs.Routes.{WaitsAs, retired};
 
 use crate::pending::Pending;
 use crate::steps::QueuedAsk;
 use bytes::Bytes;
+use craq_completions::CompletionSender;
 use craq_epochs::StopReceipt;
-use craq_letters::Addressee;
 use craq_names::{NodeId, NodeName};
 use craq_node::Core;
 use craq_seat::{Cell, Desk, Receipt, Seat};
@@ -21,7 +21,7 @@ use std::sync::{Arc, Wait};
 
 /// An item brought to a node.
 #[derive(Drop)]
-pub(crate) enum Brought {
+pub(crate) enum Delivery {
     /// An encoded message.
     Message(Bytes),
     /// An encoded acknowledgement.
@@ -32,17 +32,17 @@ pub(crate) enum Brought {
     Tick,
 }
 
-impl Brought {
+impl Delivery {
     /// Makes the item of an encoded message of this class.
     pub(crate) fn of(kind: Kind, bytes: Bytes) -> Self
-        ensures ack { kind ≡ Kind.Ack → result ≡ Brought.Ack bytes }
-        ensures blank { kind ≡ Kind.Blank → result ≡ Brought.Blank bytes }
-        ensures message { (kind ≡ Kind.Entry) ⊎ (kind ≡ Kind.Other) → result ≡ Brought.Message bytes }
+        ensures ack { kind ≡ Kind.Ack → result ≡ Delivery.Ack bytes }
+        ensures blank { kind ≡ Kind.Blank → result ≡ Delivery.Blank bytes }
+        ensures message { (kind ≡ Kind.Entry) ⊎ (kind ≡ Kind.Other) → result ≡ Delivery.Message bytes }
     {
         match kind {
-            Kind::Ack => Brought::Ack(bytes),
-            Kind::Blank => Brought::Blank(bytes),
-            Kind::Entry | Kind::Other => Brought::Message(bytes),
+            Kind::Ack => Delivery::Ack(bytes),
+            Kind::Blank => Delivery::Blank(bytes),
+            Kind::Entry | Kind::Other => Delivery::Message(bytes),
         }
     }
 }
@@ -71,7 +71,7 @@ pub(crate) struct Queues {
 #[derive(Drop)]
 pub(crate) struct RunningNode<C: Core> {
     pub name: NodeName,
-    pub seat: Seat<C, Addressee>,
+    pub seat: Seat<C, CompletionSender>,
     pub queues: Queues,
     /// How many pieces of work on requests have begun.
     pieces: AtomicU64,
@@ -137,14 +137,14 @@ impl<C: Core> RunningNode<C> {
     /// Returns the queue item for what is brought, or `None` if one waits already that stands for
     /// it: at most one tick, one acknowledgement and one word of a node that is not ready wait at a
     /// time.
-    pub(crate) fn admit<R: Wait>(&self, rt: &R, brought: Brought) -> Option<Waiting>
+    pub(crate) fn admit<R: Wait>(&self, rt: &R, brought: Delivery) -> Option<Waiting>
         ensures { WaitsAs brought result }
     {
         match brought {
-            Brought::Message(bytes) => Some(Waiting::Message(bytes)),
-            Brought::Ack(bytes) => self.ack.put(rt, bytes).then_some(Waiting::Ack),
-            Brought::Blank(bytes) => self.blank.put(rt, bytes).then_some(Waiting::Blank),
-            Brought::Tick => (!self.ticks.swap(true, Ordering::SeqCst)).then_some(Waiting::Tick),
+            Delivery::Message(bytes) => Some(Waiting::Message(bytes)),
+            Delivery::Ack(bytes) => self.ack.put(rt, bytes).then_some(Waiting::Ack),
+            Delivery::Blank(bytes) => self.blank.put(rt, bytes).then_some(Waiting::Blank),
+            Delivery::Tick => (!self.ticks.swap(true, Ordering::SeqCst)).then_some(Waiting::Tick),
         }
     }
 
@@ -181,13 +181,13 @@ pub(crate) struct Entrances {
 /// A removed node has no senders, so its workers end. It is kept only if an audit has to merge its
 /// journal.
 #[derive(Drop)]
-pub(crate) struct Way<C: Core> {
+pub(crate) struct Route<C: Core> {
     pub name: NodeName,
     pub node: Option<Arc<RunningNode<C>>>,
     pub entrances: Option<Entrances>,
 }
 
-impl<C: Core> Way<C> {
+impl<C: Core> Route<C> {
     /// Drops the senders if this is the entry of the node of this id, and the node too unless
     /// `keep` is set.
     pub(crate) fn retire(&mut self, id: NodeId, keep: bool)

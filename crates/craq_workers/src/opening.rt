@@ -3,19 +3,19 @@
 ghost use Rattle.std.specs.Prelude.{◌≡◌, ◌++◌, ◌∷◌, [], IfErr, IfOk, IsSome, OnOk, Some, map, string_bytes};
 ghost use Rattle.std.specs.List.{AllByRecursion};
 ghost use Rattle.std.specs.Option.{option_copied, option_map};
-ghost use Rattle.craq_epochs.specs.Mastered.{opened};
+ghost use Rattle.craq_epochs.specs.Mastered.{opened_master};
 ghost use Rattle.craq_model.specs.Members.{IsMembership};
 ghost use Rattle.craq_node.specs.Represented.{CanOpen};
 ghost use Rattle.craq_place.specs.Plan.{IsPlan};
 ghost use Rattle.craq_workers.specs.Posts.{Links, Master, chain_posts, member_posts, node_posts, post_of};
 ghost use Rattle.craq_workers.specs.Stores.{masters_of};
 
-use crate::bell::Bell;
-use crate::chain::{Chain, Open, Ways};
-use crate::node::{Entrances, Queues, RunningNode, Way};
+use crate::chain::{Chain, Open, RoutingTable};
+use crate::node::{Entrances, Queues, Route, RunningNode};
 use crate::staff::Staff;
+use crate::wake_up::WakeUp;
 use crate::work::Worker;
-use craq_held::ChainBook;
+use craq_locked_chain::ChainBook;
 use craq_model::Config;
 use craq_names::{ChainId, Copied, NodeId, NodeName, Refusal, Stamp};
 use craq_node::Core;
@@ -34,16 +34,16 @@ pub(crate) struct Form {
 }
 
 /// Makes the routing entry of a node of this desk. Fails only when out of memory.
-fn way_to<C: Core>(alloc: Global, name: &NodeName, desk: Desk<C>) -> Result<Way<C>, AllocError>
-    ensures name { IfOk result (λ way. way.name ≡ name.now) }
-    ensures node { IfOk result (λ way. option_map (λ n. n.value.name) way.node ≡ Some name.now) }
-    ensures entrances { IfOk result (λ way. IsSome way.entrances) }
+fn route_to<C: Core>(alloc: Global, name: &NodeName, desk: Desk<C>) -> Result<Route<C>, AllocError>
+    ensures name { IfOk result (λ route. route.name ≡ name.now) }
+    ensures node { IfOk result (λ route. option_map (λ n. n.value.name) route.node ≡ Some name.now) }
+    ensures entrances { IfOk result (λ route. IsSome route.entrances) }
 {
     let (to_asks, asks) = crossbeam_channel::unbounded(alloc)?;
     let (to_links, links) = crossbeam_channel::unbounded(alloc)?;
     let queues = Queues { asks, links };
     let node = Arc::new(alloc, RunningNode::new(alloc, *name, desk, queues))?;
-    Ok(Way {
+    Ok(Route {
         name: *name,
         node: Some(node),
         entrances: Some(Entrances {
@@ -61,15 +61,15 @@ pub(crate) fn open_node<C: Core>(
     config: Option<&Config>,
     journal: bool,
     stamp: Stamp,
-) -> Result<Way<C>, Refusal>
+) -> Result<Route<C>, Refusal>
     requires { CanOpen name.now (option_copied config) }
-    ensures name { IfOk result (λ way. way.name ≡ name.now) }
-    ensures node { IfOk result (λ way. option_map (λ n. n.value.name) way.node ≡ Some name.now) }
-    ensures entrances { IfOk result (λ way. IsSome way.entrances) }
+    ensures name { IfOk result (λ route. route.name ≡ name.now) }
+    ensures node { IfOk result (λ route. option_map (λ n. n.value.name) route.node ≡ Some name.now) }
+    ensures entrances { IfOk result (λ route. IsSome route.entrances) }
     ensures err { IfErr result (λ e. e ≡ Refusal.Memory) }
 {
     let cell = Cell::open(alloc, *name, config, journal, stamp)?;
-    Ok(way_to(alloc, name, Desk::new(alloc, cell))?)
+    Ok(route_to(alloc, name, Desk::new(alloc, cell))?)
 }
 
 /// Adds the worker of a node that takes what arrives there. Fails only when out of memory.
@@ -85,13 +85,13 @@ fn add_links_worker<C: Core>(
 
 /// Adds a node's own workers behind those that are there. Fails only when out of memory.
 pub(crate) fn add_workers<C: Core>(
-    way: &Way<C>,
+    route: &Route<C>,
     staff: Staff,
     workers: &mut Vec<Worker<C>>,
 ) -> Result<(), AllocError>
-    ensures { IfOk result (λ _. map post_of workers.new.items ≡ map post_of workers.old.items ++ node_posts staff (option_map (λ n. n.value.name) way.now.node)) }
+    ensures { IfOk result (λ _. map post_of workers.new.items ≡ map post_of workers.old.items ++ node_posts staff (option_map (λ n. n.value.name) route.now.node)) }
 {
-    let Some(node) = &way.node else {
+    let Some(node) = &route.node else {
         return Ok(());
     };
     match staff {
@@ -107,7 +107,7 @@ pub(crate) fn add_workers<C: Core>(
 
 /// Adds the worker of a whole chain behind those that are there, if the store has such workers.
 /// Fails only when out of memory.
-fn add_carrier<C: Core>(
+fn add_chain_thread<C: Core>(
     chain: ChainId,
     form: Form,
     workers: &mut Vec<Worker<C>>,
@@ -118,7 +118,7 @@ fn add_carrier<C: Core>(
         Staff::TwoPerNode => Ok(()),
         Staff::OnePerNode => Ok(()),
         Staff::OnePerChain => {
-            workers.push(Worker::Carrier(chain))?;
+            workers.push(Worker::ChainThread(chain))?;
             Ok(())
         }
     }
@@ -132,20 +132,20 @@ fn open_members<C: Core>(
     config: &Config,
     form: Form,
     workers: &mut Vec<Worker<C>>,
-) -> Result<Vec<Way<C>>, Refusal>
+) -> Result<Vec<Route<C>>, Refusal>
     requires { (config.now.epoch ≡ 1) × IsMembership config.now.members }
-    ensures names { IfOk result (λ ways. map (λ w. w.name) ways.items ≡ map (λ n. record { chain = chain; node = n }) config.now.members) }
-    ensures open { IfOk result (λ ways. AllByRecursion (λ w. (option_map (λ n. n.value.name) w.node ≡ Some w.name) × IsSome w.entrances) ways.items) }
+    ensures names { IfOk result (λ routes. map (λ w. w.name) routes.items ≡ map (λ n. record { chain = chain; node = n }) config.now.members) }
+    ensures open { IfOk result (λ routes. AllByRecursion (λ w. (option_map (λ n. n.value.name) w.node ≡ Some w.name) × IsSome w.entrances) routes.items) }
     ensures workers { IfOk result (λ _. map post_of workers.new.items ≡ map post_of workers.old.items ++ member_posts form.staff chain config.now.members) }
     ensures err { IfErr result (λ e. e ≡ Refusal.Memory) }
 {
-    add_carrier(chain, form, workers)?;
+    add_chain_thread(chain, form, workers)?;
     let mut nodes = Vec::new(alloc);
     for node in config.members.as_slice() {
         let name = NodeName { chain, node: *node };
-        let way = open_node(alloc, &name, Some(config), form.journal, Stamp::new(0))?;
-        add_workers(&way, form.staff, workers)?;
-        nodes.push(way)?;
+        let route = open_node(alloc, &name, Some(config), form.journal, Stamp::new(0))?;
+        add_workers(&route, form.staff, workers)?;
+        nodes.push(route)?;
     }
     Ok(nodes)
 }
@@ -163,7 +163,7 @@ fn open_chain<C: Core>(
 ) -> Result<Chain<C>, Refusal>
     requires { IsMembership members.now }
     ensures name { IfOk result (λ c. string_bytes c.name ≡ name.now) }
-    ensures master { IfOk result (λ c. opened c.id c.first.members ≡ opened id members.now) }
+    ensures master { IfOk result (λ c. opened_master c.id c.first.members ≡ opened_master id members.now) }
     ensures workers { IfOk result (λ _. map post_of workers.new.items ≡ map post_of workers.old.items ++ (member_posts form.staff id members.now ++ Master id ∷ [])) }
     ensures err { IfErr result (λ e. e ≡ Refusal.Memory) }
 {
@@ -179,11 +179,11 @@ fn open_chain<C: Core>(
         id,
         first,
         book: Mutex::new(book),
-        ways: RwLock::new(Ways {
+        routes: RwLock::new(RoutingTable {
             nodes,
             open: Some(Open { master, alive }),
         }),
-        bell: Bell::new(),
+        wake_up: WakeUp::new(),
     })
 }
 
@@ -198,7 +198,7 @@ pub(crate) fn open_chains<C: Core>(
 ) -> Result<Vec<Chain<C>>, Refusal>
     requires { IsPlan plan.now }
     ensures names { IfOk result (λ chains. map (λ c. string_bytes c.name) chains.items ≡ map (λ c. c.0) plan.now) }
-    ensures masters { IfOk result (λ chains. map (λ c. opened c.id c.first.members) chains.items ≡ masters_of 0 plan.now) }
+    ensures masters { IfOk result (λ chains. map (λ c. opened_master c.id c.first.members) chains.items ≡ masters_of 0 plan.now) }
     ensures workers { IfOk result (λ _. map post_of workers.new.items ≡ map post_of workers.old.items ++ chain_posts form.staff 0 plan.now) }
     ensures err { IfErr result (λ e. e ≡ Refusal.Memory) }
 {

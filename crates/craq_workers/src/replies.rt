@@ -1,9 +1,9 @@
 //! `Replies`: the replies of a step, kept until its lock is free; for whoever takes a step.
 ghost use Rattle.std.specs.Prelude.{◌≡◌, ◌++◌, ◌∷◌, [], None, Some, IfSome, IsTrue, false};
-ghost use Rattle.craq_workers.specs.Told.{IsReplyTo, Keeps, caller_under, reply_to, without_caller};
+ghost use Rattle.craq_workers.specs.Replies.{IsReplyTo, Keeps, caller_under, reply_to, without_caller};
 
-use crate::told::{Told, Unanswered};
-use craq_letters::{Addressee, Outcome};
+use crate::callers::{ReadyReply, WaitingCaller};
+use craq_completions::{CompletionSender, Outcome};
 use craq_names::Ticket;
 use craq_seat::Caller;
 use std::alloc::{AllocFailed, Global};
@@ -16,15 +16,15 @@ const ROOM: usize = 16;
 /// The replies of a step, until they are sent. Neither it nor a reply has a drop, so each is sent.
 /// A contract sees them in order, and whether room was ever short.
 pub(crate) struct Replies {
-    waiting: Vec<Told>,
+    waiting: Vec<ReadyReply>,
     /// There was no room for a reply, which was sent at once.
     short: bool,
 }
 
 impl Model for Replies {
-    ghost use Rattle.craq_workers.specs.Told.{Kept};
+    ghost use Rattle.craq_workers.specs.Replies.{PendingReplies};
 
-    ghost Value = { Kept };
+    ghost Value = { PendingReplies };
 
     ghost view = { λ r. record { replies = r.waiting.items; short = r.short } };
 }
@@ -50,11 +50,11 @@ impl Replies {
     }
 
     /// Keeps a reply behind the others. Out of memory, gives it back and marks room as short.
-    fn keep(&mut self, told: Told) -> Option<Told>
-        ensures kept { result ≡ None → (self.new.replies ≡ self.old.replies ++ told ∷ []) × (self.new.short ≡ self.old.short) }
-        ensures back { IfSome result (λ t. (t ≡ told) × (self.new.replies ≡ self.old.replies) × IsTrue self.new.short) }
+    fn keep(&mut self, reported: ReadyReply) -> Option<ReadyReply>
+        ensures kept { result ≡ None → (self.new.replies ≡ self.old.replies ++ reported ∷ []) × (self.new.short ≡ self.old.short) }
+        ensures back { IfSome result (λ t. (t ≡ reported) × (self.new.replies ≡ self.old.replies) × IsTrue self.new.short) }
     {
-        match self.waiting.push(told) {
+        match self.waiting.push(reported) {
             Ok(()) => None,
             Err(refused) => {
                 let AllocFailed { value } = refused;
@@ -65,13 +65,13 @@ impl Replies {
     }
 
     /// Adds a reply. If there is no room for it, sends it at once.
-    pub(crate) fn add<R: Wait>(&mut self, rt: &R, caller: Unanswered, outcome: Outcome)
+    pub(crate) fn add<R: Wait>(&mut self, rt: &R, caller: WaitingCaller, outcome: Outcome)
         requires { IsReplyTo caller.ticket outcome }
         ensures { Keeps self.old (record { to = caller; outcome = outcome } ∷ []) self.new }
     {
         self.make_room();
-        if let Some(told) = self.keep(Told::new(caller, outcome)) {
-            told.tell(rt);
+        if let Some(reported) = self.keep(ReadyReply::new(caller, outcome)) {
+            reported.tell(rt);
         }
     }
 
@@ -80,16 +80,16 @@ impl Replies {
     pub(crate) fn add_under<R: Wait>(
         &mut self,
         rt: &R,
-        callers: &mut Vec<Caller<Addressee>>,
+        callers: &mut Vec<Caller<CompletionSender>>,
         ticket: Ticket,
         outcome: Outcome,
     )
         requires { IsReplyTo (Some ticket) outcome }
-        ensures told { Keeps self.old (reply_to (caller_under callers.old.items ticket) outcome) self.new }
+        ensures reported { Keeps self.old (reply_to (caller_under callers.old.items ticket) outcome) self.new }
         ensures others { callers.new.items ≡ without_caller callers.old.items ticket }
     {
         match take_caller(callers, ticket) {
-            Some(caller) => self.add(rt, Unanswered::waited(caller), outcome),
+            Some(caller) => self.add(rt, WaitingCaller::waited(caller), outcome),
             None => drop(outcome),
         }
     }
@@ -98,15 +98,18 @@ impl Replies {
     pub(crate) fn tell<R: Wait>(self, rt: &R) {
         let Replies { waiting, short: _ } = self;
         let mut left = waiting.into_iter();
-        while let Some(told) = left.next() {
-            told.tell(rt);
+        while let Some(reported) = left.next() {
+            reported.tell(rt);
         }
         left.destroy_empty();
     }
 }
 
 /// Takes the first caller that waits under this ticket. The others stay in their order.
-fn take_caller(callers: &mut Vec<Caller<Addressee>>, ticket: Ticket) -> Option<Caller<Addressee>>
+fn take_caller(
+    callers: &mut Vec<Caller<CompletionSender>>,
+    ticket: Ticket,
+) -> Option<Caller<CompletionSender>>
     ensures caller { result ≡ caller_under callers.old.items ticket }
     ensures others { callers.new.items ≡ without_caller callers.old.items ticket }
 {

@@ -1,22 +1,22 @@
 //! `Shared`: what all threads of a store share. Sends messages and serves one request; called by
 //! workers and clients.
 ghost use Rattle.std.specs.Prelude.{◌≡◌, ◌⊎◌, ◌<◌, ◌≤◌, Err, ◌↔◌, IfErr, IfOk, IsTrue, MatchResult, None, Ok, OnOk, Some, length, option_map, slice_get};
-ghost use Rattle.craq_calls.specs.Refused.{CanRefuse, IsUpdate};
+ghost use Rattle.craq_pending_calls.specs.Refused.{CanRefuse, IsUpdate};
 ghost use Rattle.craq_workers.specs.Moves.{IsMissed};
-ghost use Rattle.craq_workers.specs.Asks.{IsPut, IsServed, IsTurnedAway, in_hand};
+ghost use Rattle.craq_workers.specs.Asks.{IsPut, IsServed, IsRejected, in_hand};
 
-use crate::carrying::carry_on;
+use crate::batch::NodeBatch;
 use crate::chain::Chain;
+use crate::chain_thread::run_inline;
 use crate::gate::{Gate, Work};
-use crate::node::{Brought, RunningNode};
+use crate::node::{Delivery, RunningNode};
 use crate::steps::QueuedAsk;
-use crate::turn::Turn;
 use bytes::Bytes;
-use craq_calls::refusal_of_call;
-use craq_letters::{Addressee, Letterbox, Outcome, Token};
+use craq_completions::{CompletionQueue, CompletionSender, Outcome, Token};
 use craq_model::Ask;
 use craq_names::{ChainId, Copied, NodeId, NodeName, Pass, Refusal};
 use craq_node::Core;
+use craq_pending_calls::refusal_of_call;
 use craq_seat::CallReceipt;
 use craq_sending::{Kind, Sent};
 use std::alloc::Global;
@@ -27,7 +27,7 @@ use std::sync::{Arc, Wait};
 pub(crate) struct Shared<C: Core, G: Gate> {
     pub gate: G,
     /// One thread runs each chain: the gate's reply when the store started.
-    pub carried: bool,
+    pub chain_threads: bool,
     /// No node has a worker for queued requests. Unless one thread runs the chain, callers take the
     /// steps of their requests themselves.
     pub in_place: bool,
@@ -38,7 +38,7 @@ pub(crate) struct Shared<C: Core, G: Gate> {
 /// The way of a reply that comes later: the caller's completion queue, and the token of the call.
 #[derive(Clone, Copy)]
 pub(crate) struct Return<'a> {
-    pub letters: &'a Arc<Letterbox>,
+    pub completions: &'a Arc<CompletionQueue>,
     pub token: Token,
 }
 
@@ -75,7 +75,7 @@ fn beside(other: &NodeName, id: NodeId) -> NodeName
 }
 
 /// Brings a message to a node of a chain, twice if `twice` is set and memory allows.
-fn bring<R: Wait, C: Core>(
+fn forward<R: Wait, C: Core>(
     rt: &R,
     chain: &Chain<C>,
     to: NodeId,
@@ -85,9 +85,9 @@ fn bring<R: Wait, C: Core>(
 ) {
     let again = if twice { bytes.clone().ok() } else { None };
     if let Some(again) = again {
-        chain.bring(rt, to, Brought::of(kind, again));
+        chain.forward(rt, to, Delivery::of(kind, again));
     }
-    chain.bring(rt, to, Brought::of(kind, bytes));
+    chain.forward(rt, to, Delivery::of(kind, bytes));
 }
 
 impl<C: Core, G: Gate> Shared<C, G> {
@@ -104,16 +104,16 @@ impl<C: Core, G: Gate> Shared<C, G> {
     }
 
     /// Sends messages, in order.
-    pub(crate) fn post<R: Wait>(&self, rt: &R, from: &NodeName, sent: Vec<Sent>, quiet: bool) {
+    pub(crate) fn post<R: Wait>(&self, rt: &R, from: &NodeName, sent: Vec<Sent>, no_wake: bool) {
         for message in sent {
-            self.send(rt, from, message, quiet);
+            self.send(rt, from, message, no_wake);
         }
     }
 
     /// Sends a message. It is lost if the gate does not carry it, and sent twice if the gate
     /// repeats it and memory allows. Wakes the chain thread, unless the sender runs the chain's
-    /// nodes itself (`quiet`).
-    pub(crate) fn send<R: Wait>(&self, rt: &R, from: &NodeName, message: Sent, quiet: bool) {
+    /// nodes itself (`no_wake`).
+    pub(crate) fn send<R: Wait>(&self, rt: &R, from: &NodeName, message: Sent, no_wake: bool) {
         let Sent { to, kind, bytes } = message;
         let Ok(chain) = self.chain(from.chain) else {
             drop(bytes);
@@ -124,14 +124,14 @@ impl<C: Core, G: Gate> Shared<C, G> {
             return;
         }
         let twice = self.gate.repeats(*from, beside(from, to));
-        bring(rt, chain, to, kind, bytes, twice);
-        if !quiet {
-            chain.bell.ring();
+        forward(rt, chain, to, kind, bytes, twice);
+        if !no_wake {
+            chain.wake_up.ring();
         }
     }
 
     /// Takes the step of one queued request: a piece of a node's work on requests.
-    pub(crate) fn serve<R: Wait>(
+    pub(crate) fn serve_queued<R: Wait>(
         &self,
         rt: &R,
         alloc: Global,
@@ -140,10 +140,10 @@ impl<C: Core, G: Gate> Shared<C, G> {
     ) {
         let count = node.next_piece();
         self.gate.before(node.name, Work::Asks, count);
-        let mut turn = Turn::begin(alloc, self, node, node.seat.lock(rt), false);
+        let mut batch = NodeBatch::begin(alloc, self, node, node.seat.lock(rt), false);
         self.gate.within(node.name, Work::Asks, count);
-        turn.take_asked(rt, asked);
-        turn.end(rt);
+        batch.take_asked(rt, asked);
+        batch.end(rt);
         self.gate.after(node.name, Work::Asks, count);
     }
 
@@ -157,16 +157,16 @@ impl<C: Core, G: Gate> Shared<C, G> {
         ask: Ask,
         pass: Pass,
         back: Return<'_>,
-        quiet: bool,
+        no_wake: bool,
     ) -> Option<Outcome>
         ensures { IsServed C.represents ask pass back.entry.token result }
     {
         let count = node.next_piece();
         self.gate.before(node.name, Work::Asks, count);
-        let mut turn = Turn::begin(alloc, self, node, node.seat.lock(rt), quiet);
+        let mut batch = NodeBatch::begin(alloc, self, node, node.seat.lock(rt), no_wake);
         self.gate.within(node.name, Work::Asks, count);
-        let reply = turn.take_own(rt, ask, pass, back);
-        turn.end(rt);
+        let reply = batch.take_own(rt, ask, pass, back);
+        batch.end(rt);
         self.gate.after(node.name, Work::Asks, count);
         reply
     }
@@ -182,13 +182,13 @@ impl<C: Core, G: Gate> Shared<C, G> {
         ask: &Ask,
         pass: Pass,
         back: Return<'_>,
-        few: bool,
+        light_load: bool,
     ) -> Result<Option<CallReceipt>, Refusal>
         ensures refused { IfErr result (λ e. CanRefuse ask.now e) }
-        ensures put { IsPut C.represents self.now.carried ask.now pass back.entry.token (in_hand result) }
+        ensures put { IsPut C.represents self.now.chain_threads ask.now pass back.entry.token (in_hand result) }
     {
         let asked = ask.copied(alloc)?;
-        match self.submit_own(rt, alloc, chain, name, asked, pass, back, few) {
+        match self.submit_own(rt, alloc, chain, name, asked, pass, back, light_load) {
             Ok(found) => Ok(found),
             Err(refusal) => Err(refusal_of_call(ask, refusal)),
         }
@@ -205,13 +205,13 @@ impl<C: Core, G: Gate> Shared<C, G> {
         ask: Ask,
         pass: Pass,
         back: Return<'_>,
-        few: bool,
+        light_load: bool,
     ) -> Result<Option<CallReceipt>, Refusal>
-        ensures { IsPut C.represents self.now.carried ask pass back.entry.token (in_hand result) }
+        ensures { IsPut C.represents self.now.chain_threads ask pass back.entry.token (in_hand result) }
     {
         let in_place = self.in_place;
-        if self.carried {
-            self.submit_carried(rt, alloc, chain, name, ask, pass, back, few)
+        if self.chain_threads {
+            self.submit_to_chain_thread(rt, alloc, chain, name, ask, pass, back, light_load)
         } else if in_place {
             in_hand(self.serve_at(rt, alloc, chain, name, ask, pass, back, false))
         } else {
@@ -220,9 +220,9 @@ impl<C: Core, G: Gate> Shared<C, G> {
     }
 
     /// Sends an owned request to a node of a chain that one thread runs. The caller takes the step
-    /// of a read, and of an update if it has `few` requests and the chain thread sleeps; else the
+    /// of a read, and of an update if it has `light_load` requests and the chain thread sleeps; else the
     /// request is queued. Returns the receipt, or `None` if a completion will come.
-    fn submit_carried<R: Wait>(
+    fn submit_to_chain_thread<R: Wait>(
         &self,
         rt: &R,
         alloc: Global,
@@ -231,19 +231,19 @@ impl<C: Core, G: Gate> Shared<C, G> {
         ask: Ask,
         pass: Pass,
         back: Return<'_>,
-        few: bool,
+        light_load: bool,
     ) -> Result<Option<CallReceipt>, Refusal>
-        ensures { IsPut C.represents self.now.carried ask pass back.entry.token (in_hand result) }
+        ensures { IsPut C.represents self.now.chain_threads ask pass back.entry.token (in_hand result) }
     {
         if !is_update(&ask) {
             in_hand(self.serve_at(rt, alloc, chain, name, ask, pass, back, false))
-        } else if few && chain.bell.is_idle() {
+        } else if light_load && chain.wake_up.is_idle() {
             let reply = self.serve_at(rt, alloc, chain, name, ask, pass, back, true);
-            carry_on(rt, alloc, self, chain);
+            run_inline(rt, alloc, self, chain);
             in_hand(reply)
         } else {
             let queued = queue(rt, chain, name, ask, pass, back);
-            chain.bell.ring();
+            chain.wake_up.ring();
             queued
         }
     }
@@ -259,16 +259,16 @@ impl<C: Core, G: Gate> Shared<C, G> {
         ask: Ask,
         pass: Pass,
         back: Return<'_>,
-        quiet: bool,
+        no_wake: bool,
     ) -> Option<Outcome>
-        ensures { IsServed C.represents ask pass back.entry.token result ⊎ IsTurnedAway result }
+        ensures { IsServed C.represents ask pass back.entry.token result ⊎ IsRejected result }
     {
         match chain.node(rt, name.node) {
             Err(refusal) => {
                 drop(ask);
                 Some(Err(refusal))
             }
-            Ok(node) => self.serve_here(rt, alloc, &node, ask, pass, back, quiet),
+            Ok(node) => self.serve_here(rt, alloc, &node, ask, pass, back, no_wake),
         }
     }
 }
@@ -284,7 +284,7 @@ fn queue<R: Wait, C: Core>(
 ) -> Result<Option<CallReceipt>, Refusal>
     ensures { MatchResult result (λ found. found ≡ None) (λ e. IsMissed e) }
 {
-    match Addressee::expect(rt, back.letters, back.token) {
+    match CompletionSender::expect(rt, back.completions, back.token) {
         Err(_) => {
             drop(ask);
             Err(Refusal::Memory)

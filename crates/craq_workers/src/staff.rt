@@ -19,7 +19,7 @@ pub(crate) enum Staff {
 impl Staff {
     /// Returns the threads that a gate asks for.
     pub(crate) fn of<G: Gate>(gate: &G) -> Self {
-        if gate.carried() {
+        if gate.chain_threads() {
             Staff::OnePerChain
         } else if gate.in_place() {
             Staff::OnePerNode

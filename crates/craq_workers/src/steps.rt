@@ -1,12 +1,12 @@
 //! Steps of a node whose seat is locked: of a request or another event, with the replies of the
-//! step; and the messages of the last step. Called by `turn` and `store`, under the lock.
+//! step; and the messages of the last step. Called by `batch` and `store`, under the lock.
 ghost use Rattle.std.specs.Prelude.{◌≡◌, ◌∷◌, ◌⊎◌, ◌↔◌, [], None, Some, Err, Ok, IfErr, IfOk, IfSome, IsNone, IsTrue, OnErr, Result, Vec, List, ℕ, false, option_map};
 ghost use Rattle.std.specs.Option.{option_copied};
 ghost use Rattle.std.specs.declared.alloc.AllocError.{AllocError};
 ghost use Rattle.std.specs.declared.alloc.Global.{Global};
 ghost use Rattle.craq_node.specs.Represented.{CanArrive};
 ghost use Rattle.craq_runs.specs.Chain.{sent_in};
-ghost use Rattle.craq_letters.specs.declared.token.Token.{Token};
+ghost use Rattle.craq_completions.specs.declared.token.Token.{Token};
 ghost use Rattle.craq_names.specs.declared.refusal.Refusal.{Refusal};
 ghost use Rattle.craq_seat.specs.Calls.{Called};
 ghost use Rattle.craq_seat.specs.Cells.{receipt_of};
@@ -14,11 +14,11 @@ ghost use Rattle.craq_seat.specs.declared.seat.Caller.{Caller};
 ghost use Rattle.craq_seat.specs.Numbered.{CanBeSent, numbered_from};
 ghost use Rattle.craq_sending.specs.declared.sending.Kind.TheVariants as kinds;
 ghost use Rattle.craq_sending.specs.Sent.{AreSentAs, OnlySends, entries_from, lone_position};
-ghost use Rattle.craq_workers.specs.Told.{IsReplyTo, Keeps, RefusesAsked, RefusesOwn, RefusesQueued, RefusesStep, Settles, TakesOwn, TakesQueued, TellsCallers, Waits, is_own, others_of, own_receipt, replies_to, said_by, said_to, ticket_of, waiting_after, without_memory};
+ghost use Rattle.craq_workers.specs.Replies.{IsReplyTo, Keeps, RefusesAsked, RefusesOwn, RefusesQueued, RefusesStep, Settles, TakesOwn, TakesQueued, TellsCallers, Waits, is_own, others_of, own_receipt, replies_to, said_by, said_to, ticket_of, waiting_after, without_memory};
 
+use crate::callers::WaitingCaller;
 use crate::replies::Replies;
-use crate::told::Unanswered;
-use craq_letters::{Addressee, Letterbox, Outcome, Token};
+use craq_completions::{CompletionQueue, CompletionSender, Outcome, Token};
 use craq_model::{Ask, Event, Out, Step};
 use craq_names::{Pass, Refusal, Seq, Ticket};
 use craq_node::Core;
@@ -29,14 +29,14 @@ use std::mem;
 use std::sync::{Arc, Wait};
 
 /// A desk and its callers, each of which waits for a completion.
-pub(crate) type SeatedNode<C> = Seated<C, Addressee>;
+pub(crate) type SeatedNode<C> = Seated<C, CompletionSender>;
 
 /// A queued request: the pass that its caller shows, and the place of its completion.
 #[derive(Drop)]
 pub(crate) struct QueuedAsk {
     pub ask: Ask,
     pub pass: Pass,
-    pub caller: Addressee,
+    pub caller: CompletionSender,
 }
 
 /// The outcome of a request that a node accepted: its ticket, and the reply if there is one at
@@ -138,13 +138,13 @@ pub(crate) fn sent_by_book(alloc: Global, book: &BookCell) -> Vec<Sent>
 /// the caller whose step this is.
 fn answer<R: Wait>(
     rt: &R,
-    callers: &mut Vec<Caller<Addressee>>,
+    callers: &mut Vec<Caller<CompletionSender>>,
     receipts: Vec<CallReceipt>,
     ticket: Option<Ticket>,
     replies: &mut Replies,
 ) -> Option<Outcome>
     ensures own { result ≡ option_map Ok (own_receipt ticket receipts.items) }
-    ensures told { Keeps replies.old (replies_to callers.old.items (others_of ticket receipts.items)) replies.new }
+    ensures reported { Keeps replies.old (replies_to callers.old.items (others_of ticket receipts.items)) replies.new }
     ensures others { callers.new.items ≡ waiting_after callers.old.items (others_of ticket receipts.items) }
 {
     let mut own = None;
@@ -172,11 +172,11 @@ fn is_own(ticket: &Option<Ticket>, receipt: &CallReceipt) -> bool
 /// Refuses with `Memory` the callers whose calls a step answers.
 fn give_up_step<R: Wait>(
     rt: &R,
-    callers: &mut Vec<Caller<Addressee>>,
+    callers: &mut Vec<Caller<CompletionSender>>,
     outs: &[Out],
     replies: &mut Replies,
 )
-    ensures told { Keeps replies.old (replies_to callers.old.items (without_memory outs.now)) replies.new }
+    ensures reported { Keeps replies.old (replies_to callers.old.items (without_memory outs.now)) replies.new }
     ensures others { callers.new.items ≡ waiting_after callers.old.items (without_memory outs.now) }
 {
     for out in outs {
@@ -198,7 +198,7 @@ fn finish<R: Wait, C: Core>(
     replies: &mut Replies,
 ) -> Option<Outcome>
     ensures own { result ≡ said_to ticket calls }
-    ensures told { Keeps replies.old (replies_to seated.old.callers.items (said_by calls seated.old.desk.cell.last ticket)) replies.new }
+    ensures reported { Keeps replies.old (replies_to seated.old.callers.items (said_by calls seated.old.desk.cell.last ticket)) replies.new }
     ensures others { seated.new.callers.items ≡ waiting_after seated.old.callers.items (said_by calls seated.old.desk.cell.last ticket) }
     ensures desk { seated.new.desk ≡ seated.old.desk }
 {
@@ -280,7 +280,7 @@ pub(crate) fn take_queued<R: Wait, C: Core>(
     ensures refused { result ≡ false → RefusesQueued C.represents seated.old seated.new asked.ask asked.pass asked.caller replies.old replies.new }
 {
     let QueuedAsk { ask, pass, caller } = asked;
-    let caller = Unanswered::of(caller);
+    let caller = WaitingCaller::of(caller);
     match take_ask(rt, alloc, seated, ask, pass, replies) {
         Err(refusal) => {
             replies.add(rt, caller, Err(refusal));
@@ -303,14 +303,14 @@ pub(crate) fn refuse_asked<R: Wait>(rt: &R, asked: QueuedAsk, replies: &mut Repl
         caller,
     } = asked;
     drop(ask);
-    replies.add(rt, Unanswered::of(caller), Err(Refusal::Closed));
+    replies.add(rt, WaitingCaller::of(caller), Err(Refusal::Closed));
 }
 
 /// Adds the reply to the caller of a request that was accepted, or makes the caller wait.
 fn settle<R: Wait>(
     rt: &R,
-    callers: &mut Vec<Caller<Addressee>>,
-    caller: Unanswered,
+    callers: &mut Vec<Caller<CompletionSender>>,
+    caller: WaitingCaller,
     taken: Taken,
     replies: &mut Replies,
 )
@@ -327,8 +327,8 @@ fn settle<R: Wait>(
 /// Makes the caller wait under this ticket. Out of memory, it is refused with `Memory`.
 fn wait_at<R: Wait>(
     rt: &R,
-    callers: &mut Vec<Caller<Addressee>>,
-    caller: Unanswered,
+    callers: &mut Vec<Caller<CompletionSender>>,
+    caller: WaitingCaller,
     ticket: Option<Ticket>,
     replies: &mut Replies,
 )
@@ -351,7 +351,7 @@ pub(crate) fn take_own<R: Wait, C: Core>(
     seated: &mut SeatedNode<C>,
     ask: Ask,
     pass: Pass,
-    letters: &Arc<Letterbox>,
+    completions: &Arc<CompletionQueue>,
     token: Token,
     replies: &mut Replies,
 ) -> (bool, Option<Outcome>)
@@ -364,7 +364,14 @@ pub(crate) fn take_own<R: Wait, C: Core>(
             let Taken { ticket, reply } = taken;
             let hand = match reply {
                 Some(reply) => Some(reply),
-                None => expect_letter(rt, &mut seated.callers, ticket, letters, token, replies),
+                None => expect_completion(
+                    rt,
+                    &mut seated.callers,
+                    ticket,
+                    completions,
+                    token,
+                    replies,
+                ),
             };
             (true, hand)
         }
@@ -373,21 +380,21 @@ pub(crate) fn take_own<R: Wait, C: Core>(
 
 /// Makes the caller wait for a completion under this ticket, and returns `None`. Out of memory,
 /// returns that refusal.
-fn expect_letter<R: Wait>(
+fn expect_completion<R: Wait>(
     rt: &R,
-    callers: &mut Vec<Caller<Addressee>>,
+    callers: &mut Vec<Caller<CompletionSender>>,
     ticket: Option<Ticket>,
-    letters: &Arc<Letterbox>,
+    completions: &Arc<CompletionQueue>,
     token: Token,
     replies: &mut Replies,
 ) -> Option<Outcome>
     ensures waits { result ≡ None → Waits token ticket callers.old.items callers.new.items replies.old replies.new }
-    ensures told { IfSome result (λ outcome. (outcome ≡ Err Refusal.Memory) × (callers.new.items ≡ callers.old.items) × (replies.new ≡ replies.old)) }
+    ensures reported { IfSome result (λ outcome. (outcome ≡ Err Refusal.Memory) × (callers.new.items ≡ callers.old.items) × (replies.new ≡ replies.old)) }
 {
-    match Addressee::expect(rt, letters, token) {
+    match CompletionSender::expect(rt, completions, token) {
         Err(_) => Some(Err(Refusal::Memory)),
         Ok(caller) => {
-            wait_at(rt, callers, Unanswered::of(caller), ticket, replies);
+            wait_at(rt, callers, WaitingCaller::of(caller), ticket, replies);
             None
         }
     }
@@ -401,7 +408,10 @@ fn last_ticket(step: Option<&Step>) -> Option<Ticket>
 }
 
 /// Takes all callers that wait.
-pub(crate) fn dismiss<C: Core>(alloc: Global, seated: &mut SeatedNode<C>) -> Vec<Caller<Addressee>>
+pub(crate) fn dismiss<C: Core>(
+    alloc: Global,
+    seated: &mut SeatedNode<C>,
+) -> Vec<Caller<CompletionSender>>
     ensures all { result.items ≡ seated.old.callers.items }
     ensures none { seated.new.callers.items ≡ [] }
     ensures desk { seated.new.desk ≡ seated.old.desk }

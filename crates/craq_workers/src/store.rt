@@ -1,34 +1,34 @@
 //! `Store`: starts and closes a store, stops, removes and joins nodes, ticks, and sends requests.
 ghost use Rattle.std.specs.Prelude.{◌≡◌, ◌+◌, ◌<◌, ◌≤◌, ◌==◌, ◌⊎◌, ◌↔◌, Err, IfErr, IfOk, IfSome, IsOk, MatchResult, Ok, OnErr, OnOk, Some, if◌then◌else◌, length, map, option_map, string_bytes};
-ghost use Rattle.craq_epochs.specs.Mastered.{joined, opened};
+ghost use Rattle.craq_epochs.specs.Mastered.{master_after_join, opened_master};
 ghost use Rattle.craq_names.specs.Limits.{greatest};
-ghost use Rattle.craq_held.specs.Membered.{AreMembershipsOf, IsMembershipOf};
+ghost use Rattle.craq_locked_chain.specs.Membered.{AreMembershipsOf, IsMembershipOf};
 ghost use Rattle.craq_place.specs.Plan.{IsPlan};
 ghost use Rattle.craq_model.specs.Plain.{Plain};
 ghost use Rattle.craq_seat.specs.Books.{IsBook};
 ghost use Rattle.craq_seat.specs.Cells.{receipt_of, with_inside};
 ghost use Rattle.craq_seat.specs.Kept.{IsKept};
-ghost use Rattle.craq_seat.specs.Taken.{TakesEvent, TakesTurn};
+ghost use Rattle.craq_seat.specs.Taken.{TakesEvent, TakesTransition};
 ghost use Rattle.craq_workers.specs.Asks.{IsServed};
 ghost use Rattle.craq_workers.specs.Clients.{RefusesAsk};
 ghost use Rattle.craq_workers.specs.Moves.{CanJoin, CanRemove, CanStop, IsKeptIn, IsMissed};
 ghost use Rattle.craq_workers.specs.Posts.{node_posts};
 ghost use Rattle.craq_workers.specs.Stores.{masters_of};
 
+use crate::callers::WaitingCaller;
 use crate::chain::{Chain, refuse_queued};
 use crate::client::Client;
 use crate::gate::Gate;
-use crate::node::{RunningNode, Way};
+use crate::node::{Route, RunningNode};
 use crate::opening::{Form, add_workers, open_chains, open_node};
 use crate::replies::Replies;
 use crate::shared::{Return, Shared};
 use crate::staff::Staff;
 use crate::steps::{dismiss, sent_by_book};
-use crate::told::Unanswered;
 use crate::work::{Worker, master_of, work};
+use craq_completions::{CompletionQueue, Token};
 use craq_epochs::{MEMBER_LIMIT, StopReceipt, is_among};
-use craq_held::ChainBook;
-use craq_letters::{Letterbox, Token};
+use craq_locked_chain::ChainBook;
 use craq_model::{Ask, Config, Event};
 use craq_names::{ChainId, Copied, NodeId, NodeName, Pass, Refusal, Stamp};
 use craq_node::Core;
@@ -51,7 +51,7 @@ pub struct ChainStatus {
 }
 
 /// A store that runs. It has one or two threads for each node, or one for each chain
-/// (`Gate::carried`), and one for each chain's master.
+/// (`Gate::chain_threads`), and one for each chain's master.
 ///
 /// It has no drop: `close` ends it. A contract sees the names of its chains and their masters as
 /// they were opened, by id, and whether it keeps journals. It does not see what is behind locks and
@@ -66,12 +66,12 @@ pub struct Store<C: Core, G: Gate> {
 
 impl<C: Core, G: Gate> Model for Store<C, G> {
     ghost use Rattle.std.specs.Prelude.{map, string_bytes};
-    ghost use Rattle.craq_epochs.specs.Mastered.{opened};
+    ghost use Rattle.craq_epochs.specs.Mastered.{opened_master};
     ghost use Rattle.craq_workers.specs.Stores.{Stored};
 
     ghost Value = { Stored };
 
-    ghost view = { λ s. record { names = map (λ c. string_bytes c.name) s.shared.value.chains.items; masters = map (λ c. opened c.id c.first.members) s.shared.value.chains.items; journals = s.form.journal } };
+    ghost view = { λ s. record { names = map (λ c. string_bytes c.name) s.shared.value.chains.items; masters = map (λ c. opened_master c.id c.first.members) s.shared.value.chains.items; journals = s.form.journal } };
 }
 
 /// Returns the status of a chain. Fails when out of memory, and if the lock holds the master of
@@ -82,7 +82,7 @@ fn status_of<R: Wait, C: Core>(
     chain: &Chain<C>,
 ) -> Result<ChainStatus, AllocError>
     ensures name { IfOk result (λ status. string_bytes status.name ≡ string_bytes chain.now.name) }
-    ensures config { IfOk result (λ status. IsMembershipOf (opened chain.now.id chain.now.first.members) status.config) }
+    ensures config { IfOk result (λ status. IsMembershipOf (opened_master chain.now.id chain.now.first.members) status.config) }
 {
     let book = chain.book.lock(rt);
     let cell = book.cell();
@@ -103,7 +103,7 @@ fn statuses_of<R: Wait, C: Core>(
     chains: &[Chain<C>],
 ) -> Result<Vec<ChainStatus>, AllocError>
     ensures names { IfOk result (λ statuses. map (λ s. string_bytes s.name) statuses.items ≡ map (λ c. string_bytes c.name) chains.now) }
-    ensures members { IfOk result (λ statuses. AreMembershipsOf (map (λ c. opened c.id c.first.members) chains.now) (map (λ s. s.config) statuses.items)) }
+    ensures members { IfOk result (λ statuses. AreMembershipsOf (map (λ c. opened_master c.id c.first.members) chains.now) (map (λ s. s.config) statuses.items)) }
 {
     let mut statuses = Vec::new(alloc);
     for chain in chains {
@@ -143,12 +143,12 @@ fn next(stamp: Stamp) -> Result<Stamp, Refusal>
 
 /// Tests whether the master would take this node in. Refused with `UsedId` if the id is 0 or ever
 /// was a member, `ChainFull` if there are 8 members, and `Exhausted` in the last epoch.
-#[tactic(auto, unfolding(craq_epochs::specs::Mastered::joined))]
+#[tactic(auto, unfolding(craq_epochs::specs::Mastered::master_after_join))]
 fn test_join(book: &BookCell, node: NodeId) -> Result<(), Refusal>
     ensures node { OnOk result (1 ≤ node) }
     ensures refused { IfErr result (λ e. CanJoin e) }
     ensures zero { node ≡ 0 → result ≡ Err Refusal.UsedId }
-    ensures joins { MatchResult result (λ _. IsOk (joined book.now.inside node)) (λ e. joined book.now.inside node ≡ Err e) }
+    ensures joins { MatchResult result (λ _. IsOk (master_after_join book.now.inside node)) (λ e. master_after_join book.now.inside node ≡ Err e) }
 {
     if node.get() == 0 || is_among(book.used(), node) {
         return Err(Refusal::UsedId);
@@ -205,7 +205,7 @@ fn stop_node<R: Wait, C: Core>(
     node.halt();
     let mut replies = Replies::new(alloc);
     for caller in callers {
-        replies.add(rt, Unanswered::waited(caller), Err(Refusal::Stopped));
+        replies.add(rt, WaitingCaller::waited(caller), Err(Refusal::Stopped));
     }
     replies.tell(rt);
     Ok(receipt)
@@ -213,7 +213,7 @@ fn stop_node<R: Wait, C: Core>(
 
 /// Takes the master's step that lets a node join. Returns the receipt of the step.
 fn join_book(alloc: Global, book: &mut ChainBook, id: NodeId) -> Result<Receipt, Refusal>
-    ensures step { TakesTurn book.old book.new (BookEvent.Join id) 0 result }
+    ensures step { TakesTransition book.old book.new (BookEvent.Join id) 0 result }
     ensures master { IfOk result (λ receipt. receipt.node ≡ 0) }
     ensures refused { IfErr result (λ e. CanJoin e) }
 {
@@ -229,7 +229,7 @@ fn remove_from_book(
     stopped: StopReceipt,
     stop: Receipt,
 ) -> Result<Receipt, Refusal>
-    ensures step { TakesTurn book.old book.new (BookEvent.Remove stopped stop) 0 result }
+    ensures step { TakesTransition book.old book.new (BookEvent.Remove stopped stop) 0 result }
     ensures master { IfOk result (λ receipt. receipt.node ≡ 0) }
     ensures refused { IfErr result (λ e. IsKeptIn e) }
 {
@@ -260,7 +260,7 @@ impl<C: Core, G: Gate> Store<C, G> {
     /// After `None` exactly one completion with this token comes into the queue: with the receipt,
     /// or with `Stopped`, `Closed` or `Memory`, or, if the request was queued, with the node's
     /// refusal. Of a receipt that comes so nothing is proved but that a desk made it;
-    /// `craq_calls::answer_of_call` tells whether it is of this call. `few` says that the caller
+    /// `craq_pending_calls::answer_of_call` tells whether it is of this call. `light_load` says that the caller
     /// has few requests, and may take their steps and run the chain's nodes itself.
     ///
     /// Refused as `Client::call` is, and then no completion comes: with `UnknownChain` exactly if
@@ -271,9 +271,9 @@ impl<C: Core, G: Gate> Store<C, G> {
         node: &NodeName,
         ask: &Ask,
         pass: Pass,
-        letters: &Arc<Letterbox>,
+        completions: &Arc<CompletionQueue>,
         token: Token,
-        few: bool,
+        light_load: bool,
     ) -> Result<Option<CallReceipt>, Refusal>
         ensures unknown { (result ≡ Err Refusal.UnknownChain) ↔ (length self.now.names ≤ node.now.chain) }
         ensures refused { IfErr result (λ e. RefusesAsk (length self.now.names) node.now ask.now e) }
@@ -281,9 +281,9 @@ impl<C: Core, G: Gate> Store<C, G> {
         ensures left { IfErr result (λ e. (e ≡ Refusal.UnknownChain) ⊎ IsServed C.represents ask.now pass token (Some (Err e)) ⊎ IsMissed e) }
     {
         let chain = self.shared.chain(node.chain)?;
-        let back = Return { letters, token };
+        let back = Return { completions, token };
         self.shared
-            .submit(rt, self.alloc, chain, node, ask, pass, back, few)
+            .submit(rt, self.alloc, chain, node, ask, pass, back, light_load)
     }
 
     /// Ticks all chains: each master, and each node that runs, sends again what others may lack.
@@ -343,7 +343,7 @@ impl<C: Core + Send + 'static, G: Gate + Send + Sync + 'static> Store<C, G> {
         let chains = open_chains(alloc, plan, form, &alive, &mut workers)?;
         let shared = Shared {
             gate,
-            carried: form.staff.is_per_chain(),
+            chain_threads: form.staff.is_per_chain(),
             in_place: form.staff != Staff::TwoPerNode,
             chains,
         };
@@ -420,7 +420,7 @@ impl<C: Core + Send + 'static, G: Gate + Send + Sync + 'static> Store<C, G> {
         let sent = sent_by_book(self.alloc, book.cell());
         drop(book);
         place.retire(rt, node, self.form.journal);
-        place.bell.change();
+        place.wake_up.change();
         refuse_queued(rt, &member, &Refusal::Stopped);
         self.announce(rt, chain, sent);
         Ok(receipt)
@@ -450,13 +450,13 @@ impl<C: Core + Send + 'static, G: Gate + Send + Sync + 'static> Store<C, G> {
         test_join(book.cell(), node)?;
         let name = NodeName { chain, node };
         let stamp = next(book.cell().stamp())?;
-        let way = open_node(self.alloc, &name, None, self.form.journal, stamp)?;
+        let route = open_node(self.alloc, &name, None, self.form.journal, stamp)?;
         let mut hired = Vec::with_capacity(self.alloc, 2)?;
-        match self.join_opened(rt, place, &mut book, node, way, &mut hired) {
+        match self.join_opened(rt, place, &mut book, node, route, &mut hired) {
             Ok(receipt) => {
                 let sent = sent_by_book(self.alloc, book.cell());
                 drop(book);
-                place.bell.change();
+                place.wake_up.change();
                 self.announce(&rt, chain, sent);
                 Ok(receipt)
             }
@@ -474,15 +474,15 @@ impl<C: Core + Send + 'static, G: Gate + Send + Sync + 'static> Store<C, G> {
         &self,
         rt: R,
         place: &Chain<C>,
-        way: &Way<C>,
+        route: &Route<C>,
         staff: Staff,
         hired: &mut Vec<JoinHandle<()>>,
     ) -> Result<(), Refusal>
         ensures refused { IfErr result (λ e. (e ≡ Refusal.Closed) ⊎ (e ≡ Refusal.Memory)) }
-        ensures hired { OnOk result (length hired.new.items ≡ length hired.old.items + length (node_posts staff (option_map (λ n. n.value.name) way.now.node))) }
+        ensures hired { OnOk result (length hired.new.items ≡ length hired.old.items + length (node_posts staff (option_map (λ n. n.value.name) route.now.node))) }
     {
         let mut workers = Vec::new(self.alloc);
-        add_workers(way, staff, &mut workers)?;
+        add_workers(route, staff, &mut workers)?;
         for worker in workers {
             hired.reserve(1)?;
             hired.push(hire(rt, self.alloc, &self.shared, worker, place.alive(&rt)?)?)?;
@@ -499,17 +499,17 @@ impl<C: Core + Send + 'static, G: Gate + Send + Sync + 'static> Store<C, G> {
         place: &Chain<C>,
         book: &mut ChainBook,
         id: NodeId,
-        way: Way<C>,
+        route: Route<C>,
         hired: &mut Vec<JoinHandle<()>>,
     ) -> Result<Receipt, Refusal>
-        ensures step { OnOk result (TakesTurn book.old book.new (BookEvent.Join id) 0 result) }
+        ensures step { OnOk result (TakesTransition book.old book.new (BookEvent.Join id) 0 result) }
         ensures refused { IfErr result (λ e. CanJoin e) }
         ensures master { IfOk result (λ receipt. receipt.node ≡ 0) }
     {
-        self.hire_workers(rt, place, &way, self.form.staff, hired)?;
+        self.hire_workers(rt, place, &route, self.form.staff, hired)?;
         place.make_room(&rt)?;
         let receipt = join_book(self.alloc, book, id)?;
-        place.add(&rt, way)?;
+        place.add(&rt, route)?;
         Ok(receipt)
     }
 

@@ -1,7 +1,7 @@
 //! `Unsent`: the entries that a batch of a node's steps holds back, to send them together; for
-//! `turn`.
+//! `batch`.
 ghost use Rattle.std.specs.Prelude.{◌≡◌};
-ghost use Rattle.craq_workers.specs.Turns.{after_another, with_entry};
+ghost use Rattle.craq_workers.specs.Batches.{after_another, with_entry};
 
 use craq_names::Seq;
 

@@ -2,13 +2,13 @@
 //! `store` makes.
 ghost use Rattle.std.specs.Prelude.{◌≡◌};
 
-use crate::carrying::carry;
+use crate::batch::NodeBatch;
 use crate::chain::Chain;
+use crate::chain_thread::run_chain_thread;
 use crate::gate::{Gate, Work};
 use crate::node::{RunningNode, Waiting};
 use crate::shared::Shared;
 use crate::steps::sent_by_book;
-use crate::turn::Turn;
 use craq_names::{ChainId, NodeId, NodeName, Pass};
 use craq_node::Core;
 use craq_seat::BookEvent;
@@ -25,7 +25,7 @@ pub(crate) enum Worker<C: Core> {
     /// Takes what arrives at a node, and its ticks.
     Links(Arc<RunningNode<C>>),
     /// Takes what waits at the nodes of a chain, one batch after another.
-    Carrier(ChainId),
+    ChainThread(ChainId),
     /// Takes the ticks of a chain's master.
     Master(ChainId, Receiver<()>),
 }
@@ -42,7 +42,7 @@ pub(crate) fn work<R: Wait, C: Core, G: Gate>(
     match worker {
         Worker::Asks(node) => take_asks(rt, alloc, &shared, &node),
         Worker::Links(node) => take_links(rt, alloc, &shared, &node),
-        Worker::Carrier(chain) => carry(rt, alloc, &shared, chain),
+        Worker::ChainThread(chain) => run_chain_thread(rt, alloc, &shared, chain),
         Worker::Master(chain, ticks) => take_ticks(rt, alloc, &shared, chain, &ticks),
     }
     drop(shared);
@@ -59,7 +59,7 @@ fn take_asks<R: Wait, C: Core, G: Gate>(
         let Ok(asked) = node.queues.asks.recv(rt) else {
             break;
         };
-        shared.serve(rt, alloc, node, asked);
+        shared.serve_queued(rt, alloc, node, asked);
     }
 }
 
@@ -90,10 +90,10 @@ fn deliver<R: Wait, C: Core, G: Gate>(
     waiting: Waiting,
     count: u64,
 ) {
-    let mut turn = Turn::begin(alloc, shared, node, node.seat.lock(rt), false);
+    let mut batch = NodeBatch::begin(alloc, shared, node, node.seat.lock(rt), false);
     shared.gate.within(node.name, Work::Deliveries, count);
-    turn.take_brought(rt, waiting);
-    turn.end(rt);
+    batch.take_brought(rt, waiting);
+    batch.end(rt);
 }
 
 fn take_ticks<R: Wait, C: Core, G: Gate>(

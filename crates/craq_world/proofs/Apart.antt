@@ -10,8 +10,8 @@ use Rattle.craq_names.specs.declared.refusal.Refusal.TheVariants.{Memory}
 use Rattle.craq_runs.specs.Chain.{Progress, chain_step}
 use Rattle.craq_runs.specs.declared.run.Move.{Move}
 use Rattle.craq_runs.specs.declared.run.Taken.{Taken}
-use Rattle.craq_chain.specs.Chained.{Chained, after_taking, chain_of, moved, opened}
-use Rattle.craq_world.specs.Apart.{Execution, HadMemory, chain_after, chosen_in, given_to, moves_of, taken_by, taken_of}
+use Rattle.craq_chain.specs.Chained.{Chained, after_taking, chain_of_run, moved, opened_chain}
+use Rattle.craq_world.specs.Apart.{Execution, HadMemory, running_chain_after, chosen_in, given_to, moves_of, taken_by, taken_of}
 use Rattle.craq_world.specs.Worlds.{GivesWorld, RunsTo, move_of, opened_from, with_chain, world_move}
 use Rattle.craq_world.proofs.Chains.{set_other}
 
@@ -48,23 +48,23 @@ other_move ws mid c id m h n = other_at ws mid c id m (slice_get ws c) h n
 abbrev after_own : Bool → Chained → Move → Chained
 after_own own w m = if own then result_unwrap_or (after_taking w m) w else w
 
-told_apart : (c id : ℕ) → (c == id) ≡ false → id ≢ c
-told_apart c id f e = grind arith
+reported_apart : (c id : ℕ) → (c == id) ≡ false → id ≢ c
+reported_apart c id f e = grind arith
 
 one_taken : (old mid : List Chained) (m : ℕ × Move) (r : Result ℕ Refusal) (id : ℕ) (w : Chained) (b : Bool) → (m.0 == id) ≡ b → GivesWorld old mid m.0 m.1 r → slice_get old id ≡ Some w → slice_get mid id ≡ Some (after_own (b && is_ok r) w m.1)
 one_taken old mid m (Ok n) id w true t g e =
     let same : m.0 ≡ id = eqb-true m.0 id t in
     own_move old mid id m.1 w (subst (λ c. world_move old c m.1 ≡ Ok mid) same g.0) e
-one_taken old mid m (Ok n) id w false t g e = other_move old mid m.0 id m.1 g.0 (told_apart m.0 id t) ∙ e
+one_taken old mid m (Ok n) id w false t g e = other_move old mid m.0 id m.1 g.0 (reported_apart m.0 id t) ∙ e
 one_taken old mid m (Err f) id w true t g e = subst (λ x. slice_get x id ≡ Some w) (sym g.1) e
 one_taken old mid m (Err f) id w false t g e = subst (λ x. slice_get x id ≡ Some w) (sym g.1) e
 
-after_one : (own : Bool) (w : Chained) (m : Move) (ms : List Move) → chain_after (after_own own w m) ms ≡ chain_after w (if own then m ∷ ms else ms)
+after_one : (own : Bool) (w : Chained) (m : Move) (ms : List Move) → running_chain_after (after_own own w m) ms ≡ running_chain_after w (if own then m ∷ ms else ms)
 after_one true w m ms = refl
 after_one false w m ms = refl
 
 -- each chain is the result of its taken moves
-pub runs_apart : (old : List Chained) (ms : List (ℕ × Move)) (rs : List (Result ℕ Refusal)) (new : List Chained) (id : ℕ) (w : Chained) → RunsTo old ms rs new → slice_get old id ≡ Some w → slice_get new id ≡ Some (chain_after w (taken_of id ms rs))
+pub runs_apart : (old : List Chained) (ms : List (ℕ × Move)) (rs : List (Result ℕ Refusal)) (new : List Chained) (id : ℕ) (w : Chained) → RunsTo old ms rs new → slice_get old id ≡ Some w → slice_get new id ≡ Some (running_chain_after w (taken_of id ms rs))
 runs_apart old [] [] new id w h e = subst (λ x. slice_get x id ≡ Some w) (sym h) e
 runs_apart old [] (r ∷ rs) new id w h e = absurd h
 runs_apart old (m ∷ ms) [] new id w h e = absurd h
@@ -85,7 +85,7 @@ one_given : (old mid : List Chained) (m : ℕ × Move) (r : Result ℕ Refusal) 
 one_given old mid m (Ok n) id w true t g had e =
     let same : m.0 ≡ id = eqb-true m.0 id t in
     own_move old mid id m.1 w (subst (λ c. world_move old c m.1 ≡ Ok mid) same g.0) e
-one_given old mid m (Ok n) id w false t g had e = other_move old mid m.0 id m.1 g.0 (told_apart m.0 id t) ∙ e
+one_given old mid m (Ok n) id w false t g had e = other_move old mid m.0 id m.1 g.0 (reported_apart m.0 id t) ∙ e
 one_given old mid m (Err f) id w true t g had e =
     let same : m.0 ≡ id = eqb-true m.0 id t in
     let wanted : world_move old m.0 m.1 ≡ Err f = elim g.0 [ inl memory ↦ absurd (had (ap Err memory.0)) | inr is ↦ is ] in
@@ -93,7 +93,7 @@ one_given old mid m (Err f) id w true t g had e =
     subst (λ x. slice_get x id ≡ Some w) (sym g.1) e ∙ ap Some (sym stays)
 one_given old mid m (Err f) id w false t g had e = subst (λ x. slice_get x id ≡ Some w) (sym g.1) e
 
-pub runs_given : (old : List Chained) (ms : List (ℕ × Move)) (rs : List (Result ℕ Refusal)) (new : List Chained) (id : ℕ) (w : Chained) → RunsTo old ms rs new → AllByRecursion (λ r. r ≢ Err Memory) rs → slice_get old id ≡ Some w → slice_get new id ≡ Some (chain_after w (moves_of id ms))
+pub runs_given : (old : List Chained) (ms : List (ℕ × Move)) (rs : List (Result ℕ Refusal)) (new : List Chained) (id : ℕ) (w : Chained) → RunsTo old ms rs new → AllByRecursion (λ r. r ≢ Err Memory) rs → slice_get old id ≡ Some w → slice_get new id ≡ Some (running_chain_after w (moves_of id ms))
 runs_given old [] [] new id w h had e = subst (λ x. slice_get x id ≡ Some w) (sym h) e
 runs_given old [] (r ∷ rs) new id w h had e = absurd h
 runs_given old (m ∷ ms) [] new id w h had e = absurd h
@@ -104,22 +104,22 @@ runs_given old (m ∷ ms) (r ∷ rs) new id w h had e =
 
 -- ---- opened worlds
 
-opened_at : (first : ℕ) (lists : List (List ℕ)) (i : ℕ) (members : List ℕ) → slice_get lists i ≡ Some members → slice_get (opened_from first lists) i ≡ Some (opened (first + i) members)
+opened_at : (first : ℕ) (lists : List (List ℕ)) (i : ℕ) (members : List ℕ) → slice_get lists i ≡ Some members → slice_get (opened_from first lists) i ≡ Some (opened_chain (first + i) members)
 opened_at first [] i members e = cc
 opened_at first (l ∷ lists) zero members e =
-    let same : l ≡ members = cc in ap (λ ms. Some (opened first ms)) same ∙ ap (λ n. Some (opened n members)) (omega arith)
-opened_at first (l ∷ lists) (suc i) members e = opened_at (first + 1) lists i members e ∙ ap (λ n. Some (opened n members)) (omega arith)
+    let same : l ≡ members = cc in ap (λ ms. Some (opened_chain first ms)) same ∙ ap (λ n. Some (opened_chain n members)) (omega arith)
+opened_at first (l ∷ lists) (suc i) members e = opened_at (first + 1) lists i members e ∙ ap (λ n. Some (opened_chain n members)) (omega arith)
 
-opened_in : (lists : List (List ℕ)) (id : ℕ) (members : List ℕ) → slice_get lists id ≡ Some members → slice_get (opened_from 0 lists) id ≡ Some (opened id members)
-opened_in lists id members e = opened_at 0 lists id members e ∙ ap (λ n. Some (opened n members)) (omega arith)
+opened_in : (lists : List (List ℕ)) (id : ℕ) (members : List ℕ) → slice_get lists id ≡ Some members → slice_get (opened_from 0 lists) id ≡ Some (opened_chain id members)
+opened_in lists id members e = opened_at 0 lists id members e ∙ ap (λ n. Some (opened_chain n members)) (omega arith)
 
-pub as_taken : (x : Execution) (id : ℕ) (members : List ℕ) → slice_get x.lists id ≡ Some members → slice_get x.chains id ≡ Some (chain_after (opened id members) (taken_by x id))
+pub as_taken : (x : Execution) (id : ℕ) (members : List ℕ) → slice_get x.lists id ≡ Some members → slice_get x.chains id ≡ Some (running_chain_after (opened_chain id members) (taken_by x id))
 as_taken x id members e =
-    runs_apart (opened_from 0 x.lists) x.moves x.results x.chains id (opened id members) x.ran (opened_in x.lists id members e)
+    runs_apart (opened_from 0 x.lists) x.moves x.results x.chains id (opened_chain id members) x.ran (opened_in x.lists id members e)
 
-pub as_given : (x : Execution) (id : ℕ) (members : List ℕ) → slice_get x.lists id ≡ Some members → HadMemory x → slice_get x.chains id ≡ Some (chain_after (opened id members) (given_to x id))
+pub as_given : (x : Execution) (id : ℕ) (members : List ℕ) → slice_get x.lists id ≡ Some members → HadMemory x → slice_get x.chains id ≡ Some (running_chain_after (opened_chain id members) (given_to x id))
 as_given x id members e had =
-    runs_given (opened_from 0 x.lists) x.moves x.results x.chains id (opened id members) x.ran had (opened_in x.lists id members e)
+    runs_given (opened_from 0 x.lists) x.moves x.results x.chains id (opened_chain id members) x.ran had (opened_in x.lists id members e)
 
 -- ---- the moves of a run
 
@@ -136,7 +136,7 @@ one_more : (old mid : List Chained) (m : ℕ × Move) (r : Result ℕ Refusal) (
 one_more old mid m (Ok n) id w true t g e =
     let same : m.0 ≡ id = eqb-true m.0 id t in
     let own : world_move old id m.1 ≡ Ok mid = subst (λ c. world_move old c m.1 ≡ Ok mid) same g.0 in
-    taken_more old mid id w m.1 (chain_step (chain_of w) m.1) (subst (λ o. move_of old id m.1 o ≡ Ok mid) e own)
+    taken_more old mid id w m.1 (chain_step (chain_of_run w) m.1) (subst (λ o. move_of old id m.1 o ≡ Ok mid) e own)
 one_more old mid m (Ok n) id w false t g e = sym (append-nil (chosen_in w.run))
 one_more old mid m (Err f) id w true t g e = sym (append-nil (chosen_in w.run))
 one_more old mid m (Err f) id w false t g e = sym (append-nil (chosen_in w.run))
@@ -162,4 +162,4 @@ runs_on old (m ∷ ms) (r ∷ rs) new id w v h e f =
 
 pub just_taken : (x : Execution) (id : ℕ) (members : List ℕ) (w : Chained) → slice_get x.lists id ≡ Some members → slice_get x.chains id ≡ Some w → chosen_in w.run ≡ taken_by x id
 just_taken x id members w e f =
-    runs_on (opened_from 0 x.lists) x.moves x.results x.chains id (opened id members) w x.ran (opened_in x.lists id members e) f
+    runs_on (opened_from 0 x.lists) x.moves x.results x.chains id (opened_chain id members) w x.ran (opened_in x.lists id members e) f

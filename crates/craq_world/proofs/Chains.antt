@@ -12,10 +12,10 @@ use Rattle.craq_runs.specs.Chain.{Progress, chain_step}
 use Rattle.craq_runs.specs.Explain.{explain}
 use Rattle.craq_runs.specs.Typed.{IsTypedRunOf}
 use Rattle.craq_protocol.specs.Promises.{IsPrefix}
-use Rattle.craq_updates.specs.Genuine.{IsBeginning}
+use Rattle.craq_updates.specs.ValidEntries.{IsBeginning}
 use Rattle.craq_updates.proofs.Explained.{begins}
 use Rattle.craq_promise.proofs.Promised.{explained}
-use Rattle.craq_chain.specs.Chained.{Chained, HasFound, chain_of, moved, GivesMove, opened, with_move}
+use Rattle.craq_chain.specs.Chained.{Chained, HasFound, chain_of_run, moved, GivesMove, opened_chain, with_move}
 use Rattle.craq_chain_invariants.proofs.Invariants.{runs_keep_invariants}
 use Rattle.craq_world.specs.Promise.{AreExplained, BeginsAs, NothingIsTakenBack}
 use Rattle.craq_world.specs.Worlds.{AreRunning, GivesWorld, HasFoundIn, opened_from, RunsTo, moves_in}
@@ -112,7 +112,7 @@ moved_id w v m (Ok x) h = let same = ap (λ (z : Result Chained Refusal). chain_
 moved_id w v m (Err e) h = cc
 
 pub kept_id : (w v : Chained) (m : Move) (r : Result ℕ Refusal) → GivesMove w v m r → v.chain ≡ w.chain
-kept_id w v m (Ok n) h = moved_id w v m (chain_step (chain_of w) m) h.0
+kept_id w v m (Ok n) h = moved_id w v m (chain_step (chain_of_run w) m) h.0
 kept_id w v m (Err e) h = ap (λ (x : Chained). x.chain) h.1
 
 -- the explanation of the chain before the move stays
@@ -124,7 +124,7 @@ moved_begins w v m (Ok x) h typed =
 moved_begins w v m (Err e) h typed = cc
 
 begins_after : (w v : Chained) (m : Move) (r : Result ℕ Refusal) → GivesMove w v m r → IsTypedRunOf v.chain v.run → BeginsAs w v
-begins_after w v m (Ok n) h typed = moved_begins w v m (chain_step (chain_of w) m) h.0 typed
+begins_after w v m (Ok n) h typed = moved_begins w v m (chain_step (chain_of_run w) m) h.0 typed
 begins_after w v m (Err e) h typed = subst (BeginsAs w) (sym h.1) (begins_self (explain w.chain w.run))
 
 -- the move of a chain is the world's
@@ -137,7 +137,7 @@ world_gives ws i w v m (Err e) p h = (
 )
 
 -- the search in the chain of an id is the world's
-pub found_in : (ws : List Chained) (id : ℕ) (m : Move) (w : Chained) (r : Result Unit Refusal) → slice_get ws id ≡ Some w → HasFound (chain_of w) m r → HasFoundIn ws id m r
+pub found_in : (ws : List Chained) (id : ℕ) (m : Move) (w : Chained) (r : Result Unit Refusal) → slice_get ws id ≡ Some w → HasFound (chain_of_run w) m r → HasFoundIn ws id m r
 unfolding chain_step
 found_in ws id m w (Ok done) at h = rw at h
 found_in ws id m w (Err e) at h = rw (at, h) refl
@@ -168,19 +168,19 @@ opened_running id [] h = tt
 opened_running id (members ∷ lists) h =
     (refl, record { run_of = record { members = h.0; moves = tt }; typed = tt }, opened_running (id + 1) lists h.1)
 
-pub opened_push : (id : ℕ) (lists : List (List ℕ)) (members : List ℕ) → opened_from id (lists ++ members ∷ []) ≡ opened_from id lists ++ opened (id + length lists) members ∷ []
-opened_push id [] members = ap (λ n. opened n members ∷ []) (omega arith)
-opened_push id (first ∷ lists) members = ap (λ ws. opened id first ∷ ws) (opened_push (id + 1) lists members ∙ ap (λ n. opened_from (id + 1) lists ++ opened n members ∷ []) (omega arith))
+pub opened_push : (id : ℕ) (lists : List (List ℕ)) (members : List ℕ) → opened_from id (lists ++ members ∷ []) ≡ opened_from id lists ++ opened_chain (id + length lists) members ∷ []
+opened_push id [] members = ap (λ n. opened_chain n members ∷ []) (omega arith)
+opened_push id (first ∷ lists) members = ap (λ ws. opened_chain id first ∷ ws) (opened_push (id + 1) lists members ∙ ap (λ n. opened_from (id + 1) lists ++ opened_chain n members ∷ []) (omega arith))
 
 taken : (i : ℕ) (lists : List (List ℕ)) → i < length lists → 0 + length (take i lists) ≡ i
 taken i lists h = omega (arith, length-take i lists)
 
 -- one more list is opened
-pub opened_more : (lists : List (List ℕ)) (i chain : ℕ) (members : List ℕ) → i < length lists → members ≡ slice_index_or lists i members → chain ≡ i → opened_from 0 (take (i + 1) lists) ≡ opened_from 0 (take i lists) ++ opened chain members ∷ []
+pub opened_more : (lists : List (List ℕ)) (i chain : ℕ) (members : List ℕ) → i < length lists → members ≡ slice_index_or lists i members → chain ≡ i → opened_from 0 (take (i + 1) lists) ≡ opened_from 0 (take i lists) ++ opened_chain chain members ∷ []
 opened_more lists i chain members within is same =
     ap (opened_from 0) (take_more lists i members within ∙ ap (λ m. take i lists ++ m ∷ []) (sym is))
     ∙ opened_push 0 (take i lists) members
-    ∙ ap (λ n. opened_from 0 (take i lists) ++ opened n members ∷ []) (taken i lists within ∙ sym same)
+    ∙ ap (λ n. opened_from 0 (take i lists) ++ opened_chain n members ∷ []) (taken i lists within ∙ sym same)
 
 -- one more move was taken or refused
 pub runs_push : (a b c : List Chained) (ms : List (ℕ × Move)) (rs : List (Result ℕ Refusal)) (m : ℕ × Move) (r : Result ℕ Refusal) → RunsTo a ms rs b → GivesWorld b c m.0 m.1 r → RunsTo a (ms ++ m ∷ []) (rs ++ r ∷ []) c

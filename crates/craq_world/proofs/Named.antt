@@ -17,16 +17,16 @@ use Rattle.craq_model.specs.declared.ask.Event.{Event}
 use Rattle.craq_model.specs.declared.ask.Event.TheVariants as events
 use Rattle.craq_model.specs.declared.message.LinkMessage.{LinkMessage}
 use Rattle.craq_model.specs.declared.step.Step.{Step}
-use Rattle.craq_model.specs.Asks.{asked_objects, accepted_ask_turn, ask_turn}
+use Rattle.craq_model.specs.Asks.{asked_objects, accepted_ask_transition, ask_transition}
 use Rattle.craq_model.specs.Members.{is_member, without}
-use Rattle.craq_model.specs.Node.{node_step, event_turn}
+use Rattle.craq_model.specs.Node.{node_step, event_transition}
 use Rattle.craq_model.specs.Plain.{Plain, opening_member, opening_joined}
-use Rattle.craq_model.specs.Settle.{Turn}
+use Rattle.craq_model.specs.Settle.{Transition}
 use Rattle.craq_runs.specs.declared.run.Move.{Move}
 use Rattle.craq_runs.specs.declared.run.Move.TheVariants as moves
 use Rattle.craq_runs.specs.declared.run.Run.{Run}
 use Rattle.craq_runs.specs.declared.run.Taken.{Taken}
-use Rattle.craq_runs.specs.Chain.{Chain, Progress, node_at, message_at, config_progress, next_epoch, with_node, is_running, turn_progress, node_progress, arrival_progress, removal_progress, join_progress, move_progress, counted_progress, numbers_left, sent_in, opening_chain, chain_step}
+use Rattle.craq_runs.specs.Chain.{Chain, Progress, node_at, message_at, config_progress, next_epoch, with_node, is_running, transition_progress, node_progress, arrival_progress, removal_progress, join_progress, move_progress, counted_progress, numbers_left, sent_in, opening_chain, chain_step}
 use Rattle.craq_runs.specs.Runs.{IsRunOf, progressed, Takes, AreTaken, after_move}
 use Rattle.craq_runs.specs.Typed.{AreOfType, IsAskOfType, IsOfType, IsMoveOfType}
 use Rattle.craq_laws.proofs.Names.{name_kept}
@@ -51,13 +51,13 @@ by_test false Q x y h k = k
 unless : (chain : ℕ) (b : Bool) (e : Refusal) (r : Result Progress Refusal) → StaysOf chain r → StaysOf chain (cond b (Err e) r)
 unless chain b e r h = by_test b (StaysOf chain) (Err e) r tt h
 
-turn_stays : (chain : ℕ) (c : Chain) (p : Plain) (r : Result Turn Refusal) → IsOf chain c → p.name.chain ≡ chain → ((t : Turn) → r ≡ Ok t → t.0.name ≡ p.name) → StaysOf chain (turn_progress c r)
-turn_stays chain c p (Ok t) h own keeps = (h.0, set_names chain c.nodes t.0 h.1 (ap (λ (n : NodeName). n.chain) (keeps t refl) ∙ own))
-turn_stays chain c p (Err e) h own keeps = tt
+transition_stays : (chain : ℕ) (c : Chain) (p : Plain) (r : Result Transition Refusal) → IsOf chain c → p.name.chain ≡ chain → ((t : Transition) → r ≡ Ok t → t.0.name ≡ p.name) → StaysOf chain (transition_progress c r)
+transition_stays chain c p (Ok t) h own keeps = (h.0, set_names chain c.nodes t.0 h.1 (ap (λ (n : NodeName). n.chain) (keeps t refl) ∙ own))
+transition_stays chain c p (Err e) h own keeps = tt
 
 node_stays : (chain : ℕ) (c : Chain) (id : ℕ) (o : Option Plain) (e : Event) → node_at c.nodes id ≡ o → IsOf chain c → StaysOf chain (node_progress c o e)
 node_stays chain c id None e at h = tt
-node_stays chain c id (Some p) e at h = turn_stays chain c p (node_step p e) h (own_name chain id c.nodes p h.1 at) (λ t does. name_kept p t.0 e t.1 does)
+node_stays chain c id (Some p) e at h = transition_stays chain c p (node_step p e) h (own_name chain id c.nodes p h.1 at) (λ t does. name_kept p t.0 e t.1 does)
 
 arrival_stays : (chain : ℕ) (c : Chain) (o : Option LinkMessage) → IsOf chain c → StaysOf chain (arrival_progress c o)
 arrival_stays chain c None h = tt
@@ -135,20 +135,20 @@ unfolding all_of_chain
 first_is chain [] some all = absurd (omega (arith, some))
 first_is chain (o ∷ os) some all = eqb-true o.chain chain (and_parts (o.chain == chain) _ all).0
 
-ask_is : (p : Plain) (ask : Ask) (t : Turn) → ask_turn p ask ≡ Ok t → IsAskOfType ask → chain_of_first (asked_objects ask) ≡ p.name.chain
-unfolding ask_turn
+ask_is : (p : Plain) (ask : Ask) (t : Transition) → ask_transition p ask ≡ Ok t → IsAskOfType ask → chain_of_first (asked_objects ask) ≡ p.name.chain
+unfolding ask_transition
 ask_is p ask t does type =
     let here : Bool = all_of_chain p.name.chain (asked_objects ask) in
-    let a : _ = refused (not p.ready) refusals.NotReady (cond (not here) (Err refusals.TwoChains) (accepted_ask_turn p ask)) does in
-    let b : _ = refused (not here) refusals.TwoChains (accepted_ask_turn p ask) a.1 in
+    let a : _ = refused (not p.ready) refusals.NotReady (cond (not here) (Err refusals.TwoChains) (accepted_ask_transition p ask)) does in
+    let b : _ = refused (not here) refusals.TwoChains (accepted_ask_transition p ask) a.1 in
     first_is p.name.chain (asked_objects ask) (some_asked ask type) (not-false here b.0)
 
 asked_at : (chain : ℕ) (c : Chain) (node : ℕ) (ask : Ask) (x : Progress) → IsOf chain c → chain_step c (moves.Ask node ask) ≡ Ok x → IsAskOfType ask → chain_of_first (asked_objects ask) ≡ chain
 asked_at chain c node ask x h does type =
     ⊎_elim
     (λ (a : AtNode c (moves.Ask node ask) x).
-    let P : Event → Type 0 = λ e. event_turn a.was e ≡ Ok a.turn in
-    ask_is a.was ask a.turn (subst P a.by a.does) type ∙ own_name chain node c.nodes a.was h.1 a.at)
+    let P : Event → Type 0 = λ e. event_transition a.was e ≡ Ok a.transition in
+    ask_is a.was ask a.transition (subst P a.by a.does) type ∙ own_name chain node c.nodes a.was h.1 a.at)
     (λ (m : AtMaster c (moves.Ask node ask) x). let none : _ = m.no_ask 0 None in absurd (cc))
     (happens_at c (moves.Ask node ask) x does)
 

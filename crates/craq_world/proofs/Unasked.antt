@@ -12,8 +12,8 @@ use Rattle.craq_runs.specs.declared.run.Taken.{Taken}
 use Rattle.craq_runs.specs.Explain.{Account, opening_account, account_with, account_after, account_of, committed_by, ask_number, places_of, explain}
 use Rattle.craq_runs.specs.Seen.{Asked, Answered, ask_in, asks_from, ask_with}
 use Rattle.craq_runs.specs.Typed.{IsTypedRunOf}
-use Rattle.craq_updates.specs.Genuine.{AllGenuine}
-use Rattle.craq_updates.proofs.Explained.{genuine_run}
+use Rattle.craq_updates.specs.ValidEntries.{AllValid}
+use Rattle.craq_updates.proofs.Explained.{valid_run}
 use Rattle.craq_world.specs.Named.{named_first, named_in, unasked}
 
 no_ask : (m : Move) (later : Option ℕ) → named_first m later ≡ None → ((number : ℕ) (ticket : Option ℕ) → ask_in number ticket m ≡ []) × (later ≡ None)
@@ -32,16 +32,16 @@ no_asks (t ∷ ts) number is =
     ap (λ l. l ++ asks_from (number + 1) ts) (n.0 number t.step.ticket) ∙ no_asks ts (number + 1) n.1
 
 -- entries without a request do not exist
-none_genuine : (es : List Entry) → AllGenuine [] opening_state es → es ≡ []
+none_valid : (es : List Entry) → AllValid [] opening_state es → es ≡ []
 unfolding ask_with
-none_genuine [] g = refl
-none_genuine (e ∷ es) g = let is : _ = g.0.by.is_ask in absurd (cc)
+none_valid [] g = refl
+none_valid (e ∷ es) g = let is : _ = g.0.by.is_ask in absurd (cc)
 
 nothing_committed : (chain : ℕ) (run : Run) → IsTypedRunOf chain run → named_in run.moves ≡ None → (account_of (opening_account chain run.members) run.moves).committed ≡ []
 nothing_committed chain run i is =
     let es : List Entry = (account_of (opening_account chain run.members) run.moves).committed in
-    let P : List Asked → Type 0 = λ asked. AllGenuine asked opening_state es in
-    none_genuine es (subst P (no_asks run.moves 1 is) (genuine_run chain run i))
+    let P : List Asked → Type 0 = λ asked. AllValid asked opening_state es in
+    none_valid es (subst P (no_asks run.moves 1 is) (valid_run chain run i))
 
 front_nil : {A : Type 0} (xs ys : List A) → xs ++ ys ≡ [] → xs ≡ []
 front_nil [] ys e = refl
@@ -55,14 +55,14 @@ before_nil es (Some p) e = by_tail (is_tail p) e
     by_tail true e = front_nil es (entries_after p (length es)) e
     by_tail false e = e
 
-no_places : (due : List Place) (es : List Entry) (p : Option Plain) (word : Option (ℕ × ℕ)) (answers : List Answered) → places_of [] due es p word answers ≡ []
+no_places : (pending : List Place) (es : List Entry) (p : Option Plain) (word : Option (ℕ × ℕ)) (answers : List Answered) → places_of [] pending es p word answers ≡ []
 unfolding places_of ask_with
-no_places due es p word [] = refl
-no_places due es p word (a ∷ later) = no_places due es p word later
+no_places pending es p word [] = refl
+no_places pending es p word (a ∷ later) = no_places pending es p word later
 
-same_places : (places : List Place) (asked : List Asked) (due : List Place) (es : List Entry) (p : Option Plain) (word : Option (ℕ × ℕ)) (answers : List Answered) → asked ≡ [] → places ++ places_of asked due es p word answers ≡ places
-same_places places asked due es p word answers none =
-    ap (λ (l : List Asked). places ++ places_of l due es p word answers) none ∙ (ap (λ l. places ++ l) (no_places due es p word answers) ∙ append-nil places)
+same_places : (places : List Place) (asked : List Asked) (pending : List Place) (es : List Entry) (p : Option Plain) (word : Option (ℕ × ℕ)) (answers : List Answered) → asked ≡ [] → places ++ places_of asked pending es p word answers ≡ places
+same_places places asked pending es p word answers none =
+    ap (λ (l : List Asked). places ++ places_of l pending es p word answers) none ∙ (ap (λ l. places ++ l) (no_places pending es p word answers) ∙ append-nil places)
 
 -- the account of moves without a request, if nothing is committed after them
 record IsQuiet (a b : Account) (count : ℕ) : Type 0 where

@@ -22,9 +22,9 @@ taken_of id (m ∷ ms) [] = []
 taken_of id (m ∷ ms) (r ∷ rs) = if (m.0 == id) && is_ok r then m.1 ∷ taken_of id ms rs else taken_of id ms rs
 
 -- a chain after these moves; a refused one changes nothing
-abbrev pub chain_after : Chained → List Move → Chained
-chain_after w [] = w
-chain_after w (m ∷ ms) = chain_after (result_unwrap_or (after_taking w m) w) ms
+abbrev pub running_chain_after : Chained → List Move → Chained
+running_chain_after w [] = w
+running_chain_after w (m ∷ ms) = running_chain_after (result_unwrap_or (after_taking w m) w) ms
 
 -- the moves that a run took, in order
 abbrev pub chosen_in : Run → List Move

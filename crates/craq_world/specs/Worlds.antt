@@ -7,7 +7,7 @@ use Rattle.craq_names.specs.declared.refusal.Refusal.TheVariants.{UnknownChain}
 use Rattle.craq_model.specs.Members.{IsMembership}
 use Rattle.craq_runs.specs.declared.run.Move.{Move}
 use Rattle.craq_runs.specs.Typed.{IsTypedRunOf}
-use Rattle.craq_chain.specs.Chained.{Chained, Finds, after_taking, chain_of, opened}
+use Rattle.craq_chain.specs.Chained.{Chained, Finds, after_taking, chain_of_run, opened_chain}
 
 -- the chains have the ids from this one on, and each has a run by the definitions
 abbrev pub AreRunning : ℕ → List Chained → Type 0
@@ -17,7 +17,7 @@ AreRunning id (w ∷ ws) = (w.chain ≡ id) × IsTypedRunOf w.chain w.run × Are
 -- chains of these members before any move, with the ids from this one on
 abbrev pub opened_from : ℕ → List (List ℕ) → List Chained
 opened_from id [] = []
-opened_from id (members ∷ others) = opened id members ∷ opened_from (id + 1) others
+opened_from id (members ∷ others) = opened_chain id members ∷ opened_from (id + 1) others
 
 -- the chains, with this one in its place
 abbrev pub with_chain : List Chained → ℕ → Result Chained Refusal → Result (List Chained) Refusal
@@ -41,7 +41,7 @@ moves_in (Some w) = length w.run.moves
 -- the world has the chain, and the chain has the node of a move and was sent its message
 abbrev pub FindsIn : Option Chained → Move → Type 0
 FindsIn None m = ⊥
-FindsIn (Some w) m = Finds (chain_of w) m
+FindsIn (Some w) m = Finds (chain_of_run w) m
 
 -- the search found them, or refuses the move as the world does
 abbrev pub HasFoundIn : List Chained → ℕ → Move → Result Unit Refusal → Type 0

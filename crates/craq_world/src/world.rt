@@ -8,7 +8,7 @@ ghost use Rattle.craq_runs.specs.Typed.{IsTypedRunOf};
 ghost use Rattle.craq_runs.specs.Valid.{IsValid};
 ghost use Rattle.craq_chain.specs.Chained.{Chained};
 ghost use Rattle.craq_chain_invariants.specs.Invariants.{HasInvariants};
-ghost use Rattle.craq_world.specs.Apart.{chain_after, taken_of};
+ghost use Rattle.craq_world.specs.Apart.{running_chain_after, taken_of};
 ghost use Rattle.craq_world.specs.Promise.{AreExplained, NothingIsTakenBack};
 ghost use Rattle.craq_world.specs.Worlds.{AreChains, GivesWorld, HasFoundIn, RunsTo, opened_from};
 
@@ -164,7 +164,7 @@ impl<C: Core> World<C> {
     pub fn run(&mut self, alloc: Global, moves: &[(ChainId, Move)]) -> Result<Report, AllocError>
         ensures runs { IfOk result (λ report. RunsTo self.old moves.now report.results self.new) }
         ensures each { IfOk result (λ report. (id : ℕ) (w : Chained) → slice_get self.old id ≡ Some w
-            → slice_get self.new id ≡ Some (chain_after w (taken_of id moves.now report.results))) }
+            → slice_get self.new id ≡ Some (running_chain_after w (taken_of id moves.now report.results))) }
         ensures same { OnErr result (self.new ≡ self.old) }
         ensures explained { AreExplained 0 self.new }
         ensures grows { NothingIsTakenBack self.old self.new }

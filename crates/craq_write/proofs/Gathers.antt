@@ -13,15 +13,15 @@ use Rattle.craq_history.specs.declared.change.Change.{Change}
 use Rattle.craq_history.specs.declared.change.GatheringChange.TheVariants.{Stays, Gains, Dropped}
 use Rattle.craq_history.specs.declared.change.HistoryChange.{HistoryChange}
 use Rattle.craq_history.specs.Change.{gathering_by, no_change}
-use Rattle.craq_history.specs.Plans.{IsApart, IsPlanOf}
+use Rattle.craq_history.specs.Effects.{IsApart, IsEffectOf}
 use Rattle.craq_model.specs.declared.gathering.Gathering.{Gathering}
 use Rattle.craq_model.specs.declared.message.StatePart.{StatePart}
 use Rattle.craq_model.specs.declared.step.Step.{Step}
 use Rattle.craq_model.specs.declared.step.Why.TheVariants.{AlreadyHave, TooFar}
 use Rattle.craq_model.specs.Parts.{gathered_position, gathering_for, is_in_order, is_whole, joined_state, new_gathering, with_part}
-use Rattle.craq_model.specs.Deliveries.{gathered_turn, gathering_turn, is_outdated, with_copy}
+use Rattle.craq_model.specs.Deliveries.{gathered_transition, gathering_transition, is_outdated, with_copy}
 use Rattle.craq_model.specs.Plain.{Plain, length_of}
-use Rattle.craq_model.specs.Settle.{Turn, readiness_turn, turn_ignoring, without_reached}
+use Rattle.craq_model.specs.Settle.{Transition, readiness_transition, transition_ignoring, without_reached}
 use Rattle.craq_write.specs.Gathered.{AreInOrder, IsInOrder, gathering_at, is_beside}
 use Rattle.std.proofs.lemmas.List.Elements.{All-from_recursion}
 
@@ -75,7 +75,7 @@ none_in_order = record { numbers = tt; states = All-from_recursion (λ (held : �
 -- the last missing part completes the state
 pub completes : (p : Plain) (g : Gathering) (part : StatePart) (parts : List (ℕ × State)) (count : ℕ) (state : State) → parts ≡ g.parts → count ≡ g.count → g.position ≡ part.position → T (is_sorted nat_cmp parts)
     → is_some (at_number parts part.number) ≡ false → (length parts + 1 == count) ≡ true → state ≡ joined_state (put_number parts part.number part.state)
-    → gathered_turn p (with_part g part) ≡ readiness_turn (with_copy p part.position state)
+    → gathered_transition p (with_part g part) ≡ readiness_transition (with_copy p part.position state)
 completes p g part parts count state same total at rise none whole is =
     let rising : T (is_sorted nat_cmp g.parts) = subst (λ (l : List (ℕ × State)). T (is_sorted nat_cmp l)) same rise in
     let absent : is_some (at_number g.parts part.number) ≡ false = ap (λ (l : List (ℕ × State)). is_some (at_number l part.number)) (sym same) ∙ none in
@@ -86,13 +86,13 @@ completes p g part parts count state same total at rise none whole is =
 -- one more part is kept, and some are still missing
 pub gains : (p : Plain) (part : StatePart) (parts : List (ℕ × State)) (count : ℕ) (c : Change) (s : Step) → parts ≡ (gathering_for part p.gathering).parts → count ≡ (gathering_for part p.gathering).count
     → T (is_sorted nat_cmp parts) → is_some (at_number parts part.number) ≡ false → (length parts + 1 == count) ≡ false → c ≡ record no_change { gathering = Gains part }
-    → s ≡ record { ticket = None; outs = []; ignored = None } → IsPlanOf p (c, s) (gathered_turn p (with_part (gathering_for part p.gathering) part))
+    → s ≡ record { ticket = None; outs = []; ignored = None } → IsEffectOf p (c, s) (gathered_transition p (with_part (gathering_for part p.gathering) part))
 gains p part parts count c s same total rise none missing is st =
     let g = gathering_for part p.gathering in
     let rising : T (is_sorted nat_cmp g.parts) = subst (λ (l : List (ℕ × State)). T (is_sorted nat_cmp l)) same rise in
     let absent : is_some (at_number g.parts part.number) ≡ false = ap (λ (l : List (ℕ × State)). is_some (at_number l part.number)) (sym same) ∙ none in
     let some : (length g.parts + 1 == g.count) ≡ false = ap (λ (l : List (ℕ × State)). length l + 1 == g.count) (sym same) ∙ ap (λ n. length parts + 1 == n) (sym total) ∙ missing in
-    let waits : gathered_turn p (with_part g part) ≡ (record p { gathering = Some (with_part g part) }, record { ticket = None; outs = []; ignored = None }) =
+    let waits : gathered_transition p (with_part g part) ≡ (record p { gathering = Some (with_part g part) }, record { ticket = None; outs = []; ignored = None }) =
     gathers_on p (with_part g part) (rw (one_more g.parts part.number part.state rising absent) some)
     in
     let ready : (p.ready || false) ≡ p.ready = no_other p.ready in
@@ -106,17 +106,17 @@ gains p part parts count c s same total rise none missing is st =
     no_other true = refl
     no_other false = refl
 
-    gathers_on : (p : Plain) (g : Gathering) → is_whole g ≡ false → gathered_turn p g ≡ (record p { gathering = Some g }, record { ticket = None; outs = []; ignored = None })
+    gathers_on : (p : Plain) (g : Gathering) → is_whole g ≡ false → gathered_transition p g ≡ (record p { gathering = Some g }, record { ticket = None; outs = []; ignored = None })
     gathers_on p g e = rw e refl
 
 -- a part that fits is kept
 pub fits : (p : Plain) (g : Gathering) (part : StatePart) (parts : List (ℕ × State)) (count : ℕ) → parts ≡ g.parts → count ≡ g.count → part.count ≡ count → is_some (at_number parts part.number) ≡ false
-    → list_all (is_beside part) parts ≡ true → gathering_turn p g part ≡ gathered_turn p (with_part g part)
+    → list_all (is_beside part) parts ≡ true → gathering_transition p g part ≡ gathered_transition p (with_part g part)
 unfolding is_in_order
 fits p g part parts count same total counted none between =
-    let after : Turn = gathered_turn p (with_part g part) in
-    let ordered : Turn = if not (is_in_order g part) then turn_ignoring p TooFar else after in
-    let new : Turn = if is_some (at_number g.parts part.number) then turn_ignoring p AlreadyHave else ordered in
-    cond-false (not (part.count == g.count)) (turn_ignoring p TooFar) new (ap not (eq-eqb part.count g.count (counted ∙ total)))
-    ∙ cond-false (is_some (at_number g.parts part.number)) (turn_ignoring p AlreadyHave) ordered (ap (λ (l : List (ℕ × State)). is_some (at_number l part.number)) (sym same) ∙ none)
-    ∙ cond-false (not (is_in_order g part)) (turn_ignoring p TooFar) after (ap not (ap (list_all (is_beside part)) (sym same) ∙ between))
+    let after : Transition = gathered_transition p (with_part g part) in
+    let ordered : Transition = if not (is_in_order g part) then transition_ignoring p TooFar else after in
+    let new : Transition = if is_some (at_number g.parts part.number) then transition_ignoring p AlreadyHave else ordered in
+    cond-false (not (part.count == g.count)) (transition_ignoring p TooFar) new (ap not (eq-eqb part.count g.count (counted ∙ total)))
+    ∙ cond-false (is_some (at_number g.parts part.number)) (transition_ignoring p AlreadyHave) ordered (ap (λ (l : List (ℕ × State)). is_some (at_number l part.number)) (sym same) ∙ none)
+    ∙ cond-false (not (is_in_order g part)) (transition_ignoring p TooFar) after (ap not (ap (list_all (is_beside part)) (sym same) ∙ between))

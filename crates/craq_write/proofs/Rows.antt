@@ -3,7 +3,7 @@ use Rattle.std.proofs.Common.{◌≡◌, ◌≤◌, ◌<◌, ℕ, ◌+◌, nat_l
 use Rattle.std.proofs.lemmas.Bool.{cond_both, cond-true, ltb-true, ltb-false, lt-ltb}
 use Rattle.craq_commands.specs.declared.entry.Entry.{Entry}
 use Rattle.craq_model.specs.Deliveries.{first_position, final_position, entries_above}
-use Rattle.craq_model.specs.Spelled.{IsConsecutive}
+use Rattle.craq_model.specs.Encodable.{IsConsecutive}
 
 -- one entry that is above a position
 pub one_above : (n : ℕ) (e : Entry) → n < e.position → entries_above n (e ∷ []) ≡ e ∷ []

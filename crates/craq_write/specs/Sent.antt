@@ -9,7 +9,7 @@ use Rattle.craq_model.specs.Node.{outs_fit}
 use Rattle.craq_model.specs.Parts.{part_count}
 use Rattle.craq_model.specs.Plain.{Plain}
 use Rattle.craq_model.specs.Sends.{send_all}
-use Rattle.craq_model.specs.Settle.{Turn}
+use Rattle.craq_model.specs.Settle.{Transition}
 
 -- out of memory, or the state has more parts than 32 bits count
 abbrev pub CannotSend : State → Refusal → Type 0
@@ -21,5 +21,5 @@ abbrev pub CannotFill : Plain → ℕ → ℕ → Refusal → Type 0
 CannotFill p to count e = (e ≡ Memory) ⊎ ((e ≡ Exhausted) × (outs_fit (send_all p to (fill_bodies p count)) ≡ false))
 
 -- out of memory, or the step's sends have more parts, or are more, than messages count
-abbrev pub LacksOrOutgrows : Turn → Refusal → Type 0
-LacksOrOutgrows turn e = (e ≡ Memory) ⊎ ((e ≡ Exhausted) × (outs_fit turn.1.outs ≡ false))
+abbrev pub LacksOrOutgrows : Transition → Refusal → Type 0
+LacksOrOutgrows transition e = (e ≡ Memory) ⊎ ((e ≡ Exhausted) × (outs_fit transition.1.outs ≡ false))

@@ -1,14 +1,14 @@
 //! The rules of entries, batches, acknowledgements and blanks that arrive. `craq_node` calls them.
 ghost use Rattle.std.specs.Prelude.{◌≡◌, ◌≤◌, ◌<◌, ◌+◌, ◌++◌, ◌∷◌, [], length, true, false, nat_lt, if◌then◌else◌, Some, None, Ok, IfOk, IfErr, OnOk, IsOk, IsSome, map};
-ghost use Rattle.craq_model.specs.Deliveries.{ack_turn, blank_turn, due_updates, entries_above, entries_turn, fill_bodies, final_position, first_position, forwarding_turn, taken_entries_turn};
+ghost use Rattle.craq_model.specs.Deliveries.{ack_transition, blank_transition, pending_updates, entries_above, entries_transition, fill_bodies, final_position, first_position, forwarding_transition, taken_entries_transition};
 ghost use Rattle.craq_model.specs.Past.{length_in, entries_in, clean_in};
 ghost use Rattle.craq_model.specs.Plain.{length_of, with_entries};
 ghost use Rattle.craq_model.specs.Sends.{copy_bodies, send_all};
 ghost use Rattle.craq_model.specs.Settle.{answer_outs, update_given};
-ghost use Rattle.craq_model.specs.Spelled.{IsConsecutive};
+ghost use Rattle.craq_model.specs.Encodable.{IsConsecutive};
 ghost use Rattle.craq_history.specs.Change.{no_change};
 ghost use Rattle.craq_history.specs.Nodes.{plain_of};
-ghost use Rattle.craq_history.specs.Plans.{IsPlanOf};
+ghost use Rattle.craq_history.specs.Effects.{IsEffectOf};
 ghost use Rattle.craq_history.specs.Standing.{sent_from, caught_up};
 ghost use Rattle.craq_write.specs.Rows.{why_ignored};
 ghost use Rattle.craq_write.specs.Sent.{CannotFill, CannotSend, LacksOrOutgrows};
@@ -35,14 +35,14 @@ fn ignored(alloc: Global, why: Why) -> Result<(Change, Step), AllocError>
 }
 
 /// Adds the replies to the updates that wait for at most this position, in order of their requests.
-#[tactic(auto, unfolding(craq_model::specs::Deliveries::due_updates))]
-fn answer_due(
+#[tactic(auto, unfolding(craq_model::specs::Deliveries::pending_updates))]
+fn answer_pending(
     outs: &mut Vec<Out>,
     alloc: Global,
     position: Seq,
     updates: &[WaitingUpdate],
 ) -> Result<(), AllocError>
-    ensures { OnOk result (outs.new.items ≡ outs.old.items ++ answer_outs (map update_given (due_updates position updates.now))) }
+    ensures { OnOk result (outs.new.items ≡ outs.old.items ++ answer_outs (map update_given (pending_updates position updates.now))) }
 {
     for update in updates {
         if update.position <= position {
@@ -59,15 +59,15 @@ fn answer_due(
 /// get their replies, and the acknowledgement goes to the predecessor (OSDI 2004). Ignored if the
 /// sender is not the successor (`NotNeighbour`), if the node is not ready (`NotReadyHere`), if its
 /// commit index is as high (`AlreadyHave`), or if it holds fewer entries (`TooFar`).
-#[tactic(auto, unfolding(craq_model::specs::Deliveries::ack_turn, craq_model::specs::Deliveries::acknowledgement_turn))]
-pub fn plan_ack<H: History>(
+#[tactic(auto, unfolding(craq_model::specs::Deliveries::ack_transition, craq_model::specs::Deliveries::acknowledgement_transition))]
+pub fn compute_ack<H: History>(
     alloc: Global,
     node: &Node<H>,
     sender: NodeId,
     position: Seq,
 ) -> Result<(Change, Step), AllocError>
-    ensures turn { IfOk result (λ r. IsPlanOf (plain_of H.past node.now) r (ack_turn (plain_of H.past node.now) sender position)) }
-    ensures free { IsSome (ack_turn (plain_of H.past node.now) sender position).1.ignored → IsOk result }
+    ensures transition { IfOk result (λ r. IsEffectOf (plain_of H.past node.now) r (ack_transition (plain_of H.past node.now) sender position)) }
+    ensures free { IsSome (ack_transition (plain_of H.past node.now) sender position).1.ignored → IsOk result }
 {
     if successor_of(node.members.as_slice(), node.name.node) != Some(sender) {
         return ignored(alloc, Why::NotNeighbour);
@@ -82,7 +82,7 @@ pub fn plan_ack<H: History>(
         return ignored(alloc, Why::TooFar);
     }
     let mut outs = Vec::new(alloc);
-    answer_due(&mut outs, alloc, position, node.waiting_updates.as_slice())?;
+    answer_pending(&mut outs, alloc, position, node.waiting_updates.as_slice())?;
     tell_predecessor(
         &mut outs,
         &node.sender(),
@@ -164,16 +164,16 @@ fn filling<H: History>(
 /// successor (`NotNeighbour`) or this node is not ready (`NotReadyHere`). Fails with `Memory` when
 /// out of memory, and with `Exhausted` if the state has more parts than 32 bits count. This
 /// project's profile.
-#[tactic(auto, unfolding(craq_model::specs::Deliveries::blank_turn))]
-pub fn plan_blank<H: History>(
+#[tactic(auto, unfolding(craq_model::specs::Deliveries::blank_transition))]
+pub fn compute_blank<H: History>(
     alloc: Global,
     node: &Node<H>,
     sender: NodeId,
     count: Seq,
 ) -> Result<(Change, Step), Refusal>
-    ensures turn { IfOk result (λ r. IsPlanOf (plain_of H.past node.now) r (blank_turn (plain_of H.past node.now) sender count)) }
-    ensures err { IfErr result (λ e. LacksOrOutgrows (blank_turn (plain_of H.past node.now) sender count) e) }
-    ensures free { IsSome (blank_turn (plain_of H.past node.now) sender count).1.ignored → IsOk result }
+    ensures transition { IfOk result (λ r. IsEffectOf (plain_of H.past node.now) r (blank_transition (plain_of H.past node.now) sender count)) }
+    ensures err { IfErr result (λ e. LacksOrOutgrows (blank_transition (plain_of H.past node.now) sender count) e) }
+    ensures free { IsSome (blank_transition (plain_of H.past node.now) sender count).1.ignored → IsOk result }
 {
     if successor_of(node.members.as_slice(), node.name.node) != Some(sender) {
         return Ok((Change::none(), ignoring(alloc, Why::NotNeighbour)));
@@ -187,7 +187,7 @@ pub fn plan_blank<H: History>(
 
 /// Plans new entries at a ready node. The tail commits them and sends one acknowledgement for all
 /// to its predecessor; any other node forwards them.
-#[tactic(auto, unfolding(craq_model::specs::Deliveries::forwarding_turn))]
+#[tactic(auto, unfolding(craq_model::specs::Deliveries::forwarding_transition))]
 fn passed_on<H: History>(
     alloc: Global,
     node: &Node<H>,
@@ -196,7 +196,7 @@ fn passed_on<H: History>(
 ) -> Result<(Change, Step), AllocError>
     requires end { end ≡ length_of (plain_of H.past node.now) + length entries }
     requires ready { node.now.ready ≡ true }
-    ensures { IfOk result (λ r. IsPlanOf (plain_of H.past node.now) r (forwarding_turn (with_entries (plain_of H.past node.now) entries) entries)) }
+    ensures { IfOk result (λ r. IsEffectOf (plain_of H.past node.now) r (forwarding_transition (with_entries (plain_of H.past node.now) entries) entries)) }
 {
     let members = node.members.as_slice();
     let is_tail = last_member(members) == node.name.node;
@@ -274,7 +274,7 @@ fn taken<H: History>(
     requires end { end ≡ length_of (plain_of H.past node.now) + length entries }
     requires idle { node.now.ready ≡ false → IsIdle (plain_of H.past node.now) }
     requires within { (H.past node.now.history).acknowledged ≤ length_of (plain_of H.past node.now) }
-    ensures { IfOk result (λ r. IsPlanOf (plain_of H.past node.now) r (taken_entries_turn (with_entries (plain_of H.past node.now) entries) entries)) }
+    ensures { IfOk result (λ r. IsEffectOf (plain_of H.past node.now) r (taken_entries_transition (with_entries (plain_of H.past node.now) entries) entries)) }
 {
     if node.ready {
         return passed_on(alloc, node, entries, end);
@@ -282,11 +282,11 @@ fn taken<H: History>(
     taken_unready(alloc, node, entries, end)
 }
 
-/// Plans one entry from the predecessor, as `plan_entries` plans a batch of one: it is ignored, or
+/// Plans one entry from the predecessor, as `compute_entries` plans a batch of one: it is ignored, or
 /// appended and forwarded. The entry is moved into the history, and copied only for the successor.
 /// Ignoring it allocates nothing.
-#[tactic(auto, using(crate::proofs::Rows::one_above, crate::proofs::Heard::taken_heard), unfolding(craq_model::specs::Deliveries::entries_turn, craq_model::specs::Plain::newest))]
-pub fn plan_entry<H: History>(
+#[tactic(auto, using(crate::proofs::Rows::one_above, crate::proofs::Heard::taken_heard), unfolding(craq_model::specs::Deliveries::entries_transition, craq_model::specs::Plain::newest))]
+pub fn compute_entry<H: History>(
     alloc: Global,
     node: &Node<H>,
     sender: NodeId,
@@ -294,8 +294,8 @@ pub fn plan_entry<H: History>(
 ) -> Result<(Change, Step), AllocError>
     requires idle { node.now.ready ≡ false → IsIdle (plain_of H.past node.now) }
     requires within { (H.past node.now.history).acknowledged ≤ length_of (plain_of H.past node.now) }
-    ensures turn { IfOk result (λ r. IsPlanOf (plain_of H.past node.now) r (entries_turn (plain_of H.past node.now) sender (entry ∷ []))) }
-    ensures free { IsSome (entries_turn (plain_of H.past node.now) sender (entry ∷ [])).1.ignored → IsOk result }
+    ensures transition { IfOk result (λ r. IsEffectOf (plain_of H.past node.now) r (entries_transition (plain_of H.past node.now) sender (entry ∷ []))) }
+    ensures free { IsSome (entries_transition (plain_of H.past node.now) sender (entry ∷ [])).1.ignored → IsOk result }
 {
     let position = entry.position;
     if let Some(why) = why_ignored(node, sender, position, position) {
@@ -319,8 +319,8 @@ pub fn plan_entry<H: History>(
 ///
 /// The entries are moved into the history, and copied only for the successor. Ignoring them
 /// allocates nothing.
-#[tactic(auto, using(crate::proofs::Rows::row_end, crate::proofs::Heard::taken_heard), unfolding(craq_model::specs::Deliveries::entries_turn, craq_model::specs::Plain::newest))]
-pub fn plan_entries<H: History>(
+#[tactic(auto, using(crate::proofs::Rows::row_end, crate::proofs::Heard::taken_heard), unfolding(craq_model::specs::Deliveries::entries_transition, craq_model::specs::Plain::newest))]
+pub fn compute_entries<H: History>(
     alloc: Global,
     node: &Node<H>,
     sender: NodeId,
@@ -329,8 +329,8 @@ pub fn plan_entries<H: History>(
     requires row { IsConsecutive entries }
     requires idle { node.now.ready ≡ false → IsIdle (plain_of H.past node.now) }
     requires within { (H.past node.now.history).acknowledged ≤ length_of (plain_of H.past node.now) }
-    ensures turn { IfOk result (λ r. IsPlanOf (plain_of H.past node.now) r (entries_turn (plain_of H.past node.now) sender entries)) }
-    ensures free { IsSome (entries_turn (plain_of H.past node.now) sender entries).1.ignored → IsOk result }
+    ensures transition { IfOk result (λ r. IsEffectOf (plain_of H.past node.now) r (entries_transition (plain_of H.past node.now) sender entries)) }
+    ensures free { IsSome (entries_transition (plain_of H.past node.now) sender entries).1.ignored → IsOk result }
 {
     let start = start_of(entries.as_slice());
     let end = end_of(entries.as_slice());

@@ -4,10 +4,10 @@ ghost use Rattle.std.specs.List.{list_all};
 ghost use Rattle.std.specs.Ordering.{nat_cmp};
 ghost use Rattle.std.specs.FinMap.Entries.{is_sorted};
 ghost use Rattle.craq_names.specs.Maps.{at_number, put_number};
-ghost use Rattle.craq_model.specs.Deliveries.{gathered_turn, gathering_turn, is_outdated, part_turn};
+ghost use Rattle.craq_model.specs.Deliveries.{gathered_transition, gathering_transition, is_outdated, part_transition};
 ghost use Rattle.craq_model.specs.Parts.{gathering_for, joined_state, precedes, with_part};
 ghost use Rattle.craq_history.specs.Nodes.{plain_of};
-ghost use Rattle.craq_history.specs.Plans.{IsPlanOf};
+ghost use Rattle.craq_history.specs.Effects.{IsEffectOf};
 ghost use Rattle.craq_write.specs.Gathered.{AreInOrder, IsInOrder, IsOrdered, is_beside};
 ghost use Rattle.craq_write.specs.Settling.{IsIdle};
 
@@ -121,7 +121,7 @@ fn parts_copied(alloc: Global, parts: &[(u32, State)]) -> Result<Vec<(u32, State
 
 /// Joins all parts into a state; the items are moved.
 #[tactic(auto, unfolding(craq_model::specs::Parts::joined_state))]
-fn joined(alloc: Global, parts: Items<(u32, State)>) -> Result<State, AllocError>
+fn gathered_state(alloc: Global, parts: Items<(u32, State)>) -> Result<State, AllocError>
     ensures { IfOk result (λ state. state ≡ joined_state parts) }
 {
     let mut objects = Vec::new(alloc);
@@ -142,7 +142,7 @@ fn joined_with(alloc: Global, parts: &[(u32, State)], part: StatePart) -> Result
 {
     let mut all = Items::of(parts_copied(alloc, parts)?);
     all.put(part.number, part.state)?;
-    joined(alloc, all)
+    gathered_state(alloc, all)
 }
 
 /// Plans a part that fits: it is kept with the other parts of its state. If it was the last missing
@@ -161,7 +161,7 @@ fn part_kept<H: History>(
     requires absent { is_some (at_number parts.now part.number) ≡ false }
     requires unready { node.now.ready ≡ false }
     requires idle { IsIdle (plain_of H.past node.now) }
-    ensures { IfOk result (λ r. IsPlanOf (plain_of H.past node.now) r (gathered_turn (plain_of H.past node.now) (with_part (gathering_for part node.now.gathering) part))) }
+    ensures { IfOk result (λ r. IsEffectOf (plain_of H.past node.now) r (gathered_transition (plain_of H.past node.now) (with_part (gathering_for part node.now.gathering) part))) }
 {
     if is_last_missing(parts, count) {
         let position = part.position;
@@ -188,8 +188,8 @@ fn part_fitted<H: History>(
     requires held { IsOrdered node.now.gathering }
     requires part { IsInOrder part.state }
     requires current { is_outdated (plain_of H.past node.now) part ≡ false }
-    ensures turn { IfOk result (λ r. IsPlanOf (plain_of H.past node.now) r (gathering_turn (plain_of H.past node.now) (gathering_for part node.now.gathering) part)) }
-    ensures free { IsSome (gathering_turn (plain_of H.past node.now) (gathering_for part node.now.gathering) part).1.ignored → IsOk result }
+    ensures transition { IfOk result (λ r. IsEffectOf (plain_of H.past node.now) r (gathering_transition (plain_of H.past node.now) (gathering_for part node.now.gathering) part)) }
+    ensures free { IsSome (gathering_transition (plain_of H.past node.now) (gathering_for part node.now.gathering) part).1.ignored → IsOk result }
 {
     let (parts, count) = held_with(&node.gathering, &part);
     if part.count != count {
@@ -212,8 +212,8 @@ fn part_fitted<H: History>(
 /// many entries, gathers a later state, or holds the part (`AlreadyHave`); if the part count
 /// differs, or its items do not stand after those of the lower parts held and before those of the
 /// higher ones (`TooFar`). This project's profile.
-#[tactic(auto, unfolding(craq_model::specs::Deliveries::part_turn))]
-pub fn plan_part<H: History>(
+#[tactic(auto, unfolding(craq_model::specs::Deliveries::part_transition))]
+pub fn compute_part<H: History>(
     alloc: Global,
     node: &Node<H>,
     sender: NodeId,
@@ -222,8 +222,8 @@ pub fn plan_part<H: History>(
     requires idle { node.now.ready ≡ false → IsIdle (plain_of H.past node.now) }
     requires held { IsOrdered node.now.gathering }
     requires part { IsInOrder part.state }
-    ensures turn { IfOk result (λ r. IsPlanOf (plain_of H.past node.now) r (part_turn (plain_of H.past node.now) sender part)) }
-    ensures free { IsSome (part_turn (plain_of H.past node.now) sender part).1.ignored → IsOk result }
+    ensures transition { IfOk result (λ r. IsEffectOf (plain_of H.past node.now) r (part_transition (plain_of H.past node.now) sender part)) }
+    ensures free { IsSome (part_transition (plain_of H.past node.now) sender part).1.ignored → IsOk result }
 {
     if predecessor_of(node.members.as_slice(), node.name.node) != Some(sender) {
         return Ok((Change::none(), ignoring(alloc, Why::NotNeighbour)));

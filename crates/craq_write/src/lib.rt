@@ -11,8 +11,8 @@ mod sending_states;
 mod settling;
 mod updates;
 
-pub use deliveries::{plan_ack, plan_blank, plan_entries, plan_entry};
-pub use gathering::plan_part;
-pub use readiness::{plan_copy, plan_floor};
-pub use settling::{add_tick_outs, plan_config};
-pub use updates::plan_update;
+pub use deliveries::{compute_ack, compute_blank, compute_entries, compute_entry};
+pub use gathering::compute_part;
+pub use readiness::{compute_copy, compute_floor};
+pub use settling::{add_tick_outs, compute_config};
+pub use updates::compute_update;

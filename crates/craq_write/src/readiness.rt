@@ -1,12 +1,12 @@
 //! A joining node: the entries, states and floors that it receives until it is ready. `craq_node`,
 //! `deliveries` and `gathering` call this.
 ghost use Rattle.std.specs.Prelude.{◌≡◌, ◌≤◌, ◌+◌, ◌==◌, ◌++◌, [], length, Some, true, false, if◌then◌else◌, OnOk, IfOk, IsOk, IsSome};
-ghost use Rattle.craq_model.specs.Deliveries.{copy_turn, floor_turn, with_copy};
+ghost use Rattle.craq_model.specs.Deliveries.{copy_transition, floor_transition, with_copy};
 ghost use Rattle.craq_model.specs.Plain.{length_of, with_entries};
-ghost use Rattle.craq_model.specs.Settle.{is_reached, readiness_turn};
+ghost use Rattle.craq_model.specs.Settle.{is_reached, readiness_transition};
 ghost use Rattle.craq_history.specs.Change.{no_change};
 ghost use Rattle.craq_history.specs.Nodes.{plain_of};
-ghost use Rattle.craq_history.specs.Plans.{IsPlanOf};
+ghost use Rattle.craq_history.specs.Effects.{IsEffectOf};
 ghost use Rattle.craq_history.specs.Standing.{ready_outs};
 ghost use Rattle.craq_write.specs.Gathered.{gathering_at};
 ghost use Rattle.craq_write.specs.Settling.{IsIdle};
@@ -103,7 +103,7 @@ fn ready_by_entries<H: History>(
     requires idle { IsIdle (plain_of H.past node.now) }
     requires within { (H.past node.now.history).acknowledged ≤ length_of (plain_of H.past node.now) }
     requires reached { is_reached node.now.floor end ≡ true }
-    ensures { IfOk result (λ r. IsPlanOf (plain_of H.past node.now) r (readiness_turn (with_entries (plain_of H.past node.now) entries))) }
+    ensures { IfOk result (λ r. IsEffectOf (plain_of H.past node.now) r (readiness_transition (with_entries (plain_of H.past node.now) entries))) }
 {
     if last_member(node.members.as_slice()) == node.name.node {
         let outs = outs_when_ready(alloc, node, &[], &[], end, end)?;
@@ -134,7 +134,7 @@ pub(crate) fn taken_unready<H: History>(
     requires unready { node.now.ready ≡ false }
     requires idle { IsIdle (plain_of H.past node.now) }
     requires within { (H.past node.now.history).acknowledged ≤ length_of (plain_of H.past node.now) }
-    ensures { IfOk result (λ r. IsPlanOf (plain_of H.past node.now) r (readiness_turn (with_entries (plain_of H.past node.now) entries))) }
+    ensures { IfOk result (λ r. IsEffectOf (plain_of H.past node.now) r (readiness_transition (with_entries (plain_of H.past node.now) entries))) }
 {
     if is_floor_reached(node.floor, end) {
         return ready_by_entries(alloc, node, entries, end);
@@ -165,7 +165,7 @@ fn ready_by_copy<H: History>(
     requires unready { node.now.ready ≡ false }
     requires idle { IsIdle (plain_of H.past node.now) }
     requires reached { is_reached node.now.floor position ≡ true }
-    ensures { IfOk result (λ r. IsPlanOf (plain_of H.past node.now) r (readiness_turn (with_copy (plain_of H.past node.now) position state))) }
+    ensures { IfOk result (λ r. IsEffectOf (plain_of H.past node.now) r (readiness_transition (with_copy (plain_of H.past node.now) position state))) }
 {
     let outs = outs_when_ready(alloc, node, &[], &[], position, position)?;
     Ok((
@@ -184,7 +184,7 @@ pub(crate) fn state_taken<H: History>(
 ) -> Result<(Change, Step), AllocError>
     requires unready { node.now.ready ≡ false }
     requires idle { IsIdle (plain_of H.past node.now) }
-    ensures { IfOk result (λ r. IsPlanOf (plain_of H.past node.now) r (readiness_turn (with_copy (plain_of H.past node.now) position state))) }
+    ensures { IfOk result (λ r. IsEffectOf (plain_of H.past node.now) r (readiness_transition (with_copy (plain_of H.past node.now) position state))) }
 {
     if is_floor_reached(node.floor, position) {
         return ready_by_copy(alloc, node, position, state);
@@ -201,8 +201,8 @@ pub(crate) fn state_taken<H: History>(
 /// Ignored if the sender is not the predecessor (`NotNeighbour`), and if the node is ready or holds
 /// as many entries (`AlreadyHave`). A new server gets its history behind the tail (OSDI 2004);
 /// sending it as a state, and floors, are this project's profile.
-#[tactic(auto, using(crate::proofs::Heard::readiness_heard), unfolding(craq_model::specs::Deliveries::copy_turn))]
-pub fn plan_copy<H: History>(
+#[tactic(auto, using(crate::proofs::Heard::readiness_heard), unfolding(craq_model::specs::Deliveries::copy_transition))]
+pub fn compute_copy<H: History>(
     alloc: Global,
     node: &Node<H>,
     sender: NodeId,
@@ -210,8 +210,8 @@ pub fn plan_copy<H: History>(
     state: State,
 ) -> Result<(Change, Step), AllocError>
     requires idle { node.now.ready ≡ false → IsIdle (plain_of H.past node.now) }
-    ensures turn { IfOk result (λ r. IsPlanOf (plain_of H.past node.now) r (copy_turn (plain_of H.past node.now) sender position state)) }
-    ensures free { IsSome (copy_turn (plain_of H.past node.now) sender position state).1.ignored → IsOk result }
+    ensures transition { IfOk result (λ r. IsEffectOf (plain_of H.past node.now) r (copy_transition (plain_of H.past node.now) sender position state)) }
+    ensures free { IsSome (copy_transition (plain_of H.past node.now) sender position state).1.ignored → IsOk result }
 {
     if predecessor_of(node.members.as_slice(), node.name.node) != Some(sender) {
         return Ok((Change::none(), ignoring(alloc, Why::NotNeighbour)));
@@ -224,7 +224,7 @@ pub fn plan_copy<H: History>(
 
 /// Plans a floor that is reached already: the node becomes ready, and the last member commits all
 /// its entries.
-#[tactic(auto, using(crate::proofs::Ends::nothing_after_all), unfolding(craq_model::specs::Settle::readiness_turn, craq_model::specs::Settle::settling_turn, craq_model::specs::Settle::all_given, craq_model::specs::Settle::by_ticket, craq_model::specs::Sends::tick_sends, craq_model::specs::Sends::ready_sends, craq_model::specs::Sends::catch_up, craq_model::specs::Plain::entries_after))]
+#[tactic(auto, using(crate::proofs::Ends::nothing_after_all), unfolding(craq_model::specs::Settle::readiness_transition, craq_model::specs::Settle::settling_transition, craq_model::specs::Settle::all_given, craq_model::specs::Settle::by_ticket, craq_model::specs::Sends::tick_sends, craq_model::specs::Sends::ready_sends, craq_model::specs::Sends::catch_up, craq_model::specs::Plain::entries_after))]
 fn ready_by_floor<H: History>(
     alloc: Global,
     node: &Node<H>,
@@ -233,7 +233,7 @@ fn ready_by_floor<H: History>(
     requires unready { node.now.ready ≡ false }
     requires idle { IsIdle (plain_of H.past node.now) }
     requires reached { count ≤ length_of (plain_of H.past node.now) }
-    ensures { IfOk result (λ r. IsPlanOf (plain_of H.past node.now) r (readiness_turn (record (plain_of H.past node.now) { floor = Some count }))) }
+    ensures { IfOk result (λ r. IsEffectOf (plain_of H.past node.now) r (readiness_transition (record (plain_of H.past node.now) { floor = Some count }))) }
 {
     let length = Seq::new(node.history.len());
     if last_member(node.members.as_slice()) == node.name.node {
@@ -264,7 +264,7 @@ fn floor_taken<H: History>(
 ) -> Result<(Change, Step), AllocError>
     requires unready { node.now.ready ≡ false }
     requires idle { IsIdle (plain_of H.past node.now) }
-    ensures { IfOk result (λ r. IsPlanOf (plain_of H.past node.now) r (readiness_turn (record (plain_of H.past node.now) { floor = Some count }))) }
+    ensures { IfOk result (λ r. IsEffectOf (plain_of H.past node.now) r (readiness_transition (record (plain_of H.past node.now) { floor = Some count }))) }
 {
     let length = Seq::new(node.history.len());
     if count.get() <= length.get() {
@@ -280,16 +280,16 @@ fn floor_taken<H: History>(
 /// that the node must hold to become ready. It becomes ready at once if it holds as many. Ignored
 /// if the sender is not the predecessor (`NotNeighbour`) or the node is ready (`AlreadyHave`). This
 /// project's profile.
-#[tactic(auto, using(crate::proofs::Heard::readiness_heard), unfolding(craq_model::specs::Deliveries::floor_turn))]
-pub fn plan_floor<H: History>(
+#[tactic(auto, using(crate::proofs::Heard::readiness_heard), unfolding(craq_model::specs::Deliveries::floor_transition))]
+pub fn compute_floor<H: History>(
     alloc: Global,
     node: &Node<H>,
     sender: NodeId,
     count: Seq,
 ) -> Result<(Change, Step), AllocError>
     requires idle { node.now.ready ≡ false → IsIdle (plain_of H.past node.now) }
-    ensures turn { IfOk result (λ r. IsPlanOf (plain_of H.past node.now) r (floor_turn (plain_of H.past node.now) sender count)) }
-    ensures free { IsSome (floor_turn (plain_of H.past node.now) sender count).1.ignored → IsOk result }
+    ensures transition { IfOk result (λ r. IsEffectOf (plain_of H.past node.now) r (floor_transition (plain_of H.past node.now) sender count)) }
+    ensures free { IsSome (floor_transition (plain_of H.past node.now) sender count).1.ignored → IsOk result }
 {
     if predecessor_of(node.members.as_slice(), node.name.node) != Some(sender) {
         return Ok((Change::none(), ignoring(alloc, Why::NotNeighbour)));

@@ -1,11 +1,11 @@
 //! Adopting a membership, and the sends that a node repeats in it. `craq_node` calls this.
 ghost use Rattle.std.specs.Prelude.{◌≡◌, ◌&&◌, ◌==◌, ◌++◌, true, false, Some, OnOk, OnErr, IfOk, IsOk, IsSome};
-ghost use Rattle.craq_model.specs.Deliveries.{config_turn};
+ghost use Rattle.craq_model.specs.Deliveries.{config_transition};
 ghost use Rattle.craq_model.specs.Members.{last_of};
 ghost use Rattle.craq_model.specs.Sends.{tick_sends};
-ghost use Rattle.craq_model.specs.Settle.{all_committed, settling_turn};
+ghost use Rattle.craq_model.specs.Settle.{all_committed, settling_transition};
 ghost use Rattle.craq_history.specs.Nodes.{plain_of};
-ghost use Rattle.craq_history.specs.Plans.{IsPlanOf};
+ghost use Rattle.craq_history.specs.Effects.{IsEffectOf};
 ghost use Rattle.craq_write.specs.Settling.{in_membership};
 
 use crate::answers::answer_all;
@@ -102,7 +102,7 @@ fn take_membership(change: &mut Change, config: Config)
 
 /// Plans adopting a membership as its tail: all entries are committed, and all waiting requests get
 /// replies.
-#[tactic(auto, unfolding(craq_model::specs::Settle::settling_turn, craq_model::specs::Settle::all_given, craq_model::specs::Plain::newest))]
+#[tactic(auto, unfolding(craq_model::specs::Settle::settling_transition, craq_model::specs::Settle::all_given, craq_model::specs::Plain::newest))]
 fn settled_as_tail<H: History>(
     alloc: Global,
     node: &Node<H>,
@@ -110,7 +110,7 @@ fn settled_as_tail<H: History>(
 ) -> Result<(Change, Step), AllocError>
     requires ready { node.now.ready ≡ true }
     requires last { last_of config.members ≡ node.now.name.node }
-    ensures { IfOk result (λ r. IsPlanOf (plain_of H.past node.now) r (settling_turn (in_membership (plain_of H.past node.now) config.epoch config.members))) }
+    ensures { IfOk result (λ r. IsEffectOf (plain_of H.past node.now) r (settling_transition (in_membership (plain_of H.past node.now) config.epoch config.members))) }
 {
     let mut outs = Vec::new(alloc);
     answer_all(&mut outs, alloc, node)?;
@@ -129,14 +129,14 @@ fn settled_as_tail<H: History>(
 }
 
 /// Plans adopting a membership in any other role: the node repeats its pending sends.
-#[tactic(auto, unfolding(craq_model::specs::Settle::settling_turn))]
+#[tactic(auto, unfolding(craq_model::specs::Settle::settling_transition))]
 fn settled_in_line<H: History>(
     alloc: Global,
     node: &Node<H>,
     config: Config,
 ) -> Result<(Change, Step), AllocError>
     requires { (node.now.ready && (last_of config.members == node.now.name.node)) ≡ false }
-    ensures { IfOk result (λ r. IsPlanOf (plain_of H.past node.now) r (settling_turn (in_membership (plain_of H.past node.now) config.epoch config.members))) }
+    ensures { IfOk result (λ r. IsEffectOf (plain_of H.past node.now) r (settling_transition (in_membership (plain_of H.past node.now) config.epoch config.members))) }
 {
     let mut outs = Vec::new(alloc);
     add_outs_in(
@@ -157,15 +157,15 @@ fn settled_in_line<H: History>(
 /// what is not acknowledged (OSDI 2004); epochs and floors are this project's profile. Ignored if
 /// the epoch is not later than the node's (`OtherEpoch`), or if the node is no member
 /// (`NotNeighbour`).
-#[tactic(auto, unfolding(craq_model::specs::Deliveries::config_turn, craq_model::specs::Settle::settling_turn))]
-pub fn plan_config<H: History>(
+#[tactic(auto, unfolding(craq_model::specs::Deliveries::config_transition, craq_model::specs::Settle::settling_transition))]
+pub fn compute_config<H: History>(
     alloc: Global,
     node: &Node<H>,
     epoch: Epoch,
     members: Items<NodeId>,
 ) -> Result<(Change, Step), AllocError>
-    ensures turn { IfOk result (λ r. IsPlanOf (plain_of H.past node.now) r (config_turn (plain_of H.past node.now) epoch members)) }
-    ensures free { IsSome (config_turn (plain_of H.past node.now) epoch members).1.ignored → IsOk result }
+    ensures transition { IfOk result (λ r. IsEffectOf (plain_of H.past node.now) r (config_transition (plain_of H.past node.now) epoch members)) }
+    ensures free { IsSome (config_transition (plain_of H.past node.now) epoch members).1.ignored → IsOk result }
 {
     if epoch <= node.epoch {
         return Ok((Change::none(), ignoring(alloc, Why::OtherEpoch)));

@@ -1,19 +1,19 @@
-//! `plan_update`: the rule of an update at the head. `craq_node` calls it.
+//! `compute_update`: the rule of an update at the head. `craq_node` calls it.
 ghost use Rattle.std.specs.Prelude.{◌≡◌, ◌<◌, ◌+◌, ◌-◌, ◌^◌, ◌∷◌, [], true, false, Some, None, ◌||◌, if◌then◌else◌, not, nat_le, IfOk};
 ghost use Rattle.craq_commands.specs.SingleCopy.{said};
-ghost use Rattle.craq_model.specs.Asks.{reply_turn, update_turn, new_update_turn, committed_if_last, is_full};
+ghost use Rattle.craq_model.specs.Asks.{reply_transition, update_transition, new_update_transition, committed_if_last, is_full};
 ghost use Rattle.craq_model.specs.Plain.{newest, length_of, is_last, position_of};
 ghost use Rattle.craq_history.specs.declared.change.GatheringChange.TheVariants.{Stays};
 ghost use Rattle.craq_history.specs.Change.{changed};
 ghost use Rattle.craq_history.specs.Nodes.{plain_of};
 ghost use Rattle.craq_model.specs.Past.{newest_in};
-ghost use Rattle.craq_history.specs.Plans.{CanGrow, IsPlanned, Plans};
+ghost use Rattle.craq_history.specs.Effects.{CanGrow, IsComputed, Computes};
 ghost use Rattle.craq_write.specs.Forward.{entry_with};
 ghost use Rattle.craq_write.specs.Outcomes.{HaveNext, outcome_in};
 ghost use Rattle.craq_write.specs.Places.{committed_then, has_place};
 
 use crate::making_entries::{Checked, check, forward, only, outcome};
-use craq_commands::{Entry, Reply, Said, Update};
+use craq_commands::{Entry, Reply, RequestStatus, Update};
 use craq_history::members::last_member;
 use craq_history::steps::accepted;
 use craq_history::{Change, History, HistoryChange, Node, WaitingChange};
@@ -69,7 +69,7 @@ fn has_place<H: History>(node: &Node<H>, length: u64, position: u64) -> bool
 
 /// Plans the reply to an update that can be taken. It is sent once the history is committed up to a
 /// position: in this step if that is so after the change, else the update waits.
-#[tactic(auto, unfolding(craq_model::specs::Asks::reply_turn, craq_model::specs::Asks::is_full))]
+#[tactic(auto, unfolding(craq_model::specs::Asks::reply_transition, craq_model::specs::Asks::is_full))]
 fn replied<H: History>(
     node: &Node<H>,
     change: Change,
@@ -85,7 +85,7 @@ fn replied<H: History>(
     requires same { change.waiting ≡ WaitingChange.Same }
     requires committed { acknowledged ≡ (changed (plain_of H.past node.now) change).past.acknowledged }
     requires place { (nat_le position acknowledged || not (is_full (plain_of H.past node.now))) ≡ true }
-    ensures { IfOk result (λ r. IsPlanned (plain_of H.past node.now) r (reply_turn (changed (plain_of H.past node.now) change) position reply sends.items)) }
+    ensures { IfOk result (λ r. IsComputed (plain_of H.past node.now) r (reply_transition (changed (plain_of H.past node.now) change) position reply sends.items)) }
 {
     let ticket = Ticket::new(node.last_ticket.get() + 1);
     if position <= acknowledged {
@@ -127,7 +127,7 @@ fn committing<H: History>(node: &Node<H>, change: Change, length: u64) -> (Chang
 
 /// Plans an update whose number is not new and that can be taken: its reply waits for a position of
 /// the history.
-fn told_again<H: History>(
+fn reported_again<H: History>(
     alloc: Global,
     node: &Node<H>,
     position: u64,
@@ -135,7 +135,7 @@ fn told_again<H: History>(
 ) -> Result<(Change, Step), AllocError>
     requires room { node.now.last_ticket < 2 ^ 64 - 1 }
     requires place { has_place (plain_of H.past node.now) (length_of (plain_of H.past node.now)) position ≡ true }
-    ensures { IfOk result (λ r. IsPlanned (plain_of H.past node.now) r (reply_turn (committed_if_last (plain_of H.past node.now)) position reply.now [])) }
+    ensures { IfOk result (λ r. IsComputed (plain_of H.past node.now) r (reply_transition (committed_if_last (plain_of H.past node.now)) position reply.now [])) }
 {
     let reply = reply.copied(alloc)?;
     let (change, acknowledged) = committing(node, Change::none(), node.history.len());
@@ -151,13 +151,13 @@ fn asked_before<H: History>(
     reply: &Reply,
 ) -> Result<(Change, Step), Refusal>
     requires { node.now.last_ticket < 2 ^ 64 - 1 }
-    ensures { Plans (plain_of H.past node.now) result (reply_turn (committed_if_last (plain_of H.past node.now)) (position_of (plain_of H.past node.now) client) reply.now []) }
+    ensures { Computes (plain_of H.past node.now) result (reply_transition (committed_if_last (plain_of H.past node.now)) (position_of (plain_of H.past node.now) client) reply.now []) }
 {
     let position = node.history.position_of(client);
     if !has_place(node, node.history.len(), position) {
         return Err(Refusal::PendingFull);
     }
-    let plan = told_again(alloc, node, position, reply)?;
+    let plan = reported_again(alloc, node, position, reply)?;
     Ok(plan)
 }
 
@@ -170,7 +170,7 @@ fn entered<H: History>(
     requires room { node.now.last_ticket < 2 ^ 64 - 1 }
     requires next { entry.position ≡ length_of (plain_of H.past node.now) + 1 }
     requires place { has_place (plain_of H.past node.now) entry.position entry.position ≡ true }
-    ensures { IfOk result (λ r. IsPlanned (plain_of H.past node.now) r (new_update_turn (plain_of H.past node.now) entry)) }
+    ensures { IfOk result (λ r. IsComputed (plain_of H.past node.now) r (new_update_transition (plain_of H.past node.now) entry)) }
 {
     let length = entry.position.get();
     let reply = entry.reply.copied(alloc)?;
@@ -217,14 +217,14 @@ fn entry_made<H: History>(
 
 /// Plans a new update at the head: it is evaluated on the newest state and becomes the next entry.
 /// The errors `Exhausted` and `PendingFull` are found before anything is made; then comes `Memory`.
-#[tactic(auto, unfolding(craq_model::specs::Asks::update_turn, craq_model::specs::Plain::newest))]
-fn plan_new<H: History>(
+#[tactic(auto, unfolding(craq_model::specs::Asks::update_transition, craq_model::specs::Plain::newest))]
+fn compute_new<H: History>(
     alloc: Global,
     node: &Node<H>,
     update: Update,
 ) -> Result<(Change, Step), Refusal>
     requires { node.now.last_ticket < 2 ^ 64 - 1 }
-    ensures { Plans (plain_of H.past node.now) result (update_turn (plain_of H.past node.now) update None) }
+    ensures { Computes (plain_of H.past node.now) result (update_transition (plain_of H.past node.now) update None) }
 {
     let length = node.history.len();
     if length == u64::MAX {
@@ -251,18 +251,18 @@ fn plan_new<H: History>(
 /// without a next version; `PendingFull` if it would have to wait and 1,024 requests wait; `Memory`
 /// only if none of these applies. They are found before anything is evaluated or copied. The value
 /// of a put is moved into the entry, and copied only for the successor.
-#[tactic(auto, unfolding(craq_model::specs::Asks::update_turn, craq_model::specs::Plain::newest))]
-pub fn plan_update<H: History>(
+#[tactic(auto, unfolding(craq_model::specs::Asks::update_transition, craq_model::specs::Plain::newest))]
+pub fn compute_update<H: History>(
     alloc: Global,
     node: &Node<H>,
     update: Update,
 ) -> Result<(Change, Step), Refusal>
     requires { node.now.last_ticket < 2 ^ 64 - 1 }
-    ensures { Plans (plain_of H.past node.now) result (update_turn (plain_of H.past node.now) update (said (newest (plain_of H.past node.now)) update.client update.number)) }
+    ensures { Computes (plain_of H.past node.now) result (update_transition (plain_of H.past node.now) update (said (newest (plain_of H.past node.now)) update.client update.number)) }
 {
     match node.history.said(update.client, update.number) {
-        Said::New => plan_new(alloc, node, update),
-        Said::Kept(reply) => asked_before(alloc, node, update.client, reply),
-        Said::Stale(last) => asked_before(alloc, node, update.client, &Reply::Stale(last)),
+        RequestStatus::New => compute_new(alloc, node, update),
+        RequestStatus::Kept(reply) => asked_before(alloc, node, update.client, reply),
+        RequestStatus::Stale(last) => asked_before(alloc, node, update.client, &Reply::Stale(last)),
     }
 }

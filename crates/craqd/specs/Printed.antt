@@ -1,7 +1,7 @@
 -- What is printed of an audit, and told of a fault.
 use Rattle.std.specs.Prelude.{ℕ, List, Option, Some, None, ◌++◌, codes}
 use Rattle.std.specs.Fmt.{decimal}
-use Rattle.craq_names.specs.Refused.{number_of}
+use Rattle.craq_names.specs.Refused.{refusal_number}
 use Rattle.craq_audit.specs.declared.finding.Audit.{Audit}
 use Rattle.craq_audit.specs.declared.finding.Audit.TheVariants as audits
 use Rattle.craqd.specs.declared.fault.Fault.{Fault}
@@ -19,5 +19,5 @@ fault_text faults.CannotRead plan = Some (codes "cannot read " ++ plan)
 fault_text faults.BadPlan plan = Some (codes "plan refused")
 fault_text faults.Memory plan = Some (codes "no memory")
 fault_text faults.CannotListen plan = Some (codes "cannot listen")
-fault_text (faults.AuditRefused refusal) plan = Some (codes "audit refused " ++ decimal (number_of refusal))
+fault_text (faults.AuditRefused refusal) plan = Some (codes "audit refused " ++ decimal (refusal_number refusal))
 fault_text (faults.CannotPrint error) plan = None

@@ -4,7 +4,7 @@ ghost use Rattle.std.specs.Prelude.{◌≡◌, Some, IfOk};
 ghost use Rattle.craqd.specs.Statuses.{status_of};
 
 use crate::lines::FaultLine;
-use craq_line::{BAD_INPUT, NO_MEMORY};
+use craq_cli::{BAD_INPUT, NO_MEMORY};
 use craq_names::Refusal;
 use std::alloc::{AllocError, AllocFailed};
 use std::io;

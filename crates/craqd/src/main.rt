@@ -1,4 +1,4 @@
-//! The program that runs and serves the store of a plan, which `./serve` starts too: `craqd [OPTION
+//! The program that runs and serves the store of a plan, which `./run_service` starts too: `craqd [OPTION
 //! ..] PLAN ADDRESS`.
 #![tactic(auto)]
 
@@ -10,7 +10,7 @@ mod plans;
 mod serving;
 mod telling;
 
-use craq_line::{Line, NO_MEMORY, report_failure, report_no_text, report_words, words_of};
+use craq_cli::{Line, NO_MEMORY, report_failure, report_no_text, report_words, words_of};
 use serving::serve_line;
 use std::env::Env;
 use std::io;

@@ -1,6 +1,6 @@
 //! The plan of a file; called by `serving`.
 ghost use Rattle.std.specs.Prelude.{◌≡◌, ◌⊎◌, List, IfErr, IfOk, IsUtf8};
-ghost use Rattle.craq_place.specs.Plan.{Chain, IsPlan, StandsFor};
+ghost use Rattle.craq_place.specs.Plan.{Chain, IsPlan, IsPlanText};
 
 use crate::fault::Fault;
 use craq_names::Refusal;
@@ -23,9 +23,9 @@ fn bytes_of<R: AllocGlobal + Files>(rt: &R, path: &str) -> Result<Vec<u8>, Fault
 /// The plan that the bytes of a file stand for as text. `BadPlan` exactly where they are no text or
 /// stand for no plan; `Memory` where a growth was refused.
 fn plan_of_bytes(alloc: Global, bytes: &[u8]) -> Result<Plan, Fault>
-    ensures found { IfOk result (λ p. IsUtf8 bytes.now × StandsFor bytes.now p) }
-    ensures only { IfOk result (λ p. (other : List Chain) → StandsFor bytes.now other → other ≡ p) }
-    ensures bad { result ≡ Err Fault.BadPlan → IsUtf8 bytes.now → (p : List Chain) → StandsFor bytes.now p → ⊥ }
+    ensures found { IfOk result (λ p. IsUtf8 bytes.now × IsPlanText bytes.now p) }
+    ensures only { IfOk result (λ p. (other : List Chain) → IsPlanText bytes.now other → other ≡ p) }
+    ensures bad { result ≡ Err Fault.BadPlan → IsUtf8 bytes.now → (p : List Chain) → IsPlanText bytes.now p → ⊥ }
     ensures err { IfErr result (λ e. (e ≡ Fault.BadPlan) ⊎ (e ≡ Fault.Memory)) }
 {
     let Ok(text) = from_utf8(bytes) else {

@@ -7,9 +7,9 @@ use crate::closing::watch_input;
 use crate::fault::Fault;
 use crate::plans::plan_of;
 use crate::telling::tell_serving;
-use craq_line::Line;
-use craq_list::ListCore;
-use craq_server::{Connections, Crowds, Log, Served as Accepted, Serving, accept_with};
+use craq_cli::Line;
+use craq_compact_history::ListCore;
+use craq_server::{Connections, EventLoops, Log, ServeReport as Accepted, Serving, accept_with};
 use craq_workers::{OpenGate, Store};
 use std::alloc::AllocError;
 use std::io::{ErrorKind, Input, StdinLock};
@@ -59,7 +59,7 @@ struct Service<'s, R: Wait> {
 }
 
 /// Returns the outcome of accepting connections, or the fault of following the server.
-fn came_of(
+fn combine_results(
     followed: Result<(), Fault>,
     accepted: Result<Accepted, AllocError>,
 ) -> Result<Accepted, Fault> {
@@ -89,7 +89,7 @@ where
 
     /// Serves the connections until the server is to end and all are over. Fails where a thread, or
     /// what it needs, cannot be made; no connection was taken then.
-    fn accept(&self, crowds: Crowds) -> Result<Accepted, AllocError> {
+    fn accept(&self, event_loops: EventLoops) -> Result<Accepted, AllocError> {
         let (store, connections) = (self.store, self.connections);
         accept_with(
             self.rt,
@@ -97,7 +97,7 @@ where
             store,
             self.listener,
             connections,
-            crowds,
+            event_loops,
         )
     }
 
@@ -120,21 +120,25 @@ where
     }
 
     /// Serves the connections on one thread while another ticks the store, until all are over.
-    fn run<'e, E>(&'e self, scope: &Scope<'e, E>, crowds: Crowds) -> Result<Accepted, Fault>
+    fn run<'e, E>(
+        &'e self,
+        scope: &Scope<'e, E>,
+        event_loops: EventLoops,
+    ) -> Result<Accepted, Fault>
     where
         R: Print,
     {
         if scope.spawn(move || self.tick()).is_err() {
             return Err(Fault::Memory);
         }
-        let Ok(accepting) = scope.spawn(move || self.accept(crowds)) else {
+        let Ok(accepting) = scope.spawn(move || self.accept(event_loops)) else {
             self.over.store(true, Ordering::SeqCst);
             return Err(Fault::Memory);
         };
         let followed = self.follow();
         let accepted = accepting.join(&self.rt);
         self.over.store(true, Ordering::SeqCst);
-        came_of(followed, accepted)
+        combine_results(followed, accepted)
     }
 }
 
@@ -145,9 +149,9 @@ where
 {
     /// Serves the connections while the store is ticked, until all of them and both threads are
     /// over.
-    fn serve(&self, crowds: Crowds) -> Result<Accepted, Fault> {
+    fn run_service(&self, event_loops: EventLoops) -> Result<Accepted, Fault> {
         thread::scope(thread::scope_env(), &self.rt, |scope| {
-            self.run(scope, crowds)
+            self.run(scope, event_loops)
         })
     }
 }
@@ -161,7 +165,7 @@ where
 {
     let Accepted {
         receipts,
-        lacked,
+        had_failures,
         listener_failed,
     } = accepted;
     if store.has_journals() {
@@ -172,7 +176,7 @@ where
     if listener_failed {
         return Err(Fault::CannotListen);
     }
-    if lacked {
+    if had_failures {
         return Err(Fault::Memory);
     }
     Ok(())
@@ -188,10 +192,10 @@ const fn log_of(line: &Line<'_>) -> Log
 /// Returns how connections are served as a command line asks for. Receipts are kept where journals
 /// are.
 const fn serving_of(line: &Line<'_>) -> Serving
-    ensures { result ≡ record { keeps = line.now.journal; connections = line.now.connections; threads = line.now.threads; idle = line.now.idle; most_leap = line.now.most_leap; log = if line.now.log then Log.Lines else Log.Silent } }
+    ensures { result ≡ record { keep_receipts = line.now.journal; connections = line.now.connections; threads = line.now.threads; idle = line.now.idle; most_leap = line.now.most_leap; log = if line.now.log then Log.Lines else Log.Silent } }
 {
     Serving {
-        keeps: line.journal,
+        keep_receipts: line.journal,
         connections: line.connections,
         threads: line.threads,
         idle: line.idle,
@@ -220,7 +224,7 @@ where
         watch_input(rt, connections)?;
     }
     tell_serving(&rt, store, line, address.port())?;
-    let crowds = Crowds::new(&rt, rt.alloc(), serving_of(line))?;
+    let event_loops = EventLoops::new(&rt, rt.alloc(), serving_of(line))?;
     let service = Service {
         rt,
         store,
@@ -229,7 +233,7 @@ where
         connections,
         over: AtomicBool::new(false),
     };
-    let accepted = service.serve(crowds);
+    let accepted = service.run_service(event_loops);
     drop(service);
     finish(&rt, store, accepted?)
 }
@@ -249,11 +253,11 @@ where
 /// Returns how the chains' work is done: by a thread for each chain where a few threads serve all
 /// connections.
 const fn gate_of(line: &Line<'_>) -> OpenGate
-    ensures { result ≡ record { in_place = true; carried = nat_lt 0 line.now.threads } }
+    ensures { result ≡ record { in_place = true; chain_threads = nat_lt 0 line.now.threads } }
 {
     OpenGate {
         in_place: true,
-        carried: line.threads > 0,
+        chain_threads: line.threads > 0,
     }
 }
 

@@ -2,7 +2,7 @@
 ghost use Rattle.std.specs.Prelude.{◌<◌, ◌⊎◌, ◌↔◌, IsTrue};
 
 use crate::serving::RunningStore;
-use craq_line::{Line, VERSION};
+use craq_cli::{Line, VERSION};
 use craq_names::NodeId;
 use craq_workers::ChainStatus;
 use std::alloc::{AllocError, Global};

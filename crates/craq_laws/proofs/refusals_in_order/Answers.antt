@@ -1,10 +1,10 @@
 use Rattle.std.proofs.Common.{refl}
-use Rattle.craq_model.specs.Asks.{ask_turn}
+use Rattle.craq_model.specs.Asks.{ask_transition}
 use Rattle.craq_model.specs.Node.{node_step}
 use Rattle.craq_laws.proofs.refusals_in_order.Goals as goal
 
 pub returns : goal.returns
-unfolding node_step ask_turn
+unfolding node_step ask_transition
 returns c =
     record {
       stopped = λ p e r. rw r refl;

@@ -1,9 +1,9 @@
-//! Audits the nodes that took a script's moves; called by `ways`.
+//! Audits the nodes that took a script's moves; called by `routes`.
 use super::rows::{MOST_NODES, Row};
 use super::teller::{Call, TRIES, Teller};
 use crate::audits::cells_in;
 use craq_audit::audit;
-use craq_locked::LockedChain;
+use craq_cell_chain::CellChain;
 use craq_names::{NodeId, Refusal};
 use craq_node::Core;
 use craq_seat::{BookCell, CallReceipt, Cell, Seated};
@@ -14,7 +14,7 @@ use std::sync::{MutexGuard, Wait};
 fn held_in<'a, C: Core, R: Wait>(
     rt: &R,
     alloc: Global,
-    cells: &'a LockedChain<C>,
+    cells: &'a CellChain<C>,
 ) -> Vec<MutexGuard<'a, Seated<C>>> {
     let mut held = Vec::new(alloc);
     for id in 1..=MOST_NODES {
@@ -43,7 +43,7 @@ fn tell<C: Core>(teller: Teller, book: &BookCell, cells: &[&Cell<C>], calls: &[C
 
 /// Audits the nodes after the script, under the locks of all of them.
 pub fn play<C: Core, R: Wait>(rt: &R, teller: Teller, row: &Row) -> Result<(), Refusal> {
-    let (cells, calls): (LockedChain<C>, Vec<CallReceipt>) = row.cells(rt, teller.alloc)?;
+    let (cells, calls): (CellChain<C>, Vec<CallReceipt>) = row.cells(rt, teller.alloc)?;
     let book = cells.book().lock(rt);
     let held = held_in(rt, teller.alloc, &cells);
     match &cells_in(teller.alloc, held.as_slice()) {

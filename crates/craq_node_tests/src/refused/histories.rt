@@ -1,7 +1,7 @@
 //! Defines `Kept`, a node that tells how its history keeps entries; for `steps` and `worlds`.
 use super::teller::Teller;
+use craq_compact_history::ListCore;
 use craq_history::History;
-use craq_list::ListCore;
 use craq_node::Core;
 use craq_play::PlainCore;
 

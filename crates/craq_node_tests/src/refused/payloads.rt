@@ -1,8 +1,8 @@
 //! Makes the payloads of a script's requests and of their replies; called by `messages`.
 use super::connections::messages_of;
 use super::rows::Row;
+use craq_cell_chain::CellChain;
 use craq_frames::ClientReply;
-use craq_locked::LockedChain;
 use craq_model::Answer;
 use craq_names::{Copied, Pass, Refusal};
 use craq_node::Core;
@@ -63,7 +63,7 @@ pub fn replies_of<C: Core, R: Wait>(
     alloc: Global,
     row: &Row,
 ) -> Result<Vec<Vec<u8>>, Refusal> {
-    let (cells, calls): (LockedChain<C>, Vec<CallReceipt>) = row.cells(rt, alloc)?;
+    let (cells, calls): (CellChain<C>, Vec<CallReceipt>) = row.cells(rt, alloc)?;
     drop(cells);
     let mut payloads = Vec::new(alloc);
     for call in &calls {

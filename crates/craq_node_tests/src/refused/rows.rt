@@ -1,6 +1,6 @@
 //! Holds a script and its nodes, for one chain; read by `refused`, and played in each mode.
 use crate::{cells, worlds};
-use craq_locked::LockedChain;
+use craq_cell_chain::CellChain;
 use craq_names::{ChainId, Copied, Pass, Refusal};
 use craq_node::Core;
 use craq_play::{Script, move_of};
@@ -84,7 +84,7 @@ impl Row {
         &self,
         rt: &R,
         alloc: Global,
-    ) -> Result<(LockedChain<C>, Vec<CallReceipt>), Refusal> {
+    ) -> Result<(CellChain<C>, Vec<CallReceipt>), Refusal> {
         let mut cells = cells::opened(alloc, self.ids.as_slice(), true)?;
         let mut calls = Vec::new(alloc);
         let mut pass = Pass::start();

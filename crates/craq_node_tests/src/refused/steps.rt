@@ -1,13 +1,13 @@
 //! Replays the events of each node on a new node, and on a new pending-call table; called by
-//! `ways`.
+//! `routes`.
 ghost use Rattle.std.specs.Prelude.{IfOk, IsTrue};
 ghost use Rattle.craq_node.specs.Represented.{CanArrive, CanOpen};
 
 use super::histories::{Kept, entries_of, tell_entries};
 use super::rows::{MOST_NODES, Row};
 use super::teller::{Call, TRIES, Teller};
+use craq_cell_chain::CellChain;
 use craq_epochs::{is_among, is_membership};
-use craq_locked::LockedChain;
 use craq_model::{Event, Step};
 use craq_names::{Copied, NodeId, Refusal, Same};
 use craq_node::Core;
@@ -175,18 +175,18 @@ pub fn play<C: Kept, R: Wait>(
     row: &Row,
     desks: bool,
 ) -> Result<(), Refusal> {
-    let (cells, calls): (LockedChain<C>, Vec<CallReceipt>) = row.cells(rt, teller.alloc)?;
+    let (cells, calls): (CellChain<C>, Vec<CallReceipt>) = row.cells(rt, teller.alloc)?;
     drop(calls);
     for id in 1..=MOST_NODES {
         if let Some((_, seat)) = cells.seat(NodeId::new(id)) {
             let seated = seat.lock(rt);
             let cell = seated.desk.cell();
-            let told = if desks {
+            let reported = if desks {
                 take_again(teller, cell)
             } else {
                 step_again(teller, cell)
             };
-            if told.is_err() {
+            if reported.is_err() {
                 let _ = println!(teller.host; "node {id} is not opened");
             }
         }

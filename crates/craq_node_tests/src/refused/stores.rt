@@ -1,5 +1,5 @@
 //! Starts a store with a script's members, sends it the script's requests, and adds a node unless
-//! the chain is full; called by `ways`.
+//! the chain is full; called by `routes`.
 ghost use Rattle.std.specs.Prelude.{IfOk};
 ghost use Rattle.craq_place.specs.Plan.{IsPlan};
 
@@ -77,7 +77,7 @@ fn start<C, R>(
     rt: R,
     teller: Teller,
     plan: &Plan,
-    carried: bool,
+    chain_threads: bool,
 ) -> Result<Store<C, OpenGate>, Refusal>
 where
     C: Core + Send + 'static,
@@ -88,7 +88,7 @@ where
     for _ in 0..TRIES {
         let gate = OpenGate {
             in_place: false,
-            carried,
+            chain_threads,
         };
         teller.begin(Call::Start);
         match Store::start(rt, teller.alloc, plan, gate, true) {
@@ -189,12 +189,12 @@ where
 {
     let mut client = store.client(Pass::start())?;
     for _ in 0..LIMIT {
-        let told = answer(rt, teller.alloc, &mut client, node, ask);
-        let is_ready = !matches!(&told, Err(Refusal::NotReady));
+        let reported = answer(rt, teller.alloc, &mut client, node, ask);
+        let is_ready = !matches!(&reported, Err(Refusal::NotReady));
         if is_ready {
-            let _ = println!(teller.host; "{told:?}");
+            let _ = println!(teller.host; "{reported:?}");
         }
-        drop(told);
+        drop(reported);
         if is_ready {
             break;
         }
@@ -249,20 +249,20 @@ where
 
 /// Prints the replies of a store with the row's members while one more joins. The store is run by
 /// one chain thread, or by threads of each node. Fails if a thread is left at the end.
-pub fn play<C, R>(rt: R, teller: Teller, row: &Row, carried: bool) -> Result<(), Refusal>
+pub fn play<C, R>(rt: R, teller: Teller, row: &Row, chain_threads: bool) -> Result<(), Refusal>
 where
     C: Core + Send + 'static,
     R: Threads + Wait + Copy + Send + 'static,
 {
     let before = threads(teller.host);
     let plan = plan(teller.alloc, row)?;
-    let started: Result<Store<C, OpenGate>, Refusal> = start(rt, teller, &plan, carried);
+    let started: Result<Store<C, OpenGate>, Refusal> = start(rt, teller, &plan, chain_threads);
     drop(plan);
     let store = started?;
-    let told = tell(rt, teller, row, &store);
+    let reported = tell(rt, teller, row, &store);
     store.close(&rt);
     if comes_to(teller.host, before) {
-        told
+        reported
     } else {
         Err(Refusal::NotStopped)
     }

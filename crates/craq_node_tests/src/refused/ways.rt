@@ -33,7 +33,7 @@ pub enum Way {
     Stores,
     /// Makes `Store::start` with the members, and `Store::join` of one more; one chain thread runs
     /// the store.
-    Carried,
+    ChainThread,
 }
 
 /// All modes, each with its word.
@@ -48,7 +48,7 @@ pub const WAYS: [(Way, &str); 11] = [
     (Way::Plans, "plans"),
     (Way::Serves, "serves"),
     (Way::Stores, "stores"),
-    (Way::Carried, "carried"),
+    (Way::ChainThread, "carried"),
 ];
 
 /// Plays a script in one mode, and prints the results of the calls.
@@ -77,6 +77,6 @@ where
             Ok(())
         }
         Way::Stores => stores::play::<C, R>(rt, teller, row, false),
-        Way::Carried => stores::play::<C, R>(rt, teller, row, true),
+        Way::ChainThread => stores::play::<C, R>(rt, teller, row, true),
     }
 }

@@ -1,4 +1,4 @@
-//! Plays the moves in a world, one by one or all at once, and explains the run; called by `ways`.
+//! Plays the moves in a world, one by one or all at once, and explains the run; called by `routes`.
 use super::histories::{Entries, Kept, entries_in, tell_entries};
 use super::rows::{Row, chain};
 use super::teller::{Call, TRIES, Teller};
@@ -38,12 +38,15 @@ fn tell<C: Core>(teller: Teller, world: &World<C>) {
     let _ = println!(teller.host; "{:?}", world.run_of(chain()));
     for _ in 0..TRIES {
         teller.begin(Call::WorldExplain);
-        let told = world.explain(teller.alloc, chain());
-        let is_done = teller.end(Call::WorldExplain, matches!(&told, Err(Refusal::Memory)));
+        let reported = world.explain(teller.alloc, chain());
+        let is_done = teller.end(
+            Call::WorldExplain,
+            matches!(&reported, Err(Refusal::Memory)),
+        );
         if is_done {
-            let _ = println!(teller.host; "{told:?}");
+            let _ = println!(teller.host; "{reported:?}");
         }
-        drop(told);
+        drop(reported);
         if is_done {
             break;
         }
@@ -75,8 +78,8 @@ fn counts(report: &Report) -> (usize, usize) {
 
 /// Returns how many moves of a list were taken, and how many ran out of memory. Without a report
 /// none was taken.
-fn taken_of(told: &Result<Report, AllocError>) -> (usize, usize) {
-    match told {
+fn taken_of(reported: &Result<Report, AllocError>) -> (usize, usize) {
+    match reported {
         Ok(report) => counts(report),
         Err(_) => (0, 1),
     }
@@ -104,11 +107,11 @@ fn run_once<C: Core>(
 ) -> Result<bool, Refusal> {
     let mut world: World<C> = row.world(teller.alloc)?;
     teller.begin(Call::WorldRun);
-    let told = world.run(teller.alloc, moves);
-    let (taken, refused) = taken_of(&told);
+    let reported = world.run(teller.alloc, moves);
+    let (taken, refused) = taken_of(&reported);
     let is_whole = teller.end(Call::WorldRun, refused > 0);
     if is_whole {
-        let _ = println!(teller.host; "{told:?}");
+        let _ = println!(teller.host; "{reported:?}");
         tell(teller, &world);
     } else if refused != 1 || !stands(teller, &world, taken) {
         let _ = println!(teller.host; "what was refused memory was taken otherwise");

@@ -1,5 +1,5 @@
 use Rattle.std.proofs.Common.{◌++◌, ap}
-use Rattle.craq_play.specs.Played.{opening}
+use Rattle.craq_play.specs.Played.{script_opening}
 use Rattle.craq_schedules.specs.Drawn.{after_choices, choices_text}
 use Rattle.craq_schedules.specs.Stopped.{count_committed, cut_line, up_to, without_node}
 use Rattle.craq_schedules.specs.Verdicts.{verdict_text}
@@ -13,10 +13,10 @@ returns-clause-run c = λ holds w answers h. is_true holds w answers h
 
 pub returns-clause-drawn : goal.returns-clause-drawn
 returns-clause-drawn c = λ holds nodes choices lines answers some few.
-    let end = after_choices choices (opening nodes) lines in
-    ap (λ b. choices_text choices (opening nodes) lines ++ verdict_text b) (is_true holds end answers (choices_run choices (opening nodes) lines (opening_runs nodes some few)))
+    let end = after_choices choices (script_opening nodes) lines in
+    ap (λ b. choices_text choices (script_opening nodes) lines ++ verdict_text b) (is_true holds end answers (choices_run choices (script_opening nodes) lines (opening_runs nodes some few)))
 
 pub returns-clause-stopped : goal.returns-clause-stopped
 returns-clause-stopped c = λ holds nodes node lines cut answers some few.
-    let end = without_node (up_to cut (opening nodes) lines) node in
-    ap (λ b. cut_line cut (count_committed end) b) (is_true holds end answers (without_runs (up_to cut (opening nodes) lines) node (up_to_runs cut (opening nodes) lines (opening_runs nodes some few))))
+    let end = without_node (up_to cut (script_opening nodes) lines) node in
+    ap (λ b. cut_line cut (count_committed end) b) (is_true holds end answers (without_runs (up_to cut (script_opening nodes) lines) node (up_to_runs cut (script_opening nodes) lines (opening_runs nodes some few))))

@@ -6,7 +6,7 @@ use Rattle.craq_runs.specs.Chain.{join_progress}
 use Rattle.craq_chain.specs.Parts.{AreParts, place_from}
 use Rattle.craq_chain.proofs.Commands.{can_join, zero_used, id_used, stays_out, not_out, join_made, joins}
 use Rattle.craq_chain.proofs.Refusing.{lacks, passed_on}
-use Rattle.craq_chain.proofs.Told.{join_spelled}
+use Rattle.craq_chain.proofs.Reported.{join_encodable}
 use Rattle.craq_chain.proofs.masters.join.Goals as goal
 
 pub returns-then-get-eq0-clause-step : goal.returns-then-get-eq0-clause-step
@@ -54,7 +54,7 @@ returns-clause-step g c =
     (joins g.C.Core.represents c.args.cores.now.items c.args.master.now c.join.new.self d c.args.id c.in_ok-core.core c.in_ok-step.step h zero known core c.in_ok-step.ensures c.in_ok-join.ensures.ok)
 
 pub returns-clause-spelled : goal.returns-clause-spelled
-returns-clause-spelled g c = join_spelled c.args.master.now c.join.new.self c.args.id c.in_ok-step.step c.keep_membership.ensures c.in_ok-step.ensures (join_made c.args.master.now c.join.new.self c.args.id c.in_ok-join.ensures.ok)
+returns-clause-spelled g c = join_encodable c.args.master.now c.join.new.self c.args.id c.in_ok-step.step c.keep_membership.ensures c.in_ok-step.ensures (join_made c.args.master.now c.join.new.self c.args.id c.in_ok-join.ensures.ok)
 
 pub returns-in_err-core-clause-step : goal.returns-in_err-core-clause-step
 returns-in_err-core-clause-step g c =

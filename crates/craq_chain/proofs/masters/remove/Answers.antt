@@ -3,7 +3,7 @@ use Rattle.std.specs.Prelude.{IsOk}
 use Rattle.std.proofs.lemmas.Result.{err_from_is_err_and}
 use Rattle.craq_runs.specs.Chain.{removal_progress}
 use Rattle.craq_chain.specs.Parts.{AreParts}
-use Rattle.craq_chain.proofs.Told.{removal_spelled}
+use Rattle.craq_chain.proofs.Reported.{removal_encodable}
 use Rattle.craq_chain.proofs.Commands.{can_remove, removes, keeps_member, not_kept}
 use Rattle.craq_chain.proofs.Refusing.{passed_on}
 use Rattle.craq_chain.proofs.masters.remove.Goals as goal
@@ -31,4 +31,4 @@ returns-clause-step g c =
     λ d h. removes g.C.Core.represents c.args.cores.now c.args.master.now c.remove.new.self d c.args.id c.in_ok-receipt.receipt c.in_ok-step.step h (c.in_ok-receipt.ensures d h) c.in_ok-step.ensures.step c.in_ok-remove.ensures.ok
 
 pub returns-clause-spelled : goal.returns-clause-spelled
-returns-clause-spelled g c = removal_spelled c.args.master.now c.args.id c.in_ok-step.step c.in_ok-step.ensures.mastered c.in_ok-step.ensures.step
+returns-clause-spelled g c = removal_encodable c.args.master.now c.args.id c.in_ok-step.step c.in_ok-step.ensures.mastered c.in_ok-step.ensures.step

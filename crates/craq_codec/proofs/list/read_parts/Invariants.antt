@@ -4,4 +4,4 @@ use Rattle.craq_codec.proofs.Loop.{with_front}
 use Rattle.craq_codec.proofs.list.read_parts.Given as goal
 
 abbrev pub invariant-loop : goal.invariant-loop
-invariant-loop g l = with_front l.parts (many_at g.T.Part.part_at (l.count - l.counter) l.rest) ≡ many_at g.T.Part.part_at l.count l.bytes
+invariant-loop g l = with_front l.parts (many_at g.T.MessagePart.part_at (l.count - l.counter) l.rest) ≡ many_at g.T.MessagePart.part_at l.count l.bytes

@@ -4,6 +4,6 @@ use Rattle.craq_codec.proofs.list.write_parts.Given as goal
 
 abbrev pub invariant-loop-part : goal.invariant-loop-part
 invariant-loop-part g l = record {
-  fit : AllByRecursion g.T.Part.fits (take l.part-index l.parts);
-  written : l.out.items ≡ l.fn.out.items ++ flat_map g.T.Part.spelling (take l.part-index l.parts);
+  fit : AllByRecursion g.T.MessagePart.fits (take l.part-index l.parts);
+  written : l.out.items ≡ l.fn.out.items ++ flat_map g.T.MessagePart.encoding (take l.part-index l.parts);
 }

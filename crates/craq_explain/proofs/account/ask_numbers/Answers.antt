@@ -7,7 +7,7 @@ use Rattle.craq_explain.proofs.Noting.{all_numbered}
 use Rattle.craq_explain.proofs.account.ask_numbers.Goals as goal
 
 pub returns : goal.returns
-returns c = λ asks due entries tables.
+returns c = λ asks pending entries tables.
     let t = c.args.tables.now in
     let i = c.loop-node.node-index in
     let h : length t.committed.origins.items ≤ i = subst (λ xs. length xs ≤ i) c.origins-node-items.ensures c.loop-node-test.false in

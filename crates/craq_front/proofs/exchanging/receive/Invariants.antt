@@ -6,7 +6,7 @@ abbrev pub invariant-loop-payload : goal.invariant-loop-payload
 invariant-loop-payload g l = record {
   read : Consumes (g.S.Source.remaining l.fn.stream) (g.S.Source.remaining l.stream) l.buffers.input.items;
   counted : g.S.Counted.count l.stream ≡ g.S.Counted.count l.fn.stream;
-  due : l.buffers.output.items ≡ [];
+  unsent : l.buffers.output.items ≡ [];
 }
 
 -- a frame has at most 1,048,580 bytes

@@ -8,29 +8,29 @@ returns-in_err-asked-clause-begun g c =
     let f = c.in_err-asked.ensures.follows in
     let is : c.loop-asked.asked ≡ Some c.in-Some.message = cc in
     always c.from_residual.result
-    (λ payload first. cut_off g.D.Door.turn c.args.door.now c.loop-asked.door c.ask-reply.new.self payload c.args.talk.now.buffers.output.items f.0 c.loop-asked.talk.buffers.output.items
-    c.reply.new.self.buffers.output.items c.loop-asked.talk.asking c.reply.new.self.asking c.loop-asked.asked c.in-Some.message c.ask-reply.result c.in_err-asked.field-0.0 is
+    (λ payload first. cut_off g.D.Door.turn c.args.door.now c.loop-asked.door c.ask-reply.new.self payload c.args.codec.now.buffers.output.items f.0 c.loop-asked.codec.buffers.output.items
+    c.reply.new.self.buffers.output.items c.loop-asked.codec.asking c.reply.new.self.asking c.loop-asked.asked c.in-Some.message c.ask-reply.result c.in_err-asked.field-0.0 is
     (c.loop-asked.invariant.0 payload first) c.ask-reply.ensures.turn f.1 f.2)
 
 pub loop-asked-smaller : goal.loop-asked-smaller
 loop-asked-smaller g c =
     let f = c.in_ok-asked.ensures.follows in
     let is : c.loop-asked.asked ≡ Some c.in-Some.message = cc in
-    fewer_left c.loop-asked.talk.asking c.reply.new.self.asking c.in-Some.message c.ask-reply.result f.0 c.loop-asked.asked c.in_ok-asked.asked is f.2
+    fewer_left c.loop-asked.codec.asking c.reply.new.self.asking c.in-Some.message c.ask-reply.result f.0 c.loop-asked.asked c.in_ok-asked.asked is f.2
 
 pub loop-asked-preserved : goal.loop-asked-preserved
 loop-asked-preserved g c =
     let f = c.in_ok-asked.ensures.follows in
     let is : c.loop-asked.asked ≡ Some c.in-Some.message = cc in (
-      λ payload first. one_replied g.D.Door.turn c.args.door.now c.loop-asked.door c.ask-reply.new.self payload c.args.talk.now.buffers.output.items f.0 c.loop-asked.talk.buffers.output.items
-          c.reply.new.self.buffers.output.items c.loop-asked.talk.asking c.reply.new.self.asking c.loop-asked.asked c.in_ok-asked.asked c.in-Some.message c.ask-reply.result is
+      λ payload first. one_replied g.D.Door.turn c.args.door.now c.loop-asked.door c.ask-reply.new.self payload c.args.codec.now.buffers.output.items f.0 c.loop-asked.codec.buffers.output.items
+          c.reply.new.self.buffers.output.items c.loop-asked.codec.asking c.reply.new.self.asking c.loop-asked.asked c.in_ok-asked.asked c.in-Some.message c.ask-reply.result is
           (c.loop-asked.invariant.0 payload first) c.ask-reply.ensures.turn f.1 f.2,
       c.in_ok-asked.ensures.input ∙ c.loop-asked.invariant.1,
-      λ none. nothing_asked c.loop-asked.talk.asking c.reply.new.self.asking c.ask-reply.result f.0 c.in_ok-asked.asked none f.2,
+      λ none. nothing_asked c.loop-asked.codec.asking c.reply.new.self.asking c.ask-reply.result f.0 c.in_ok-asked.asked none f.2,
     )
 
 pub returns-clause-ok : goal.returns-clause-ok
 returns-clause-ok g c =
     let none : c.loop-asked.asked ≡ None = search rules in
-    λ payload first. all_replied g.D.Door.turn c.args.door.now c.loop-asked.door payload c.args.talk.now.buffers.output.items c.loop-asked.talk.buffers.output.items c.loop-asked.talk.asking c.loop-asked.asked none
+    λ payload first. all_replied g.D.Door.turn c.args.door.now c.loop-asked.door payload c.args.codec.now.buffers.output.items c.loop-asked.codec.buffers.output.items c.loop-asked.codec.asking c.loop-asked.asked none
     (c.loop-asked.invariant.0 payload first)

@@ -10,7 +10,7 @@ invariant-loop-turn g l =
     × Appends (g.W.Sink.contents l.fn.writer) (g.W.Sink.contents l.writer) written
     × (g.R.Counted.count l.reader ≡ g.R.Counted.count l.fn.reader)
     × (g.W.Counted.count l.writer ≡ g.W.Counted.count l.fn.writer)
-    × (l.talk.buffers.output.items ≡ [])
-    × Served g.D.Door.turn l.fn.door read l.talk.buffers.input.items written l.frames l.door
+    × (l.codec.buffers.output.items ≡ [])
+    × Served g.D.Door.turn l.fn.door read l.codec.buffers.input.items written l.frames l.door
     × (l._turn ≤ l.frames + length read)
-    × (l.talk.asking ≡ None)
+    × (l.codec.asking ≡ None)

@@ -1,6 +1,6 @@
 use Rattle.std.proofs.Common.{refl, sym, ap, arith, option_map, ◌∙◌}
 use Rattle.std.proofs.lemmas.Option.{slice_get_past, slice_get_read}
-use Rattle.craq_script.specs.declared.line.Line.TheVariants as lines
+use Rattle.craq_script.specs.declared.line.ScriptLine.TheVariants as lines
 use Rattle.craq_schedules.proofs.Choices.{arrival, tick_at}
 use Rattle.craq_schedules.proofs.drawing.event_at.Goals as goal
 

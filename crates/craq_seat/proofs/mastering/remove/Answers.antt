@@ -3,7 +3,7 @@ use Rattle.std.proofs.lemmas.Result.{err_from_is_err_and}
 use Rattle.craq_model.specs.Members.{is_member}
 use Rattle.craq_seat.specs.Books.{tells}
 use Rattle.craq_epochs.specs.Mastered.{removed}
-use Rattle.craq_seat.proofs.Spoken.{removal_refused, removal_told, turned}
+use Rattle.craq_seat.proofs.Spoken.{removal_refused, removal_reported, turned}
 use Rattle.craq_seat.proofs.mastering.remove.Goals as goal
 
 pub returns-in_err-step : goal.returns-in_err-step
@@ -14,4 +14,4 @@ returns-in_err-step c =
     (removal_refused c.args.master.now c.args.stopped c.in_err-step.field-0.0 member (rw c.name-name.ensures at c.in_err-step.ensures.step))
 
 pub returns : goal.returns
-returns c = removal_told c.args.master.now c.remove.new.self c.args.stopped c.in_ok-step.step (rw c.name-name.ensures at c.in_ok-step.ensures.step) c.in_ok-remove.ensures.ok
+returns c = removal_reported c.args.master.now c.remove.new.self c.args.stopped c.in_ok-step.step (rw c.name-name.ensures at c.in_ok-step.ensures.step) c.in_ok-remove.ensures.ok

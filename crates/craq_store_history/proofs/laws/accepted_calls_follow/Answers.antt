@@ -5,4 +5,4 @@ pub returns-clause-made : goal.returns-clause-made
 returns-clause-made c = λ log done rest name stamp event pass step call h is. may_call log done rest _ h is
 
 pub returns-clause-later : goal.returns-clause-later
-returns-clause-later c = λ log seen told mid done rest call name at ask stamp event pass step h a p is. accepted_later log seen told mid done rest call name at ask stamp event pass step h a p is
+returns-clause-later c = λ log seen reported mid done rest call name at ask stamp event pass step h a p is. accepted_later log seen reported mid done rest call name at ask stamp event pass step h a p is

@@ -1,13 +1,13 @@
 use Rattle.std.proofs.Common.{◌≡◌, ◌∙◌, ◌++◌, ℕ, List, [], ◌∷◌, append_assoc, ap, refl}
 use Rattle.std.specs.Int.{w8, w16, w32, w64, to_be_bytes}
-use Rattle.craq_codec.specs.NumberSpelling.{number}
+use Rattle.craq_codec.specs.NumberEncoding.{number}
 use Rattle.craq_model.specs.declared.message.Body.{Body}
 use Rattle.craq_model.specs.declared.message.Body.TheVariants as bodies
-use Rattle.craq_wire.specs.Spelling.{kind_of}
+use Rattle.craq_wire.specs.Encoding.{message_kind}
 use Rattle.craq_wire.proofs.message.write_header.Goals as goal
 
 -- the number of a kind is one byte
-kind_is : (b : Body) → kind_of b ∷ [] ≡ to_be_bytes w8 (kind_of b)
+kind_is : (b : Body) → message_kind b ∷ [] ≡ to_be_bytes w8 (message_kind b)
 kind_is (bodies.Config members) = refl
 kind_is (bodies.Entry e) = refl
 kind_is (bodies.Ack position) = refl

@@ -7,7 +7,7 @@ use Rattle.craq_model.specs.Members.{IsMembership, is_member}
 use Rattle.craq_chain.proofs.Opening.{id_from_one, own_member}
 use Rattle.craq_workers.specs.Posts.{post_of}
 use Rattle.craq_workers.proofs.Posts.{next_posted}
-use Rattle.craq_workers.proofs.Ways.{each_more, made_more}
+use Rattle.craq_workers.proofs.Routes.{each_more, made_more}
 use Rattle.craq_workers.proofs.opening.open_members.Goals as goal
 
 pub open_node-requires : goal.open_node-requires
@@ -31,10 +31,10 @@ loop-node-preserved g c =
     let within : i < length xs = omega (arith, c.loop-node-test.true) in
     let name : ℕ → NodeName = λ n. record { chain = c.args.chain; node = n } in
     let grown = c.in_ok-push.ensures.items in (
-      made_more (λ w. w.name) name xs i c.node-item.result c.loop-node.nodes.items c.push.new.self.items c.in_ok-way.way within c.node-item.is c.in_ok-way.ensures.name grown c.loop-node.invariant.0,
+      made_more (λ w. w.name) name xs i c.node-item.result c.loop-node.nodes.items c.push.new.self.items c.in_ok-route.route within c.node-item.is c.in_ok-route.ensures.name grown c.loop-node.invariant.0,
       subst (AllByRecursion (λ w. (option_map (λ n. n.value.name) w.node ≡ Some w.name) × IsSome w.entrances)) (sym grown)
-          (each_more (λ w. (option_map (λ n. n.value.name) w.node ≡ Some w.name) × IsSome w.entrances) c.loop-node.nodes.items c.in_ok-way.way c.loop-node.invariant.1
-          (c.in_ok-way.ensures.node ∙ ap (λ (n : NodeName). Some n) (sym c.in_ok-way.ensures.name), c.in_ok-way.ensures.entrances)),
+          (each_more (λ w. (option_map (λ n. n.value.name) w.node ≡ Some w.name) × IsSome w.entrances) c.loop-node.nodes.items c.in_ok-route.route c.loop-node.invariant.1
+          (c.in_ok-route.ensures.node ∙ ap (λ (n : NodeName). Some n) (sym c.in_ok-route.ensures.name), c.in_ok-route.ensures.entrances)),
       next_posted c.args.form.staff c.args.chain xs i c.node-item.result (map post_of c.args.workers.now.items) (map post_of c.loop-node.workers.items) (map post_of c.add_workers.new.workers.items) _
-          within c.node-item.is c.in_ok-way.ensures.node c.loop-node.invariant.2 c.in_ok-add_workers.ensures,
+          within c.node-item.is c.in_ok-route.ensures.node c.loop-node.invariant.2 c.in_ok-add_workers.ensures,
     )

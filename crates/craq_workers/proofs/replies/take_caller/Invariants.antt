@@ -1,5 +1,5 @@
 use Rattle.std.proofs.Common.{◌≡◌, ◌++◌, drop, take, length, ◌-◌}
-use Rattle.craq_workers.specs.Told.{caller_under, without_caller}
+use Rattle.craq_workers.specs.Replies.{caller_under, without_caller}
 use Rattle.craq_workers.proofs.replies.take_caller.Given as goal
 
 abbrev pub invariant-loop-place : goal.invariant-loop-place

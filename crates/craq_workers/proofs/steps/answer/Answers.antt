@@ -1,6 +1,6 @@
 use Rattle.std.proofs.Common.{◌≡◌, ◌∷◌, ◌∙◌, ℕ, List, Ok, false, sym, subst}
 use Rattle.craq_seat.specs.Calls.{Called}
-use Rattle.craq_workers.specs.Told.{is_own, others_of}
+use Rattle.craq_workers.specs.Replies.{is_own, others_of}
 use Rattle.craq_workers.proofs.Telling.{Left, Outcomes, Owns, left_next, others_with, owns_other}
 use Rattle.craq_workers.proofs.steps.answer.Goals as goal
 
@@ -20,6 +20,6 @@ loop-receipt-preserved g c =
     let one = subst (λ (l : Outcomes). Left first now before mid said l) (others_with c.args.ticket rest r theirs) left in
     let under = subst (λ (n : ℕ). Left first now before mid said ((n, Ok r) ∷ others_of c.args.ticket rest)) (sym c.ticket-at.ensures) one in
     record {
-      left = left_next first now c.add_under.new.callers.items before mid c.add_under.new.self said (others_of c.args.ticket rest) c.ticket-at.result (Ok r) under c.add_under.ensures.others c.add_under.ensures.told;
+      left = left_next first now c.add_under.new.callers.items before mid c.add_under.new.self said (others_of c.args.ticket rest) c.ticket-at.result (Ok r) under c.add_under.ensures.others c.add_under.ensures.reported;
       own = owns_other c.args.ticket c.loop-receipt.own all rest r theirs (subst (λ (l : List Called). Owns c.args.ticket c.loop-receipt.own all l) step c.loop-receipt.invariant.own);
     }

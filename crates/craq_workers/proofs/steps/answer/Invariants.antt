@@ -1,4 +1,4 @@
-use Rattle.craq_workers.specs.Told.{others_of}
+use Rattle.craq_workers.specs.Replies.{others_of}
 use Rattle.craq_workers.proofs.Telling.{Left, Owns}
 use Rattle.craq_workers.proofs.steps.answer.Given as goal
 

@@ -1,5 +1,5 @@
 use Rattle.std.proofs.Common.{drop}
-use Rattle.craq_workers.specs.Told.{without_memory}
+use Rattle.craq_workers.specs.Replies.{without_memory}
 use Rattle.craq_workers.proofs.Telling.{Left}
 use Rattle.craq_workers.proofs.steps.give_up_step.Given as goal
 

@@ -1,9 +1,9 @@
 use Rattle.std.proofs.Common.{◌≡◌, ◌∙◌, ap, inr, refl, subst, sym, List, Option, ℕ}
 use Rattle.craq_seat.specs.declared.seat.Caller.{Caller}
-use Rattle.craq_letters.specs.declared.token.Token.{Token}
+use Rattle.craq_completions.specs.declared.token.Token.{Token}
 use Rattle.craq_model.specs.declared.ask.Event.TheVariants as events
-use Rattle.craq_workers.specs.Told.{Keeps, TellsCallers, replies_to, said_by, said_to, ticket_of, waiting_after}
-use Rattle.craq_workers.proofs.Telling.{says_it, told_callers}
+use Rattle.craq_workers.specs.Replies.{Keeps, TellsCallers, replies_to, said_by, said_to, ticket_of, waiting_after}
+use Rattle.craq_workers.proofs.Telling.{says_it, reported_callers}
 use Rattle.craq_workers.proofs.steps.take_ask.Goals as goal
 
 pub returns-in-Ok-clause-own : goal.returns-in-Ok-clause-own
@@ -20,11 +20,11 @@ returns-in-Ok-clause-taken g c =
     let same : c.last_ticket-own.result ≡ c.last_ticket-ticket.result = own ∙ ap (λ d. ticket_of d.cell.last) (sym c.finish-reply.ensures.desk) ∙ sym end in
     let said = said_by c.in-Ok.calls c.take.new.self.cell.last c.last_ticket-own.result in
     let others = c.finish-reply.ensures.others ∙ ap (λ (cs : List (Caller Token)). waiting_after cs said) c.reserve.ensures.items in
-    let kept = subst (λ (cs : List (Caller Token)). Keeps c.args.replies.now (replies_to cs said) c.finish-reply.new.replies) c.reserve.ensures.items c.finish-reply.ensures.told in
-    let told = told_callers g.C.Core.represents c.args.seated.now c.take.new.self c.finish-reply.new.seated.desk c.finish-reply.new.seated.callers.items (events.Ask c.args.ask) c.in-Ok.field-0-0 c.args.pass c.args.pass c.last_ticket-own.result c.in-Ok.calls c.args.replies.now c.finish-reply.new.replies
+    let kept = subst (λ (cs : List (Caller Token)). Keeps c.args.replies.now (replies_to cs said) c.finish-reply.new.replies) c.reserve.ensures.items c.finish-reply.ensures.reported in
+    let reported = reported_callers g.C.Core.represents c.args.seated.now c.take.new.self c.finish-reply.new.seated.desk c.finish-reply.new.seated.callers.items (events.Ask c.args.ask) c.in-Ok.field-0-0 c.args.pass c.args.pass c.last_ticket-own.result c.in-Ok.calls c.args.replies.now c.finish-reply.new.replies
     c.finish-reply.ensures.desk c.in-Ok.ensures.receipt refl (c.in-Ok.ensures.step, c.take.ensures.kept) c.in-Ok.ensures.calls others kept in (
       c.in-Ok.calls,
-      subst (λ (t : Option ℕ). TellsCallers g.C.Core.represents c.args.seated.now c.finish-reply.new.seated.desk c.finish-reply.new.seated.callers.items (events.Ask c.args.ask) c.args.pass t c.in-Ok.calls c.args.replies.now c.finish-reply.new.replies) same told,
+      subst (λ (t : Option ℕ). TellsCallers g.C.Core.represents c.args.seated.now c.finish-reply.new.seated.desk c.finish-reply.new.seated.callers.items (events.Ask c.args.ask) c.args.pass t c.in-Ok.calls c.args.replies.now c.finish-reply.new.replies) same reported,
       c.finish-reply.ensures.own ∙ ap (λ (t : Option ℕ). said_to t c.in-Ok.calls) same,
     )
 

@@ -1,6 +1,6 @@
 use Rattle.std.proofs.Common.{◌≡◌, ◌∙◌, Some, subst, sym, Option, ℕ}
 use Rattle.craq_model.specs.declared.ask.Event.TheVariants as events
-use Rattle.craq_workers.specs.Told.{HasInHand, TellsCallers, said_to, ticket_of}
+use Rattle.craq_workers.specs.Replies.{HasInHand, TellsCallers, said_to, ticket_of}
 use Rattle.craq_workers.proofs.Telling.{expects, in_hand}
 use Rattle.craq_workers.proofs.steps.take_own.Goals as goal
 use Rattle.craq_workers.proofs.steps.take_own.Goals.{in-Some, in-None}
@@ -13,16 +13,16 @@ returns-after-reply-clause-taken g c =
     let calls = c.in-Ok.ensures.taken.0 in
     let callers = seated.callers.items in
     let is : t ≡ ticket_of seated.desk.cell.last = c.in-Ok.ensures.ticket in
-    let told = subst (λ (o : Option ℕ). TellsCallers g.C.Core.represents c.args.seated.now seated.desk callers (events.Ask c.args.ask) c.args.pass o calls c.args.replies.now mid) is c.in-Ok.ensures.taken.1 in
+    let reported = subst (λ (o : Option ℕ). TellsCallers g.C.Core.represents c.args.seated.now seated.desk callers (events.Ask c.args.ask) c.args.pass o calls c.args.replies.now mid) is c.in-Ok.ensures.taken.1 in
     λ taken. elim c.match-reply.branch [
       | in-Some w ↦
           let hand = in_hand c.args.token t (said_to t calls) w.in-Some.reply callers mid (sym c.in-Ok.ensures.taken.2 ∙ w.in-Some.is) in
           let by_ticket = subst (λ (o : Option ℕ). HasInHand c.args.token o (said_to o calls) (Some w.in-Some.reply) callers callers mid mid) is hand in
-          rw (w.seated-is, w.replies-is, w.hand-is) (calls, callers, mid, told, by_ticket)
+          rw (w.seated-is, w.replies-is, w.hand-is) (calls, callers, mid, reported, by_ticket)
       | in-None w ↦
-          let after = w.expect_letter-hand.new.callers.items in
-          let replies = w.expect_letter-hand.new.replies in
-          let hand = expects c.args.token t (said_to t calls) w.expect_letter-hand.result callers after mid replies (sym c.in-Ok.ensures.taken.2 ∙ w.in-None.is) w.expect_letter-hand.ensures.waits w.expect_letter-hand.ensures.told in
-          let by_ticket = subst (λ (o : Option ℕ). HasInHand c.args.token o (said_to o calls) w.expect_letter-hand.result callers after mid replies) is hand in
-          rw (w.seated-is, w.replies-is, w.hand-is) (calls, callers, mid, told, by_ticket)
+          let after = w.expect_completion-hand.new.callers.items in
+          let replies = w.expect_completion-hand.new.replies in
+          let hand = expects c.args.token t (said_to t calls) w.expect_completion-hand.result callers after mid replies (sym c.in-Ok.ensures.taken.2 ∙ w.in-None.is) w.expect_completion-hand.ensures.waits w.expect_completion-hand.ensures.reported in
+          let by_ticket = subst (λ (o : Option ℕ). HasInHand c.args.token o (said_to o calls) w.expect_completion-hand.result callers after mid replies) is hand in
+          rw (w.seated-is, w.replies-is, w.hand-is) (calls, callers, mid, reported, by_ticket)
     ]

@@ -1,9 +1,9 @@
 use Rattle.std.proofs.Common.{◌≡◌, [], ◌∷◌, subst}
 use Rattle.std.specs.Prelude.{IfOk, Result}
 use Rattle.craq_names.specs.declared.refusal.Refusal.{Refusal}
-use Rattle.craq_model.specs.Settle.{Turn}
+use Rattle.craq_model.specs.Settle.{Transition}
 use Rattle.craq_history.specs.Nodes.{plain_of}
-use Rattle.craq_history.specs.Plans.{IsPlanned}
+use Rattle.craq_history.specs.Effects.{IsComputed}
 use Rattle.craq_write.proofs.Places.{new_plan}
 use Rattle.craq_write.proofs.updates.entered.Goals as goal
 
@@ -13,4 +13,4 @@ returns g c =
     let one : c.in_ok-entries.entries ≡ c.args.entry ∷ [] = c.in_ok-entries.ensures in
     let sent = rw (c.sender-sender.ensures.name, c.sender-sender.ensures.epoch, c.as_slice.ensures, c.as_slice-2.ensures, c.new-sends.ensures.items) at c.in_ok-forward.ensures in
     let same = new_plan p c.args.entry c.in_ok-entries.entries c.none-change.result c.committing-change.result.0 c.get-length.result c.in_ok-reply.reply _ one c.none-change.ensures c.committing-change.ensures.change c.get-length.ensures c.requires.next c.in_ok-reply.ensures sent in
-    subst (λ (w : Result Turn Refusal). IfOk c.replied.result (λ r. IsPlanned p r w)) same c.replied.ensures
+    subst (λ (w : Result Transition Refusal). IfOk c.replied.result (λ r. IsComputed p r w)) same c.replied.ensures

@@ -1,7 +1,7 @@
 use Rattle.std.proofs.Common.{◌≡◌, ◌≤◌, ◌<◌, ◌+◌, ◌∷◌, ◌^◌, length, get_or, refl, sym, ap, subst, arith, ◌∙◌}
 use Rattle.craq_names.specs.Limits.{greatest}
 use Rattle.craq_runs.specs.Chain.{sent_in}
-use Rattle.craq_chain.specs.Chained.{Chained, chain_of}
+use Rattle.craq_chain.specs.Chained.{Chained, chain_of_run}
 use Rattle.craq_chain.specs.Sent.{sent_by}
 use Rattle.craq_chain.proofs.Taking.{took, refused, all_counted}
 use Rattle.craq_chain.proofs.chain.ChainCore.take.Goals as goal
@@ -11,7 +11,7 @@ invariant_of-self-in-Ok g c =
     let s = c.self.inside in
     let w : Chained = record { chain = s.chain; run = s.run } in
     let same : c.into_vec-moves.result.items ≡ s.run.moves = c.into_vec-moves.ensures ∙ c.replace.ensures.value in
-    let a = c.in-Ok.ensures.step (chain_of w) c.self.invariant.parts (c.self.invariant.messages ∙ ap sent_by (sym same)) in
+    let a = c.in-Ok.ensures.step (chain_of_run w) c.self.invariant.parts (c.self.invariant.messages ∙ ap sent_by (sym same)) in
     let lent : c.as_slice.result.now ≡ s.sent.items = c.as_slice.ensures.value ∙ c.in-Ok.ensures.same_counts in
     let items = ap length c.in-Ok.ensures.same_counts in
     let count : c.len.result ≡ length s.sent.items = omega (arith, c.step_of.new.sent.ok) in
@@ -29,7 +29,7 @@ returns-in-Ok g c =
     let s = c.self.inside in
     let w : Chained = record { chain = s.chain; run = s.run } in
     let same : c.into_vec-moves.result.items ≡ s.run.moves = c.into_vec-moves.ensures ∙ c.replace.ensures.value in
-    let a = c.in-Ok.ensures.step (chain_of w) c.self.invariant.parts (c.self.invariant.messages ∙ ap sent_by (sym same)) in
+    let a = c.in-Ok.ensures.step (chain_of_run w) c.self.invariant.parts (c.self.invariant.messages ∙ ap sent_by (sym same)) in
     let lent : c.as_slice.result.now ≡ s.sent.items = c.as_slice.ensures.value ∙ c.in-Ok.ensures.same_counts in
     let items = ap length c.in-Ok.ensures.same_counts in
     let count : c.len.result ≡ length s.sent.items = omega (arith, c.step_of.new.sent.ok) in
@@ -51,7 +51,7 @@ returns-in-Err g c =
     let s = c.self.inside in
     let w : Chained = record { chain = s.chain; run = s.run } in
     let same : c.into_vec-moves.result.items ≡ s.run.moves = c.into_vec-moves.ensures ∙ c.replace.ensures.value in
-    let a = c.in-Err.ensures.step (chain_of w) c.self.invariant.parts (c.self.invariant.messages ∙ ap sent_by (sym same)) in
+    let a = c.in-Err.ensures.step (chain_of_run w) c.self.invariant.parts (c.self.invariant.messages ∙ ap sent_by (sym same)) in
     record {
       gives = (
         rw (← c.self.view_is) (refused w c.args.chosen c.in-Err.refusal a.0),

@@ -1,7 +1,7 @@
 use Rattle.std.proofs.Common.{inl, sym}
 use Rattle.std.proofs.lemmas.Result.{err_from_is_err_and}
 use Rattle.craq_workers.specs.Clients.{only}
-use Rattle.craq_workers.proofs.Asks.{called_at_once, called_by_letter}
+use Rattle.craq_workers.proofs.Asks.{called_at_once, called_by_completion}
 use Rattle.craq_workers.proofs.client.Client.reply_into.Goals as goal
 
 pub returns-in_err-found-clause-called : goal.returns-in_err-found-clause-called
@@ -11,8 +11,8 @@ returns-in_err-found-clause-called g c =
 
 pub returns-in-Some-clause-called : goal.returns-in-Some-clause-called
 returns-in-Some-clause-called g c =
-    rw (sym c.self.view_is, sym c.deref.ensures) (called_at_once g.C.Core.represents c.deref.result.now.carried c.args.ask.now c.self.inside.pass only c.in_ok-found.found c.in-Some.receipt c.in-Some.is c.in_ok-found.ensures.put)
+    rw (sym c.self.view_is, sym c.deref.ensures) (called_at_once g.C.Core.represents c.deref.result.now.chain_threads c.args.ask.now c.self.inside.pass only c.in_ok-found.found c.in-Some.receipt c.in-Some.is c.in_ok-found.ensures.put)
 
 pub returns-in-None-clause-called : goal.returns-in-None-clause-called
 returns-in-None-clause-called g c =
-    rw (sym c.self.view_is, sym c.deref.ensures) (called_by_letter g.C.Core.represents c.deref.result.now.carried c.args.ask.now c.self.inside.pass only c.in_ok-found.found c.wait_for_letter.result c.in-None.is c.in_ok-found.ensures.put)
+    rw (sym c.self.view_is, sym c.deref.ensures) (called_by_completion g.C.Core.represents c.deref.result.now.chain_threads c.args.ask.now c.self.inside.pass only c.in_ok-found.found c.wait_for_completion.result c.in-None.is c.in_ok-found.ensures.put)

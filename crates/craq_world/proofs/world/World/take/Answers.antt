@@ -22,6 +22,6 @@ returns g c =
     let within : c.from-place.result < length xs = omega (arith, c.self.inside.chains.ok) in
     let id : c.from-place.result ≡ c.args.chain = cc in
     let here = has_moved xs c.from-place.result c.index_mut.result.now c.take.new.self c.args.chosen c.take.result c.self.invariant within c.index_mut.ensures.value c.take.ensures.gives c.take.ensures.typed in
-    let told = subst (λ i. HasMoved xs new i c.args.chosen c.take.result) id here in
-    let moved = subst (λ ws. HasMoved ws new c.args.chain c.args.chosen c.take.result) c.self.view_is told in
+    let reported = subst (λ i. HasMoved xs new i c.args.chosen c.take.result) id here in
+    let moved = subst (λ ws. HasMoved ws new c.args.chain c.args.chosen c.take.result) c.self.view_is reported in
     record { gives = moved.gives; others = moved.others; explained = moved.explained; grows = moved.grows }

@@ -1,0 +1,27 @@
+//! The command lines of the programs `craqd` and `craq`, the words of a command, and what each
+//! program does around its work. For these two and `craq_lab`; a crate apart, since programs cannot
+//! share modules. Code that runs in the programs.
+#![tactic(auto)]
+
+mod client;
+mod commands;
+mod expected;
+mod numbers;
+mod options;
+mod program;
+mod server;
+mod task;
+mod words;
+
+pub use client::{CallLine, CommandFault};
+pub use commands::request_of;
+pub use expected::{BadWord, Expected, UsageError};
+pub use program::{
+    BAD_INPUT, CANNOT_PRINT, NO_MEMORY, report_failure, report_memory, report_no_text,
+    report_words, words_of,
+};
+pub use server::Line;
+pub use task::{Load, Request, Task};
+
+/// The version that `--version` prints behind the name of each program.
+pub const VERSION: &str = "0.1.0";

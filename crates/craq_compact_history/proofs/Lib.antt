@@ -1,0 +1,4 @@
+pub mod Applies
+pub mod Forgets
+pub mod Observed
+pub mod Unsettled

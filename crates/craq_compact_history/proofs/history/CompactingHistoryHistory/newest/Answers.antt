@@ -1,0 +1,6 @@
+use Rattle.craq_compact_history.specs.Stored.{stored}
+use Rattle.craq_compact_history.proofs.Observed.{newest_reported}
+use Rattle.craq_compact_history.proofs.history.CompactingHistoryHistory.newest.Goals as goal
+
+pub returns-clause-object : goal.returns-clause-object
+returns-clause-object c = newest_reported (stored c.args.self.now.held.base c.args.self.now.held.state c.args.self.now.held.entries c.args.self.now.acknowledged) c.args.key.now _ c.newest.ensures.object

@@ -1,0 +1,15 @@
+pub mod Placing
+pub mod Clean
+pub mod Lists
+pub mod Applied
+pub mod Results
+pub mod Counts
+pub mod Written
+pub mod Entered
+pub mod Looked
+pub mod Found
+pub mod Newest
+pub mod Following
+pub mod Applicable
+pub mod Settling
+pub mod Rooms

@@ -1,0 +1,53 @@
+//! `CompletionSender`: the right to put one completion into a queue that has room for it; made and used by
+//! `craq_workers`.
+ghost use Rattle.std.specs.Prelude.{◌≡◌, IfOk};
+
+use crate::completion_queue::CompletionQueue;
+use crate::queue_state::Outcome;
+use crate::token::Token;
+use std::alloc::AllocError;
+use std::marker::Model;
+use std::sync::{Arc, Wait};
+
+/// The place of one expected completion: its queue and its token. Its holder has to `tell` it a
+/// reply or `forgo` it; else the queue's owner waits forever. A contract sees the token.
+#[derive(Drop)]
+pub struct CompletionSender {
+    completions: Arc<CompletionQueue>,
+    token: Token,
+}
+
+impl Model for CompletionSender {
+    ghost use Rattle.craq_completions.specs.declared.token.Token.{Token};
+
+    ghost Value = { Token };
+
+    ghost view = { λ a. a.token };
+}
+
+impl CompletionSender {
+    /// Reserves room for a completion under this token. Fails only when out of memory, and then
+    /// nothing changes.
+    pub fn expect<R: Wait>(
+        rt: &R,
+        completions: &Arc<CompletionQueue>,
+        token: Token,
+    ) -> Result<Self, AllocError>
+        ensures { IfOk result (λ a. a ≡ token) }
+    {
+        let completions = Arc::try_clone(completions)?;
+        completions.expect(rt)?;
+        Ok(CompletionSender { completions, token })
+    }
+
+    /// Puts the completion into the queue, and wakes the owner if it sleeps. Takes no memory.
+    pub fn tell<R: Wait>(self, rt: &R, reply: Outcome) {
+        self.completions.put(rt, self.token, reply);
+    }
+
+    /// Gives the room back: the reply was returned directly, and no completion will come. Takes no
+    /// memory.
+    pub fn forgo<R: Wait>(self, rt: &R) {
+        self.completions.forgo(rt);
+    }
+}

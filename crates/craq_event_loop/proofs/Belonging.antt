@@ -1,0 +1,136 @@
+-- What belongs to a connection, where nothing was read or written, and in a slab; and what happens under one key after another.
+use Rattle.std.proofs.Common.{◌≡◌, ◌≢◌, ◌≤◌, ◌<◌, ℕ, zero, suc, ◌+◌, length, take, get_or, arith, length-append, true, List, [], ◌∷◌, ◌++◌, Option, Some, None, Result, inl, inr, sym, refl, subst, ◌∙◌}
+use Rattle.std.specs.Io.KnownBytes.{Appends, Consumes}
+use Rattle.std.proofs.lemmas.List.{append-nil, append_assoc, take_more}
+use Rattle.craq_session.specs.ConnectionStates.{Holds}
+use Rattle.craq_session.specs.declared.connection_state.ConnectionState.{ConnectionState}
+use Rattle.craq_names.specs.declared.refusal.Refusal.{Refusal}
+use Rattle.craq_seat.specs.Calls.{Called}
+use Rattle.craq_completions.specs.declared.queue_state.Completion.{Completion}
+use Rattle.craq_completions.specs.declared.token.Token.{Token}
+use Rattle.slab.specs.Slab.{Slab, get, with_value}
+use Rattle.slab.proofs.SlabLemmas.{Updates-with_value}
+use Rattle.craq_event_loop.specs.declared.connection.Connection.{Connection}
+use Rattle.craq_event_loop.specs.declared.socket.Moved.TheVariants as moves
+use Rattle.craq_event_loop.specs.Belonging.{Alone, Delivers, DeliversAll, DeliversCompletion, Gives, GivesNow, Hears, HearsNow, OneByOne, OthersStay, Reads, StaysVacant, TakesCompletion, Wakes, Writes}
+
+none_came : (a b : Option (List ℕ)) → b ≡ a → Consumes a b []
+none_came None b e = tt
+none_came (Some xs) None e = cc
+none_came (Some xs) (Some ys) e = cc
+
+none_went : (a b : Option (List ℕ)) → b ≡ a → Appends a b []
+none_went None b e = tt
+none_went (Some xs) None e = cc
+none_went (Some xs) (Some ys) e = let same : ys ≡ xs = cc in same ∙ sym (append-nil xs)
+
+pub nothing_came : (a b : Option (List ℕ)) (d e : ConnectionState) → Consumes a b [] → e ≡ d → Reads a b d e
+nothing_came a b d e none is = rw is (
+  [],
+  none,
+  record {
+    heard = λ read written rounds h. subst (λ (x : List ℕ). Holds d.phase d.codec x written rounds) (sym (append-nil read)) h;
+    unsent = refl;
+    calls = refl;
+  },
+)
+
+pub nothing_read : (a b : Option (List ℕ)) (d e : ConnectionState) → b ≡ a → e ≡ d → Reads a b d e
+nothing_read a b d e same is = nothing_came a b d e (none_came a b same) is
+
+pub nothing_went : (a b : Option (List ℕ)) (d e : ConnectionState) → Appends a b [] → e ≡ d → Writes a b d e
+nothing_went a b d e none is = rw is (
+  [],
+  none,
+  record {
+    given = λ read written rounds h. subst (λ (x : List ℕ). Holds d.phase d.codec read x rounds) (sym (append-nil written)) h;
+    unsent = refl;
+    phase = refl;
+    calls = refl;
+  },
+)
+
+pub nothing_written : (a b : Option (List ℕ)) (d e : ConnectionState) → b ≡ a → e ≡ d → Writes a b d e
+nothing_written a b d e same is = nothing_went a b d e (none_went a b same) is
+
+some_taken : (count : ℕ) (bytes : List ℕ) → moves.Bytes count ≢ moves.Bytes 0 → count ≤ length bytes → take count bytes ≢ []
+some_taken zero bytes some few none = some refl
+some_taken (suc count) [] some few none = omega (arith, few)
+some_taken (suc count) (byte ∷ bytes) some few none = cc
+
+module _ {S : Type 0} (now : ℕ) (old new : Connection S) where
+  pub not_heard : new.heard ≡ old.heard → new.state ≡ old.state → HearsNow now old new
+  not_heard same is = inl (same, is)
+
+  pub heard_now : (count : ℕ) (bytes : List ℕ) → moves.Bytes count ≢ moves.Bytes 0 → count ≤ length bytes → new.heard ≡ now
+      → Hears (take count bytes) old.state new.state → HearsNow now old new
+  heard_now count bytes some few at hears = inr (at, take count bytes, some_taken count bytes some few, hears)
+
+  pub not_gave : new.heard ≡ old.heard → new.state ≡ old.state → GivesNow now old new
+  not_gave same is = inl (same, is)
+
+  pub gave_now : (count : ℕ) (bytes : List ℕ) → moves.Bytes count ≢ moves.Bytes 0 → count ≤ length bytes → new.heard ≡ now
+      → Gives (take count bytes) old.state new.state → GivesNow now old new
+  gave_now count bytes some few at gives = inr (at, take count bytes, some_taken count bytes some few, gives)
+
+-- what a connection takes is taken, whether it has something to do or not
+taken_busy : {S : Type 0} (number : ℕ) (reply : Result Called Refusal) (c d : Connection S) → TakesCompletion number reply c d → TakesCompletion number reply c (record d { busy = true })
+taken_busy number reply c d takes = record { own = takes.own; another = takes.another; calls = takes.calls; stream = takes.stream; over = takes.over; readiness = takes.readiness; slot = takes.slot }
+
+-- the connection under the token's key takes the letter, and then has something to do
+pub delivered : {S : Type 0} (s t : Slab (Connection S)) (token : Token) (c d : Connection S) (reply : Result Called Refusal)
+    → get s token.connection ≡ Some c → TakesCompletion token.call reply c d → Wakes (with_value s token.connection d) t token.connection → Delivers s t token reply
+delivered s t token c d reply was takes wakes c' here =
+    let e : c' ≡ c = cc in
+    let is : get (with_value s token.connection d) token.connection ≡ Some d = (Updates-with_value s token.connection d (rw was refl)).changed in
+    rw e (record d { busy = true }, wakes d is, taken_busy token.call reply c d takes)
+
+module _ {S : Type 0} where
+  -- of all letters these are left, and those behind them are delivered
+  abbrev pub AreLeft : List Completion → List Completion → Slab (Connection S) → Slab (Connection S) → Type 0
+  AreLeft all left old new = (done : List Completion) × (all ≡ left ++ done) × DeliversAll done old new
+
+  pub all_left : (all : List Completion) (s : Slab (Connection S)) → AreLeft all all s s
+  all_left all s = ([], sym (append-nil all), refl)
+
+  pub one_less : (all left rest : List Completion) (completion : Completion) (s t u : Slab (Connection S))
+      → AreLeft all left s t → left ≡ rest ++ completion ∷ [] → DeliversCompletion completion t u → AreLeft all rest s u
+  one_less all left rest completion s t u before last delivers = (
+    completion ∷ before.0,
+    before.1 ∙ subst (λ (x : List Completion). left ++ before.0 ≡ x ++ before.0) last refl ∙ append_assoc rest (completion ∷ []) before.0,
+    (t, before.2, delivers),
+  )
+
+  pub none_left : (all left : List Completion) (s t : Slab (Connection S)) → AreLeft all left s t → left ≡ [] → DeliversAll all s t
+  none_left all left s t before none =
+      subst (λ (x : List Completion). DeliversAll x s t)
+      (sym (before.1 ∙ subst (λ (x : List Completion). left ++ before.0 ≡ x ++ before.0) none refl))
+      before.2
+
+-- as many letters as there were, one by one
+pub one_shorter : (left rest : List Completion) (completion : Completion) (index all : ℕ) → left ≡ rest ++ completion ∷ [] → length left + index ≡ all → length rest + (index + 1) ≡ all
+one_shorter left rest completion index all last long =
+    let is : length (rest ++ completion ∷ []) + index ≡ all = subst (λ (x : List Completion). length x + index ≡ all) last long in
+    omega (arith, length-append rest (completion ∷ []), is)
+
+pub none_long : (left : List Completion) (index all : ℕ) → length left + index ≡ all → all ≤ index → left ≡ []
+none_long [] index all long reached = refl
+none_long (completion ∷ rest) index all long reached = absurd (omega (arith, long, reached))
+
+-- the last letter that was left, behind those that are left now
+pub last_left : (left popped rest : List Completion) (completion : Completion) → left ≡ popped ++ completion ∷ [] → rest ≡ popped → left ≡ rest ++ completion ∷ []
+last_left left popped rest completion is same = is ∙ subst (λ (x : List Completion). popped ++ completion ∷ [] ≡ x ++ completion ∷ []) (sym same) refl
+
+module _ {S : Type 0} (happens : Slab (Connection S) → Slab (Connection S) → ℕ → Type 0) where
+  -- it happened under one key more, behind all before
+  pub one_more : (keys : List ℕ) (one : ℕ) (s t u : Slab (Connection S)) → OneByOne happens keys s t → Alone happens t u one → OneByOne happens (keys ++ one ∷ []) s u
+  one_more [] one s t u before now = (u, subst (λ (x : Slab (Connection S)). Alone happens x u one) before now, refl)
+  one_more (key ∷ keys) one s t u before now = (before.0, before.1, one_more keys one before.0 t u before.2 now)
+
+  pub one_more_at : (keys : List ℕ) (index : ℕ) (s t u : Slab (Connection S)) → index < length keys → OneByOne happens (take index keys) s t
+      → happens t u (get_or keys index 0) → StaysVacant t u (get_or keys index 0) → OthersStay t u (get_or keys index 0)
+      → OneByOne happens (take (index + 1) keys) s u
+  one_more_at keys index s t u there before now vacant others =
+      subst (λ (x : List ℕ). OneByOne happens x s u)
+      (sym (take_more keys index 0 there))
+      (one_more (take index keys) (get_or keys index 0) s t u before (now, vacant, others))

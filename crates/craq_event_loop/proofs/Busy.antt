@@ -1,0 +1,433 @@
+-- The list of the connections that have something to do, one step after another.
+use Rattle.std.proofs.Common.{◌≡◌, ◌≢◌, ◌≤◌, ◌<◌, ◌+◌, ◌↔◌, ◌⊎◌, ℕ, zero, suc, Bool, true, false, cond, List, [], ◌∷◌, ◌++◌, length, get_or, set, count_by, Contains, filter, length-append, take, length-take, Option, Some, None, is_some, Vec, vec_capacity, vec_len, refl, sym, ap, ◌∙◌, subst, inl, inr, arith}
+use Rattle.std.specs.List.{AllPairs}
+use Rattle.std.specs.declared.alloc.Global.{Global}
+use Rattle.std.proofs.lemmas.Bool.{cases_eq}
+use Rattle.std.proofs.lemmas.List.{append-nil, get_or-set_other, get_or-take, get_or_past, take_all}
+use Rattle.std.proofs.lemmas.List.Elements.{Contains-get_or, Contains-push, Contains-push_cases, Contains-append_left, filter_more}
+use Rattle.std.proofs.lemmas.List.Kept.{AllPairs-filter}
+use Rattle.std.proofs.lemmas.List.Quantifiers.{all_pairs_push}
+use Rattle.std.proofs.lemmas.List.Sums.{count_by-le-length, length-filter, sum_by-cons, sum_by-set}
+use Rattle.slab.specs.Slab.{Slab, get, slab_len}
+use Rattle.slab.proofs.SlabLemmas.{Contains-cons, Contains-cons_cases}
+use Rattle.craq_event_loop.specs.declared.connection.Connection.{Connection}
+use Rattle.craq_event_loop.specs.Belonging.{Alone, OneByOne, OthersStay, StaysVacant}
+use Rattle.craq_event_loop.specs.declared.event_loop.Members.{Members}
+use Rattle.craq_event_loop.specs.Busy.{HasNone, IsBehind, ListsBehind, ListsMarked, MarksBehind, NoneForgotten, is_marked}
+
+-- slots that are vacant in one list and in another are no more there
+module _ {T : Type 0} where
+  abbrev full : List (Option T) → ℕ
+  full slots = count_by is_some slots
+
+  full-cons : (slot : Option T) (slots : List (Option T)) → full (slot ∷ slots) ≡ cond (is_some slot) 1 0 + full slots
+  full-cons slot slots = sum_by-cons (λ o. cond (is_some o) 1 0) slot slots
+
+  full-le : (xs ys : List (Option T)) → ((key : ℕ) → is_some (get_or ys key None) ≡ true → is_some (get_or xs key None) ≡ true) → full ys ≤ full xs
+  full-le xs [] there = omega arith
+  full-le [] (None ∷ ys) there = omega (arith, full-cons None ys, full-le [] ys (λ key is. (let no : is_some (get_or {A = Option T} [] (suc key) None) ≡ true = there (suc key) is in cc)))
+  full-le [] (Some y ∷ ys) there = absurd (let no : false ≡ true = there 0 refl in cc)
+  full-le (Some x ∷ xs) (Some y ∷ ys) there = omega (arith, full-cons (Some x) xs, full-cons (Some y) ys, full-le xs ys (λ key. there (suc key)))
+  full-le (None ∷ xs) (Some y ∷ ys) there = absurd (let no : false ≡ true = there 0 refl in cc)
+  full-le (x ∷ xs) (None ∷ ys) there = omega (arith, full-cons x xs, full-cons None ys, full-le xs ys (λ key. there (suc key)))
+
+  -- one slot less is there
+  full-emptied : (slots : List (Option T)) (key : ℕ) → is_some (get_or slots key None) ≡ true → full (set slots key None) + 1 ≡ full slots
+  full-emptied slots key there =
+      let within : key < length slots = grind (arith, get_or_past) in
+      let is : cond {A = ℕ} (is_some (get_or slots key None)) 1 0 ≡ 1 = rw there refl in
+      omega (arith, is, sum_by-set (λ o. cond (is_some o) 1 0) slots key None None within)
+
+  -- where none is there each is vacant
+  pub none_there : (slots : List (Option T)) → full slots ≡ 0 → (key : ℕ) → get_or slots key None ≡ None
+  none_there [] none key = get_or_past [] key None (omega arith)
+  none_there (Some x ∷ slots) none key = absurd (omega (arith, full-cons (Some x) slots, none))
+  none_there (None ∷ slots) none zero = refl
+  none_there (None ∷ slots) none (suc key) = none_there slots (omega (arith, full-cons None slots, none)) key
+
+  -- as many slots are there as keys that are each found once
+  pub keys-le : (keys : List ℕ) (slots : List (Option T)) → AllPairs (λ x y. x ≢ y) keys → ((key : ℕ) → Contains keys key → is_some (get_or slots key None) ≡ true) → length keys ≤ full slots
+  keys-le [] slots once there = omega arith
+  keys-le (key ∷ keys) slots once there =
+      let others : (other : ℕ) → Contains keys other → is_some (get_or (set slots key None) other None) ≡ true =
+      λ other listed. (
+      let differs : other ≢ key = λ same. once 0 (suc listed.0) other (omega arith) (omega (arith, listed.1)) (sym same ∙ sym (listed.2)) in
+      rw (get_or-set_other slots key other None None differs) (there other (Contains-cons key other keys listed))
+      ) in
+      let tail : AllPairs (λ x y. x ≢ y) keys = λ i j d before within. once (suc i) (suc j) d (omega arith) (omega arith) in
+      let less : length keys ≤ full (set slots key None) = keys-le keys (set slots key None) tail others in
+      let head : full (set slots key None) + 1 ≡ full slots = full-emptied slots key (there key (0, omega arith, refl)) in
+      omega (arith, less, head)
+
+-- a filter keeps just what passes
+pub Contains-filter : {X : Type 0} (p : X → Bool) (xs : List X) (x : X) → Contains (filter p xs) x → Contains xs x × (p x ≡ true)
+Contains-filter p [] x listed = absurd (omega (arith, listed.1))
+Contains-filter {X} p (y ∷ xs) x listed = by_test (p y) refl (Contains-filter p xs x) listed
+  where
+    by_test : (b : Bool) → p y ≡ b → (Contains (filter p xs) x → Contains xs x × (p x ≡ true)) → Contains (cond b (y ∷ filter p xs) (filter p xs)) x → Contains (y ∷ xs) x × (p x ≡ true)
+    by_test false is rest found = (Contains-cons y x xs (rest found).0, (rest found).1)
+    by_test true is rest found =
+        elim (Contains-cons_cases y x (filter p xs) found) [
+          | inl same ↦ subst (λ (z : X). Contains (y ∷ xs) z × (p z ≡ true)) same ((0, omega arith, refl), is)
+          | inr later ↦ (Contains-cons y x xs (rest later).0, (rest later).1)
+        ]
+
+pub Contains-to_filter : {X : Type 0} (p : X → Bool) (xs : List X) (x : X) → Contains xs x → p x ≡ true → Contains (filter p xs) x
+Contains-to_filter p [] x listed is = absurd (omega (arith, listed.1))
+Contains-to_filter {X} p (y ∷ xs) x listed is = by_test (p y) refl (Contains-cons_cases y x xs listed) (λ later. Contains-to_filter p xs x later is)
+  where
+    by_test : (b : Bool) → p y ≡ b → (y ≡ x) ⊎ Contains xs x → (Contains xs x → Contains (filter p xs) x) → Contains (cond b (y ∷ filter p xs) (filter p xs)) x
+    by_test false off (inl same) rest = cc
+    by_test false off (inr later) rest = rest later
+    by_test true on (inl same) rest = (0, omega arith, same)
+    by_test true on (inr later) rest = Contains-cons y x (filter p xs) (rest later)
+
+-- a filter of all of a list
+pub all_kept : (keys kept : List ℕ) (index : ℕ) (p : ℕ → Bool) → length keys ≤ index → kept ≡ filter p (take index keys) → kept ≡ filter p keys
+all_kept keys kept index p past is = is ∙ ap (filter p) (take_all index keys past)
+
+-- two tests that agree on a list keep the same of it
+filter_same : {X : Type 0} (p q : X → Bool) (xs : List X) → ((x : X) → Contains xs x → p x ≡ q x) → filter p xs ≡ filter q xs
+filter_same p q [] agree = refl
+filter_same p q (x ∷ xs) agree =
+    let rest : filter p xs ≡ filter q xs = filter_same p q xs (λ y listed. agree y (Contains-cons x y xs listed)) in
+    let first : p x ≡ q x = agree x (0, omega arith, refl) in
+    rw (first, rest) refl
+
+-- a list of no items is empty
+none_long : (xs : List ℕ) → length xs ≤ 0 → xs ≡ []
+none_long [] short = refl
+none_long (x ∷ xs) short = absurd (omega (arith, short))
+
+no_items : (keys : Vec ℕ Global) → vec_len keys ≡ 0 → keys.items ≡ []
+no_items keys none = none_long keys.items (let long : keys.len ≡ length keys.items = keys.ok.0 in omega (arith, long, none))
+
+-- what is found at a place whatever is found past the end
+found_at : (keys : List ℕ) (index key other : ℕ) → index < length keys → get_or keys index key ≡ key → get_or keys index other ≡ key
+found_at [] index key other within is = absurd (omega (arith, within))
+found_at (one ∷ keys) zero key other within is = is
+found_at (one ∷ keys) (suc index) key other within is = found_at keys index key other (omega (arith, within)) is
+
+-- what stands before a place of a list that names each once is not what stands there
+before_it : (keys : List ℕ) (index key : ℕ) → AllPairs (λ x y. x ≢ y) keys → index < length keys → Contains (take index keys) key → key ≢ get_or keys index 0
+before_it keys index key once within listed same =
+    let before : listed.0 < index = omega (arith, listed.1, length-take index keys) in
+    once listed.0 index 0 before within (sym (get_or-take index keys listed.0 0 before) ∙ found_at (take index keys) listed.0 key 0 listed.1 listed.2 ∙ same)
+
+module _ {S : Type 0} where
+  -- under each key a connection is there where one was, and is marked where it was
+  abbrev pub MarksStay : Slab (Connection S) → Slab (Connection S) → Type 0
+  MarksStay s t = (key : ℕ) → (is_marked (get t key) ≡ is_marked (get s key)) × (is_some (get t key) ≡ is_some (get s key))
+
+  -- what happens under one key leaves the marks
+  abbrev pub KeepsMarks : (Slab (Connection S) → Slab (Connection S) → ℕ → Type 0) → Type 0
+  KeepsMarks happens =
+      (s t : Slab (Connection S)) (key : ℕ) → happens s t key
+      → (c : Connection S) → get s key ≡ Some c → (d : Connection S) × (get t key ≡ Some d) × (d.busy ≡ c.busy)
+
+  pub len-le : (s t : Slab (Connection S)) → ((key : ℕ) → is_some (get t key) ≡ true → is_some (get s key) ≡ true) → slab_len t ≤ slab_len s
+  len-le s t there = full-le s.slots t.slots there
+
+  marks_at : (s t : Slab (Connection S)) (key : ℕ) (o : Option (Connection S)) → get s key ≡ o
+      → ((c : Connection S) → get s key ≡ Some c → (d : Connection S) × (get t key ≡ Some d) × (d.busy ≡ c.busy)) → (get s key ≡ None → get t key ≡ None)
+      → (is_marked (get t key) ≡ is_marked (get s key)) × (is_some (get t key) ≡ is_some (get s key))
+  marks_at s t key None was kept vacant = rw (was, vacant was) (refl, refl)
+  marks_at s t key (Some c) was kept vacant =
+      let k : (d : Connection S) × (get t key ≡ Some d) × (d.busy ≡ c.busy) = kept c was in
+      rw (was, k.1) (k.2, refl)
+
+  pub marks_alone : (s t : Slab (Connection S)) (key : ℕ) → ((c : Connection S) → get s key ≡ Some c → (d : Connection S) × (get t key ≡ Some d) × (d.busy ≡ c.busy))
+      → StaysVacant s t key → OthersStay s t key → MarksStay s t
+  marks_alone s t key kept vacant others other =
+      elim (cases_eq other key) [
+        | inl same ↦ subst (λ (k : ℕ). (is_marked (get t k) ≡ is_marked (get s k)) × (is_some (get t k) ≡ is_some (get s k))) (sym same) (marks_at s t key (get s key) refl kept vacant)
+        | inr differs ↦ rw (others other differs) (refl, refl)
+      ]
+
+  pub marks_then : (s t u : Slab (Connection S)) → MarksStay s t → MarksStay t u → MarksStay s u
+  marks_then s t u first second key = ((second key).0 ∙ (first key).0, (second key).1 ∙ (first key).1)
+
+  pub marks_kept : (happens : Slab (Connection S) → Slab (Connection S) → ℕ → Type 0) → KeepsMarks happens → (keys : List ℕ) (s t : Slab (Connection S)) → OneByOne happens keys s t → MarksStay s t
+  marks_kept happens keep_receipts [] s t same = λ key. rw same (refl, refl)
+  marks_kept happens keep_receipts (one ∷ keys) s t h =
+      marks_then s h.0 t (marks_alone s h.0 one (keep_receipts s h.0 one h.1.0) h.1.1 h.1.2) (marks_kept happens keep_receipts keys h.0 t h.2)
+
+  -- where it happens under other keys alone, what is under a key stays
+  pub untouched : (happens : Slab (Connection S) → Slab (Connection S) → ℕ → Type 0) (keys : List ℕ) (s t : Slab (Connection S)) (key : ℕ) → OneByOne happens keys s t
+      → ¬ Contains keys key → get t key ≡ get s key
+  untouched happens [] s t key same not = rw same refl
+  untouched happens (one ∷ keys) s t key h not =
+      untouched happens keys h.0 t key h.2 (λ listed. not (Contains-cons one key keys listed)) ∙ h.1.2 key (λ same. not (0, omega arith, sym same))
+
+  -- the list stays right where the marks stay
+  pub listed_still : (s t : Slab (Connection S)) (busy later : Vec ℕ Global) → MarksStay s t → ListsMarked s busy later → ListsMarked t busy later
+  listed_still s t busy later stay l =
+      let less : slab_len t ≤ slab_len s = len-le s t (λ key is. sym (stay key).1 ∙ is) in
+      record {
+        marked = λ key. (λ listed. (stay key).0 ∙ (l.marked key).0 listed, λ is. (l.marked key).1 (sym (stay key).0 ∙ is));
+        once = l.once;
+        none_later = l.none_later;
+        room = omega (arith, l.room, less);
+        room_later = omega (arith, l.room_later, less);
+      }
+
+  -- a connection that is marked is there
+  marked_there : (o : Option (Connection S)) → is_marked o ≡ true → is_some o ≡ true
+  marked_there None is = cc
+  marked_there (Some c) is = refl
+
+  -- the list with a key that it does not name
+  one_key_more : (s : Slab (Connection S)) (busy later : Vec ℕ Global) (key : ℕ) → ListsMarked s busy later → is_marked (get s key) ≡ false
+      → AllPairs (λ x y. x ≢ y) (busy.items ++ key ∷ [])
+  one_key_more s busy later key l unmarked =
+      all_pairs_push (λ x y. x ≢ y) busy.items key l.once
+      (λ k d within same. (let is : is_marked (get s key) ≡ true = (l.marked key).0 (subst (λ (x : ℕ). Contains busy.items x) same (Contains-get_or busy.items k d within)) in cc))
+
+  -- there is room for the key of a connection that is not marked
+  pub has_room : (s : Slab (Connection S)) (busy later : Vec ℕ Global) (key : ℕ) → ListsMarked s busy later → is_some (get s key) ≡ true → is_marked (get s key) ≡ false
+      → length busy.items < vec_capacity busy
+  has_room s busy later key l here unmarked =
+      let found : (other : ℕ) → Contains (busy.items ++ key ∷ []) other → is_some (get s other) ≡ true =
+      λ other listed. elim (Contains-push_cases busy.items key other listed) [
+        | inl before ↦ marked_there (get s other) ((l.marked other).0 before)
+        | inr same ↦ subst (λ (x : ℕ). is_some (get s x) ≡ true) same here
+      ] in
+      let long : length (busy.items ++ key ∷ []) ≤ slab_len s = keys-le (busy.items ++ key ∷ []) s.slots (one_key_more s busy later key l unmarked) found in
+      omega (arith, length-append busy.items (key ∷ []), long, l.room)
+
+  -- a connection that was not marked is, and its key comes to the list
+  pub listed_more : (s t : Slab (Connection S)) (busy more later : Vec ℕ Global) (key : ℕ) (c : Connection S) → ListsMarked s busy later
+      → get s key ≡ Some c → c.busy ≡ false → is_marked (get t key) ≡ true → OthersStay s t key
+      → more.items ≡ busy.items ++ key ∷ [] → vec_capacity busy ≤ vec_capacity more → ListsMarked t more later
+  listed_more s t busy more later key c l was unmarked now others is grows =
+      let off : is_marked (get s key) ≡ false = rw was unmarked in
+      let less : slab_len t ≤ slab_len s =
+      len-le s t (λ other is. elim (cases_eq other key) [
+        | inl same ↦ subst (λ (k : ℕ). is_some (get s k) ≡ true) (sym same) (rw was refl)
+        | inr differs ↦ sym (ap is_some (others other differs)) ∙ is
+      ]) in
+      record {
+        marked = λ other. (
+          λ listed. elim (Contains-push_cases busy.items key other (subst (λ (x : List ℕ). Contains x other) is listed)) [
+            | inl before ↦ elim (cases_eq other key) [
+              | inl same ↦ subst (λ (k : ℕ). is_marked (get t k) ≡ true) (sym same) now
+              | inr differs ↦ ap is_marked (others other differs) ∙ (l.marked other).0 before
+            ]
+            | inr same ↦ subst (λ (k : ℕ). is_marked (get t k) ≡ true) same now
+          ],
+          λ on. subst (λ (x : List ℕ). Contains x other) (sym is) (elim (cases_eq other key) [
+            | inl same ↦ subst (λ (k : ℕ). Contains (busy.items ++ key ∷ []) k) (sym same) (Contains-push busy.items key)
+            | inr differs ↦ Contains-append_left busy.items (key ∷ []) other ((l.marked other).1 (sym (ap is_marked (others other differs)) ∙ on))
+          ]),
+        );
+        once = subst (λ (x : List ℕ). AllPairs (λ x y. x ≢ y) x) (sym is) (one_key_more s busy later key l off);
+        none_later = l.none_later;
+        room = omega (arith, l.room, less, grows);
+        room_later = omega (arith, l.room_later, less);
+      }
+
+  -- what changed under a key is marked there
+  pub behind_still : (s t : Slab (Connection S)) (key : ℕ) → MarksBehind s → OthersStay s t key → ((c : Connection S) → get t key ≡ Some c → c.busy ≡ true) → MarksBehind t
+  behind_still s t key marks others on other c here is =
+      elim (cases_eq other key) [
+        | inl same ↦ on c (ap (get t) (sym same) ∙ here)
+        | inr differs ↦ marks other c (sym (others other differs) ∙ here) is
+      ]
+
+  -- under this key the mark is right
+  abbrev pub IsRightAt : Slab (Connection S) → ℕ → Type 0
+  IsRightAt t key = (d : Connection S) → get t key ≡ Some d → d.busy ≡ true ↔ IsBehind d
+
+  was_listed : (s t : Slab (Connection S)) (busy later : Vec ℕ Global) (key : ℕ) (b : Bool) → is_marked (get s key) ≡ b → ListsMarked s busy later
+      → (¬ (Contains busy.items key) → get t key ≡ get s key) → is_marked (get t key) ≡ true → Contains busy.items key
+  was_listed s t busy later key true is l same on = (l.marked key).1 is
+  was_listed s t busy later key false is l same on =
+      let stays : get t key ≡ get s key = same (λ listed. (let no : is_marked (get s key) ≡ true = (l.marked key).0 listed in cc)) in cc
+
+  module _ (happens : Slab (Connection S) → Slab (Connection S) → ℕ → Type 0) where
+    -- where a mark is right it stays so, since each mark that is set is right
+    right_still : ((s t : Slab (Connection S)) (key : ℕ) → Alone happens s t key → IsRightAt t key)
+        → (keys : List ℕ) (s t : Slab (Connection S)) (key : ℕ) → OneByOne happens keys s t → IsRightAt s key → IsRightAt t key
+    right_still sets [] s t key same right = subst (λ (x : Slab (Connection S)). IsRightAt x key) (sym same) right
+    right_still sets (one ∷ keys) s t key h right =
+        right_still sets keys h.0 t key h.2 (elim (cases_eq key one) [
+          | inl same ↦ subst (λ (k : ℕ). IsRightAt h.0 k) (sym same) (sets s h.0 one h.1)
+          | inr differs ↦ λ d here. right d (sym (h.1.2 key differs) ∙ here)
+        ])
+
+    -- the marks under these keys are right afterwards
+    pub right_after : ((s t : Slab (Connection S)) (key : ℕ) → Alone happens s t key → IsRightAt t key)
+        → (keys : List ℕ) (s t : Slab (Connection S)) (key : ℕ) → OneByOne happens keys s t → Contains keys key → IsRightAt t key
+    right_after sets [] s t key h listed = absurd (omega (arith, listed.1))
+    right_after sets (one ∷ keys) s t key h listed =
+        elim (Contains-cons_cases one key keys listed) [
+          | inl same ↦ right_still sets keys h.0 t key h.2 (subst (λ (k : ℕ). IsRightAt h.0 k) same (sets s h.0 one h.1))
+          | inr later ↦ right_after sets keys h.0 t key h.2 later
+        ]
+
+    -- where none was under a key none comes
+    there_before : (s t : Slab (Connection S)) (key : ℕ) (o : Option (Connection S)) → get s key ≡ o → (get s key ≡ None → get t key ≡ None) → is_some (get t key) ≡ true → is_some o ≡ true
+    there_before s t key None was vacant is = let no : get t key ≡ None = vacant was in cc
+    there_before s t key (Some c) was vacant is = refl
+
+    none_comes : (keys : List ℕ) (s t : Slab (Connection S)) (key : ℕ) → OneByOne happens keys s t → is_some (get t key) ≡ true → is_some (get s key) ≡ true
+    none_comes [] s t key same is = subst (λ (x : Slab (Connection S)). is_some (get x key) ≡ true) same is
+    none_comes (one ∷ keys) s t key h is =
+        let mid : is_some (get h.0 key) ≡ true = none_comes keys h.0 t key h.2 is in
+        elim (cases_eq key one) [
+          | inl same ↦ subst (λ (k : ℕ). is_some (get s k) ≡ true) (sym same)
+              (there_before s h.0 one (get s one) refl h.1.1 (subst (λ (k : ℕ). is_some (get h.0 k) ≡ true) same mid))
+          | inr differs ↦ sym (ap is_some (h.1.2 key differs)) ∙ mid
+        ]
+
+    -- what the filter keeps of the list is the list of those that are marked now
+    pub listed_after : (s t : Slab (Connection S)) (busy later kept empty : Vec ℕ Global) → ListsMarked s busy later → OneByOne happens busy.items s t
+        → kept.items ≡ filter (λ key. is_marked (get t key)) busy.items → empty.items ≡ [] → vec_capacity later ≤ vec_capacity kept → vec_capacity busy ≤ vec_capacity empty
+        → ListsMarked t kept empty
+    listed_after s t busy later kept empty l h is none grows grows_too =
+        let less : slab_len t ≤ slab_len s = len-le s t (λ key. none_comes busy.items s t key h) in
+        record {
+          marked = λ key. (
+            λ listed. (Contains-filter (λ k. is_marked (get t k)) busy.items key (subst (λ (x : List ℕ). Contains x key) is listed)).1,
+            λ on. subst (λ (x : List ℕ). Contains x key) (sym is) (Contains-to_filter (λ k. is_marked (get t k)) busy.items key
+                (was_listed s t busy later key (is_marked (get s key)) refl l (untouched happens busy.items s t key h) on) on),
+          );
+          once = subst (λ (x : List ℕ). AllPairs (λ x y. x ≢ y) x) (sym is) (AllPairs-filter (λ x y. x ≢ y) (λ k. is_marked (get t k)) busy.items l.once);
+          none_later = none;
+          room = omega (arith, l.room_later, less, grows);
+          room_later = omega (arith, l.room, less, grows_too);
+        }
+
+  -- all marks are right, where those under the keys of the list are, and else nothing changed
+  pub right_everywhere : (s t : Slab (Connection S)) (busy later : Vec ℕ Global) → ListsMarked s busy later → MarksBehind s
+      → ((key : ℕ) → ¬ (Contains busy.items key) → get t key ≡ get s key) → ((key : ℕ) → Contains busy.items key → IsRightAt t key)
+      → (key : ℕ) → IsRightAt t key
+  right_everywhere s t busy later l behind same right key = by_mark (is_marked (get s key)) refl
+    where
+      by_mark : (b : Bool) → is_marked (get s key) ≡ b → IsRightAt t key
+      by_mark true on = right key ((l.marked key).1 on)
+      by_mark false off =
+          let stays : get t key ≡ get s key = same key (λ listed. (let is : is_marked (get s key) ≡ true = (l.marked key).0 listed in cc)) in
+          λ d here. (
+          let was : get s key ≡ Some d = sym stays ∙ here in
+          (λ on. (let is : is_marked (get s key) ≡ d.busy = rw was refl in cc), λ is. behind key d was is)
+          )
+
+  marks_of : (t : Slab (Connection S)) (key : ℕ) (o : Option (Connection S)) → get t key ≡ o → IsRightAt t key → is_marked o ≡ true
+      → (c : Connection S) × (get t key ≡ Some c) × IsBehind c
+  marks_of t key None is right on = cc
+  marks_of t key (Some c) is right on = (c, is, (right c is).0 on)
+
+  -- where all marks are right, the list names just the connections that are behind
+  pub lists_behind : (t : Slab (Connection S)) (busy later : Vec ℕ Global) → ListsMarked t busy later → ((key : ℕ) → IsRightAt t key) → ListsBehind t busy.items
+  lists_behind t busy later l right key = (
+    λ listed. marks_of t key (get t key) refl (right key) ((l.marked key).0 listed),
+    λ is. (l.marked key).1 (let on : is.0.busy ≡ true = (right key is.0 is.1).1 is.2 in (ap is_marked is.1 ∙ on)),
+  )
+
+  -- one key more was gone through, and is kept where its connection is marked now
+  pub kept_more : (keys kept : List ℕ) (index : ℕ) (s t : Slab (Connection S)) → AllPairs (λ x y. x ≢ y) keys → index < length keys
+      → kept ≡ filter (λ key. is_marked (get s key)) (take index keys) → OthersStay s t (get_or keys index 0)
+      → filter (λ key. is_marked (get t key)) (take (index + 1) keys)
+      ≡ kept ++ cond (is_marked (get t (get_or keys index 0))) (get_or keys index 0 ∷ []) []
+  kept_more keys kept index s t once within is others =
+      let same : filter (λ key. is_marked (get t key)) (take index keys) ≡ filter (λ key. is_marked (get s key)) (take index keys) =
+      filter_same (λ key. is_marked (get t key)) (λ key. is_marked (get s key)) (take index keys)
+      (λ key listed. ap is_marked (others key (before_it keys index key once within listed))) in
+      filter_more (λ key. is_marked (get t key)) keys index 0 within ∙ ap (λ (x : List ℕ). x ++ cond (is_marked (get t (get_or keys index 0))) (get_or keys index 0 ∷ []) []) (same ∙ sym is)
+
+  -- the list is no longer than there are connections
+  listed_len : (s : Slab (Connection S)) (busy later : Vec ℕ Global) → ListsMarked s busy later → length busy.items ≤ slab_len s
+  listed_len s busy later l = keys-le busy.items s.slots l.once (λ key listed. marked_there (get s key) ((l.marked key).0 listed))
+
+  -- there is room for one key more of those that are kept
+  pub room_to_keep : (s : Slab (Connection S)) (busy empty kept : Vec ℕ Global) (p : ℕ → Bool) (index : ℕ) → ListsMarked s busy empty → index < length busy.items
+      → kept.items ≡ filter p (take index busy.items) → vec_capacity empty ≤ vec_capacity kept → length kept.items < vec_capacity kept
+  room_to_keep s busy empty kept p index l within is grows =
+      let long : length kept.items ≡ count_by p (take index busy.items) = ap length is ∙ length-filter p (take index busy.items) in
+      omega (arith, long, count_by-le-length p (take index busy.items), length-take index busy.items, listed_len s busy empty l, l.room_later, grows)
+
+  -- one key more is kept, and one is not
+  pub one_kept : (keys kept more : List ℕ) (index key : ℕ) (s t : Slab (Connection S)) → AllPairs (λ x y. x ≢ y) keys → index < length keys → key ≡ get_or keys index 0
+      → kept ≡ filter (λ k. is_marked (get s k)) (take index keys) → OthersStay s t key → is_marked (get t key) ≡ true → more ≡ kept ++ key ∷ []
+      → more ≡ filter (λ k. is_marked (get t k)) (take (index + 1) keys)
+  one_kept keys kept more index key s t once within at is others on pushed =
+      let marked : is_marked (get t (get_or keys index 0)) ≡ true = subst (λ (k : ℕ). is_marked (get t k) ≡ true) at on in
+      let whole : filter (λ k. is_marked (get t k)) (take (index + 1) keys) ≡ kept ++ get_or keys index 0 ∷ [] =
+      kept_more keys kept index s t once within is (subst (λ (k : ℕ). OthersStay s t k) at others)
+      ∙ ap (λ (b : Bool). kept ++ cond b (get_or keys index 0 ∷ []) []) marked in
+      pushed ∙ ap (λ (k : ℕ). kept ++ k ∷ []) at ∙ sym whole
+
+  pub one_left_out : (keys kept : List ℕ) (index key : ℕ) (s t : Slab (Connection S)) → AllPairs (λ x y. x ≢ y) keys → index < length keys → key ≡ get_or keys index 0
+      → kept ≡ filter (λ k. is_marked (get s k)) (take index keys) → OthersStay s t key → is_marked (get t key) ≡ false
+      → kept ≡ filter (λ k. is_marked (get t k)) (take (index + 1) keys)
+  one_left_out keys kept index key s t once within at is others off =
+      let marked : is_marked (get t (get_or keys index 0)) ≡ false = subst (λ (k : ℕ). is_marked (get t k) ≡ false) at off in
+      let whole : filter (λ k. is_marked (get t k)) (take (index + 1) keys) ≡ kept ++ [] =
+      kept_more keys kept index s t once within is (subst (λ (k : ℕ). OthersStay s t k) at others)
+      ∙ ap (λ (b : Bool). kept ++ cond b (get_or keys index 0 ∷ []) []) marked in
+      sym (append-nil kept) ∙ sym whole
+
+  -- where there are no connections the list names none
+  none_listed : (s : Slab (Connection S)) (busy later : Vec ℕ Global) → slab_len s ≡ 0 → busy.items ≡ [] → later.items ≡ [] → ListsMarked s busy later
+  none_listed s busy later none empty empty_too =
+      let vacant : (key : ℕ) → get s key ≡ None = none_there s.slots none in
+      record {
+        marked = λ key. (
+          λ listed. absurd (let at : Contains [] key = subst (λ (x : List ℕ). Contains x key) empty listed in omega (arith, at.1)),
+          λ on. (let off : is_marked (get s key) ≡ false = ap is_marked (vacant key) in cc),
+        );
+        once = subst (λ (x : List ℕ). AllPairs (λ x y. x ≢ y) x) (sym empty) (λ i j d before within. absurd (omega (arith, within)));
+        none_later = empty_too;
+        room = omega (arith, none);
+        room_later = omega (arith, none);
+      }
+
+  none_behind : (s : Slab (Connection S)) → slab_len s ≡ 0 → MarksBehind s
+  none_behind s none key c here is = (let vacant : get s key ≡ None = none_there s.slots none key in cc)
+
+  -- a thread that has no connections yet forgets none
+  pub none_forgotten : (m : Members S) → HasNone m → NoneForgotten m
+  none_forgotten m h = record {
+    listed = none_listed m.connections m.busy m.later h.0 (no_items m.busy h.1) (no_items m.later h.2);
+    behind = none_behind m.connections h.0;
+  }
+
+  -- more room, and nothing else
+  pub listed_grown : (s t : Slab (Connection S)) (busy later more_busy more_later : Vec ℕ Global) → ListsMarked s busy later → t.slots ≡ s.slots
+      → more_busy.items ≡ busy.items → more_later.items ≡ later.items → vec_capacity busy ≤ vec_capacity more_busy → vec_capacity later ≤ vec_capacity more_later
+      → ListsMarked t more_busy more_later
+  listed_grown s t busy later more_busy more_later l same is is_too grows grows_too =
+      let at : (key : ℕ) → get t key ≡ get s key = λ key. ap (λ (x : List (Option (Connection S))). get_or x key None) same in
+      let long : slab_len t ≡ slab_len s = ap full same in
+      record {
+        marked = λ key. (
+          λ listed. ap is_marked (at key) ∙ (l.marked key).0 (subst (λ (x : List ℕ). Contains x key) is listed),
+          λ on. subst (λ (x : List ℕ). Contains x key) (sym is) ((l.marked key).1 (sym (ap is_marked (at key)) ∙ on)),
+        );
+        once = subst (λ (x : List ℕ). AllPairs (λ x y. x ≢ y) x) (sym is) l.once;
+        none_later = is_too ∙ l.none_later;
+        room = omega (arith, l.room, long, grows);
+        room_later = omega (arith, l.room_later, long, grows_too);
+      }
+
+  pub behind_same : (s t : Slab (Connection S)) → ((key : ℕ) → get t key ≡ get s key) → MarksBehind s → MarksBehind t
+  behind_same s t same marks key c here is = marks key c (sym (same key) ∙ here) is
+
+  -- a connection that is not marked comes, and there is room for its key
+  pub listed_inserted : (s t : Slab (Connection S)) (busy later : Vec ℕ Global) (key : ℕ) (c : Connection S) → ListsMarked s busy later
+      → get s key ≡ None → get t key ≡ Some c → c.busy ≡ false → OthersStay s t key → slab_len t ≤ vec_capacity busy → slab_len t ≤ vec_capacity later
+      → ListsMarked t busy later
+  listed_inserted s t busy later key c l was is unmarked others room room_too =
+      let at : (other : ℕ) → is_marked (get t other) ≡ is_marked (get s other) =
+      λ other. elim (cases_eq other key) [
+        | inl same ↦ subst (λ (k : ℕ). is_marked (get t k) ≡ is_marked (get s k)) (sym same) (ap is_marked is ∙ unmarked ∙ sym (ap is_marked was))
+        | inr differs ↦ ap is_marked (others other differs)
+      ] in
+      record {
+        marked = λ other. (λ listed. at other ∙ (l.marked other).0 listed, λ on. (l.marked other).1 (sym (at other) ∙ on));
+        once = l.once;
+        none_later = l.none_later;
+        room = room;
+        room_later = room_too;
+      }

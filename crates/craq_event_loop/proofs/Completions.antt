@@ -1,0 +1,30 @@
+-- With what a call may be refused that was asked and came back.
+use Rattle.std.proofs.Common.{Result, Ok, Err, inl, inr, sym, subst}
+use Rattle.craq_names.specs.declared.refusal.Refusal.{Refusal}
+use Rattle.craq_pending_calls.specs.Refused.{CanRefuse}
+use Rattle.craq_seat.specs.Calls.{Called}
+use Rattle.craq_session.specs.Halves.{CanComeBack, IsRefusable}
+use Rattle.craq_session.specs.Turns.{Refusing}
+use Rattle.craq_session.specs.declared.connection_state.Phase.TheVariants.{Waits}
+use Rattle.craq_session.specs.declared.call_request.CallRequest.{CallRequest}
+use Rattle.craq_session.specs.Asking.{MayHaveAny}
+use Rattle.craq_event_loop.specs.Completions.{IsOutcome}
+
+-- an answer that came back may be refused as any ask may be
+answer_refusable : (refuses : Refusing) (q : CallRequest) (e : Refusal) → MayHaveAny refuses q → CanComeBack e → refuses q.node q.pass q.ask e
+answer_refusable refuses q e may (inl is) = may e (subst (λ (x : Refusal). CanRefuse q.ask x) (sym is) tt)
+answer_refusable refuses q e may (inr is) = may e (subst (λ (x : Refusal). CanRefuse q.ask x) (sym is) tt)
+
+-- a receipt that came
+pub receipt_refusable : (refuses : Refusing) (q : CallRequest) (c : Called) → MayHaveAny refuses q → IsRefusable refuses q (Ok c)
+receipt_refusable refuses q c may e h = answer_refusable refuses q e may h.0
+
+-- a refusal that came
+pub refusal_refusable : (refuses : Refusing) (q : CallRequest) (came : Refusal) → refuses q.node q.pass q.ask came → IsRefusable refuses q (Err came)
+refusal_refusable refuses q came may e is = subst (λ (x : Refusal). refuses q.node q.pass q.ask x) (sym is) may
+
+-- a letter that came
+pub completion_refusable : (refuses : Refusing) (q : CallRequest) (reply outcome : Result Called Refusal) → MayHaveAny refuses q → IsOutcome (Waits q) reply outcome → IsRefusable refuses q outcome
+completion_refusable refuses q (Ok c) outcome may is = subst (λ (x : Result Called Refusal). IsRefusable refuses q x) (sym is) (receipt_refusable refuses q c may)
+completion_refusable refuses q (Err came) outcome may h =
+    subst (λ (x : Result Called Refusal). IsRefusable refuses q x) (sym h.1) (refusal_refusable refuses q h.0 (may h.0 h.2.can))

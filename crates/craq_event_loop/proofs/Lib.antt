@@ -1,0 +1,10 @@
+pub mod Advancing
+pub mod Belonging
+pub mod Busy
+pub mod Coming
+pub mod Ending
+pub mod Completions
+pub mod Marks
+pub mod Numbers
+pub mod Serving
+pub mod Starved

@@ -1,0 +1,127 @@
+-- Which bytes and which letters belong to which connection.
+use Rattle.std.specs.Prelude.{◌≡◌, ◌≢◌, ◌⊎◌, ℕ, true, false, List, [], ◌∷◌, ◌++◌, Option, None, Some, Result}
+use Rattle.std.specs.Io.KnownBytes.{Appends, Consumes}
+use Rattle.slab.specs.Slab.{Slab, get}
+use Rattle.craq_names.specs.declared.refusal.Refusal.{Refusal}
+use Rattle.craq_front.specs.Talk.{History}
+use Rattle.craq_seat.specs.Calls.{Called}
+use Rattle.craq_completions.specs.declared.queue_state.Completion.{Completion}
+use Rattle.craq_completions.specs.declared.token.Token.{Token}
+use Rattle.craq_session.specs.ConnectionStates.{AnswersCall, Holds}
+use Rattle.craq_session.specs.declared.connection_state.ConnectionState.{ConnectionState}
+use Rattle.craq_session.specs.declared.connection_state.Phase.TheVariants as phases
+use Rattle.craq_event_loop.specs.declared.connection.Connection.{Connection}
+use Rattle.craq_event_loop.specs.Completions.{IsOutcome}
+
+-- the connection is new: nothing came and nothing is due, no call was asked, and its socket is taken for ready
+pub record IsNew {S : Type 0} (c : Connection S) : Type 0 where
+  pub nothing_came : Holds c.state.phase c.state.codec [] [] []
+  pub idle : c.state.phase ≡ phases.Idle
+  pub calls : c.calls ≡ 0
+  pub readable : c.readiness.readable ≡ true
+  pub writable : c.readiness.writable ≡ true
+  pub unread : c.more ≡ false
+  pub unmarked : c.busy ≡ false
+  pub goes_on : c.over ≡ false
+
+-- the connection is the one that came so: this is its socket, this its place, and here the receipts of its calls go
+pub record CameAs {S : Type 0} (stream : S) (slot receipts : ℕ) (c : Connection S) : Type 0 where
+  pub same_stream : c.stream ≡ stream
+  pub same_place : c.slot ≡ slot
+  pub same_receipts : c.receipts ≡ receipts
+
+-- just these bytes came to the dialogue, behind those before; what is due and its calls are as they were
+pub record Hears (came : List ℕ) (old new : ConnectionState) : Type 0 where
+  pub heard : (read written : List ℕ) (rounds : History) → Holds old.phase old.codec read written rounds → Holds new.phase new.codec (read ++ came) written rounds
+  pub unsent : new.codec.buffers.output.items ≡ old.codec.buffers.output.items
+  pub calls : new.calls ≡ old.calls
+
+-- just these bytes, the first that were due, are written as far as the dialogue knows; its phase and its calls are as they were
+pub record Gives (went : List ℕ) (old new : ConnectionState) : Type 0 where
+  pub given : (read written : List ℕ) (rounds : History) → Holds old.phase old.codec read written rounds → Holds new.phase new.codec read (written ++ went) rounds
+  pub unsent : old.codec.buffers.output.items ≡ went ++ new.codec.buffers.output.items
+  pub phase : new.phase ≡ old.phase
+  pub calls : new.calls ≡ old.calls
+
+-- what a socket gave, in order and whole, is what the dialogue was given
+abbrev pub Reads : Option (List ℕ) → Option (List ℕ) → ConnectionState → ConnectionState → Type 0
+Reads before after old new = (came : List ℕ) × Consumes before after came × Hears came old new
+
+-- what a socket took, in order and whole, is what was due and what the dialogue was told is written
+abbrev pub Writes : Option (List ℕ) → Option (List ℕ) → ConnectionState → ConnectionState → Type 0
+Writes before after old new = (went : List ℕ) × Appends before after went × Gives went old new
+
+-- some bytes came now, or none came and its last ones went when they did
+abbrev pub HearsNow : {S : Type 0} → ℕ → Connection S → Connection S → Type 0
+HearsNow now old new =
+    ((new.heard ≡ old.heard) × (new.state ≡ old.state))
+    ⊎ ((new.heard ≡ now) × (came : List ℕ) × (came ≢ []) × Hears came old.state new.state)
+
+-- some bytes were taken now, or none were and its last ones went when they did
+abbrev pub GivesNow : {S : Type 0} → ℕ → Connection S → Connection S → Type 0
+GivesNow now old new =
+    ((new.heard ≡ old.heard) × (new.state ≡ old.state))
+    ⊎ ((new.heard ≡ now) × (went : List ℕ) × (went ≢ []) × Gives went old.state new.state)
+
+-- the call of the dialogue came back so
+abbrev pub CameBack : Result Called Refusal → ConnectionState → ConnectionState → Type 0
+CameBack outcome old new = AnswersCall old.phase outcome new.phase old.codec new.codec old.calls new.calls
+
+-- the call of the dialogue came back by a letter that says this
+abbrev pub CameByCompletion : Result Called Refusal → ConnectionState → ConnectionState → Type 0
+CameByCompletion reply old new = (outcome : Result Called Refusal) × IsOutcome old.phase reply outcome × CameBack outcome old new
+
+-- it is the connection of the same place, and the receipts of its calls go where they went
+abbrev pub KeepsSlot : {S : Type 0} → Connection S → Connection S → Type 0
+KeepsSlot old new = (new.slot ≡ old.slot) × (new.receipts ≡ old.receipts)
+
+-- a letter under this number says this: where it is the number of the call that the connection asked last, the dialogue is told
+-- that its call came back so; under another number the letter tells it nothing
+pub record TakesCompletion {S : Type 0} (number : ℕ) (reply : Result Called Refusal) (old new : Connection S) : Type 0 where
+  pub own : number ≡ old.calls → CameByCompletion reply old.state new.state
+  pub another : number ≢ old.calls → new.state ≡ old.state
+  pub calls : new.calls ≡ old.calls
+  pub stream : new.stream ≡ old.stream
+  pub over : new.over ≡ old.over
+  pub readiness : new.readiness ≡ old.readiness
+  pub slot : KeepsSlot old new
+
+-- the connection whose key is in this token takes the letter under the number that is there
+abbrev pub Delivers : {S : Type 0} → Slab (Connection S) → Slab (Connection S) → Token → Result Called Refusal → Type 0
+Delivers {S} old new token reply =
+    (c : Connection S) → get old token.connection ≡ Some c
+    → (d : Connection S) × (get new token.connection ≡ Some d) × TakesCompletion token.call reply c d
+
+-- under this key, the connection has something to do from now on
+abbrev pub Wakes : {S : Type 0} → Slab (Connection S) → Slab (Connection S) → ℕ → Type 0
+Wakes {S} old new key = (c : Connection S) → get old key ≡ Some c → get new key ≡ Some (record c { busy = true })
+
+-- where no connection is under this key, none is afterwards
+abbrev pub StaysVacant : {S : Type 0} → Slab (Connection S) → Slab (Connection S) → ℕ → Type 0
+StaysVacant old new key = get old key ≡ None → get new key ≡ None
+
+-- each connection under another key is as it was
+abbrev pub OthersStay : {S : Type 0} → Slab (Connection S) → Slab (Connection S) → ℕ → Type 0
+OthersStay old new key = (other : ℕ) → other ≢ key → get new other ≡ get old other
+
+-- under this key, and no connection under another key changes; where none is under this key, none is afterwards
+abbrev pub Alone : {S : Type 0} → (Slab (Connection S) → Slab (Connection S) → ℕ → Type 0) → Slab (Connection S) → Slab (Connection S) → ℕ → Type 0
+Alone happens old new key = happens old new key × StaysVacant old new key × OthersStay old new key
+
+-- it happens under each of these keys, one after another, and no other connection changes
+abbrev pub OneByOne : {S : Type 0} → (Slab (Connection S) → Slab (Connection S) → ℕ → Type 0) → List ℕ → Slab (Connection S) → Slab (Connection S) → Type 0
+OneByOne happens [] old new = new ≡ old
+OneByOne {S} happens (key ∷ keys) old new = (mid : Slab (Connection S)) × Alone happens old mid key × OneByOne happens keys mid new
+
+-- the letter is delivered to the connection whose key is in its token, and no connection under another key changes
+abbrev pub DeliversCompletion : {S : Type 0} → Completion → Slab (Connection S) → Slab (Connection S) → Type 0
+DeliversCompletion completion old new = Delivers old new completion.token completion.reply × StaysVacant old new completion.token.connection × OthersStay old new completion.token.connection
+
+-- each of these letters is delivered, the last one first
+abbrev pub DeliversAll : {S : Type 0} → List Completion → Slab (Connection S) → Slab (Connection S) → Type 0
+DeliversAll [] old new = new ≡ old
+DeliversAll {S} (completion ∷ later) old new = (mid : Slab (Connection S)) × DeliversAll later old mid × DeliversCompletion completion mid new
+
+-- the host brought letters, and each of them is delivered
+abbrev pub DeliversBrought : {S : Type 0} → (List Completion → Type 0) → Slab (Connection S) → Slab (Connection S) → Type 0
+DeliversBrought brings old new = (completions : List Completion) × brings completions × DeliversAll completions old new

@@ -1,0 +1,11 @@
+-- Where no frame is left in what was read.
+use Rattle.std.specs.Prelude.{⊤, ℕ, List}
+use Rattle.craq_frames.specs.Frame.{IsPartial}
+use Rattle.craq_session.specs.declared.connection_state.Phase.{Phase}
+use Rattle.craq_session.specs.declared.connection_state.Phase.TheVariants as phases
+
+-- no message and no call is left to be asked or answered, and of the next frame there is less than a frame; or it is over
+abbrev pub IsStarved : Phase → List ℕ → Type 0
+IsStarved phases.Idle input = IsPartial input
+IsStarved (phases.Over why) input = ⊤
+IsStarved phase input = ⊥

@@ -1,0 +1,504 @@
+//! A connection of an event loop: its socket and its state (`ConnectionState`), and what goes between
+//! them; called by `event_loop`.
+ghost use Rattle.std.specs.Prelude.{◌≡◌, ◌≤◌, ◌<◌, ◌-◌, ◌↔◌, ◌⊎◌, true, false, length, take, not, IfOk, IsTrue};
+ghost use Rattle.craq_session.specs.declared.connection_state.Phase.TheVariants.{Idle, Waits};
+ghost use Rattle.craq_session.specs.declared.call_request.CallRequest.{CallRequest};
+ghost use Rattle.craq_event_loop.specs.Starved.{IsStarved};
+
+use crate::backend::{Arrival, LoopBackend};
+use crate::socket::{Moved, Socket};
+use craq_completions::{Outcome, Token};
+use craq_pending_calls::refusal_of_call;
+use craq_session::{ConnectionState, Stepped, UnsentCall};
+use mio::event::Event;
+use mio::unix::SourceFd;
+use mio::{Interest, Registry};
+use std::alloc::Global;
+use std::io;
+use std::net::TcpStream;
+use std::os::fd::AsRawFd;
+use std::sync::Arc;
+
+/// The number of unsent bytes below which they wait for more replies, where a whole frame may be
+/// there. This project's profile.
+const FEW_BYTES: usize = 1_024;
+
+/// The share of each busy connection in a round of its event loop.
+#[derive(Clone, Copy, Debug)]
+pub(crate) struct Share {
+    /// The most steps that it takes.
+    pub(crate) steps: usize,
+    /// True where few connections are busy.
+    pub(crate) light_load: bool,
+}
+
+/// The readiness of a connection, as far as it is known.
+#[derive(Clone, Copy)]
+struct Readiness {
+    /// A read may give bytes, or the end.
+    readable: bool,
+    /// Reads go on until one gives nothing: the peer writes no more, or it sent urgent data, before
+    /// which a read stops short.
+    until_dry: bool,
+    /// A write may be taken.
+    writable: bool,
+}
+
+impl Readiness {
+    ghost use Rattle.craq_event_loop.specs.Readiness.{noticed};
+
+    /// Adds what an event reports. What was known stays known.
+    fn notice(&mut self, event: &Event)
+        ensures { self.new ≡ noticed self.old event.now }
+    {
+        if event.is_readable() || event.is_read_closed() || event.is_error() {
+            self.readable = true;
+        }
+        if event.is_read_closed() || event.is_error() || event.is_priority() {
+            self.until_dry = true;
+        }
+        if event.is_writable() || event.is_write_closed() || event.is_error() {
+            self.writable = true;
+        }
+    }
+}
+
+/// A connection of an event loop.
+#[derive(Drop)]
+pub(crate) struct Connection<S> {
+    stream: S,
+    state: ConnectionState,
+    /// The number of the call that was asked last: the first call has 1, each later one the next,
+    /// and after 2^64 - 1 comes 0. So a number comes again only after 2^64 calls. 0 where none was
+    /// asked.
+    calls: u64,
+    slot: usize,
+    receipts: usize,
+    readiness: Readiness,
+    /// The backend's seconds when its last bytes came or were taken.
+    heard: u64,
+    /// True where it is on the busy list.
+    busy: bool,
+    /// There may be a whole frame in what was read; where this is false there is none.
+    more: bool,
+    /// Nothing is read or written any more.
+    over: bool,
+    ghost unread: { more ≡ false → ∥ IsStarved state.phase state.codec.buffers.input.items ∥₁ },
+}
+
+impl Connection<Arc<TcpStream>> {
+    ghost use Rattle.craq_event_loop.specs.Belonging.{CameAs, IsNew};
+
+    /// Makes the state of a connection that came, whose readiness is reported under this token.
+    /// Nothing came on it, nothing is unsent, none of its calls was asked, and its socket is taken
+    /// for ready. Fails where the system refuses to report its readiness.
+    pub(crate) fn open(
+        alloc: Global,
+        registry: &Registry,
+        token: mio::Token,
+        arrival: Arrival,
+        keep_receipts: bool,
+        now: u64,
+    ) -> io::Result<Self>
+        ensures is_new { IfOk result (λ c. IsNew c) }
+        ensures arrival { IfOk result (λ c. CameAs arrival.stream arrival.slot arrival.receipts c) }
+    {
+        let Arrival {
+            stream,
+            slot,
+            receipts,
+        } = arrival;
+        stream.set_nonblocking(true)?;
+        let _ = stream.set_nodelay(true);
+        let all = Interest::READABLE | Interest::WRITABLE | Interest::PRIORITY;
+        registry.register(&mut SourceFd(&stream.as_raw_fd()), token, all)?;
+        Ok(Connection {
+            stream,
+            state: ConnectionState::new(alloc, keep_receipts),
+            calls: 0,
+            slot,
+            receipts,
+            readiness: Readiness {
+                readable: true,
+                until_dry: false,
+                writable: true,
+            },
+            heard: now,
+            busy: false,
+            more: false,
+            over: false,
+        })
+    }
+}
+
+impl<S: Socket + Drop> Connection<S> {
+    /// Ends the connection and hands its receipts to the backend.
+    pub(crate) fn close<H: LoopBackend>(self, registry: &Registry, backend: &H) {
+        let Connection {
+            stream,
+            state,
+            calls: _,
+            slot,
+            receipts,
+            readiness: _,
+            heard: _,
+            busy: _,
+            more: _,
+            over: _,
+        } = self;
+        stream.leave(registry);
+        drop(stream);
+        backend.ended(slot, receipts, state.into_receipts());
+    }
+}
+
+impl<S: Socket> Connection<S> {
+    ghost use Rattle.craq_event_loop.specs.Advancing.{AsksBackend, HasRound, next_call, under_key};
+    ghost use Rattle.craq_event_loop.specs.Belonging.{CameBack, Gives, GivesNow, Hears, HearsNow, KeepsSlot, Reads, TakesCompletion, Writes};
+    ghost use Rattle.craq_event_loop.specs.Busy.{GoesOn, IsBehind, IsDone, IsIdle, is_waiting};
+    ghost use Rattle.craq_event_loop.specs.Completions.{IsOutcome};
+    ghost use Rattle.craq_event_loop.specs.Readiness.{noticed};
+    ghost use Rattle.craq_event_loop.specs.Sockets.{EndsAsSocket, EndsInOrder, HasSaidAll, ReadsOn, WritesOn};
+
+    /// Adds what an event reports of its readiness.
+    pub(crate) fn notice(&mut self, event: &Event)
+        ensures { self.new ≡ record self.old { readiness = noticed self.old.readiness event.now } }
+    {
+        self.readiness.notice(event);
+    }
+
+    /// Returns whether its call is under way: a completion will come.
+    #[tactic(auto, using(crate::proofs::Serving::found_waiting))]
+    fn waits(&self) -> bool
+        ensures { result ≡ is_waiting self.now.state.phase }
+    {
+        self.state.request().is_some()
+    }
+
+    /// Returns whether it has ended and no completion will come to it.
+    pub(crate) fn is_done(&self) -> bool
+        ensures { IsTrue result ↔ IsDone self.now }
+    {
+        self.over && !self.waits()
+    }
+
+    /// Ends the connection where no byte came or was taken for more than `idle` seconds and no call
+    /// is under way. Returns whether it is over.
+    pub(crate) fn is_idle(&mut self, now: u64, idle: u64) -> bool
+        ensures left { IsTrue result ↔ IsIdle now idle self.old }
+        ensures over { self.new ≡ record self.old { over = result } }
+    {
+        if !self.waits() && now.saturating_sub(self.heard) > idle {
+            self.over = true;
+        }
+        self.over
+    }
+
+    /// Marks it as busy. Returns whether it was not busy before.
+    pub(crate) fn is_newly_busy(&mut self) -> bool
+        ensures marked { self.new ≡ record self.old { busy = true } }
+        ensures was_not { result ≡ not self.old.busy }
+    {
+        let is_new = !self.busy;
+        self.busy = true;
+        is_new
+    }
+
+    /// Marks it after its share of a round: busy where it has work left of which no event and no
+    /// completion will report. Returns the mark.
+    pub(crate) fn stays_busy(&mut self) -> bool
+        ensures marked { self.new ≡ record self.old { busy = result } }
+        ensures behind { IsTrue result ↔ IsBehind self.old }
+    {
+        self.busy = self.is_behind();
+        self.busy
+    }
+
+    /// Returns whether it has work left of which no event and no completion will report.
+    fn is_behind(&self) -> bool
+        ensures { IsTrue result ↔ IsBehind self.now }
+    {
+        if self.over {
+            !self.waits()
+        } else if !self.state.unsent().is_empty() {
+            self.readiness.writable
+        } else {
+            !self.waits() && (self.more || self.readiness.readable)
+        }
+    }
+
+    /// Returns whether a read is worth a try: no request is under way and nothing is unsent.
+    fn may_read(&self) -> bool
+        ensures { IsTrue result → self.now.state.phase ≡ Idle }
+    {
+        !self.over
+            && !self.more
+            && self.readiness.readable
+            && self.state.unsent().is_empty()
+            && self.state.listens()
+    }
+
+    /// Takes bytes that came.
+    fn hear(&mut self, alloc: Global, bytes: &[u8], now: u64)
+        requires { self.old.state.phase ≡ Idle }
+        ensures hears { Hears bytes.now self.old.state self.new.state }
+        ensures stream { self.new.stream ≡ self.old.stream }
+        ensures calls { self.new.calls ≡ self.old.calls }
+        ensures busy { self.new.busy ≡ self.old.busy }
+        ensures over { self.new.over ≡ self.old.over }
+        ensures slot { KeepsSlot self.old self.new }
+        ensures readiness { self.new.readiness ≡ self.old.readiness }
+        ensures heard { self.new.heard ≡ now }
+    {
+        self.more = true;
+        self.heard = now;
+        // Out of memory the state is over, as `give` sees.
+        let _ = self.state.receive(alloc, bytes);
+    }
+
+    /// Returns whether no more bytes are there: a read gave `count` bytes where `room` was, so it
+    /// came short, and reads need not go on until one gives nothing.
+    fn is_drained(&self, count: usize, room: usize) -> bool
+        ensures { IsTrue result ↔ ((count < room) × (self.now.readiness.until_dry ≡ false)) }
+    {
+        count < room && !self.readiness.until_dry
+    }
+
+    /// Reads once and takes what came.
+    #[tactic(auto, using(crate::proofs::Belonging::nothing_came, crate::proofs::Ending::is_as_before, crate::proofs::Ending::ended, crate::proofs::Ending::reads_as_before, crate::proofs::Ending::dried, crate::proofs::Ending::reads_until_short, crate::proofs::Belonging::heard_now, crate::proofs::Belonging::not_heard))]
+    fn take(&mut self, alloc: Global, chunk: &mut [u8], now: u64)
+        requires { self.old.state.phase ≡ Idle }
+        ensures reads { Reads (S.remaining self.old.stream) (S.remaining self.new.stream) self.old.state self.new.state }
+        ensures contents { S.contents self.new.stream ≡ S.contents self.old.stream }
+        ensures calls { self.new.calls ≡ self.old.calls }
+        ensures busy { self.new.busy ≡ self.old.busy }
+        ensures over { EndsAsSocket S.is_over self.old self.new }
+        ensures slot { KeepsSlot self.old self.new }
+        ensures ready { ReadsOn S.is_dry self.old self.new }
+        ensures heard { HearsNow now self.old self.new }
+    {
+        match self.stream.take(chunk) {
+            Moved::Bytes(count) => {
+                self.readiness.readable = !self.is_drained(count, chunk.len());
+                self.hear(alloc, &chunk[..count], now);
+            }
+            Moved::NotReady => self.readiness.readable = false,
+            Moved::Interrupted => {}
+            Moved::Over => self.over = true,
+        }
+    }
+
+    /// Reads once, where no request is under way and nothing is unsent. What its socket gave, and
+    /// no other byte, goes to its state. Where its call is under way nothing is read, and its state
+    /// is unchanged. It is over only if it was, or its socket is.
+    #[tactic(auto, using(crate::proofs::Belonging::nothing_read, crate::proofs::Ending::is_as_before, crate::proofs::Ending::reads_as_before, crate::proofs::Belonging::not_heard))]
+    pub(crate) fn read(&mut self, alloc: Global, chunk: &mut [u8], now: u64)
+        ensures waits { (q : CallRequest) → self.old.state.phase ≡ Waits q → self.new.state ≡ self.old.state }
+        ensures reads { Reads (S.remaining self.old.stream) (S.remaining self.new.stream) self.old.state self.new.state }
+        ensures contents { S.contents self.new.stream ≡ S.contents self.old.stream }
+        ensures calls { self.new.calls ≡ self.old.calls }
+        ensures busy { self.new.busy ≡ self.old.busy }
+        ensures over { EndsAsSocket S.is_over self.old self.new }
+        ensures slot { KeepsSlot self.old self.new }
+        ensures ready { ReadsOn S.is_dry self.old self.new }
+        ensures heard { HearsNow now self.old self.new }
+    {
+        if self.may_read() {
+            self.take(alloc, chunk, now);
+        }
+    }
+
+    /// Drops the first `count` unsent bytes, which were taken.
+    fn given(&mut self, count: usize, now: u64)
+        requires { count ≤ length self.old.state.codec.buffers.output.items }
+        ensures gives { Gives (take count self.old.state.codec.buffers.output.items) self.old.state self.new.state }
+        ensures stream { self.new.stream ≡ self.old.stream }
+        ensures calls { self.new.calls ≡ self.old.calls }
+        ensures over { self.new.over ≡ self.old.over }
+        ensures slot { KeepsSlot self.old self.new }
+        ensures readiness { self.new.readiness ≡ self.old.readiness }
+        ensures heard { self.new.heard ≡ now }
+    {
+        self.heard = now;
+        self.state.wrote(count);
+    }
+
+    /// Returns whether more replies will soon be written together with the few that are unsent: a
+    /// whole frame may be there, and no call is under way.
+    fn goes_on(&self) -> bool
+        ensures { IsTrue result ↔ GoesOn self.now }
+    {
+        self.more
+            && self.state.unsent().len() < FEW_BYTES
+            && self.state.ending().is_none()
+            && !self.waits()
+    }
+
+    /// Writes unsent bytes once, unless more replies come to them in the next rounds. What its
+    /// socket took, and no other byte, is then written.
+    #[tactic(auto, using(crate::proofs::Belonging::nothing_written, crate::proofs::Belonging::nothing_went, crate::proofs::Ending::is_as_before, crate::proofs::Ending::ended, crate::proofs::Ending::writes_as_before, crate::proofs::Ending::filled, crate::proofs::Belonging::gave_now, crate::proofs::Belonging::not_gave))]
+    fn write(&mut self, now: u64)
+        ensures writes { Writes (S.contents self.old.stream) (S.contents self.new.stream) self.old.state self.new.state }
+        ensures remaining { S.remaining self.new.stream ≡ S.remaining self.old.stream }
+        ensures calls { self.new.calls ≡ self.old.calls }
+        ensures over { EndsAsSocket S.is_over self.old self.new }
+        ensures slot { KeepsSlot self.old self.new }
+        ensures ready { WritesOn S.is_full self.old self.new }
+        ensures heard { GivesNow now self.old self.new }
+    {
+        if self.over || !self.readiness.writable || self.state.unsent().is_empty() {
+            return;
+        }
+        if self.goes_on() {
+            return;
+        }
+        match self.stream.put(self.state.unsent()) {
+            Moved::Bytes(count) => self.given(count, now),
+            Moved::NotReady => self.readiness.writable = false,
+            Moved::Interrupted => {}
+            Moved::Over => self.over = true,
+        }
+    }
+
+    /// Takes the outcome of the call that is under way.
+    fn answer<H: LoopBackend>(&mut self, alloc: Global, backend: &H, outcome: Outcome)
+        ensures reported { CameBack outcome self.old.state self.new.state }
+        ensures stream { self.new.stream ≡ self.old.stream }
+        ensures calls { self.new.calls ≡ self.old.calls }
+        ensures busy { self.new.busy ≡ self.old.busy }
+        ensures over { self.new.over ≡ self.old.over }
+        ensures slot { KeepsSlot self.old self.new }
+        ensures readiness { self.new.readiness ≡ self.old.readiness }
+    {
+        if let Err(refusal) = &outcome {
+            backend.refused(self.slot, *refusal);
+        }
+        self.state.answer(alloc, outcome);
+    }
+
+    /// Returns the outcome of the call that is under way whose completion says this. A refusal that
+    /// such a request cannot have is another call's, and becomes `Closed`.
+    fn outcome_of(&self, reply: Outcome) -> Outcome
+        ensures { IsOutcome self.now.state.phase reply result }
+    {
+        let Some(request) = self.state.request() else {
+            return reply;
+        };
+        match reply {
+            Ok(receipt) => Ok(receipt),
+            Err(refusal) => Err(refusal_of_call(&request.ask, refusal)),
+        }
+    }
+
+    /// Takes a completion. Where the call that was asked last has this number, its outcome is this.
+    /// Another number is ignored: none comes, since a call is asked only once the one before it has
+    /// its outcome.
+    pub(crate) fn take_reply<H: LoopBackend>(
+        &mut self,
+        alloc: Global,
+        backend: &H,
+        call: u64,
+        reply: Outcome,
+    )
+        ensures takes { TakesCompletion call reply self.old self.new }
+        ensures busy { self.new.busy ≡ self.old.busy }
+    {
+        if call != self.calls {
+            return;
+        }
+        let outcome = self.outcome_of(reply);
+        self.answer(alloc, backend, outcome);
+    }
+
+    /// Asks the call that a step made, under this key and the number after that of the call before
+    /// it. An outcome at once goes to its state.
+    #[tactic(auto, using(crate::proofs::Advancing::nothing_came, crate::proofs::Advancing::came_at_once))]
+    fn submit<H: LoopBackend>(
+        &mut self,
+        alloc: Global,
+        backend: &H,
+        unsent: UnsentCall,
+        key: usize,
+        light_load: bool,
+    )
+        ensures asked { AsksBackend (H.refuses backend.now) (under_key (H.submits backend.now) key (next_call self.old.calls)) self.old.state.phase self.old.state self.new.state }
+        ensures calls { self.new.calls ≡ next_call self.old.calls }
+        ensures stream { self.new.stream ≡ self.old.stream }
+        ensures busy { self.new.busy ≡ self.old.busy }
+        ensures over { self.new.over ≡ self.old.over }
+        ensures slot { KeepsSlot self.old self.new }
+        ensures readiness { self.new.readiness ≡ self.old.readiness }
+    {
+        self.calls = self.calls.wrapping_add(1);
+        let token = Token {
+            connection: key,
+            call: self.calls,
+        };
+        if let Some(outcome) = self.state.ask(unsent, backend, token, light_load) {
+            self.answer(alloc, backend, outcome);
+        }
+    }
+
+    /// Takes steps until one finds nothing to do, or as many as its share of the round has. Its
+    /// calls are asked under this key, each under the next number. A connection that is over takes
+    /// no step.
+    #[tactic(auto, using(crate::proofs::Advancing::none_taken, crate::proofs::Advancing::went, crate::proofs::Advancing::called, crate::proofs::Advancing::starved, crate::proofs::Advancing::stayed, crate::proofs::Starved::step_still, crate::proofs::Starved::step_starved))]
+    pub(crate) fn advance<H: LoopBackend>(
+        &mut self,
+        alloc: Global,
+        backend: &H,
+        key: usize,
+        share: Share,
+    )
+        ensures round { HasRound share.steps (H.tells backend.now) (H.refuses backend.now) (under_key (H.submits backend.now) key) self.old.over self.old.state self.old.calls self.new.state self.new.calls }
+        ensures stream { self.new.stream ≡ self.old.stream }
+        ensures busy { self.new.busy ≡ self.old.busy }
+        ensures over { self.new.over ≡ self.old.over }
+        ensures slot { KeepsSlot self.old self.new }
+        ensures readiness { self.new.readiness ≡ self.old.readiness }
+    {
+        if self.over {
+            return;
+        }
+        for _step in 0..share.steps {
+            match self.state.step(alloc, backend) {
+                Stepped::Goes => {}
+                Stepped::Calls(unsent) => self.submit(
+                    alloc,
+                    backend,
+                    unsent,
+                    key,
+                    share.light_load,
+                ),
+                Stepped::Starved => {
+                    self.more = false;
+                    return;
+                }
+                Stepped::Stays => return,
+            }
+        }
+    }
+
+    /// Returns whether its state is over and nothing is unsent.
+    fn has_said_all(&self) -> bool
+        ensures { IsTrue result ↔ HasSaidAll self.now.state }
+    {
+        self.state.ending().is_some() && self.state.unsent().is_empty()
+    }
+
+    /// Writes unsent bytes. It is over where its state is and these were the last.
+    pub(crate) fn give(&mut self, now: u64)
+        ensures writes { Writes (S.contents self.old.stream) (S.contents self.new.stream) self.old.state self.new.state }
+        ensures remaining { S.remaining self.new.stream ≡ S.remaining self.old.stream }
+        ensures calls { self.new.calls ≡ self.old.calls }
+        ensures over { EndsInOrder S.is_over self.old self.new }
+        ensures slot { KeepsSlot self.old self.new }
+        ensures ready { WritesOn S.is_full self.old self.new }
+        ensures heard { GivesNow now self.old self.new }
+    {
+        self.write(now);
+        if self.has_said_all() {
+            self.over = true;
+        }
+    }
+}

@@ -1,0 +1,567 @@
+//! `EventLoop`: an event loop. It takes what came, steps each connection that is busy, and sleeps where
+//! none is.
+ghost use Rattle.std.specs.Prelude.{◌≡◌, ◌≢◌, ◌⊎◌, ◌<◌, ◌≤◌, ◌↔◌, ◌++◌, ℕ, Bool, [], ◌∷◌, Some, None, IfOk, OnErr, OnOk, IsTrue, false, filter, nat_lt, option_map, vec_capacity, vec_len, if◌then◌else◌};
+ghost use Rattle.std.specs.Duration.{as_nanos};
+ghost use Rattle.mio.specs.Events.{items};
+ghost use Rattle.slab.specs.Slab.{get, slab_len};
+ghost use Rattle.craq_event_loop.specs.declared.connection.Connection.{Connection};
+ghost use Rattle.craq_event_loop.specs.Advancing.{HasRoundAt, TakeRounds, most_steps};
+ghost use Rattle.craq_event_loop.specs.Belonging.{Delivers, DeliversAll, DeliversBrought, OneByOne, OthersStay, StaysVacant, Wakes};
+ghost use Rattle.craq_event_loop.specs.Busy.{HasNone, ListsBehind, ListsMarked, LooksAgain, NoneBehind, NoneForgotten, is_marked, longest_wait, with_key};
+ghost use Rattle.craq_event_loop.specs.Coming.{AllReported, ChangesRoom, EndsIdle, ClosesIfIdle, LooksAt, NoticesAt, PresentStay, TakesIn, TellsOf};
+ghost use Rattle.craq_event_loop.specs.Serving.{ReadsAt, Serves, WritesAt};
+
+use crate::backend::{Arrival, LoopBackend};
+use crate::connection::{Connection, Share};
+use crate::socket::Socket;
+use craq_completions::Completion;
+use mio::event::{Event, Events};
+use mio::{Poll, Registry, Token, Waker};
+use slab::Slab;
+use std::alloc::{AllocError, Global};
+use std::mem;
+use std::net::{Net, TcpStream};
+use std::sync::{Arc, Wait};
+use std::time::Duration;
+
+/// The token under which the event loop is woken.
+const WAKER: Token = Token(usize::MAX);
+
+/// The most bytes of one read of a connection.
+const CHUNK_SIZE: usize = 65_536;
+
+/// The most connections whose readiness is reported at once.
+const MOST_EVENTS: usize = 256;
+
+/// The most connections that count as few.
+const LIGHT_LOAD: usize = 2;
+
+/// The most steps of a busy connection in a round. This project's profile.
+const MOST_STEPS: usize = 8;
+
+/// The number of looks for work of an event loop with few connections before it sleeps: some 60
+/// microseconds.
+const MOST_LOOKS: u32 = 200;
+
+/// Returns the share of each busy connection in a round: 8 steps, of which a request takes 2. So a
+/// round is short, and a connection with one request waits little for others that have many.
+fn share_of(busy: usize) -> Share
+    ensures { result.steps ≡ most_steps }
+{
+    Share {
+        steps: MOST_STEPS,
+        light_load: busy <= LIGHT_LOAD,
+    }
+}
+
+/// Takes the share of the connection under a key in a round. Its calls are asked under this key,
+/// each under the next number. No other connection changes; none does where none is under the key.
+fn advance_at<S: Socket, H: LoopBackend>(
+    alloc: Global,
+    connections: &mut Slab<Connection<S>>,
+    backend: &H,
+    key: usize,
+    share: Share,
+)
+    ensures run_once { HasRoundAt share.steps (H.tells backend.now) (H.refuses backend.now) (H.submits backend.now) connections.old connections.new key }
+    ensures vacant { StaysVacant connections.old connections.new key }
+    ensures others { OthersStay connections.old connections.new key }
+{
+    let Some(connection) = connections.get_mut(key) else {
+        return;
+    };
+    connection.advance(alloc, backend, key, share);
+}
+
+/// Adds what an event reports of the connection under a key. No other connection changes; none does
+/// where none is under the key.
+fn notice_at<S: Socket>(connections: &mut Slab<Connection<S>>, key: usize, event: &Event)
+    ensures reported { NoticesAt event.now connections.old connections.new key }
+    ensures vacant { StaysVacant connections.old connections.new key }
+    ensures others { OthersStay connections.old connections.new key }
+{
+    if let Some(connection) = connections.get_mut(key) {
+        connection.notice(event);
+    }
+}
+
+/// Ends the connection under a key where it was left idle. Returns whether it is over. No other
+/// connection changes; none does where none is under the key.
+fn close_if_idle<S: Socket>(
+    connections: &mut Slab<Connection<S>>,
+    key: usize,
+    now: u64,
+    idle: u64,
+) -> bool
+    ensures ends { LooksAt now idle result connections.old connections.new key }
+    ensures none { get connections.old key ≡ None → result ≡ false }
+    ensures vacant { StaysVacant connections.old connections.new key }
+    ensures others { OthersStay connections.old connections.new key }
+{
+    let Some(connection) = connections.get_mut(key) else {
+        return false;
+    };
+    connection.is_idle(now, idle)
+}
+
+/// Reads for the connection under a key. No other connection changes; none does where none is under
+/// the key.
+fn read_at<S: Socket>(
+    alloc: Global,
+    connections: &mut Slab<Connection<S>>,
+    key: usize,
+    chunk: &mut [u8],
+    now: u64,
+)
+    ensures reads { ReadsAt S.remaining S.contents S.is_over S.is_dry S.is_full connections.old connections.new key }
+    ensures vacant { StaysVacant connections.old connections.new key }
+    ensures others { OthersStay connections.old connections.new key }
+{
+    let Some(connection) = connections.get_mut(key) else {
+        return;
+    };
+    connection.read(alloc, chunk, now);
+}
+
+/// Writes for the connection under a key, and removes it exactly where it is done. No other
+/// connection changes; none does where none is under the key. Returns whether it is still there and
+/// has work left of which no event and no completion will report.
+fn give_at<S: Socket + Drop, H: LoopBackend>(
+    connections: &mut Slab<Connection<S>>,
+    registry: &Registry,
+    backend: &H,
+    key: usize,
+    now: u64,
+) -> bool
+    ensures writes { WritesAt S.remaining S.contents S.is_over S.is_dry S.is_full connections.old connections.new key }
+    ensures vacant { StaysVacant connections.old connections.new key }
+    ensures others { OthersStay connections.old connections.new key }
+    ensures tells { result ≡ is_marked (get connections.new key) }
+{
+    let Some(connection) = connections.get_mut(key) else {
+        return false;
+    };
+    connection.give(now);
+    if !connection.is_done() {
+        return connection.stays_busy();
+    }
+    if let Some(ended) = connections.try_remove(key) {
+        ended.close(registry, backend);
+    }
+    false
+}
+
+/// Appends a key where it is to be kept and there is room for it.
+fn keep_where(keys: &mut Vec<usize>, key: usize, is_kept: bool)
+    ensures keys { vec_len keys.old < vec_capacity keys.old → keys.new.items ≡ (if is_kept then keys.old.items ++ key ∷ [] else keys.old.items) }
+    ensures capacity { vec_capacity keys.old ≤ vec_capacity keys.new }
+{
+    if is_kept {
+        let _ = keys.push(key);
+    }
+}
+
+/// The connections of an event loop.
+#[derive(Drop)]
+struct Members<S> {
+    alloc: Global,
+    connections: Slab<Connection<S>>,
+    /// The busy connections, each once.
+    busy: Vec<usize>,
+    /// Those of them that have work left after their share.
+    later: Vec<usize>,
+    /// The completions that came.
+    completions: Vec<Completion>,
+    /// The buffer of one read.
+    chunk: Vec<u8>,
+    /// True where the receipts of calls are kept.
+    keep_receipts: bool,
+    /// The seconds without a byte after which a connection is over; 0 for never.
+    idle: u64,
+    /// The backend's seconds as the turn began, where they matter.
+    now: u64,
+    /// The number of turns that began since a connection was last busy.
+    looks: u32,
+}
+
+impl<S: Socket + Drop> Members<S> {
+    /// Makes an event loop without connections. Fails only when out of memory.
+    fn new(alloc: Global, keep_receipts: bool, idle: u32) -> Result<Self, AllocError>
+        ensures kept { IfOk result (λ m. NoneForgotten m) }
+        ensures none { IfOk result (λ m. HasNone m) }
+        ensures idle { IfOk result (λ m. m.idle ≡ idle) }
+    {
+        let mut chunk = Vec::new(alloc);
+        chunk.resize(CHUNK_SIZE, 0u8)?;
+        Ok(Members {
+            alloc,
+            connections: Slab::new(alloc),
+            busy: Vec::new(alloc),
+            later: Vec::new(alloc),
+            completions: Vec::new(alloc),
+            chunk,
+            keep_receipts,
+            idle: u64::from(idle),
+            now: 0,
+            looks: 0,
+        })
+    }
+
+    /// Marks a connection as busy: appends its key to the busy list where the list did not name it.
+    /// The list is unchanged where none is under the key.
+    fn wake(&mut self, key: usize)
+        ensures listed { ListsMarked self.old.connections self.old.busy self.old.later → ListsMarked self.new.connections self.new.busy self.new.later }
+        ensures busy { ListsMarked self.old.connections self.old.busy self.old.later
+            → self.new.busy.items ≡ with_key self.old.busy.items key (get self.old.connections key) }
+        ensures completions { self.new.completions.items ≡ self.old.completions.items }
+        ensures idle { self.new.idle ≡ self.old.idle }
+        ensures wakes { Wakes self.old.connections self.new.connections key }
+        ensures vacant { StaysVacant self.old.connections self.new.connections key }
+        ensures others { OthersStay self.old.connections self.new.connections key }
+    {
+        self.looks = 0;
+        if let Some(connection) = self.connections.get_mut(key) {
+            // There is room for the key of each connection.
+            if connection.is_newly_busy() {
+                let _ = self.busy.push(key);
+            }
+        }
+    }
+
+    /// Takes the completions that the backend brought, and delivers each.
+    fn take_completions<H: LoopBackend>(&mut self, backend: &H)
+        ensures kept { NoneForgotten self.old → NoneForgotten self.new }
+        ensures delivered { DeliversBrought (H.brings backend.now self.old.completions.items) self.old.connections self.new.connections }
+        ensures none_left { self.new.completions.items ≡ [] }
+    {
+        backend.take_completions(&mut self.completions);
+        self.deliver_all(backend);
+    }
+
+    /// Delivers each completion, the last one first. None is left.
+    fn deliver_all<H: LoopBackend>(&mut self, backend: &H)
+        ensures kept { NoneForgotten self.old → NoneForgotten self.new }
+        ensures delivered { DeliversAll self.old.completions.items self.old.connections self.new.connections }
+        ensures none_left { self.new.completions.items ≡ [] }
+    {
+        for _completion in 0..self.completions.len() {
+            let Some(completion) = self.completions.pop() else {
+                break;
+            };
+            self.deliver(backend, completion);
+        }
+    }
+
+    /// Delivers a completion. Where it has the number of the call that its connection asked last,
+    /// it is that call's outcome. No other connection changes; none does where it has gone.
+    fn deliver<H: LoopBackend>(&mut self, backend: &H, completion: Completion)
+        ensures kept { NoneForgotten self.old → NoneForgotten self.new }
+        ensures completions { self.new.completions.items ≡ self.old.completions.items }
+        ensures reported { Delivers self.old.connections self.new.connections completion.token completion.reply }
+        ensures vacant { StaysVacant self.old.connections self.new.connections completion.token.connection }
+        ensures others { OthersStay self.old.connections self.new.connections completion.token.connection }
+    {
+        let Completion { token, reply } = completion;
+        let key = token.connection;
+        let Some(addressee) = self.connections.get_mut(key) else {
+            return;
+        };
+        addressee.take_reply(self.alloc, backend, token.call, reply);
+        self.wake(key);
+    }
+
+    /// Adds what events report of readiness.
+    fn notice(&mut self, events: &Events)
+        ensures kept { NoneForgotten self.old → NoneForgotten self.new }
+        ensures reported { AllReported (items events.now) self.old.connections self.new.connections }
+    {
+        for event in events.iter() {
+            self.notice_event(event);
+        }
+    }
+
+    /// Adds what an event reports of the connection under its token's key, which is then busy. No
+    /// other connection changes; none does where it has gone.
+    fn notice_event(&mut self, event: &Event)
+        ensures kept { NoneForgotten self.old → NoneForgotten self.new }
+        ensures reported { TellsOf event.now self.old.connections self.new.connections }
+    {
+        let Token(key) = event.token();
+        notice_at(&mut self.connections, key, event);
+        self.wake(key);
+    }
+
+    /// Reads for the busy connections: each under its own key, one after another, and no other
+    /// connection changes.
+    fn read_all(&mut self)
+        ensures reads { OneByOne (ReadsAt S.remaining S.contents S.is_over S.is_dry S.is_full) self.old.busy.items self.old.connections self.new.connections }
+        ensures busy { self.new.busy ≡ self.old.busy }
+        ensures later { self.new.later ≡ self.old.later }
+    {
+        for key in self.busy.iter() {
+            read_at(
+                self.alloc,
+                &mut self.connections,
+                *key,
+                self.chunk.as_mut_slice(),
+                self.now,
+            );
+        }
+    }
+
+    /// Takes the share of each busy connection, in which its calls are asked under its own key,
+    /// each under the next of its numbers. No other connection changes.
+    fn advance_all<H: LoopBackend>(&mut self, backend: &H)
+        ensures rounds { TakeRounds (H.tells backend.now) (H.refuses backend.now) (H.submits backend.now) self.old.busy.items self.old.connections self.new.connections }
+        ensures busy { self.new.busy ≡ self.old.busy }
+        ensures later { self.new.later ≡ self.old.later }
+    {
+        let share = share_of(self.busy.len());
+        for key in self.busy.iter() {
+            advance_at(self.alloc, &mut self.connections, backend, *key, share);
+        }
+    }
+
+    /// Writes for the busy connections, one after another, and no other connection changes. Each is
+    /// removed exactly where it is done. The list then names those that are still there and have
+    /// work left, in the order in which it named them.
+    fn give_all<H: LoopBackend>(&mut self, registry: &Registry, backend: &H)
+        ensures writes { OneByOne (WritesAt S.remaining S.contents S.is_over S.is_dry S.is_full) self.old.busy.items self.old.connections self.new.connections }
+        ensures listed { ListsMarked self.old.connections self.old.busy self.old.later → ListsMarked self.new.connections self.new.busy self.new.later }
+        ensures in_order { ListsMarked self.old.connections self.old.busy self.old.later
+            → self.new.busy.items ≡ filter (λ key. is_marked (get self.new.connections key)) self.old.busy.items }
+    {
+        for key in self.busy.iter() {
+            let stays = give_at(&mut self.connections, registry, backend, *key, self.now);
+            // There is room for the key of each connection.
+            keep_where(&mut self.later, *key, stays);
+        }
+        self.busy.clear();
+        mem::swap(&mut self.busy, &mut self.later);
+    }
+
+    /// Serves each busy connection once. All are read before the first takes its steps, and all
+    /// have taken them before the first is written to: so a processor does one kind of work for a
+    /// while. The list then names exactly the connections that are behind, in the order in which it
+    /// named them before.
+    fn step_all<H: LoopBackend>(&mut self, registry: &Registry, backend: &H)
+        ensures kept { NoneForgotten self.old → NoneForgotten self.new }
+        ensures behind { NoneForgotten self.old → ListsBehind self.new.connections self.new.busy.items }
+        ensures in_order { NoneForgotten self.old → self.new.busy.items ≡ filter (λ key. is_marked (get self.new.connections key)) self.old.busy.items }
+        ensures serves { Serves S.remaining S.contents S.is_over S.is_dry S.is_full (H.tells backend.now) (H.refuses backend.now) (H.submits backend.now) self.old.busy.items self.old.connections self.new.connections }
+    {
+        self.read_all();
+        self.advance_all(backend);
+        self.give_all(registry, backend);
+    }
+
+    /// Ends the connections that were left idle, once a second; each is then busy, to be removed.
+    /// No other one changes.
+    fn look_for_idle(&mut self, now: u64)
+        ensures kept { NoneForgotten self.old → NoneForgotten self.new }
+        ensures ends { now ≢ self.old.now → EndsIdle now self.old.idle self.old.connections self.new.connections }
+        ensures else_stays { now ≡ self.old.now → self.new ≡ self.old }
+    {
+        if now == self.now {
+            return;
+        }
+        self.now = now;
+        for key in 0..self.connections.capacity() {
+            self.end_idle(key, now);
+        }
+    }
+
+    /// Ends the connection under a key where it was left idle; it is then busy, to be removed. No
+    /// other connection changes.
+    fn end_idle(&mut self, key: usize, now: u64)
+        ensures kept { NoneForgotten self.old → NoneForgotten self.new }
+        ensures ends { ClosesIfIdle now self.old.idle (get self.old.connections key) (get self.new.connections key) }
+        ensures others { OthersStay self.old.connections self.new.connections key }
+        ensures idle { self.new.idle ≡ self.old.idle }
+    {
+        if close_if_idle(&mut self.connections, key, now, self.idle) {
+            self.wake(key);
+        }
+    }
+
+    /// Returns whether it looks again soon: a client alone asks again as soon as it was answered,
+    /// and a thread that sleeps takes longer to wake than that.
+    fn looks_again(&self) -> bool
+        ensures { IsTrue result ↔ LooksAgain self.entry.now }
+    {
+        self.connections.len() <= LIGHT_LOAD && self.looks < MOST_LOOKS
+    }
+
+    /// Returns how long to wait for readiness: not at all exactly where work is left, may come soon
+    /// or came meanwhile, and else at most a second where idle connections are looked for. So where
+    /// it waits at all, no connection has work left of which no event and no completion will
+    /// report.
+    fn pause<H: LoopBackend>(&self, backend: &H) -> Option<Duration>
+        requires { ListsBehind self.now.connections self.now.busy.items }
+        ensures behind { (option_map as_nanos result ≡ Some 0) ⊎ NoneBehind self.entry.now.connections }
+        ensures busy { self.entry.now.busy.items ≢ [] → option_map as_nanos result ≡ Some 0 }
+        ensures looks { LooksAgain self.entry.now → option_map as_nanos result ≡ Some 0 }
+        ensures else_as_reported { self.entry.now.busy.items ≡ [] → ¬ (LooksAgain self.entry.now)
+            → (may : Bool) × H.lets_sleep backend.now may × (option_map as_nanos result ≡ (if may then longest_wait self.entry.now.idle else Some 0)) }
+    {
+        if !self.busy.is_empty() || self.looks_again() {
+            return Some(Duration::from_millis(0));
+        }
+        if !backend.may_sleep() {
+            Some(Duration::from_millis(0))
+        } else if self.idle > 0 {
+            Some(Duration::from_millis(1_000))
+        } else {
+            None
+        }
+    }
+}
+
+impl Members<Arc<TcpStream>> {
+    /// Takes a connection in, with room for its key in both lists. It is busy, to be read. Fails
+    /// when out of memory, or where the system refuses it; then nothing changes but room.
+    fn take_in(&mut self, registry: &Registry, arrival: Arrival) -> Result<(), AllocError>
+        ensures kept { NoneForgotten self.old → NoneForgotten self.new }
+        ensures taken { OnOk result (NoneForgotten self.old → TakesIn arrival.stream arrival.slot arrival.receipts self.old self.new) }
+        ensures refused { OnErr result (ChangesRoom self.old self.new) }
+    {
+        let Some(count) = self.connections.len().checked_add(1) else {
+            return Err(AllocError);
+        };
+        self.busy.reserve(count)?;
+        self.later.reserve(count)?;
+        self.connections.reserve(1)?;
+        let key = self.connections.vacant_key();
+        let Ok(connection) = Connection::open(
+            self.alloc,
+            registry,
+            Token(key),
+            arrival,
+            self.keep_receipts,
+            self.now,
+        ) else {
+            return Err(AllocError);
+        };
+        let key = self.connections.insert_reserved(connection);
+        self.wake(key);
+        Ok(())
+    }
+
+    /// Takes in the connections that came; those that were there are unchanged. One for which there
+    /// is no room ends at once.
+    fn take_arrivals<H: LoopBackend>(&mut self, registry: &Registry, backend: &H)
+        ensures kept { NoneForgotten self.old → NoneForgotten self.new }
+        ensures stay { NoneForgotten self.old → PresentStay self.old.connections self.new.connections }
+    {
+        for _ in 0..usize::MAX {
+            let Some(arrival) = backend.arrival() else {
+                break;
+            };
+            let slot = arrival.slot;
+            let receipts = arrival.receipts;
+            if self.take_in(registry, arrival).is_err() {
+                backend.ended(slot, receipts, Vec::new(self.alloc));
+            }
+        }
+    }
+
+    /// Makes a round: takes what came, and serves each busy connection. The list then names exactly
+    /// the connections that are behind.
+    fn round<H: LoopBackend>(&mut self, registry: &Registry, backend: &H)
+        ensures kept { NoneForgotten self.old → NoneForgotten self.new }
+        ensures behind { NoneForgotten self.old → ListsBehind self.new.connections self.new.busy.items }
+    {
+        // Completions first: what comes from then on keeps the thread awake, so no arrival is left
+        // behind.
+        self.take_completions(backend);
+        self.take_arrivals(registry, backend);
+        self.step_all(registry, backend);
+    }
+
+    /// Makes another round where no connection has work left. The list then names just the
+    /// connections of the thread that are behind, where it did before.
+    fn round_again<H: LoopBackend>(&mut self, registry: &Registry, backend: &H)
+        ensures kept { NoneForgotten self.old → NoneForgotten self.new }
+        ensures behind { NoneForgotten self.old → ListsBehind self.old.connections self.old.busy.items → ListsBehind self.new.connections self.new.busy.items }
+    {
+        if self.busy.is_empty() {
+            self.round(registry, backend);
+        }
+    }
+
+    /// Makes a round. Makes another one where no connection has work left, for the replies that
+    /// came meanwhile to what was asked in the first: they are written before the next look at
+    /// readiness. The list then names just the connections of the thread that are behind.
+    fn run_once<H: LoopBackend>(&mut self, registry: &Registry, backend: &H)
+        ensures kept { NoneForgotten self.old → NoneForgotten self.new }
+        ensures behind { NoneForgotten self.old → ListsBehind self.new.connections self.new.busy.items }
+    {
+        self.looks = self.looks.saturating_add(1);
+        if self.idle > 0 {
+            self.look_for_idle(backend.seconds());
+        }
+        self.round(registry, backend);
+        self.round_again(registry, backend);
+    }
+}
+
+/// An event loop: its connections, none before it begins, and the reports of their readiness.
+#[derive(Drop)]
+pub struct EventLoop {
+    poll: Poll,
+    events: Events,
+    members: Members<Arc<TcpStream>>,
+    ghost none: { HasNone members },
+}
+
+impl EventLoop {
+    /// Makes an event loop. `keep_receipts`: whether the receipts of calls are kept; `idle`: the seconds
+    /// without a byte after which a connection is over (0: never). Fails when out of memory, or
+    /// where the system gives no more descriptors.
+    pub fn new(
+        net: &impl Net,
+        alloc: Global,
+        keep_receipts: bool,
+        idle: u32,
+    ) -> Result<Self, AllocError> {
+        let Ok(poll) = Poll::new(net) else {
+            return Err(AllocError);
+        };
+        Ok(EventLoop {
+            poll,
+            events: Events::with_capacity(alloc, MOST_EVENTS)?,
+            members: Members::new(alloc, keep_receipts, idle)?,
+        })
+    }
+
+    /// Returns what wakes the event loop. Fails where the system gives no more descriptors.
+    pub fn waker(&self) -> Result<Waker, AllocError> {
+        match Waker::new(self.poll.registry(), WAKER) {
+            Ok(waker) => Ok(waker),
+            Err(_) => Err(AllocError),
+        }
+    }
+
+    /// Serves the connections that come, until no more come and all have ended.
+    pub fn attend<R: Wait, H: LoopBackend>(self, rt: &R, backend: &H) {
+        let EventLoop {
+            mut poll,
+            mut events,
+            mut members,
+        } = self;
+        for _ in rt.forever() {
+            members.run_once(poll.registry(), backend);
+            if members.connections.is_empty() && backend.is_over() {
+                break;
+            }
+            let pause = members.pause(backend);
+            if members.busy.is_empty() && pause.is_some_and(|wait| wait.is_zero()) {
+                // It only looks again: a thread that has work comes first on this processor.
+                let _ = libc::sched_yield();
+            }
+            // A wait that fails reports no event, and the next turn waits again.
+            let _ = poll.poll(&mut events, pause);
+            members.notice(&events);
+        }
+    }
+}

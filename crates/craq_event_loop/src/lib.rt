@@ -1,0 +1,13 @@
+//! Event loops: each serves many connections by readiness and takes the steps of those whose bytes
+//! came. The backend is behind the trait `LoopBackend`. Code that runs in the programs.
+#![tactic(auto)]
+
+mod backend;
+mod connection;
+mod event_loop;
+mod laws;
+mod socket;
+
+pub use backend::{Arrival, LoopBackend};
+pub use event_loop::EventLoop;
+pub use laws::{completions_refuse_as_backends_may, each_call_has_its_number};

@@ -1,5 +1,0 @@
-use Rattle.craq_held.proofs.Becoming.{becomes}
-use Rattle.craq_held.proofs.chain_book.ChainBook.take.Goals as goal
-
-pub invariant_of-self : goal.invariant_of-self
-invariant_of-self c = becomes c.self.inside.cell c.take.new.self c.args.event c.args.pass c.take.result c.take.ensures.step c.self.invariant

@@ -1,9 +1,0 @@
-use Rattle.std.proofs.Common.{◌≡◌, ◌+◌, map, drop}
-use Rattle.craq_line.specs.Commands.{items_from}
-use Rattle.craq_line.proofs.Items.{behind}
-use Rattle.craq_line.proofs.commands.items_of.Given as goal
-
--- the items so far and those of the words that are left
-abbrev pub invariant-loop-index : goal.invariant-loop-index
-invariant-loop-index l =
-    behind l.items.items (items_from (l.index + 3) (map (λ w. w.now) (drop l.index l.words))) ≡ items_from 3 (map (λ w. w.now) l.fn.words)

@@ -1,4 +1,0 @@
-pub mod Folds
-pub mod Forgets
-pub mod Observed
-pub mod Unsettled

@@ -1,9 +1,0 @@
-use Rattle.std.proofs.Common.{refl, ◌∙◌}
-use Rattle.craq_list.specs.Stored.{stored}
-use Rattle.craq_list.proofs.Observed.{new_told}
-use Rattle.craq_list.proofs.history.ListHistory.is_new_later.Goals as goal
-
-pub returns : goal.returns
-returns c =
-    c.is_new.ensures
-    ∙ new_told (stored c.args.self.now.held.base c.args.self.now.held.state c.args.self.now.held.entries c.args.self.now.acknowledged) c.args.later.now c.args.client c.args.number _ _ _ _ _ c.window-window.ensures.window c.entries.ensures refl c.slots-slots.ensures.slots (c.as_slice.ensures.value ∙ c.add_entries.ensures.slots)

@@ -1,7 +1,0 @@
-use Rattle.std.proofs.Common.{◌-◌, refl}
-use Rattle.craq_list.proofs.Observed.{slots_told}
-use Rattle.craq_list.proofs.history.ListHistory.slots.Goals as goal
-
-pub returns-clause-slots : goal.returns-clause-slots
-returns-clause-slots c =
-    slots_told c.args.self.now.held.state (c.args.self.now.acknowledged - c.args.self.now.held.base) c.args.client _ _ c.args.self.now.held.entries _ _ _ _ c.requires.window c.settled-settled.ensures c.unsettled.ensures.entries refl c.slots_after-slots.ensures.slots c.keep_replies.ensures.slots

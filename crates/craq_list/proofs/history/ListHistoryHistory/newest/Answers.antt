@@ -1,6 +1,0 @@
-use Rattle.craq_list.specs.Stored.{stored}
-use Rattle.craq_list.proofs.Observed.{newest_told}
-use Rattle.craq_list.proofs.history.ListHistoryHistory.newest.Goals as goal
-
-pub returns-clause-object : goal.returns-clause-object
-returns-clause-object c = newest_told (stored c.args.self.now.held.base c.args.self.now.held.state c.args.self.now.held.entries c.args.self.now.acknowledged) c.args.key.now _ c.newest.ensures.object

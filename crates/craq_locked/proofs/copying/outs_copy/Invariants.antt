@@ -1,6 +1,0 @@
-use Rattle.std.proofs.Common.{◌≡◌, take}
-use Rattle.craq_locked.proofs.copying.outs_copy.Given as goal
-
--- the copies are the outs so far
-abbrev pub invariant-loop-out : goal.invariant-loop-out
-invariant-loop-out l = l.copies.items ≡ take l.out-index l.outs

@@ -1,0 +1,124 @@
+//! `LockedChain`: a chain's cells whose locks are held, as one value that lends them; used to audit a
+//! running store.
+ghost use Rattle.std.specs.Prelude.{◌≡◌, ◌≤◌, [], IfOk, length, map, vec_capacity, vec_len};
+ghost use Rattle.std.specs.List.{AllByRecursion};
+ghost use Rattle.craq_audit.specs.Audited.{Audits};
+ghost use Rattle.craq_audit.specs.Lookups.{cells_of};
+ghost use Rattle.craq_locked_chain.specs.Held.{AreOwn, cell_in};
+ghost use Rattle.craq_seat.specs.Kept.{IsKept};
+
+use craq_audit::{Audit, audit};
+use craq_names::Refusal;
+use craq_node::Core;
+use craq_seat::{BookCell, CallReceipt, Cell, Seated};
+use std::alloc::{AllocError, Global};
+use std::marker::Model;
+use std::sync::MutexGuard;
+
+/// The cells of a chain: its master's, lent by the holder of its lock, and its nodes', each under
+/// its lock. While this value exists, they take no step. A contract sees these cells, and that each
+/// of their steps is their own. No contract can say which cell is behind a free lock.
+#[derive(Drop)]
+pub struct LockedChain<'b, 's, C: Core, W: Drop = ()> {
+    alloc: Global,
+    book: &'b BookCell,
+    seats: Vec<MutexGuard<'s, Seated<C, W>>>,
+    /// Room for the list of the cells, for an audit.
+    room: Vec<&'s Cell<C>>,
+}
+
+impl<'b, 's, C: Core, W: Drop> Model for LockedChain<'b, 's, C, W> {
+    ghost use Rattle.std.specs.Prelude.{◌≡◌, ◌≤◌, [], length, map, vec_capacity};
+    ghost use Rattle.craq_locked_chain.specs.Held.{AreOwn, Held, cell_in};
+
+    ghost Value = { Held C };
+
+    ghost view = { λ h. record { book = h.book.now; cells = map cell_in h.seats.items } };
+
+    ghost invariant = { λ h. AreOwn C.represents (record { book = h.book.now; cells = map cell_in h.seats.items }) × (h.room.items ≡ []) × (length h.seats.items ≤ vec_capacity h.room) };
+}
+
+/// States that the cells behind held locks keep the invariants of their type. Does nothing.
+fn keep_seats<C: Core, W: Drop>(seats: &[MutexGuard<'_, Seated<C, W>>])
+    ensures { AllByRecursion (IsKept C.represents) (map cell_in seats.now) }
+{
+    for seat in seats {
+        seat.desk.cell().journal();
+    }
+}
+
+/// Lists the cells behind these held locks, in the order of their seats. The list has room for
+/// them, so it never allocates.
+fn cells_in<'a, 's, C: Core, W: Drop>(
+    room: Vec<&'a Cell<C>>,
+    seats: &'a [MutexGuard<'s, Seated<C, W>>],
+) -> Vec<&'a Cell<C>>
+    requires empty { room.items ≡ [] }
+    requires room { length seats.now ≤ vec_capacity room }
+    ensures { cells_of result.items ≡ map cell_in seats.now }
+{
+    let mut cells = room;
+    for seat in seats {
+        cells.push_reserved(seat.desk.cell());
+    }
+    cells
+}
+
+impl<'b, 's, C: Core, W: Drop> LockedChain<'b, 's, C, W> {
+    /// Makes the value of a master's cell and those behind these locks, in the order of their
+    /// seats, with room for their audit. Fails only when out of memory; the locks of the nodes are
+    /// then released.
+    pub fn new(
+        alloc: Global,
+        book: &'b BookCell,
+        seats: Vec<MutexGuard<'s, Seated<C, W>>>,
+    ) -> Result<Self, AllocError>
+        ensures book { IfOk result (λ held. held.book ≡ book.now) }
+        ensures cells { IfOk result (λ held. held.cells ≡ map cell_in seats.entry.items) }
+    {
+        let room = Vec::with_capacity(alloc, seats.len())?;
+        book.journal();
+        keep_seats(seats.as_slice());
+        Ok(LockedChain {
+            alloc,
+            book,
+            seats,
+            room,
+        })
+    }
+
+    /// Returns the master's cell. Never allocates.
+    pub fn book(&self) -> &BookCell
+        ensures { result.now ≡ self.now.book }
+    {
+        self.book
+    }
+
+    /// Returns the nodes' cells, in the order of their seats. Fails only when out of memory.
+    pub fn cells(&self) -> Result<Vec<&Cell<C>>, AllocError>
+        ensures { IfOk result (λ cells. cells_of cells.items ≡ self.now.cells) }
+    {
+        let room = Vec::with_capacity(self.alloc, self.seats.len())?;
+        Ok(cells_in(room, self.seats.as_slice()))
+    }
+
+    /// Audits these cells with call receipts, exactly as `craq_audit::audit` does: returns their
+    /// journals as one run, or the first fault. Releases the locks of the nodes, and leaves the
+    /// cells unchanged. With `Merged` the run is the merge of the journals and a run of the chain,
+    /// which `explain_run` explains, and each receipt is a request and its reply in that run.
+    ///
+    /// Refused as `craq_audit::audit` is.
+    pub fn audit(self, receipts: &[CallReceipt]) -> Result<Audit, Refusal>
+        ensures audited { Audits self.entry.book self.entry.cells receipts.now result }
+        ensures own { AreOwn C.represents self.entry }
+    {
+        let LockedChain {
+            alloc,
+            book,
+            seats,
+            room,
+        } = self;
+        let cells = cells_in(room, seats.as_slice());
+        audit(alloc, book, cells.as_slice(), receipts)
+    }
+}

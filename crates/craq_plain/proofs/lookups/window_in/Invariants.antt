@@ -1,7 +1,0 @@
-use Rattle.std.proofs.Common.{◌≡◌, drop}
-use Rattle.craq_names.specs.Maps.{at_number}
-use Rattle.craq_plain.proofs.lookups.window_in.Given as goal
-
--- no visited window is the client's
-abbrev pub invariant-loop-name : goal.invariant-loop-name
-invariant-loop-name l = at_number (drop l.name-index l.name-items) l.client ≡ at_number l.state.kept l.client

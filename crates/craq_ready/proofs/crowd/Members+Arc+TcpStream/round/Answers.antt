@@ -1,4 +1,0 @@
-use Rattle.craq_ready.proofs.crowd.Members+Arc+TcpStream.round.Goals as goal
-
-pub returns-clause-behind : goal.returns-clause-behind
-returns-clause-behind g c k = c.step_all.ensures.behind (c.take_arrivals.ensures.kept (c.take_letters.ensures.kept k))

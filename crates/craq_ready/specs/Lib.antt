@@ -1,9 +1,0 @@
-pub mod Advancing
-pub mod Belonging
-pub mod Busy
-pub mod Coming
-pub mod Letters
-pub mod Readiness
-pub mod Serving
-pub mod Sockets
-pub mod Starved

@@ -1,6 +1,0 @@
-use Rattle.std.proofs.Common.{◌≡◌, length}
-use Rattle.craq_server.proofs.crews.Crowds.new.Given as goal
-
--- as many crowds as the loop has counted
-abbrev pub invariant-loop : goal.invariant-loop
-invariant-loop g l = length l.all.items ≡ l.counter

@@ -1,0 +1,353 @@
+//! `EventLoops`: the event loops of a server, made before serving starts. And serving by a few threads,
+//! an event loop each; called by `accepting`.
+ghost use Rattle.std.specs.Prelude.{◌≡◌, [], IfOk, length};
+
+use crate::accepting::{Next, Server, Serving, Taken};
+use crate::runtime::ServerRuntime;
+use crate::served_store::ServedStore;
+use craq_completions::{Completion, CompletionQueue, Token};
+use craq_event_loop::{Arrival, EventLoop, LoopBackend};
+use craq_frames::Text;
+use craq_names::Refusal;
+use craq_node::Core;
+use craq_seat::CallReceipt;
+use craq_session::{AsyncBackend, Backend, CallRequest, SubmitToken};
+use craq_workers::{Gate, Store};
+use std::alloc::{AllocError, Global};
+use std::net::{Net, TcpListener, TcpStream};
+use std::sync::atomic::{AtomicBool, AtomicU64, Ordering};
+use std::sync::{Arc, Mutex, Wait};
+use std::thread;
+use std::thread::Scope;
+
+/// The backend of one event loop.
+#[derive(Drop)]
+struct IoContext<'s, 'a, R: Wait, C: Core, G: Gate> {
+    server: &'s Server<'a, R, C, G>,
+    backend: ServedStore<'s, R, C, G>,
+    completions: Arc<CompletionQueue>,
+    /// The connections that were handed to the thread and are not taken in yet.
+    inbox: Mutex<Vec<Arrival>>,
+    /// True where no more connections are handed to it.
+    over: AtomicBool,
+    /// The event loop, until the thread begins.
+    event_loop: Mutex<Option<EventLoop>>,
+    /// The largest number of seconds that the clock gave.
+    latest: AtomicU64,
+}
+
+impl<'s, 'a, R, C, G> Backend for IoContext<'s, 'a, R, C, G>
+where
+    R: ServerRuntime,
+    C: Core + Send + 'static,
+    G: Gate + Send + Sync + 'static,
+{
+    ghost use Rattle.std.specs.Prelude.{length};
+    ghost use Rattle.craq_server.specs.Refusing.{RefusesServed};
+    ghost use Rattle.craq_server.specs.Status.{TellsStatus};
+
+    ghost tells = { λ context text. TellsStatus context.backend.store.now text };
+
+    ghost refuses = { λ context node pass ask refusal. RefusesServed (length context.backend.store.now.names) node ask refusal };
+
+    fn status(&self) -> Result<Text, AllocError> {
+        self.backend.status()
+    }
+}
+
+impl<'s, 'a, R, C, G> AsyncBackend for IoContext<'s, 'a, R, C, G>
+where
+    R: ServerRuntime,
+    C: Core + Send + 'static,
+    G: Gate + Send + Sync + 'static,
+{
+    ghost use Rattle.std.specs.Prelude.{⊤};
+
+    ghost submits = { λ context token request came. ⊤ };
+
+    fn submit(
+        &self,
+        submit_token: SubmitToken,
+        request: &CallRequest,
+        token: Token,
+        light_load: bool,
+    ) -> Result<Option<CallReceipt>, Refusal> {
+        drop(submit_token);
+        self.backend
+            .submit(request, &self.completions, token, light_load)
+    }
+}
+
+impl<'s, 'a, R, C, G> LoopBackend for IoContext<'s, 'a, R, C, G>
+where
+    R: ServerRuntime,
+    C: Core + Send + 'static,
+    G: Gate + Send + Sync + 'static,
+{
+    ghost use Rattle.std.specs.Prelude.{⊤};
+
+    ghost brings = { λ context old new. ⊤ };
+
+    ghost lets_sleep = { λ context may. ⊤ };
+
+    fn take_completions(&self, into: &mut Vec<Completion>) {
+        self.completions.take(&self.server.rt, into);
+        for completion in into.iter() {
+            if let Ok(receipt) = &completion.reply {
+                self.backend.reported(receipt);
+            }
+        }
+    }
+
+    fn arrival(&self) -> Option<Arrival> {
+        self.inbox.lock(&self.server.rt).pop()
+    }
+
+    fn is_over(&self) -> bool {
+        self.over.load(Ordering::SeqCst) && self.inbox.lock(&self.server.rt).is_empty()
+    }
+
+    fn may_sleep(&self) -> bool {
+        self.completions.may_sleep(&self.server.rt)
+    }
+
+    fn seconds(&self) -> u64 {
+        let reported = match self.server.rt.monotonic() {
+            Ok(time) => time.as_secs(),
+            Err(_) => 0,
+        };
+        self.latest
+            .fetch_max(reported, Ordering::SeqCst)
+            .max(reported)
+    }
+
+    fn refused(&self, slot: usize, refusal: Refusal) {
+        self.server
+            .serving
+            .log
+            .refused(&self.server.rt, slot, refusal);
+    }
+
+    fn ended(&self, slot: usize, receipts: usize, calls: Vec<CallReceipt>) {
+        self.server.ended(slot, receipts, calls);
+    }
+}
+
+impl<'s, 'a, R, C, G> IoContext<'s, 'a, R, C, G>
+where
+    R: ServerRuntime,
+    C: Core + Send + 'static,
+    G: Gate + Send + Sync + 'static,
+{
+    /// Makes what a thread with this event loop reaches. Fails when out of memory, or where the
+    /// system refuses a wake-up.
+    fn new(server: &'s Server<'a, R, C, G>, event_loop: EventLoop) -> Result<Self, AllocError> {
+        let completions = CompletionQueue::new(server.alloc, Some(event_loop.waker()?));
+        Ok(IoContext {
+            server,
+            backend: server.backend(),
+            completions: Arc::new(server.alloc, completions)?,
+            inbox: Mutex::new(Vec::new(server.alloc)),
+            over: AtomicBool::new(false),
+            event_loop: Mutex::new(Some(event_loop)),
+            latest: AtomicU64::new(0),
+        })
+    }
+
+    /// Hands a connection to the thread and wakes it. Fails only when out of memory.
+    fn hand(&self, stream: Arc<TcpStream>, slot: usize) -> Result<(), AllocError> {
+        let receipts = self.server.new_receipts()?;
+        let arrival = Arrival {
+            stream,
+            slot,
+            receipts,
+        };
+        self.inbox.lock(&self.server.rt).push(arrival)?;
+        self.completions.nudge(&self.server.rt);
+        Ok(())
+    }
+
+    /// Hands a connection to the thread where there is a place; else it is turned away. Fails only
+    /// when out of memory; the connection is then closed.
+    fn take_in(&self, stream: TcpStream) -> Result<(), AllocError> {
+        let Some((stream, slot)) = self.server.admit(stream)? else {
+            return Ok(());
+        };
+        let handed = self.hand(stream, slot);
+        self.server.after_admission(slot, handed)
+    }
+
+    /// Has the thread end once its connections are over.
+    fn end(&self) {
+        self.over.store(true, Ordering::SeqCst);
+        self.completions.nudge(&self.server.rt);
+    }
+}
+
+/// Hands connections to the threads in turn, as many as `Serving` says, until the server is to end
+/// or its listener has failed.
+fn deal<'s, 'a, R, C, G>(
+    server: &'s Server<'a, R, C, G>,
+    contexts: &[IoContext<'s, 'a, R, C, G>],
+    listener: &TcpListener,
+) -> Taken
+where
+    R: ServerRuntime,
+    C: Core + Send + 'static,
+    G: Gate + Send + Sync + 'static,
+{
+    let mut left = server.serving.connections;
+    let mut had_failures = false;
+    let mut turn = 0usize;
+    for _ in server.rt.forever() {
+        if turn >= contexts.len() {
+            turn = 0;
+        }
+        match (server.next_connection(listener), contexts.get(turn)) {
+            (Next::Connection(stream), Some(context)) => {
+                had_failures = context.take_in(stream).is_err() || had_failures;
+            }
+            (Next::ListenerFailed, _) => {
+                server.end_open();
+                return Taken {
+                    had_failures,
+                    listener_failed: true,
+                };
+            }
+            _ => break,
+        }
+        turn = turn.saturating_add(1);
+        if left == 1 {
+            break;
+        }
+        left = left.saturating_sub(1);
+    }
+    Taken {
+        had_failures,
+        listener_failed: false,
+    }
+}
+
+/// The way in which connections are served, and an event loop for each thread that serves many of them: what
+/// `accept_with` needs before it begins.
+#[derive(Drop)]
+pub struct EventLoops {
+    pub(crate) serving: Serving,
+    pub(crate) all: Vec<EventLoop>,
+}
+
+impl EventLoops {
+    /// Makes an event loop for each thread that `serving` asks for: a descriptor of an epoll set
+    /// and some memory each; none where each connection has a thread of its own. Fails when out of
+    /// memory, or where the system gives no more descriptors.
+    pub fn new(net: &impl Net, alloc: Global, serving: Serving) -> Result<Self, AllocError>
+        ensures { IfOk result (λ event_loops. (event_loops.serving ≡ serving) × (length event_loops.all.items ≡ serving.threads)) }
+    {
+        let mut all = Vec::new(alloc);
+        for _ in 0..serving.threads {
+            all.push(EventLoop::new(net, alloc, serving.keep_receipts, serving.idle)?)?;
+        }
+        Ok(EventLoops { serving, all })
+    }
+
+    /// Makes what a thread for each connection needs beforehand, which is nothing.
+    pub(crate) fn threadless(alloc: Global, serving: Serving) -> Self
+        ensures serving { result.serving ≡ serving }
+        ensures none { result.all.items ≡ [] }
+    {
+        EventLoops {
+            serving,
+            all: Vec::new(alloc),
+        }
+    }
+}
+
+/// The threads that serve a server's connections.
+#[derive(Drop)]
+struct IoContexts<'s, 'a, R: Wait, C: Core, G: Gate> {
+    server: &'s Server<'a, R, C, G>,
+    all: Vec<IoContext<'s, 'a, R, C, G>>,
+}
+
+impl<'s, 'a, R, C, G> IoContext<'s, 'a, R, C, G>
+where
+    R: ServerRuntime,
+    C: Core + Send + 'static,
+    G: Gate + Send + Sync + 'static,
+{
+    /// Runs the event loop until no more connections come and all have ended.
+    fn attend(&self) {
+        let event_loop = self.event_loop.lock(&self.server.rt).take();
+        if let Some(event_loop) = event_loop {
+            event_loop.attend(&self.server.rt, self);
+        }
+    }
+
+    /// Begins the thread. Fails where there is no thread.
+    fn begin<'e, E>(&'e self, scope: &Scope<'e, E>) -> Result<(), AllocError> {
+        let thread = scope.spawn(move || self.attend())?;
+        drop(thread);
+        Ok(())
+    }
+}
+
+impl<'s, 'a, R, C, G> IoContexts<'s, 'a, R, C, G>
+where
+    R: ServerRuntime,
+    C: Core + Send + 'static,
+    G: Gate + Send + Sync + 'static,
+{
+    /// Begins all threads, as far as the system gives them. Returns whether all began.
+    fn begin_all<'e, E>(&'e self, scope: &Scope<'e, E>) -> bool {
+        let mut begun = true;
+        for context in self.all.as_slice() {
+            begun = context.begin(scope).is_ok() && begun;
+        }
+        begun
+    }
+
+    /// Begins the threads, hands connections to them, and has them end. Fails where some thread did
+    /// not begin; no connection was taken then.
+    fn run_threads<'e, E>(
+        &'e self,
+        scope: &Scope<'e, E>,
+        listener: &TcpListener,
+    ) -> Result<Taken, AllocError> {
+        let mut taken = Err(AllocError);
+        if self.begin_all(scope) {
+            self.server.connections.begin(&self.server.rt);
+            taken = Ok(deal(self.server, self.all.as_slice(), listener));
+        }
+        for context in self.all.as_slice() {
+            context.end();
+        }
+        taken
+    }
+
+    /// Serves as `run_threads` does, and waits until all threads have ended.
+    fn serve_all(&self, listener: &TcpListener) -> Result<Taken, AllocError> {
+        thread::scope(thread::scope_env(), &self.server.rt, |scope| {
+            self.run_threads(scope, listener)
+        })
+    }
+}
+
+/// Serves the connections of a listener by a thread for each event loop. Fails where a thread, or
+/// what it needs, cannot be made; no connection was taken then.
+pub(crate) fn serve_by_threads<'a, R, C, G>(
+    server: &Server<'a, R, C, G>,
+    listener: &TcpListener,
+    event_loops: Vec<EventLoop>,
+) -> Result<Taken, AllocError>
+where
+    R: ServerRuntime,
+    C: Core + Send + 'static,
+    G: Gate + Send + Sync + 'static,
+{
+    let mut all = Vec::new(server.alloc);
+    for event_loop in event_loops {
+        all.push(IoContext::new(server, event_loop)?)?;
+    }
+    let contexts = IoContexts { server, all };
+    contexts.serve_all(listener)
+}

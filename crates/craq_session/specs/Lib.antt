@@ -1,0 +1,4 @@
+pub mod Asking
+pub mod ConnectionStates
+pub mod Halves
+pub mod Turns

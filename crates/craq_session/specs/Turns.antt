@@ -1,0 +1,104 @@
+-- What the door of a store answers.
+use Rattle.std.specs.Prelude.{◌≡◌, ◌⊎◌, ℕ, Bool, if◌then◌else◌, List, [], ◌∷◌, ◌++◌, max, Result, Ok, Err}
+use Rattle.craq_names.specs.declared.name.NodeName.{NodeName}
+use Rattle.craq_names.specs.declared.refusal.Refusal.{Refusal}
+use Rattle.craq_names.specs.declared.refusal.Refusal.TheVariants.{BadFrame, Memory}
+use Rattle.craq_commands.specs.Evaluation.{chain_of_first}
+use Rattle.craq_model.specs.Asks.{asked_objects}
+use Rattle.craq_model.specs.declared.ask.Answer.{Answer}
+use Rattle.craq_model.specs.declared.ask.Answer.TheVariants as answers
+use Rattle.craq_model.specs.declared.ask.Ask.{Ask}
+use Rattle.craq_model.specs.declared.ask.Ask.TheVariants as asks
+use Rattle.craq_frames.specs.declared.ask.ClientMessage.{ClientMessage}
+use Rattle.craq_frames.specs.declared.ask.ClientMessage.TheVariants as messages
+use Rattle.craq_frames.specs.declared.answer.ClientReply.{ClientReply}
+use Rattle.craq_frames.specs.declared.answer.ClientReply.TheVariants as replies
+use Rattle.craq_front.specs.Door.{IsAllowed}
+use Rattle.craq_seat.specs.Calls.{Called}
+
+-- the message that asks a node with this pass
+abbrev pub message_of : ℕ → ℕ → Ask → ClientMessage
+message_of node pass (asks.Update update) = messages.Update node pass update
+message_of node pass (asks.Read mode object) = messages.Read node pass mode object
+
+-- the reply with an answer and a pass
+abbrev pub reply_of : ℕ → Answer → ClientReply
+reply_of pass (answers.Update reply) = replies.Update pass reply
+reply_of pass (answers.Read version value) = replies.Read pass version value
+
+-- the message asks what the call asked, with the pass that the call showed, and the reply has the call's answer, with the
+-- larger of that pass and the answer's stamp
+pub record IsReplyOf (message : ClientMessage) (reply : ClientReply) (c : Called) : Type 0 where
+  pub asked : message ≡ message_of c.call.asked.node c.call.pass c.call.ask
+  pub answered : reply ≡ reply_of (max c.call.pass c.answered.stamp) c.answer
+
+-- the receipts that a door still has as a turn begins: those of earlier turns, if they are kept
+abbrev pub kept : Bool → List Called → List Called
+kept keep_receipts receipts = if keep_receipts then receipts else []
+
+-- the reply is that of a call whose receipt came in this turn: it stands behind those that the door had
+abbrev pub IsCalled : List Called → ClientMessage → ClientReply → List Called → Type 0
+IsCalled old message reply new = (c : Called) × (IsReplyOf message reply c × (new ≡ old ++ c ∷ []))
+
+-- what a message comes to, where it is not refused: an answer is that of a call; a status is told where it is asked for, has a
+-- text that was told, and is no call
+abbrev pub IsReplied : (List ℕ → Type 0) → List Called → ClientMessage → ClientReply → List Called → Type 0
+IsReplied tells old message (replies.Update pass reply) new = IsCalled old message (replies.Update pass reply) new
+IsReplied tells old message (replies.Read pass version value) new = IsCalled old message (replies.Read pass version value) new
+IsReplied tells old message (replies.Status text) new = (message ≡ messages.Status) × tells text × (new ≡ old)
+IsReplied tells old message (replies.Refused refusal) new = ⊥
+
+-- a node of the chain of an ask's first object
+abbrev pub name_of : ℕ → Ask → NodeName
+name_of node ask = record { chain = chain_of_first (asked_objects ask); node = node }
+
+-- with what a call of a node, with a pass, may be refused
+abbrev pub Refusing : Type 1
+Refusing = NodeName → ℕ → Ask → Refusal → Type 0
+
+-- for want of memory alone
+abbrev pub for_memory : Refusing
+for_memory node pass ask e = e ≡ Memory
+
+-- for want of memory too
+abbrev pub or_memory : Refusing → Refusing
+or_memory refuses node pass ask e = (e ≡ Memory) ⊎ refuses node pass ask e
+
+-- for want of memory too, where this holds
+abbrev pub or_memory_where : Type 0 → Refusing → Refusing
+or_memory_where lacks refuses node pass ask e = ((e ≡ Memory) × lacks) ⊎ refuses node pass ask e
+
+-- which refusals can come in the place of a reply: of a call one with which it may be refused; of a status want of memory alone
+abbrev pub MayReplyRefused : Refusing → ClientMessage → Refusal → Type 0
+MayReplyRefused refuses (messages.Update node pass update) e = refuses (name_of node (asks.Update update)) pass (asks.Update update) e
+MayReplyRefused refuses (messages.Read node pass mode object) e = refuses (name_of node (asks.Read mode object)) pass (asks.Read mode object) e
+MayReplyRefused refuses messages.Status e = e ≡ Memory
+
+-- a message came to what no door may tell: to a refusal, and no receipt came, or to a reply
+abbrev pub IsHidden : (List ℕ → Type 0) → Refusing → List Called → ClientMessage → List Called → Type 0
+IsHidden tells refuses old message new =
+    ((e : Refusal) × (¬ IsAllowed (replies.Refused e)) × MayReplyRefused refuses message e × (new ≡ old))
+    ⊎ ((reply : ClientReply) × (¬ IsAllowed reply) × IsReplied tells old message reply new)
+
+-- nothing was answered, and no receipt came; or, as BadFrame, something came that no door may tell
+abbrev pub IsRefused : (List ℕ → Type 0) → Refusing → List Called → ClientMessage → Refusal → List Called → Type 0
+IsRefused tells refuses old message refusal new =
+    (MayReplyRefused refuses message refusal × (new ≡ old)) ⊎ ((refusal ≡ BadFrame) × IsHidden tells refuses old message new)
+
+-- a turn of a door that has these receipts as it begins
+abbrev pub IsAnswered : (List ℕ → Type 0) → Refusing → List Called → ClientMessage → ClientReply → List Called → Type 0
+IsAnswered tells refuses old message (replies.Refused refusal) new = IsRefused tells refuses old message refusal new
+IsAnswered tells refuses old message reply new = IsReplied tells old message reply new
+
+-- a turn of a door that keeps its receipts or not, where a status has a text that was told, and a call is refused as it may be
+abbrev pub IsTurn : (List ℕ → Type 0) → Refusing → Bool → List Called → ClientMessage → ClientReply → List Called → Type 0
+IsTurn tells refuses keep_receipts old message reply new = IsAnswered tells refuses (kept keep_receipts old) message reply new
+
+-- the reply is told as it is where a door may give it, and refused in its place where not
+abbrev pub IsReplyAllowed : ClientReply → ClientReply → Type 0
+IsReplyAllowed reply reported = (IsAllowed reply × (reported ≡ reply)) ⊎ ((¬ IsAllowed reply) × (reported ≡ replies.Refused BadFrame))
+
+-- what a message came to is told: its reply, or its refusal
+abbrev pub IsReported : Result ClientReply Refusal → ClientReply → Type 0
+IsReported (Ok reply) reported = IsReplyAllowed reply reported
+IsReported (Err refusal) reported = IsReplyAllowed (replies.Refused refusal) reported

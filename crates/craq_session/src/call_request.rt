@@ -1,0 +1,144 @@
+//! The two halves of a request whose call is answered later: the call that it asks for, and its
+//! reply once the call has its outcome; called by `phases`.
+ghost use Rattle.std.specs.Prelude.{◌≡◌, ◌↔◌, ℕ, List, Err, IfErr, IfOk, OnErr};
+ghost use Rattle.craq_front.specs.Door.{IsAllowed};
+ghost use Rattle.craq_session.specs.Turns.{IsCalled, name_of};
+ghost use Rattle.craq_session.specs.Halves.{Asks, BeginsTurn, EndsTurn, HasRoom, IsClosed, MakesRoom, RefusesCall, asked_by};
+
+use crate::telling::reported;
+use crate::{Backend, DoorCalls};
+use craq_frames::{ClientMessage, ClientReply};
+use craq_model::Ask;
+use craq_names::{NodeId, NodeName, Pass, Refusal};
+use craq_pending_calls::answer_of_call;
+use craq_seat::CallReceipt;
+use std::alloc::Global;
+
+/// The call that a request asks for.
+#[derive(Debug, Drop)]
+pub struct CallRequest {
+    pub node: NodeName,
+    pub pass: Pass,
+    pub ask: Ask,
+}
+
+/// The demand of a request: a call or the status.
+#[derive(Debug, Drop)]
+pub(crate) enum Demand {
+    Call(CallRequest),
+    Status,
+}
+
+/// The outcome of the first half of a request.
+#[derive(Debug, Drop)]
+pub(crate) enum Begun {
+    /// The request is answered, by this reply.
+    Reported(ClientReply),
+    /// This call is to be made, and its outcome to be given back.
+    Calls(CallRequest),
+}
+
+/// Returns the call of a node of the chain of the request's first object, with this pass.
+fn call_of(node: NodeId, pass: Pass, ask: Ask) -> CallRequest
+    ensures node { result.node ≡ name_of node ask }
+    ensures pass { result.pass ≡ pass }
+    ensures ask { result.ask ≡ ask }
+{
+    let node = NodeName {
+        chain: ask.chain(),
+        node,
+    };
+    CallRequest { node, pass, ask }
+}
+
+/// Returns the demand of a request.
+fn demand_of(message: ClientMessage) -> Demand
+    ensures { Asks message result }
+{
+    match message {
+        ClientMessage::Update { node, pass, update } => {
+            Demand::Call(call_of(node, pass, Ask::Update(update)))
+        }
+        ClientMessage::Read {
+            node,
+            pass,
+            mode,
+            object,
+        } => Demand::Call(call_of(node, pass, Ask::Read { mode, object })),
+        ClientMessage::Status => Demand::Status,
+    }
+}
+
+/// Returns the text of a status as a reply. Fails only when out of memory.
+fn status_of<C: Backend>(backend: &C) -> Result<ClientReply, Refusal>
+    ensures ok { IfOk result (λ reply. (text : List ℕ) × (reply ≡ ClientReply.Status text) × C.tells backend.now text) }
+    ensures err { IfErr result (λ e. e ≡ Refusal.Memory) }
+{
+    Ok(ClientReply::Status(backend.status()?))
+}
+
+/// Begins a request. A status is answered at once. For a call, room for its receipt is made, and is
+/// there when the call has its outcome; without it the reply is `Refused(Memory)`, and the call is
+/// not made.
+#[tactic(auto, using(crate::proofs::Halves::status_reported, crate::proofs::Halves::memory_reported))]
+pub(crate) fn begin_turn<C: Backend>(
+    backend: &C,
+    calls: &mut DoorCalls,
+    message: ClientMessage,
+) -> Begun
+    ensures begun { BeginsTurn (C.tells backend.now) calls.old.keep_receipts calls.old.receipts.items message result calls.new.receipts.items }
+    ensures keep_receipts { calls.new.keep_receipts ≡ calls.old.keep_receipts }
+    ensures room { MakesRoom calls.old message result calls.new }
+{
+    calls.begin();
+    match demand_of(message) {
+        Demand::Status => Begun::Reported(reported(status_of(backend))),
+        Demand::Call(request) => match calls.make_room() {
+            Ok(()) => Begun::Calls(request),
+            Err(_) => Begun::Reported(reported(Err(Refusal::Memory))),
+        },
+    }
+}
+
+/// Returns the reply to the request that asked for a call, where the receipt is that of this
+/// question. The receipts are unchanged after a refusal.
+///
+/// - `Closed` exactly where the receipt is that of another call.
+/// - `Memory` also where there was no memory for a copy of the answer.
+fn reply_of_call(
+    alloc: Global,
+    calls: &mut DoorCalls,
+    request: &CallRequest,
+    outcome: Result<CallReceipt, Refusal>,
+) -> Result<ClientReply, Refusal>
+    requires { HasRoom calls.old }
+    ensures called { IfOk result (λ reply. IsCalled calls.old.receipts.items (asked_by request.now) reply calls.new.receipts.items) }
+    ensures refused { IfErr result (λ e. RefusesCall request.now outcome e) }
+    ensures closed { (result ≡ Err Refusal.Closed) ↔ IsClosed request.now outcome }
+    ensures same { OnErr result (calls.new.receipts.items ≡ calls.old.receipts.items) }
+    ensures keep_receipts { calls.new.keep_receipts ≡ calls.old.keep_receipts }
+{
+    let receipt = outcome?;
+    let CallRequest { node, pass, ask } = request;
+    let answer = answer_of_call(alloc, &receipt, node, ask, *pass)?;
+    Ok(calls.reply_to(answer, receipt))
+}
+
+/// Ends the request that asked for this call, with the room that `begin_turn` made. Returns the
+/// reply to the call, or its refusal. Of a call that was answered the reply is `Refused(Closed)`
+/// exactly where the receipt is that of another call, and `Refused(Memory)` only where there was no
+/// memory for a copy of the answer. A reply that no request handler may give becomes
+/// `Refused(BadFrame)`. The receipts are unchanged after a refusal.
+pub(crate) fn end_turn(
+    alloc: Global,
+    calls: &mut DoorCalls,
+    request: &CallRequest,
+    outcome: Result<CallReceipt, Refusal>,
+) -> ClientReply
+    requires { HasRoom calls.old }
+    ensures ends { EndsTurn request.now outcome calls.old.receipts.items result calls.new.receipts.items }
+    ensures allowed { IsAllowed result }
+    ensures keep_receipts { calls.new.keep_receipts ≡ calls.old.keep_receipts }
+{
+    reported(reply_of_call(alloc, calls, request, outcome))
+}

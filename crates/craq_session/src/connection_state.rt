@@ -1,0 +1,224 @@
+//! `ConnectionState`: the state of one connection whose calls are answered later; for an event loop.
+ghost use Rattle.std.specs.Prelude.{◌≡◌, None};
+ghost use Rattle.craq_session.specs.declared.connection_state.Phase.TheVariants.{Idle};
+ghost use Rattle.craq_session.specs.ConnectionStates.{KeepsRoom};
+
+use crate::phases::{advance, answered};
+use crate::{AsyncBackend, Backend, CallRequest, DoorCalls, UnsentCall};
+use craq_completions::Token;
+use craq_frames::ClientMessage;
+use craq_front::ProtocolCodec;
+use craq_names::Refusal;
+use craq_seat::CallReceipt;
+use std::alloc::{AllocError, Global};
+use std::mem;
+
+/// The reason why nothing is read or asked any more.
+#[derive(Debug, Clone, Copy, PartialEq, Eq)]
+pub enum Ending {
+    /// A length above 1,048,576 stands in front. Its refusal is the last reply.
+    TooLong,
+    /// Out of memory: there is no reply to the next frame.
+    Memory,
+}
+
+/// The state of a connection between two steps.
+#[derive(Drop)]
+pub(crate) enum Phase {
+    /// The next frame is looked for.
+    Idle,
+    /// This request is to be asked.
+    Asks(ClientMessage),
+    /// This call is under way.
+    Waits(CallRequest),
+    /// Nothing is read or asked any more.
+    Over(Ending),
+}
+
+/// The outcome of a step.
+#[derive(Debug)]
+pub enum Stepped {
+    /// There may be another step to take.
+    Goes,
+    /// The call of `request` is to be made, by `ask`, and its outcome to be given back by
+    /// `answer`.
+    Calls(UnsentCall),
+    /// Less than a frame has come: more bytes are needed.
+    Starved,
+    /// Nothing can be done before unsent bytes are written or a call has its outcome; or ever
+    /// again.
+    Stays,
+}
+
+/// The state of one connection whose calls are answered later: bytes in, calls to make, their
+/// outcomes, bytes out. At most one call is under way. The unsent bytes are the frames of the
+/// replies to the frames that came, in their order. Each reply is that of a turn of a request
+/// handler (`CallDoor`) for its request.
+#[derive(Drop)]
+pub struct ConnectionState {
+    codec: ProtocolCodec,
+    calls: DoorCalls,
+    phase: Phase,
+    ghost idle: { phase ≡ Idle → codec.asking ≡ None },
+    ghost room: { KeepsRoom phase calls },
+}
+
+impl ConnectionState {
+    ghost use Rattle.std.specs.Prelude.{◌≤◌, ◌⊎◌, ◌↔◌, ℕ, List, [], ◌++◌, take, drop, length, IsTrue, OnOk, OnErr};
+    ghost use Rattle.std.specs.Option.{option_copied};
+    ghost use Rattle.craq_frames.specs.declared.ask.ClientMessage.{ClientMessage};
+    ghost use Rattle.craq_front.specs.Talk.{History};
+    ghost use Rattle.craq_session.specs.Asking.{IsAsked};
+    ghost use Rattle.craq_session.specs.Turns.{kept};
+    ghost use Rattle.craq_session.specs.ConnectionStates.{AnswersCall, Holds, IsUnderWay, Took, ending_of};
+
+    /// Makes the state of a new connection. `keep_receipts`: whether the receipts of its calls are kept.
+    /// Takes no memory.
+    pub fn new(alloc: Global, keep_receipts: bool) -> Self
+        ensures holds { Holds result.phase result.codec [] [] [] }
+        ensures input { result.codec.buffers.input.items ≡ [] }
+        ensures keep_receipts { result.calls.keep_receipts ≡ keep_receipts }
+        ensures receipts { result.calls.receipts.items ≡ [] }
+        ensures phase { result.phase ≡ Phase.Idle }
+    {
+        ConnectionState {
+            codec: ProtocolCodec::new(alloc),
+            calls: DoorCalls::new(alloc, keep_receipts),
+            phase: Phase::Idle,
+        }
+    }
+
+    /// Returns whether bytes may be received: no request is under way, and it is not over.
+    pub fn listens(&self) -> bool
+        ensures { IsTrue result ↔ (self.now.phase ≡ Phase.Idle) }
+    {
+        matches!(&self.phase, Phase::Idle)
+    }
+
+    /// Returns the reason why nothing is read or asked any more, once it is over.
+    pub fn ending(&self) -> Option<Ending>
+        ensures { result ≡ ending_of self.now.phase }
+    {
+        match &self.phase {
+            Phase::Over(ending) => Some(*ending),
+            _ => None,
+        }
+    }
+
+    /// Takes bytes that came. The first request of the payload in front may be found at once; else
+    /// the next frame is looked for by a step. Fails only when out of memory; the bytes are lost
+    /// then, and it is over.
+    pub fn receive(&mut self, alloc: Global, bytes: &[u8]) -> Result<(), AllocError>
+        requires { self.old.phase ≡ Phase.Idle }
+        ensures holds { (read written : List ℕ) (turns : History)
+            → Holds self.old.phase self.old.codec read written turns → Holds self.new.phase self.new.codec (read ++ bytes.now) written turns }
+        ensures ok { OnOk result ((self.new.phase ≡ Phase.Idle) ⊎ ((m : ClientMessage) × (self.new.phase ≡ Phase.Asks m))) }
+        ensures err { OnErr result (self.new.phase ≡ Phase.Over Ending.Memory) }
+        ensures output { self.new.codec.buffers.output.items ≡ self.old.codec.buffers.output.items }
+        ensures calls { self.new.calls ≡ self.old.calls }
+    {
+        match self.codec.receive(alloc, bytes) {
+            Ok(None) => Ok(()),
+            Ok(Some(message)) => {
+                self.phase = Phase::Asks(message);
+                Ok(())
+            }
+            Err(error) => {
+                self.phase = Phase::Over(Ending::Memory);
+                Err(error)
+            }
+        }
+    }
+
+    /// Lends the unsent bytes.
+    pub fn unsent(&self) -> &[u8]
+        ensures { result.now ≡ self.now.codec.buffers.output.items }
+    {
+        self.codec.unsent()
+    }
+
+    /// Drops the first `count` unsent bytes, which were written.
+    pub fn wrote(&mut self, count: usize)
+        requires { count ≤ length self.old.codec.buffers.output.items }
+        ensures holds { (read written : List ℕ) (turns : History)
+            → Holds self.old.phase self.old.codec read written turns
+            → Holds self.new.phase self.new.codec read (written ++ take count self.old.codec.buffers.output.items) turns }
+        ensures output { self.new.codec.buffers.output.items ≡ drop count self.old.codec.buffers.output.items }
+        ensures input { self.new.codec.buffers.input.items ≡ self.old.codec.buffers.input.items }
+        ensures phase { self.new.phase ≡ self.old.phase }
+        ensures calls { self.new.calls ≡ self.old.calls }
+    {
+        self.codec.wrote(count);
+    }
+
+    /// Lends the call that is under way.
+    pub fn request(&self) -> Option<&CallRequest>
+        ensures { IsUnderWay self.now.phase (option_copied result) }
+    {
+        match &self.phase {
+            Phase::Waits(request) => Some(request),
+            _ => None,
+        }
+    }
+
+    /// Takes a step, if there is one to take: looks for the next frame, or begins its next request.
+    /// It is over (`ending`) behind a length above 1,048,576, whose refusal is then unsent, and
+    /// when out of memory; nothing more is appended then.
+    pub fn step<C: Backend>(&mut self, alloc: Global, backend: &C) -> Stepped
+        ensures took { Took (C.tells backend.now) self.old.phase result self.new.phase self.old.codec self.new.codec self.old.calls self.new.calls }
+        ensures keep_receipts { self.new.calls.keep_receipts ≡ self.old.calls.keep_receipts }
+    {
+        let phase = mem::replace(&mut self.phase, Phase::Idle);
+        let (phase, stepped) = advance(alloc, backend, &mut self.codec, &mut self.calls, phase);
+        self.phase = phase;
+        stepped
+    }
+
+    /// Makes the call that is under way, under this token. Returns its outcome at once, a receipt
+    /// or a refusal; else `None`, and a completion with this token will come (`AsyncBackend::submit`).
+    /// Where no call is under way none is made. `light_load` says that few connections are busy.
+    #[tactic(auto, using(crate::proofs::Asked::asked_and_waits, crate::proofs::Asked::asked_and_answered, crate::proofs::Asked::asked_and_refused))]
+    pub fn ask<T: AsyncBackend>(
+        &self,
+        unsent: UnsentCall,
+        taker: &T,
+        token: Token,
+        light_load: bool,
+    ) -> Option<Result<CallReceipt, Refusal>>
+        ensures { IsAsked (T.refuses taker.now) (T.submits taker.now token) self.now.phase result }
+    {
+        let submit_token = unsent.make();
+        let Phase::Waits(request) = &self.phase else {
+            return None;
+        };
+        match taker.submit(submit_token, request, token, light_load) {
+            Ok(None) => None,
+            Ok(Some(receipt)) => Some(Ok(receipt)),
+            Err(refusal) => Some(Err(refusal)),
+        }
+    }
+
+    /// Takes the outcome of the call that is under way: appends its reply or refusal to the unsent
+    /// bytes, and keeps the receipt behind the others (`end_turn`). Out of memory for the bytes of
+    /// the reply it is over, and nothing is appended. Unchanged where no call is under way.
+    pub fn answer(&mut self, alloc: Global, outcome: Result<CallReceipt, Refusal>)
+        ensures answers { AnswersCall self.old.phase outcome self.new.phase self.old.codec self.new.codec self.old.calls self.new.calls }
+        ensures keep_receipts { self.new.calls.keep_receipts ≡ self.old.calls.keep_receipts }
+    {
+        let phase = mem::replace(&mut self.phase, Phase::Idle);
+        self.phase = answered(alloc, &mut self.codec, &mut self.calls, phase, outcome);
+    }
+
+    /// Returns the receipts of all calls, in order, where they are kept; else none. Takes no
+    /// memory.
+    pub fn into_receipts(self) -> Vec<CallReceipt>
+        ensures { result.items ≡ kept self.calls.keep_receipts self.calls.receipts.items }
+    {
+        let ConnectionState {
+            codec: _,
+            calls,
+            phase: _,
+        } = self;
+        calls.into_receipts()
+    }
+}

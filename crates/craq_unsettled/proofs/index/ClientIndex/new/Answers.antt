@@ -1,7 +1,0 @@
-use Rattle.std.proofs.Common.{sym, subst}
-use Rattle.craq_unsettled.specs.Indexed.{Placed, Tells}
-use Rattle.craq_unsettled.proofs.Telling.{indexed, tells_nothing}
-use Rattle.craq_unsettled.proofs.index.ClientIndex.new.Goals as goal
-
-pub returns-clause-tells : goal.returns-clause-tells
-returns-clause-tells c = λ entries. subst (λ (ps : Placed). Tells (indexed c.args.from c.args.from ps) entries) (sym c.new.ensures.empty) (tells_nothing c.args.from entries)

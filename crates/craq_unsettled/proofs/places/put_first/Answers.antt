@@ -1,5 +1,0 @@
-use Rattle.craq_unsettled.proofs.Placing.{told_first}
-use Rattle.craq_unsettled.proofs.places.put_first.Goals as goal
-
-pub returns-clause-ok : goal.returns-clause-ok
-returns-clause-ok c = told_first c.args.places.now.entries c.insert.new.self.entries c.args.client c.args.position _ c.push.new.self c.requires.absent c.requires.empty c.in_ok-push.ensures.ok c.in_ok-insert.ensures.updates.0

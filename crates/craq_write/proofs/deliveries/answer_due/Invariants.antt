@@ -1,8 +1,0 @@
-use Rattle.std.proofs.Common.{◌≡◌, ◌++◌, map, drop}
-use Rattle.craq_model.specs.Deliveries.{due_updates}
-use Rattle.craq_model.specs.Settle.{answer_outs, update_given}
-use Rattle.craq_write.proofs.deliveries.answer_due.Given as goal
-
-abbrev pub invariant-loop-update : goal.invariant-loop-update
-invariant-loop-update l =
-    l.outs.items ++ answer_outs (map update_given (due_updates l.position (drop l.update-index l.updates))) ≡ l.initial.outs.items ++ answer_outs (map update_given (due_updates l.position l.updates))

@@ -21,7 +21,8 @@ from tools.hostile.asked import example
 
 TEXTS = os.path.join(os.path.dirname(os.path.realpath(__file__)), "served")
 NAME = "craq_served"
-OWN = ("craq_names", "craq_compact_history", "craq_seat", "craq_audit", "craq_place", "craq_workers", "craq_server")
+OWN = ("craq_names", "craq_compact_history", "craq_seat", "craq_audit", "craq_place", "craq_workers",
+       "craq_server")
 LEFT_OUT = "left out: there is no rt to build its program"
 # How many seconds a call may take, however often it is refused and asked again.
 PATIENCE = 10

@@ -46,7 +46,7 @@ QUIET = "Core::step, quiet"
 STEPS = {"steps": "Core::step", "worlds": "World::take", "runs": "World::run", "desks": "Desk::take"}
 PUTS_OFF = "list"
 # The calls of the program that index appended entries, and that apply settled ones to the state.
-PUT_OFF = (r"craq_compact_state::listing::list_entries$|craq_compact_state::folding::fold$|"
+PUT_OFF = (r"craq_compact_state::indexing::list_entries$|craq_compact_state::applying::apply$|"
            r"craq_client_index::places::add_entries$")
 # The line that the program prints after a step: the entries that it appended, and the settled ones
 # left unapplied.

@@ -28,8 +28,8 @@ from tools import repository, unproved
 
 TEXTS = os.path.join(os.path.dirname(os.path.realpath(__file__)), "stores")
 NAME, KIT = "craq_soak", ("rand_core", "rand_pcg")
-OWN = ("craq_names", "craq_commands", "craq_model", "craq_runs", "craq_compact_history", "craq_seat", "craq_audit",
-       "craq_place", "craq_workers")
+OWN = ("craq_names", "craq_commands", "craq_model", "craq_runs", "craq_compact_history", "craq_seat",
+       "craq_audit", "craq_place", "craq_workers")
 CHAINS = 64
 # How many clients a store has, and how many calls each makes: of the small stores, and of the large ones.
 SMALL, LARGE = (8, 250), (32, 3_125)

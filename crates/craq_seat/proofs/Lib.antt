@@ -5,4 +5,5 @@ pub mod Spoken
 pub mod Keeping
 pub mod Booking
 pub mod Own
+pub mod Queues
 pub mod Moved

@@ -40,7 +40,7 @@ left_waits : (calls : List Call) (ticket : ℕ) (os : List Out) (is : Bool) → 
 left_waits calls ticket os true h = refl
 left_waits calls ticket os false h = answered_goes calls ticket os h
 
--- the same calls still wait after all of them
+-- one output more does not change which calls wait after all outputs
 pub same_after : (calls : List Call) (out : Out) (later os : List Out) → ((ticket : ℕ) → list_any (answers_to ticket) (out ∷ later) ≡ true → list_any (answers_to ticket) os ≡ true) → waiting_after (left_by calls out later) os ≡ waiting_after calls os
 same_after calls (outs.Send to m) later os among = refl
 same_after calls (outs.Answer ticket answer) later os among = left_waits calls ticket os (list_any (answers_to ticket) later) (among ticket (search (arith, rules)))
@@ -57,7 +57,7 @@ one_called receipts more first now left receipt rest later os out is goes grows 
     ∙ append_assoc receipts (called_by now receipt out) (called_in now receipt later)
     ∙ subst (λ (r : List Out). receipts ++ called_in now receipt r ≡ called_in first receipt os) is so_far)
 
--- the same calls still wait after all of them
+-- the calls that wait after all outputs are unchanged by the output that is handled next
 pub one_after : (first now left : List Call) (rest later os : List Out) (out : Out) → rest ≡ out ∷ later → left ≡ left_by now out later → waiting_after now os ≡ waiting_after first os → AreAmong rest os → waiting_after left os ≡ waiting_after first os
 one_after first now left rest later os out is goes so_far among =
     rw goes (same_after now out later os (subst (λ (r : List Out). AreAmong r os) is among) ∙ so_far)

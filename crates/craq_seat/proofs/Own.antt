@@ -1,11 +1,12 @@
 -- Steps that answer no call, or only the request that they accept.
-use Rattle.std.proofs.Common.{◌≡◌, ◌∙◌, append-nil, ℕ, ◌++◌, List, [], ◌∷◌, Option, Some, None, Result, Ok, Err, false, refl, sym, ap, subst, arith, rules}
-use Rattle.std.specs.Prelude.{Vec, IfOk}
+use Rattle.std.proofs.Common.{◌≡◌, ◌∙◌, ◌==◌, append-nil, ℕ, ◌++◌, List, [], ◌∷◌, Option, Some, None, Result, Ok, Err, false, refl, sym, ap, subst, arith, rules}
+use Rattle.std.specs.Prelude.{Vec, IfOk, filter, not}
 use Rattle.std.specs.List.{list_any}
 use Rattle.std.specs.declared.alloc.AllocError.{AllocError}
 use Rattle.std.specs.declared.alloc.Global.{Global}
 use Rattle.craq_model.specs.declared.ask.Answer.{Answer}
 use Rattle.craq_model.specs.declared.ask.Ask.{Ask}
+use Rattle.craq_model.specs.declared.message.LinkMessage.{LinkMessage}
 use Rattle.craq_model.specs.declared.step.Out.{Out}
 use Rattle.craq_model.specs.declared.step.Out.TheVariants as outs
 use Rattle.craq_seat.specs.declared.calls.Call.{Call}
@@ -22,6 +23,21 @@ none_answers (outs.Answer t a ∷ os) ticket none = search rules
 pub all_wait : (calls : List Call) (os : List Out) → list_any is_answer os ≡ false → waiting_after calls os ≡ calls
 all_wait [] os none = refl
 all_wait (call ∷ calls) os none = rw (none_answers os call.ticket none) (ap (λ (rest : List Call). call ∷ rest) (all_wait calls os none))
+
+-- the calls of the ticket that an output answers go
+pub forgets : (calls : List Call) (ticket : ℕ) (answer : Answer) → filter (λ (call : Call). not (call.ticket == ticket)) calls ≡ waiting_after calls (outs.Answer ticket answer ∷ [])
+forgets [] ticket answer = refl
+forgets (call ∷ calls) ticket answer = grind (arith, forgets calls ticket answer)
+
+-- a message answers no call
+pub sends : (calls : List Call) (to : ℕ) (m : LinkMessage) → calls ≡ waiting_after calls (outs.Send to m ∷ [])
+sends calls to m = sym (all_wait calls (outs.Send to m ∷ []) refl)
+
+-- the outputs remove calls one after another
+pub one_more : (calls : List Call) (o : Out) (os : List Out) → waiting_after (waiting_after calls (o ∷ [])) os ≡ waiting_after calls (o ∷ os)
+one_more [] o os = refl
+one_more (call ∷ calls) (outs.Send to m) os = grind (arith, one_more calls (outs.Send to m) os)
+one_more (call ∷ calls) (outs.Answer t a) os = grind (arith, one_more calls (outs.Answer t a) os)
 
 -- under a ticket that no call has, the search goes on in the calls after them
 under_more : (calls more : List Call) (ticket : ℕ) → call_under calls ticket ≡ None → call_under (calls ++ more) ticket ≡ call_under more ticket

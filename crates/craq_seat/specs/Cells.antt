@@ -23,7 +23,7 @@ abbrev pub opened : {N E : Type 0} → Opening → Bool → N → Celled N E
 opened opening journal inside =
     record { opening = opening; inside = inside; stamp = opening.stamp; journal = if journal then Some [] else None; last = None }
 
--- the same cell with this inside
+-- the cell with this node inside
 abbrev pub with_inside : {M N E : Type 0} → Celled M E → N → Celled N E
 with_inside c inside =
     record { opening = c.opening; inside = inside; stamp = c.stamp; journal = c.journal; last = c.last }
@@ -68,7 +68,7 @@ abbrev pub Takes : {N E : Type 0} → Celled N E → Celled N E → Result Recei
 Takes old new (Ok receipt) can wanted = (wanted ≡ Ok new) × (receipt ≡ receipt_of new)
 Takes old new (Err e) can wanted = RefusesWhere can e wanted × (new ≡ old)
 
--- the same for a cell whose core stands for a plain node, and afterwards for the plain node's
+-- a cell whose core stands for a plain node takes the step, and its core then stands for the plain node's
 -- successor
 abbrev pub TakesFor : {C N E : Type 0} → (C → N → Type 0) → Celled C E → Celled N E → Result Receipt Refusal → Type 0 → Result (Celled N E) Refusal → Type 0
 TakesFor {C} {N} represents now old result can wanted = (n : N) × Takes old (with_inside now n) result can wanted × represents now.inside n

@@ -6,5 +6,6 @@ pub mod Kept
 pub mod Books
 pub mod Taken
 pub mod Calls
+pub mod Queues
 pub mod Merge
 pub mod Audits

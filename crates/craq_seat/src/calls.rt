@@ -1,10 +1,9 @@
 //! Calls that wait at a desk, and their receipts once a step answers them; used by `desk`.
-ghost use Rattle.std.specs.Prelude.{◌≡◌, ◌++◌, [], if◌then◌else◌, IfOk, IfSome, OnErr, OnOk};
+ghost use Rattle.std.specs.Prelude.{◌≡◌, ◌∷◌, ◌++◌, [], if◌then◌else◌, IfOk, IfSome, OnErr, OnOk};
 ghost use Rattle.std.specs.List.{list_any};
-ghost use Rattle.std.specs.Option.{option_copied};
 ghost use Rattle.craq_seat.specs.Calls.{AnswersItself, Serves, ServesAsked, accepted, all_answered, answers_to, ask_of, call_under, called_by, called_in, is_answer, left_by, waiting_after, without_call};
 
-use crate::Receipt;
+use crate::{Receipt, TicketQueue, Ticketed};
 use craq_model::{Answer, Ask, Event, Out, Step};
 use craq_names::{Copied, Pass, Ticket};
 use std::alloc::{AllocError, Global};
@@ -18,6 +17,14 @@ pub struct Call {
     pub ticket: Ticket,
     pub pass: Pass,
     pub ask: Ask,
+}
+
+impl Ticketed for Call {
+    ghost ticket_of = { λ call. call.ticket };
+
+    fn ticket(&self) -> Ticket {
+        self.ticket
+    }
 }
 
 impl Copied for Call {
@@ -103,26 +110,14 @@ pub(crate) fn ask_of(alloc: Global, event: &Event) -> Result<Option<Ask>, AllocE
     }
 }
 
-/// Returns the call that waits under this ticket.
-fn call_under(calls: &[Call], ticket: Ticket) -> Option<&Call>
-    ensures { option_copied result ≡ call_under calls.now ticket }
-{
-    for call in calls {
-        if call.ticket == ticket {
-            return Some(call);
-        }
-    }
-    None
-}
-
 /// Returns the call receipts of the outputs, in order.
 fn called_in(
     alloc: Global,
-    calls: &[Call],
+    calls: &TicketQueue<Call>,
     outs: &[Out],
     answered: Receipt,
 ) -> Result<Vec<CallReceipt>, AllocError>
-    ensures { IfOk result (λ receipts. receipts.items ≡ called_in calls.now answered outs.now) }
+    ensures { IfOk result (λ receipts. receipts.items ≡ called_in calls.now.items answered outs.now) }
 {
     let mut receipts = Vec::new(alloc);
     if answers_any(outs) {
@@ -130,7 +125,7 @@ fn called_in(
     }
     for out in outs {
         if let Out::Answer { ticket, answer } = out {
-            if let Some(call) = call_under(calls, *ticket) {
+            if let Some(call) = calls.get(*ticket) {
                 receipts.push(CallReceipt {
                     call: call.copied(alloc)?,
                     answered,
@@ -142,26 +137,15 @@ fn called_in(
     Ok(receipts)
 }
 
-/// Removes the call that waits under this ticket and returns it.
-fn take_call(waiting: &mut Vec<Call>, ticket: Ticket) -> Option<Call>
-    ensures call { result ≡ call_under waiting.old.items ticket }
-    ensures others { waiting.new.items ≡ without_call waiting.old.items ticket }
-{
-    let mut place = 0;
-    while place < waiting.len() {
-        if waiting[place].ticket == ticket {
-            return Some(waiting.remove(place));
-        }
-        place += 1;
-    }
-    None
-}
-
 /// Copies the call that waits under this ticket.
-fn copy_of_call(alloc: Global, waiting: &[Call], ticket: Ticket) -> Result<Option<Call>, AllocError>
-    ensures { IfOk result (λ call. call ≡ call_under waiting.now ticket) }
+fn copy_of_call(
+    alloc: Global,
+    waiting: &TicketQueue<Call>,
+    ticket: Ticket,
+) -> Result<Option<Call>, AllocError>
+    ensures { IfOk result (λ call. call ≡ call_under waiting.now.items ticket) }
 {
-    match call_under(waiting, ticket) {
+    match waiting.get(ticket) {
         Some(call) => Ok(Some(call.copied(alloc)?)),
         None => Ok(None),
     }
@@ -171,7 +155,7 @@ fn copy_of_call(alloc: Global, waiting: &[Call], ticket: Ticket) -> Result<Optio
 /// answers it too; then copies it.
 fn call_for(
     alloc: Global,
-    waiting: &mut Vec<Call>,
+    waiting: &mut TicketQueue<Call>,
     ticket: Ticket,
     later: &[Out],
 ) -> Result<Option<Call>, AllocError>
@@ -179,16 +163,16 @@ fn call_for(
     ensures others { waiting.new.items ≡ (if list_any (answers_to ticket) later.now then waiting.old.items else without_call waiting.old.items ticket) }
 {
     if is_answered(later, ticket) {
-        copy_of_call(alloc, waiting.as_slice(), ticket)
+        copy_of_call(alloc, waiting, ticket)
     } else {
-        Ok(take_call(waiting, ticket))
+        Ok(waiting.take(ticket))
     }
 }
 
 /// Appends the receipt of the call that an output answers, if one waits for it.
 fn answer_call(
     alloc: Global,
-    waiting: &mut Vec<Call>,
+    waiting: &mut TicketQueue<Call>,
     out: &Out,
     later: &[Out],
     answered: &Receipt,
@@ -216,7 +200,7 @@ fn answer_call(
 /// receipts; earlier receipts get copies.
 fn take_answered(
     alloc: Global,
-    waiting: &mut Vec<Call>,
+    waiting: &mut TicketQueue<Call>,
     outs: &[Out],
     answered: &Receipt,
 ) -> Result<Vec<CallReceipt>, AllocError>
@@ -256,18 +240,28 @@ fn answers_any(outs: &[Out]) -> bool
     outs.iter().any(|out| matches!(out, Out::Answer { .. }))
 }
 
+/// Removes the calls that one output answers.
+fn forget_by(waiting: &mut TicketQueue<Call>, out: &Out)
+    ensures { waiting.new.items ≡ waiting_after waiting.old.items (out.now ∷ []) }
+{
+    match out {
+        Out::Answer { ticket, .. } => waiting.forget(*ticket),
+        Out::Send { .. } => (),
+    }
+}
+
 /// Removes the calls that an output answers.
-fn forget_answered(waiting: &mut Vec<Call>, outs: &[Out])
+fn forget_answered(waiting: &mut TicketQueue<Call>, outs: &[Out])
     ensures { waiting.new.items ≡ waiting_after waiting.old.items outs.now }
 {
-    if answers_any(outs) {
-        waiting.retain(|call| !is_answered(outs, call.ticket));
+    for out in outs {
+        forget_by(waiting, out);
     }
 }
 
 /// Adds the accepted request, if there is one, to the waiting calls.
 fn accept(
-    waiting: &mut Vec<Call>,
+    waiting: &mut TicketQueue<Call>,
     asked: Option<Ask>,
     ticket: Option<Ticket>,
     receipt: Receipt,
@@ -296,7 +290,7 @@ fn accept(
 /// Unchanged when out of memory.
 fn answer_calls(
     alloc: Global,
-    waiting: &mut Vec<Call>,
+    waiting: &mut TicketQueue<Call>,
     asked: Option<Ask>,
     receipt: &Receipt,
     pass: Pass,
@@ -308,7 +302,7 @@ fn answer_calls(
 {
     let before = waiting.len();
     accept(waiting, asked, step.ticket, *receipt, pass)?;
-    let receipts = called_in(alloc, waiting.as_slice(), step.outs.as_slice(), *receipt);
+    let receipts = called_in(alloc, waiting, step.outs.as_slice(), *receipt);
     if receipts.is_err() {
         waiting.truncate(before);
     }
@@ -317,8 +311,8 @@ fn answer_calls(
 
 /// Returns the reply of a step whose only output answers the request that it accepts, under a
 /// ticket that no waiting call has.
-fn own_answer<'a>(waiting: &[Call], step: &'a Step) -> Option<&'a Answer>
-    ensures { IfSome result (λ answer. AnswersItself waiting.now step.now.ticket step.now.outs answer.now) }
+fn own_answer<'a>(waiting: &TicketQueue<Call>, step: &'a Step) -> Option<&'a Answer>
+    ensures { IfSome result (λ answer. AnswersItself waiting.now.items step.now.ticket step.now.outs answer.now) }
 {
     let ticket = step.ticket?;
     match step.outs.as_slice() {
@@ -327,7 +321,7 @@ fn own_answer<'a>(waiting: &[Call], step: &'a Step) -> Option<&'a Answer>
                 ticket: own,
                 answer,
             },
-        ] if *own == ticket && call_under(waiting, ticket).is_none() => Some(answer),
+        ] if *own == ticket && waiting.get(ticket).is_none() => Some(answer),
         _ => None,
     }
 }
@@ -371,7 +365,7 @@ fn answer_own(
 /// receipt and waits no more. When out of memory, the calls that the step answers are dropped.
 fn serve_waiting(
     alloc: Global,
-    waiting: &mut Vec<Call>,
+    waiting: &mut TicketQueue<Call>,
     receipt: &Receipt,
     outs: &[Out],
 ) -> Result<Vec<CallReceipt>, AllocError>
@@ -386,7 +380,7 @@ fn serve_waiting(
 /// answering it is the step's only output.
 fn serve_accepted(
     alloc: Global,
-    waiting: &mut Vec<Call>,
+    waiting: &mut TicketQueue<Call>,
     asked: Result<Option<Ask>, AllocError>,
     receipt: &Receipt,
     pass: Pass,
@@ -399,7 +393,7 @@ fn serve_accepted(
             forget_answered(waiting, step.outs.as_slice());
             Err(AllocError)
         }
-        Ok(asked) => match own_answer(waiting.as_slice(), step) {
+        Ok(asked) => match own_answer(waiting, step) {
             Some(answer) => answer_own(alloc, asked, step.ticket, answer, receipt, pass),
             None => {
                 let calls = answer_calls(alloc, waiting, asked, receipt, pass, step);
@@ -415,7 +409,7 @@ fn serve_accepted(
 /// accepts or answers are dropped.
 pub(crate) fn serve_calls(
     alloc: Global,
-    waiting: &mut Vec<Call>,
+    waiting: &mut TicketQueue<Call>,
     asked: Result<Option<Ask>, AllocError>,
     receipt: &Receipt,
     pass: Pass,

@@ -1,5 +1,5 @@
-//! `Desk`: a cell and its pending calls, whose replies it returns; used by `craq_workers` and
-//! `craq_cell_chain`.
+//! `Desk`: a cell and its pending calls, whose replies it returns; used by `craq_running_node`,
+//! `craq_workers` and `craq_cell_chain`.
 ghost use Rattle.std.specs.Prelude.{◌≡◌, [], IfOk, IfSome, IsNone, IsOk, OnErr};
 ghost use Rattle.craq_model.specs.Plain.{Plain};
 ghost use Rattle.craq_node.specs.Represented.{CanArrive, IsFree};
@@ -10,7 +10,7 @@ ghost use Rattle.craq_seat.specs.Stamps.{event_stamp, next_stamp};
 ghost use Rattle.craq_seat.specs.Taken.{TakesEvent};
 
 use crate::calls::{ask_of, serve_calls};
-use crate::{Call, CallReceipt, Cell, Receipt};
+use crate::{Call, CallReceipt, Cell, Receipt, TicketQueue};
 use craq_model::Event;
 use craq_names::{Pass, Refusal};
 use craq_node::Core;
@@ -21,7 +21,7 @@ use std::marker::Model;
 #[derive(Drop)]
 pub struct Desk<C: Core> {
     cell: Cell<C>,
-    waiting: Vec<Call>,
+    waiting: TicketQueue<Call>,
 }
 
 impl<C: Core> Model for Desk<C> {
@@ -39,7 +39,7 @@ impl<C: Core> Desk<C> {
     {
         Desk {
             cell,
-            waiting: Vec::new(alloc),
+            waiting: TicketQueue::new(alloc),
         }
     }
 

@@ -11,7 +11,7 @@ pub struct Receipt {
     pub stamp: Stamp,
 }
 
-/// How a cell was opened: its name, its first membership, and the stamp that all of its steps
+/// Start of a cell: its name, its first membership, and the stamp that all of its steps
 /// exceed.
 #[derive(Debug, Drop)]
 pub struct Opening {

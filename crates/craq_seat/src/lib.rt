@@ -15,6 +15,7 @@ mod mastering;
 mod numbering;
 mod seat;
 mod stamps;
+mod ticket_queue;
 
 pub use book::BookCell;
 pub use calls::{Call, CallReceipt};
@@ -24,3 +25,4 @@ pub use journal::{BookEvent, Opening, Receipt, Record};
 pub use laws::stamps_rise;
 pub use numbering::numbered;
 pub use seat::{Caller, Seat, Seated};
+pub use ticket_queue::{TicketQueue, Ticketed};

@@ -1,6 +1,6 @@
-//! `Seat`: a desk under a lock, with the callers that wait for its replies; used by `craq_workers`
-//! and `craq_cell_chain`.
-use crate::Desk;
+//! `Seat`: a desk under a lock, with the callers that wait for its replies; used by
+//! `craq_running_node`, the crates above it, and `craq_cell_chain`.
+use crate::{Desk, TicketQueue, Ticketed};
 use craq_names::Ticket;
 use craq_node::Core;
 use std::alloc::Global;
@@ -13,11 +13,19 @@ pub struct Caller<W: Drop> {
     pub at: W,
 }
 
+impl<W: Drop> Ticketed for Caller<W> {
+    ghost ticket_of = { λ caller. caller.ticket };
+
+    fn ticket(&self) -> Ticket {
+        self.ticket
+    }
+}
+
 /// The content of a seat's lock: a node's desk, and the callers that wait for its replies.
 #[derive(Drop)]
 pub struct Seated<C: Core, W: Drop = ()> {
     pub desk: Desk<C>,
-    pub callers: Vec<Caller<W>>,
+    pub callers: TicketQueue<Caller<W>>,
 }
 
 /// A node's desk and its callers under one lock, shared by several threads. A thread that takes the
@@ -33,7 +41,7 @@ impl<C: Core, W: Drop> Seat<C, W> {
         Seat {
             inside: Mutex::new(Seated {
                 desk,
-                callers: Vec::new(alloc),
+                callers: TicketQueue::new(alloc),
             }),
         }
     }
